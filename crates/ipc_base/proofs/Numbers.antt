@@ -14,7 +14,7 @@ use Rattle.ipc_base.specs.declared.field.Field.{Field}
 use Rattle.ipc_base.specs.declared.field.Field.TheVariants as fields
 use Rattle.ipc_base.specs.declared.field.Size.{Size}
 use Rattle.ipc_base.specs.declared.field.Size.TheVariants.{One, Two, Four, Eight}
-use Rattle.ipc_base.specs.Numbers.{width_of, len_of, most_of, Kind, Unsigned, Signed, Number, size_of, number_of, number_bytes, IsInRange}
+use Rattle.ipc_base.specs.Numbers.{width_of, len_of, most_of, Kind, Unsigned, Signed, Number, size_of, number_in, number_bytes, IsInRange}
 use Rattle.ipc_base.specs.Numbers.{Values, total, values_of, values_bytes, AreInRange, field_bytes}
 
 -- ---- bytes
@@ -158,8 +158,8 @@ signed_back Two n lt = of_z-to_z w16 n lt
 signed_back Four n lt = of_z-to_z w32 n lt
 signed_back Eight n lt = of_z-to_z w64 n lt
 
-number_again : (k : Kind) (x : Number k) (more : List ℕ) → IsInRange k x → number_of k (number_bytes k x ++ more) ≡ x
-unfolding number_of
+number_again : (k : Kind) (x : Number k) (more : List ℕ) → IsInRange k x → number_in k (number_bytes k x ++ more) ≡ x
+unfolding number_in
 number_again (Unsigned s) n more fits = front_again s n more fits
 number_again (Signed s) z more fits =
     ap (cast_signed (width_of s)) (front_again s (cast_unsigned (width_of s) z) more (unsigned_below s z fits)) ∙ to_z-of_z fits
@@ -172,14 +172,14 @@ length_number : (k : Kind) (x : Number k) → length (number_bytes k x) ≡ size
 length_number (Unsigned s) n = length-number s n
 length_number (Signed s) z = length-number s (cast_unsigned (width_of s) z)
 
-number_back : (k : Kind) (bytes : List ℕ) → AreBytes bytes → size_of k ≤ length bytes → number_bytes k (number_of k bytes) ≡ take (size_of k) bytes
-unfolding number_of
+number_back : (k : Kind) (bytes : List ℕ) → AreBytes bytes → size_of k ≤ length bytes → number_bytes k (number_in k bytes) ≡ take (size_of k) bytes
+unfolding number_in
 number_back (Unsigned s) bytes are enough = front_back s bytes _ are enough refl
 number_back (Signed s) bytes are enough =
     front_back s bytes _ are enough (signed_back s _ (read_below s (take (len_of s) bytes) (bytes-take (len_of s) bytes are)))
 
-number_range : (k : Kind) (bytes : List ℕ) → AreBytes bytes → IsInRange k (number_of k bytes)
-unfolding number_of
+number_range : (k : Kind) (bytes : List ℕ) → AreBytes bytes → IsInRange k (number_in k bytes)
+unfolding number_in
 number_range (Unsigned s) bytes are = read_below s (take (len_of s) bytes) (bytes-take (len_of s) bytes are)
 number_range (Signed s) bytes are = signed_fits s _ (read_below s (take (len_of s) bytes) (bytes-take (len_of s) bytes are))
 
@@ -194,7 +194,7 @@ pub values_again : (ks : List Kind) (v : Values ks) (more : List ℕ) → AreInR
 values_again [] v more fits = refl
 values_again (k ∷ ks) v more fits =
     let split = append_assoc (number_bytes k v.0) (values_bytes ks v.1) more in
-    ap (λ (bytes : List ℕ). let all : Values (k ∷ ks) = (number_of k bytes, values_of ks (drop (size_of k) bytes)) in all) split
+    ap (λ (bytes : List ℕ). let all : Values (k ∷ ks) = (number_in k bytes, values_of ks (drop (size_of k) bytes)) in all) split
     ∙ ap (λ (x : Number k). let all : Values (k ∷ ks) = (x, values_of ks (drop (size_of k) (number_bytes k v.0 ++ (values_bytes ks v.1 ++ more)))) in all)
     (number_again k v.0 (values_bytes ks v.1 ++ more) fits.0)
     ∙ ap (λ (bytes : List ℕ). let all : Values (k ∷ ks) = (v.0, values_of ks bytes) in all) (drop_number k v.0 (values_bytes ks v.1 ++ more))
@@ -207,7 +207,7 @@ values_back [] bytes are enough = refl
 values_back (k ∷ ks) bytes are enough =
     let behind : List ℕ = drop (size_of k) bytes in
     let rest = values_back ks behind (bytes-drop (size_of k) bytes are) (omega (arith, length-drop (size_of k) bytes)) in
-    append_assoc (number_bytes k (number_of k bytes)) (values_bytes ks (values_of ks behind)) (drop (size_of k + total ks) bytes)
+    append_assoc (number_bytes k (number_in k bytes)) (values_bytes ks (values_of ks behind)) (drop (size_of k + total ks) bytes)
     ∙ ap (λ (x : List ℕ). x ++ (values_bytes ks (values_of ks behind) ++ drop (size_of k + total ks) bytes)) (number_back k bytes are (omega arith))
     ∙ ap (λ (x : List ℕ). take (size_of k) bytes ++ (values_bytes ks (values_of ks behind) ++ x)) (sym (drop-drop (total ks) (size_of k) bytes))
     ∙ ap (λ (x : List ℕ). take (size_of k) bytes ++ x) rest

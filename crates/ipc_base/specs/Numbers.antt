@@ -79,9 +79,9 @@ Number (Unsigned s) = ℕ
 Number (Signed s) = ℤ
 
 -- the number that the first bytes spell, its bytes, and its range
-unfoldable pub number_of : (k : Kind) → List ℕ → Number k
-number_of (Unsigned s) bytes = from_be_bytes (width_of s) (take (len_of s) bytes)
-number_of (Signed s) bytes = signed (width_of s) (take (len_of s) bytes)
+unfoldable pub number_in : (k : Kind) → List ℕ → Number k
+number_in (Unsigned s) bytes = from_be_bytes (width_of s) (take (len_of s) bytes)
+number_in (Signed s) bytes = signed (width_of s) (take (len_of s) bytes)
 
 abbrev pub number_bytes : (k : Kind) → Number k → List ℕ
 number_bytes (Unsigned s) n = to_be_bytes (width_of s) n
@@ -103,7 +103,7 @@ total (k ∷ ks) = size_of k + total ks
 
 abbrev pub values_of : (ks : List Kind) → List ℕ → Values ks
 values_of [] bytes = tt
-values_of (k ∷ ks) bytes = (number_of k bytes, values_of ks (drop (size_of k) bytes))
+values_of (k ∷ ks) bytes = (number_in k bytes, values_of ks (drop (size_of k) bytes))
 
 abbrev pub values_bytes : (ks : List Kind) → Values ks → List ℕ
 values_bytes [] values = []

@@ -12,7 +12,7 @@ use crate::root::{Root, root_sector};
 use crate::saving::write_objects;
 use crate::{Layout, LoadError};
 use ipc_base::{ObjectMap, Objects};
-use ipc_disk::{DiskFault, SectorDisk, settle_sector};
+use ipc_disk::{DiskFault, SectorDisk, write_durably};
 use std::alloc::Global;
 
 /// What is known of a checkpoint on a disk: where it lies, its epoch, and which of its sectors count.
@@ -59,7 +59,7 @@ impl Checkpoint {
             live: 0,
             len,
         };
-        settle_sector(disk, layout.root, &root_sector(root))?;
+        write_durably(disk, layout.root, &root_sector(root))?;
         Ok(())
     }
 
@@ -158,7 +158,7 @@ impl Checkpoint {
         // The objects have to be on the disk before a root that tells of them may be.
         disk.sync()?;
         let root = Root { epoch, live, len };
-        settle_sector(disk, self.layout.root, &root_sector(root))?;
+        write_durably(disk, self.layout.root, &root_sector(root))?;
         self.live = live;
         self.epoch = epoch;
         Ok(())

@@ -117,8 +117,8 @@ plain_request (request.Serve device socket turns) =
     Serve (string_bytes device) (string_bytes socket) turns
 
 -- the number that a text of decimal digits writes, if it fits into 32 bits; a plus may stand first
-abbrev pub number_of : Text → Option ℕ
-number_of text =
+abbrev pub parsed_number : Text → Option ℕ
+parsed_number text =
     if is_unsigned_in 0 4294967295 text then Some (digits_value 10 (without_leading_plus text))
     else None
 
@@ -130,12 +130,12 @@ abbrev pub asked_text : Text → List Row → Text
 asked_text name rows = unwrap_or (first_of name rows) []
 
 abbrev pub asked_number : Text → List Row → Option ℕ
-asked_number name rows = option_and_then number_of (one_of name rows)
+asked_number name rows = option_and_then parsed_number (one_of name rows)
 
 -- what a command asks for, by its name and what was found for its arguments. The parser takes no
 -- other name; such a one would ask for a listing of no file
-abbrev pub asked_by : Text → List Row → PlainRequest
-asked_by name rows =
+abbrev pub asked_request : Text → List Row → PlainRequest
+asked_request name rows =
     let device = asked_text (codes "device") rows in
     if bytes_eq name (codes "replay") then Replay (asked_small rows)
     else (if bytes_eq name (codes "format")
@@ -149,7 +149,7 @@ asked_by name rows =
 -- the same, by the command that was found; the parser takes no words without one
 abbrev pub asked : Option (Text × List Row) → PlainRequest
 asked None = Dump []
-asked (Some found) = asked_by found.0 found.1
+asked (Some found) = asked_request found.0 found.1
 
 -- a word that is no flag: it has less than two bytes, or does not begin with `-` (45)
 abbrev pub is_no_flag : Text → Bool

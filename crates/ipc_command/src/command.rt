@@ -9,7 +9,7 @@ ghost use Rattle.clap.specs.declared.builder.command.Command.TheViews.{out-Comma
 ghost use Rattle.ipc_command.specs.Command.{limits_asked, refusal_status, IsTakenAs, AsksFor, declared};
 ghost use Rattle.ipc_command.specs.Command.PlainRequest.{Format, Run, Dump, Serve};
 ghost use Rattle.ipc_command.specs.Command.{plain_request, asked, asked_small, asked_text};
-ghost use Rattle.ipc_command.specs.Command.{asked_number, number_of};
+ghost use Rattle.ipc_command.specs.Command.{asked_number, parsed_number};
 ghost use Rattle.ipc_command.specs.Command.{is_no_flag, small_words, sectors_words, turns_words};
 ghost use Rattle.ipc_command.specs.Command.{small_rule, sectors_rule, device_rule, socket_rule, turns_rule};
 ghost use Rattle.ipc_command.specs.Command.{replay_command, format_command, run_command, dump_command};
@@ -115,10 +115,10 @@ pub fn parse<S: AsStr>(alloc: Global, words: &[S]) -> Result<Request, Error>
         → map S.text words.now ≡ name ∷ codes "replay" ∷ codes "--small" ∷ []
         → IsTakenAs (Request.Replay true) result }
     ensures format { (name device : List ℕ) (small : Bool) (number : Option (List ℕ))
-        → is_no_flag device ≡ true → IfSome number (λ text. IsSome (number_of text))
+        → is_no_flag device ≡ true → IfSome number (λ text. IsSome (parsed_number text))
         → map S.text words.now
         ≡ name ∷ codes "format" ∷ device ∷ small_words small ++ sectors_words number
-        → AsksFor (Format device small (option_and_then number_of number)) result }
+        → AsksFor (Format device small (option_and_then parsed_number number)) result }
     ensures run { (name device : List ℕ) → is_no_flag device ≡ true
         → map S.text words.now ≡ name ∷ codes "run" ∷ device ∷ []
         → AsksFor (Run device) result }
@@ -127,10 +127,10 @@ pub fn parse<S: AsStr>(alloc: Global, words: &[S]) -> Result<Request, Error>
         → AsksFor (Dump device) result }
     ensures serve { (name device socket : List ℕ) (number : Option (List ℕ))
         → is_no_flag device ≡ true → is_no_flag socket ≡ true
-        → IfSome number (λ text. IsSome (number_of text))
+        → IfSome number (λ text. IsSome (parsed_number text))
         → map S.text words.now
         ≡ name ∷ codes "serve" ∷ device ∷ socket ∷ turns_words number
-        → AsksFor (Serve device socket (option_and_then number_of number)) result }
+        → AsksFor (Serve device socket (option_and_then parsed_number number)) result }
     // What any words ask for, if they are taken, by what the parser finds in them.
     ensures asked { IfOk result (λ request.
         plain_request request ≡ asked (subcommand_of declared (map S.text words.now))) }

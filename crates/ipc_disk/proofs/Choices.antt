@@ -5,11 +5,11 @@ use Rattle.std.proofs.Common.{◌∙◌, ap, subst, arith}
 use Rattle.std.specs.Prelude.{slice_set, slice_index_or, if◌then◌else◌, ◌&&◌, not, All}
 use Rattle.std.proofs.lemmas.List.Elements.{All-map}
 use Rattle.ipc_disk.specs.declared.memory.Slot.{Slot}
-use Rattle.ipc_disk.specs.Crash.{is_unsynced, is_kept, survivor, passed, survivors}
+use Rattle.ipc_disk.specs.Crash.{is_unsynced, survives, survivor, passed, survivors}
 use Rattle.ipc_disk.specs.Medium.{Image}
 use Rattle.ipc_disk.specs.Slots.{MayLeave, last_values, synced_values}
-use Rattle.ipc_disk.specs.Relations.Slots.{IsWhole, synced_slot, settled, IsShaped-MayLeave}
-use Rattle.ipc_disk.proofs.SlotsLemmas.{durable-settled}
+use Rattle.ipc_disk.specs.Relations.Slots.{IsWhole, synced_slot, flushed, IsShaped-MayLeave}
+use Rattle.ipc_disk.proofs.SlotsLemmas.{durable-flushed}
 
 -- the slots when this many have been chosen
 abbrev pub chosen : ℕ → ℕ → ℕ → List Slot → List Slot
@@ -53,7 +53,7 @@ chosen-all keep i [] = refl
 chosen-all keep i (slot ∷ slots) = ap (λ (l : List Slot). synced_slot (survivor keep i slot) ∷ l) (chosen-all keep (passed i slot) slots)
 
 survivor_either : (keep i : ℕ) (slot : Slot) → (survivor keep i slot ≡ slot.synced) ⊎ (survivor keep i slot ≡ slot.last)
-survivor_either keep i slot = elim (is_unsynced slot && not (is_kept keep i))
+survivor_either keep i slot = elim (is_unsynced slot && not (survives keep i))
     as (λ (b : Bool). ((if b then slot.synced else slot.last) ≡ slot.synced) ⊎ ((if b then slot.synced else slot.last) ≡ slot.last)) [
       | true ↦ inl refl
       | false ↦ inr refl
@@ -73,9 +73,9 @@ synced_values-synced : (image : Image) → synced_values (map synced_slot image)
 synced_values-synced [] = refl
 synced_values-synced (x ∷ xs) = ap (λ (l : Image). x ∷ l) (synced_values-synced xs)
 
-pub settled-synced : (image : Image) → map settled (map synced_slot image) ≡ map synced_slot image
-settled-synced [] = refl
-settled-synced (x ∷ xs) = ap (λ (l : List Slot). synced_slot x ∷ l) (settled-synced xs)
+pub flushed-synced : (image : Image) → map flushed (map synced_slot image) ≡ map synced_slot image
+flushed-synced [] = refl
+flushed-synced (x ∷ xs) = ap (λ (l : List Slot). synced_slot x ∷ l) (flushed-synced xs)
 
 -- the loop's step
 pub chosen-step : (keep n before : ℕ) (old xs : List Slot) (d left : Slot) → n < length old → xs ≡ chosen keep 0 n old → before ≡ place 0 n old
@@ -104,7 +104,7 @@ module _ (keep : ℕ) (old new : List Slot) (is : new ≡ map synced_slot (survi
   synced-chosen = ap synced_values is ∙ synced_values-synced (survivors keep 0 old) ∙ sym contents-chosen
 
   pub durable-chosen : (image : Image) → MayLeave new image → image ≡ last_values new
-  durable-chosen = durable-settled new new (is ∙ sym (settled-synced (survivors keep 0 old)) ∙ ap (λ (l : List Slot). map settled l) (sym is))
+  durable-chosen = durable-flushed new new (is ∙ sym (flushed-synced (survivors keep 0 old)) ∙ ap (λ (l : List Slot). map flushed l) (sym is))
 
   pub whole-chosen : All IsWhole old → All IsWhole new
   whole-chosen whole =

@@ -14,7 +14,7 @@ use Rattle.ipc_disk.specs.declared.memory.Slot.{Slot}
 use Rattle.ipc_disk.proofs.CallerLemmas.{slice_get-set_other}
 use Rattle.ipc_disk.specs.Medium.{Image}
 use Rattle.ipc_disk.specs.Slots.{last_values, synced_values}
-use Rattle.ipc_disk.specs.Relations.Slots.{ListsUnsynced, settled}
+use Rattle.ipc_disk.specs.Relations.Slots.{ListsUnsynced, flushed}
 
 Contains-cons_cases : (x : ℕ) (xs : List ℕ) (i : ℕ) → Contains (x ∷ xs) i → (x ≡ i) ⊎ Contains xs i
 Contains-cons_cases x xs i has = ⊎_elim
@@ -28,12 +28,12 @@ other_there : (f : Slot → List ℕ) (slots : List Slot) (at i : ℕ) (slot : S
 other_there f slots at i slot other =
     ap (λ (l : Image). slice_get l i) (map-set f slots at slot) ∙ slice_get-set_other (map f slots) at i (f slot) other
 
--- one that is settled
-settled_there : (slots : List Slot) (at : ℕ) (slot : Slot) → slot.synced ≡ slot.last
+-- one that is flushed
+flushed_there : (slots : List Slot) (at : ℕ) (slot : Slot) → slot.synced ≡ slot.last
     → slice_get (synced_values (slice_set slots at slot)) at ≡ slice_get (last_values (slice_set slots at slot)) at
-settled_there [] at slot same = refl
-settled_there (s ∷ ss) zero slot same = ap (λ (a : List ℕ). Some a) same
-settled_there (s ∷ ss) (suc at) slot same = settled_there ss at slot same
+flushed_there [] at slot same = refl
+flushed_there (s ∷ ss) zero slot same = ap (λ (a : List ℕ). Some a) same
+flushed_there (s ∷ ss) (suc at) slot same = flushed_there ss at slot same
 
 -- a sector that is written is listed from then on
 ListsUnsynced-written : (listed : List ℕ) (at : ℕ) (slots : List Slot) (slot : Slot) → ListsUnsynced listed slots
@@ -45,15 +45,15 @@ ListsUnsynced-written listed at slots slot lists i unlisted = ⊎_elim
     ∙ sym (other_there (λ s. s.last) slots at i slot other.1))
     (eqb_tells i at)
 
--- once a listed sector is settled, the rest of the list is enough
-pub ListsUnsynced-settled : (listed : List ℕ) (n d : ℕ) (slots : List Slot) (slot : Slot) → n < length listed → slot.synced ≡ slot.last
+-- once a listed sector is flushed, the rest of the list is enough
+pub ListsUnsynced-flushed : (listed : List ℕ) (n d : ℕ) (slots : List Slot) (slot : Slot) → n < length listed → slot.synced ≡ slot.last
     → ListsUnsynced (drop n listed) slots → ListsUnsynced (drop (n + 1) listed) (slice_set slots (slice_index_or listed n d) slot)
-ListsUnsynced-settled listed n d slots slot lt last lists i unlisted =
+ListsUnsynced-flushed listed n d slots slot lt last lists i unlisted =
     let at = slice_index_or listed n d in
     let new = slice_set slots at slot in
     ⊎_elim
     (λ same. let P : ℕ → Type 0 = λ k. slice_get (synced_values new) k ≡ slice_get (last_values new) k in
-    subst P (sym same.1) (settled_there slots at slot last))
+    subst P (sym same.1) (flushed_there slots at slot last))
     (λ other. other_there (λ s. s.synced) slots at i slot other.1
     ∙ lists i (λ has. ⊎_elim
     (λ first. other.1 (sym first))
@@ -79,23 +79,23 @@ module _ (recent new : List ℕ) (at : ℕ) (slots : List Slot)
       (λ none. subst (All (λ i. i < size)) (sym (full none)) places)
       (cases_lt (length recent) (length slots))
 
--- where no list is needed, all are settled
-settled-all : (slots : List Slot) → ((i : ℕ) → slice_get (synced_values slots) i ≡ slice_get (last_values slots) i) → slots ≡ map settled slots
-settled-all [] same = refl
-settled-all (s ∷ ss) same =
+-- where no list is needed, all are flushed
+flushed-all : (slots : List Slot) → ((i : ℕ) → slice_get (synced_values slots) i ≡ slice_get (last_values slots) i) → slots ≡ map flushed slots
+flushed-all [] same = refl
+flushed-all (s ∷ ss) same =
     let first : s.synced ≡ s.last = same_Some _ _ (same 0) in
     ap (λ (a : List ℕ). record { synced = a; last = s.last } ∷ ss) first
-    ∙ ap (λ (l : List Slot). settled s ∷ l) (settled-all ss (λ i. same (suc i)))
+    ∙ ap (λ (l : List Slot). flushed s ∷ l) (flushed-all ss (λ i. same (suc i)))
 
-pub settled-listed : (old new : List Slot) (listed : List ℕ) → listed ≡ [] → map settled new ≡ map settled old → ListsUnsynced listed new
-    → new ≡ map settled old
-settled-listed old new listed none same lists =
-    settled-all new (λ i. lists i (λ has. absurd (omega (arith, has.1, ap length none)))) ∙ same
+pub flushed-listed : (old new : List Slot) (listed : List ℕ) → listed ≡ [] → map flushed new ≡ map flushed old → ListsUnsynced listed new
+    → new ≡ map flushed old
+flushed-listed old new listed none same lists =
+    flushed-all new (λ i. lists i (λ has. absurd (omega (arith, has.1, ap length none)))) ∙ same
 
 -- of a sector the last value is left
-pub settled-one : (slots : List Slot) (at : ℕ) (slot d : Slot) → slot ≡ settled (slice_index_or slots at d)
-    → map settled (slice_set slots at slot) ≡ map settled slots
-settled-one slots at slot d is = map-set_same settled slots at slot d (ap settled is)
+pub flushed-one : (slots : List Slot) (at : ℕ) (slot d : Slot) → slot ≡ flushed (slice_index_or slots at d)
+    → map flushed (slice_set slots at slot) ≡ map flushed slots
+flushed-one slots at slot d is = map-set_same flushed slots at slot d (ap flushed is)
 
 -- no sector is unsynced
 pub ListsUnsynced-none : (listed : List ℕ) (slots : List Slot) → synced_values slots ≡ last_values slots → ListsUnsynced listed slots

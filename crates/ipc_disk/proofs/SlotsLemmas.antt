@@ -12,7 +12,7 @@ use Rattle.ipc_disk.specs.declared.memory.Slot.{Slot}
 use Rattle.ipc_disk.specs.declared.memory.TheConstants.{ZEROS}
 use Rattle.ipc_disk.specs.Medium.{Image, Elapses, IsSector}
 use Rattle.ipc_disk.specs.Slots.{last_values, synced_values, MayLeave, slots_medium}
-use Rattle.ipc_disk.specs.Relations.Slots.{IsWhole, MayLeave-last_values, settled, IsHonest-slots}
+use Rattle.ipc_disk.specs.Relations.Slots.{IsWhole, MayLeave-last_values, flushed, IsHonest-slots}
 
 -- a slot after a write
 abbrev pub written : Slot → List ℕ → Slot
@@ -34,21 +34,21 @@ MayLeave-written (s ∷ ss) (suc at) slot bytes (x ∷ xs) lt is left =
     (x ∷ rest.0, (left.0, rest.1), ⊎_elim (λ same. inl (ap (λ (l : Image). x ∷ l) same)) (λ set. inr (ap (λ (l : Image). x ∷ l) set)) rest.2)
 
 -- after a sync there is one image
-pub MayLeave-settled : (slots : List Slot) (image : Image) → MayLeave (map settled slots) image → image ≡ last_values slots
-MayLeave-settled [] [] left = refl
-MayLeave-settled [] (x ∷ xs) left = absurd left
-MayLeave-settled (s ∷ ss) [] left = absurd left
-MayLeave-settled (s ∷ ss) (x ∷ xs) left =
+pub MayLeave-flushed : (slots : List Slot) (image : Image) → MayLeave (map flushed slots) image → image ≡ last_values slots
+MayLeave-flushed [] [] left = refl
+MayLeave-flushed [] (x ∷ xs) left = absurd left
+MayLeave-flushed (s ∷ ss) [] left = absurd left
+MayLeave-flushed (s ∷ ss) (x ∷ xs) left =
     let first : x ≡ s.last = ⊎_elim (λ is. is) (λ is. is) left.0 in
-    ap (λ (a : List ℕ). a ∷ xs) first ∙ ap (λ (l : Image). s.last ∷ l) (MayLeave-settled ss xs left.1)
+    ap (λ (a : List ℕ). a ∷ xs) first ∙ ap (λ (l : Image). s.last ∷ l) (MayLeave-flushed ss xs left.1)
 
-pub last_values-settled : (slots : List Slot) → last_values (map settled slots) ≡ last_values slots
-last_values-settled [] = refl
-last_values-settled (s ∷ ss) = ap (λ (l : Image). s.last ∷ l) (last_values-settled ss)
+pub last_values-flushed : (slots : List Slot) → last_values (map flushed slots) ≡ last_values slots
+last_values-flushed [] = refl
+last_values-flushed (s ∷ ss) = ap (λ (l : Image). s.last ∷ l) (last_values-flushed ss)
 
-synced_values-settled : (slots : List Slot) → synced_values (map settled slots) ≡ last_values slots
-synced_values-settled [] = refl
-synced_values-settled (s ∷ ss) = ap (λ (l : Image). s.last ∷ l) (synced_values-settled ss)
+synced_values-flushed : (slots : List Slot) → synced_values (map flushed slots) ≡ last_values slots
+synced_values-flushed [] = refl
+synced_values-flushed (s ∷ ss) = ap (λ (l : Image). s.last ∷ l) (synced_values-flushed ss)
 
 -- a write leaves the synced values
 pub synced_values-written : (slots : List Slot) (at : ℕ) (slot : Slot) (bytes : List ℕ) → slot ≡ slice_index_or slots at slot
@@ -57,25 +57,25 @@ synced_values-written slots at slot bytes is =
     map-set_same (λ (s : Slot). s.synced) slots at (written slot bytes) slot (ap (λ (s : Slot). s.synced) is)
 
 -- A sync leaves these slots: each is whole, and a crash leaves what is read, which is as it was.
-module _ (old new : List Slot) (is : new ≡ map settled old) where
-  pub whole-settled : All IsWhole old → All IsWhole new
-  whole-settled whole = subst (All IsWhole) (sym is)
-      (All-map IsWhole settled old (λ k d lt. record { saved = (whole k d lt).newest; newest = (whole k d lt).newest }))
+module _ (old new : List Slot) (is : new ≡ map flushed old) where
+  pub whole-flushed : All IsWhole old → All IsWhole new
+  whole-flushed whole = subst (All IsWhole) (sym is)
+      (All-map IsWhole flushed old (λ k d lt. record { saved = (whole k d lt).newest; newest = (whole k d lt).newest }))
 
-  pub contents-settled : last_values new ≡ last_values old
-  contents-settled = ap last_values is ∙ last_values-settled old
+  pub contents-flushed : last_values new ≡ last_values old
+  contents-flushed = ap last_values is ∙ last_values-flushed old
 
-  pub synced-settled : synced_values new ≡ last_values old
-  synced-settled = ap synced_values is ∙ synced_values-settled old
+  pub synced-flushed : synced_values new ≡ last_values old
+  synced-flushed = ap synced_values is ∙ synced_values-flushed old
 
   only_contents : (image : Image) → MayLeave new image → image ≡ last_values old
-  only_contents image left = MayLeave-settled old image (subst (λ (l : List Slot). MayLeave l image) is left)
+  only_contents image left = MayLeave-flushed old image (subst (λ (l : List Slot). MayLeave l image) is left)
 
-  pub durable-settled : (image : Image) → MayLeave new image → image ≡ last_values new
-  durable-settled image left = only_contents image left ∙ sym contents-settled
+  pub durable-flushed : (image : Image) → MayLeave new image → image ≡ last_values new
+  durable-flushed image left = only_contents image left ∙ sym contents-flushed
 
-  pub images-settled : (image : Image) → MayLeave new image → MayLeave old image
-  images-settled image left = subst (MayLeave old) (sym (only_contents image left)) (MayLeave-last_values old)
+  pub images-flushed : (image : Image) → MayLeave new image → MayLeave old image
+  images-flushed image left = subst (MayLeave old) (sym (only_contents image left)) (MayLeave-last_values old)
 
 -- between two calls no other image comes in, and both disks are honest
 pub Elapses-slots : (old new : List Slot) → Elapses (slots_medium old) (slots_medium new)
@@ -85,12 +85,12 @@ Elapses-slots old new = record {
   honest = (λ _. IsHonest-slots new, λ _. IsHonest-slots old);
 }
 
--- one slot more is settled
-pub settled_more : (xs ys : List Slot) (i : ℕ) (d : Slot) → i < length xs → i < length ys → ys ≡ map settled (take i xs) ++ drop i xs
-    → slice_set ys i (settled (slice_index_or ys i d)) ≡ map settled (take (i + 1) xs) ++ drop (i + 1) xs
-settled_more xs ys i d lt within is =
+-- one slot more is flushed
+pub flushed_more : (xs ys : List Slot) (i : ℕ) (d : Slot) → i < length xs → i < length ys → ys ≡ map flushed (take i xs) ++ drop i xs
+    → slice_set ys i (flushed (slice_index_or ys i d)) ≡ map flushed (take (i + 1) xs) ++ drop (i + 1) xs
+flushed_more xs ys i d lt within is =
     let slot = slice_index_or ys i d in
-    map_over_more settled xs ys i slot lt is (sym (get_or_from_slice_get ys i slot slot (slice_get-get_or ys i d within)))
+    map_over_more flushed xs ys i slot lt is (sym (get_or_from_slice_get ys i slot slot (slice_get-get_or ys i d within)))
 
 pub replicate_more : (n : ℕ) (slot : Slot) → replicate n slot ++ slot ∷ [] ≡ replicate (n + 1) slot
 replicate_more n slot = replicate-append-replicate n 1 slot
@@ -117,4 +117,4 @@ module _ (n : ℕ) (slots : List Slot) (is : slots ≡ replicate n ZEROS) where
   synced-zeros = ap synced_values is ∙ map-replicate (λ (slot : Slot). slot.synced) n ZEROS ∙ sym contents-zeros
 
   pub durable-zeros : (image : Image) → MayLeave slots image → image ≡ last_values slots
-  durable-zeros = durable-settled slots slots (is ∙ sym (map-replicate settled n ZEROS) ∙ ap (λ (l : List Slot). map settled l) (sym is))
+  durable-zeros = durable-flushed slots slots (is ∙ sym (map-replicate flushed n ZEROS) ∙ ap (λ (l : List Slot). map flushed l) (sym is))

@@ -10,12 +10,12 @@ abbrev pub is_unsynced : Slot → Bool
 is_unsynced slot = not (pointwise nat_eq slot.synced slot.last)
 
 -- bit i mod 64 of the number is set
-abbrev pub is_kept : ℕ → ℕ → Bool
-is_kept keep i = not (bit_and keep (2 ^ (i % 64)) == 0)
+abbrev pub survives : ℕ → ℕ → Bool
+survives keep i = not (bit_and keep (2 ^ (i % 64)) == 0)
 
 -- what is left of a sector before which there are i unsynced ones
 abbrev pub survivor : ℕ → ℕ → Slot → List ℕ
-survivor keep i slot = if is_unsynced slot && not (is_kept keep i) then slot.synced else slot.last
+survivor keep i slot = if is_unsynced slot && not (survives keep i) then slot.synced else slot.last
 
 -- how many unsynced sectors there are up to this one, i of them before it
 abbrev pub passed : ℕ → Slot → ℕ

@@ -99,7 +99,7 @@ impl<D: RunDisk> JoinedDisk<D> {
     {
         let done = self.disk.write(self.run.range.first, self.run.sectors());
         count_fault(done, &mut self.failures)?;
-        self.run.begin(first);
+        self.run.start_at(first);
         Ok(())
     }
 
@@ -129,7 +129,7 @@ impl<D: RunDisk> JoinedDisk<D> {
     }
 
     // Puts out what waits, and then syncs the disk under it.
-    fn settle(&mut self) -> Result<(), DiskFault>
+    fn flush(&mut self) -> Result<(), DiskFault>
         ensures medium { Stays (joined_medium self.old) (joined_medium self.new) }
         ensures durable { OnOk result (IsDurable (joined_medium self.new)) }
         ensures size { joined_size self.new ≡ joined_size self.old }
@@ -259,7 +259,7 @@ impl<D: RunDisk> SectorDisk for JoinedDisk<D> {
         if self.failed_sync {
             return count_fault(Err(DiskFault), &mut self.failures);
         }
-        let done = self.settle();
+        let done = self.flush();
         self.failed_sync = done.is_err();
         done
     }

@@ -26,5 +26,5 @@ pub use progress::Progress;
 pub use range::Range;
 pub use runs::RunDisk;
 pub use split::SectorRuns;
-pub use standing::{read_bytes, sectors_for_len, settle_sector, write_bytes};
+pub use standing::{read_bytes, sectors_for_len, write_bytes, write_durably};
 pub use system::FileRuns;

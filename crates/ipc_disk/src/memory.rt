@@ -6,8 +6,8 @@ ghost use Rattle.std.specs.Prelude.{OnErr, replicate, slice_get, slice_set, vec_
 ghost use Rattle.std.proofs.Common.{lit<};
 ghost use Rattle.ipc_disk.specs.Counts.{with_failure, with_write, with_sync};
 ghost use Rattle.ipc_disk.specs.Medium.{IsHonest, IsDurable, Stays, Writes};
-ghost use Rattle.ipc_disk.specs.Crash.{survivors, survivor, is_unsynced, is_kept as kept};
-ghost use Rattle.ipc_disk.specs.Relations.Slots.{IsWhole, ListsUnsynced, settled, synced_slot};
+ghost use Rattle.ipc_disk.specs.Crash.{survivors, survivor, is_unsynced, survives as kept};
+ghost use Rattle.ipc_disk.specs.Relations.Slots.{IsWhole, ListsUnsynced, flushed, synced_slot};
 
 use crate::{DiskFault, SectorDisk};
 use std::alloc::{AllocError, Global};
@@ -132,47 +132,47 @@ fn list(recent: &mut Vec<u32>, at: u32, sectors: usize)
 }
 
 // A sync of one sector: its last value is its synced one.
-fn settle_one(slot: &mut Slot)
-    ensures { slot.new ≡ settled slot.old }
+fn flush_one(slot: &mut Slot)
+    ensures { slot.new ≡ flushed slot.old }
 {
     slot.synced = slot.last;
 }
 
 // A sync of all sectors.
-fn settle_all(slots: &mut [Slot])
-    ensures { slots.new ≡ map settled slots.old }
+fn flush_all(slots: &mut [Slot])
+    ensures { slots.new ≡ map flushed slots.old }
 {
     for slot in slots.iter_mut() {
-        settle_one(slot);
+        flush_one(slot);
     }
 }
 
 // A sync where the unsynced sectors are listed: it goes over these alone.
-fn settle_listed(slots: &mut [Slot], listed: &[u32])
+fn flush_listed(slots: &mut [Slot], listed: &[u32])
     requires places { All (λ at. at < length slots.old) listed.now }
     requires listed { ListsUnsynced listed.now slots.old }
-    ensures { slots.new ≡ map settled slots.old }
+    ensures { slots.new ≡ map flushed slots.old }
 {
     for at in listed {
-        settle_one(&mut slots[*at as usize]);
+        flush_one(&mut slots[*at as usize]);
     }
 }
 
 // A sync, which goes over no more sectors than there were writes since the last one.
-fn settle(slots: &mut [Slot], recent: &[u32])
+fn flush(slots: &mut [Slot], recent: &[u32])
     requires places { All (λ at. at < length slots.old) recent.now }
     requires listed { length recent.now < length slots.old → ListsUnsynced recent.now slots.old }
-    ensures { slots.new ≡ map settled slots.old }
+    ensures { slots.new ≡ map flushed slots.old }
 {
     if recent.len() < slots.len() {
-        settle_listed(slots, recent);
+        flush_listed(slots, recent);
     } else {
-        settle_all(slots);
+        flush_all(slots);
     }
 }
 
 // Whether bit `i` mod 64 of `keep` is set.
-fn is_kept(keep: u64, i: usize) -> bool
+fn survives(keep: u64, i: usize) -> bool
     ensures { result ≡ kept keep i }
 {
     keep & (1 << (i % 64)) != 0
@@ -185,10 +185,10 @@ fn choose_one(slot: &mut Slot, keep: u64, before: usize) -> bool
     ensures unsynced { result ≡ is_unsynced slot.old }
 {
     let unsynced = slot.synced != slot.last;
-    if unsynced && !is_kept(keep, before) {
+    if unsynced && !survives(keep, before) {
         slot.last = slot.synced;
     }
-    settle_one(slot);
+    flush_one(slot);
     unsynced
 }
 
@@ -280,7 +280,7 @@ impl SectorDisk for MemoryDisk {
         ensures never_fails { IsOk result }
         ensures synced { synced_image self.new ≡ (memory_medium self.old).contents }
     {
-        settle(&mut self.slots, &self.recent);
+        flush(&mut self.slots, &self.recent);
         self.recent.clear();
         self.syncs = self.syncs.saturating_add(1);
         Ok(())

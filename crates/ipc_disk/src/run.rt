@@ -102,7 +102,7 @@ impl Run {
     }
 
     /// Lets its sectors go, and begins again before the sector `first`.
-    pub(crate) fn begin(&mut self, first: u32)
+    pub(crate) fn start_at(&mut self, first: u32)
         ensures range { self.new.range ≡ record { first = first; count = 0 } }
         ensures values { run_values self.new ≡ [] }
     {

@@ -61,7 +61,7 @@ pub fn write_bytes<D: SectorDisk>(disk: &mut D, first: u32, bytes: &[u8]) -> Res
 }
 
 /// Writes one sector and makes it last.
-pub fn settle_sector<D: SectorDisk>(
+pub fn write_durably<D: SectorDisk>(
     disk: &mut D,
     at: u32,
     sector: &[u8; 512],

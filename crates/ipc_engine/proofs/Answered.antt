@@ -12,9 +12,9 @@ use Rattle.ipc_base.specs.declared.identity.Pid.{Pid}
 use Rattle.ipc_base.specs.declared.limits.Limits.{Limits}
 use Rattle.ipc_base.proofs.CallerLemmas.{choice, is_some-push, rising-found}
 use Rattle.ipc_base.specs.declared.identity.Moment.{Moment}
-use Rattle.ipc_wait.specs.Waits.{call_of, calls_due, calls_left, without, is_due, is_of}
-use Rattle.ipc_wait.proofs.CallerLemmas.{call_of-without_same, call_of-without_other}
-use Rattle.ipc_wire.specs.Request.{PlainKind, PlainRequest, Hello, Interrupt as Interrupts, Calls, Posix}
+use Rattle.ipc_wait.specs.Waits.{waiting_call_of, calls_due, calls_left, without, is_due, is_of}
+use Rattle.ipc_wait.proofs.CallerLemmas.{waiting_call_of-without_same, waiting_call_of-without_other}
+use Rattle.ipc_wire.specs.Request.{PlainKind, PlainRequest, Hello, Interrupt as Interrupts, Sysv, Posix}
 use Rattle.ipc_wire.specs.declared.reply.Body.TheVariants.{Empty, Number}
 use Rattle.ipc_wire.specs.Reply.{reply_bytes}
 use Rattle.ipc_wire.proofs.CallerLemmas.{length-reply_bytes}
@@ -26,11 +26,11 @@ use Rattle.ipc_state.specs.Waiting.{PlainWaiting, awaited_by, expiry}
 use Rattle.ipc_state.proofs.CallerLemmas.{exit-sound}
 use Rattle.posix_calls.specs.Registrations.{may_make, own, registrations}
 use Rattle.posix_calls.proofs.CallerLemmas.{registrations-exited, registrations-few, registrations-none, registrations-restarted}
-use Rattle.ipc_engine.specs.Bytes.{IsGreeted, allowed, asked_by, asks, bytes_to, most_owed, notice_bytes, owed, replies_to, unanswered}
+use Rattle.ipc_engine.specs.Bytes.{IsGreeted, allowed, asked_count, asks, bytes_to, most_owed, notice_bytes, owed, replies_to, unanswered}
 use Rattle.ipc_engine.specs.Event.{PlainEvent, Connect, Call, Interrupt, Tick, Exit, Restart, PlainOutcome}
 use Rattle.ipc_engine.specs.Settling.{touched_by}
 use Rattle.ipc_engine.specs.Sound.{IsSound, HasToWait}
-use Rattle.ipc_engine.specs.Step.{Step, after, step, due, expired, waiting_on, asked, called, connect, told, joins, tried}
+use Rattle.ipc_engine.specs.Step.{Step, after, step, due, expired, waiting_on, asked, called, connect, replied_or_joined, joins, tried}
 use Rattle.ipc_engine.specs.Step.{interrupt, interrupted, replied, settle}
 use Rattle.ipc_engine.specs.View.{reply_of}
 use Rattle.ipc_engine.proofs.Lists.{found-all, found-passes}
@@ -44,7 +44,7 @@ use Rattle.ipc_engine.proofs.Weights.{one_each, size_of, one-light, size-light, 
 
 -- of two states in which the same calls wait
 same-waits : (most : ℕ) (s t : State) (pid : ℕ) → t.wait ≡ s.wait → held most t pid ≡ held most s pid
-same-waits most s t pid same = ap (λ (ws : List PlainWaiting). if is_some (call_of (record { 0 = pid }) ws) then most else 0) same
+same-waits most s t pid same = ap (λ (ws : List PlainWaiting). if is_some (waiting_call_of (record { 0 = pid }) ws) then most else 0) same
 
 other_pid : (p r : Pid) → (r.0 == p.0) ≡ false → r ≢ p
 other_pid p r other same = absurd (let is : r.0 ≡ p.0 = ap (λ (p : Pid). p.0) same in grind (arith, nat_tests))
@@ -58,17 +58,17 @@ left-owes most s t pid q is = by_test (q == pid) refl
     by_test true same =
         let one : q ≡ pid = grind (arith, nat_tests) in
         let none : is_waiting t q ≡ false =
-        ap (λ (p : ℕ). is_waiting t p) one ∙ (ap (λ (ws : List PlainWaiting). is_some (call_of (record { 0 = pid }) ws)) is
-        ∙ ap is_some (call_of-without_same (record { 0 = pid }) s.wait)) in
+        ap (λ (p : ℕ). is_waiting t p) one ∙ (ap (λ (ws : List PlainWaiting). is_some (waiting_call_of (record { 0 = pid }) ws)) is
+        ∙ ap is_some (waiting_call_of-without_same (record { 0 = pid }) s.wait)) in
         rw none refl
     by_test false other =
         ap (λ (b : Bool). if b then most else 0)
-        (ap (λ (ws : List PlainWaiting). is_some (call_of (record { 0 = q }) ws)) is
-        ∙ ap is_some (call_of-without_other (record { 0 = pid }) (record { 0 = q }) s.wait (other_pid (record { 0 = pid }) (record { 0 = q }) other)))
+        (ap (λ (ws : List PlainWaiting). is_some (waiting_call_of (record { 0 = q }) ws)) is
+        ∙ ap is_some (waiting_call_of-without_other (record { 0 = pid }) (record { 0 = q }) s.wait (other_pid (record { 0 = pid }) (record { 0 = q }) other)))
 
 -- a call more: its process, which was owed nothing, is owed one reply
 is_waiting-push : (ws : List PlainWaiting) (w : PlainWaiting) (q : ℕ)
-    → is_some (call_of (record { 0 = q }) (ws ++ w ∷ [])) ≡ (if is_some (call_of (record { 0 = q }) ws) then true else w.pid.0 == q)
+    → is_some (waiting_call_of (record { 0 = q }) (ws ++ w ∷ [])) ≡ (if is_some (waiting_call_of (record { 0 = q }) ws) then true else w.pid.0 == q)
 is_waiting-push [] w q = by_test (w.pid.0 == q)
   where
     by_test : (b : Bool) → is_some (if b then Some w else None) ≡ b
@@ -76,8 +76,8 @@ is_waiting-push [] w q = by_test (w.pid.0 == q)
     by_test false = refl
 is_waiting-push (v ∷ ws) w q = by_test (v.pid.0 == q) (is_waiting-push ws w q)
   where
-    by_test : (b : Bool) → is_some (call_of (record { 0 = q }) (ws ++ w ∷ [])) ≡ (if is_some (call_of (record { 0 = q }) ws) then true else w.pid.0 == q)
-        → is_some (if b then Some v else call_of (record { 0 = q }) (ws ++ w ∷ [])) ≡ (if is_some (if b then Some v else call_of
+    by_test : (b : Bool) → is_some (waiting_call_of (record { 0 = q }) (ws ++ w ∷ [])) ≡ (if is_some (waiting_call_of (record { 0 = q }) ws) then true else w.pid.0 == q)
+        → is_some (if b then Some v else waiting_call_of (record { 0 = q }) (ws ++ w ∷ [])) ≡ (if is_some (if b then Some v else waiting_call_of
         (record { 0 = q }) ws) then true else w.pid.0 == q)
     by_test true rest = refl
     by_test false rest = rest
@@ -118,7 +118,7 @@ module _ (limits : Limits) (weigh : PlainOutcome → ℕ) (most note : ℕ) (lig
   refused-owes s pid asker serial e = one-owes s pid asker serial (refused s e) (omega arith) empty-fits refl
 
   interrupt-owes : (s : State) (pid asker serial : ℕ) → Owes s (interrupt asker serial s) pid (asking pid asker)
-  interrupt-owes s pid asker serial = by_call (call_of (record { 0 = asker }) s.wait) refl
+  interrupt-owes s pid asker serial = by_call (waiting_call_of (record { 0 = asker }) s.wait) refl
     where
       last : PlainOutcome
       last = record { pid = asker; serial = serial; errno = None; body = Empty }
@@ -126,7 +126,7 @@ module _ (limits : Limits) (weigh : PlainOutcome → ℕ) (most note : ℕ) (lig
       own-one : weight_to weigh pid (last ∷ []) ≤ asking pid asker
       own-one = one-weighs weigh limits most note light last pid (pid == asker) empty-fits refl
 
-      by_call : (r : Option PlainWaiting) → call_of (record { 0 = asker }) s.wait ≡ r
+      by_call : (r : Option PlainWaiting) → waiting_call_of (record { 0 = asker }) s.wait ≡ r
           → weight_to weigh pid ((interrupted s asker r).outcomes ++ last ∷ []) + debt most note (interrupted s asker r).state pid
           ≤ debt most note s pid + asking pid asker
       by_call None is = omega (arith, own-one)
@@ -135,12 +135,12 @@ module _ (limits : Limits) (weigh : PlainOutcome → ℕ) (most note : ℕ) (lig
           let first = one-weighs weigh limits most note light o pid (pid == asker) empty-fits refl in
           let both = weight_to-append weigh pid (o ∷ []) (last ∷ []) in
           let left = left-owes most s (without_waiting s asker) asker pid refl in
-          let told = notes-same note s (without_waiting s asker) pid refl in
+          let replied_or_joined = notes-same note s (without_waiting s asker) pid refl in
           let before : (pid == asker) ≡ true → held most s pid ≡ most =
           (λ same. let one : pid ≡ asker = grind (arith, nat_tests) in
           let waits : is_waiting s pid ≡ true = ap (λ (q : ℕ). is_waiting s q) one ∙ ap is_some is in
           rw waits refl) in
-          by_test (pid == asker) refl o first both left told before
+          by_test (pid == asker) refl o first both left replied_or_joined before
         where
           by_test : (b : Bool) → (pid == asker) ≡ b → (o : PlainOutcome) → weight_to weigh pid (o ∷ []) ≤ asking pid asker
               → weight_to weigh pid ((o ∷ []) ++ last ∷ []) ≡ weight_to weigh pid (o ∷ []) + weight_to weigh pid (last ∷ [])
@@ -149,16 +149,16 @@ module _ (limits : Limits) (weigh : PlainOutcome → ℕ) (most note : ℕ) (lig
               → ((pid == asker) ≡ true → held most s pid ≡ most)
               → weight_to weigh pid ((o ∷ []) ++ last ∷ []) + debt most note (without_waiting s asker) pid
               ≤ debt most note s pid + asking pid asker
-          by_test true same o first both left told before =
+          by_test true same o first both left replied_or_joined before =
               let mine = rw same at own-one in
               let one = rw same at first in
               let gone = rw same at left in
-              rw same (omega (arith, mine, one, both, gone, told, before same))
-          by_test false other o first both left told before =
+              rw same (omega (arith, mine, one, both, gone, replied_or_joined, before same))
+          by_test false other o first both left replied_or_joined before =
               let mine = rw other at own-one in
               let one = rw other at first in
               let stays = rw other at left in
-              rw other (omega (arith, mine, one, both, stays, told))
+              rw other (omega (arith, mine, one, both, stays, replied_or_joined))
 
   joins-owes : (s : State) (pid asker : ℕ) (request : PlainRequest) (on : Option Awaited) → Owes s (joins s asker request on) pid (asking pid asker)
   joins-owes s pid asker request None = omega arith
@@ -168,30 +168,30 @@ module _ (limits : Limits) (weigh : PlainOutcome → ℕ) (most note : ℕ) (lig
       (λ _. refused-owes s pid asker request.serial (expiry request.kind))
       (λ _. omega (arith, joined-owes most s w pid, notes-same note s (with_waiting s w) pid refl))
 
-  told-owes : (s : State) (pid asker : ℕ) (request : PlainRequest) (t : Tried) → IsSound limits s
+  replied_or_joined-owes : (s : State) (pid asker : ℕ) (request : PlainRequest) (t : Tried) → IsSound limits s
       → IfFinishes (HasEnded limits s asker (touched_by s asker request.kind)) t
-      → Owes s (told limits asker request s t) pid (asking pid asker)
+      → Owes s (replied_or_joined limits asker request s t) pid (asking pid asker)
   unfolding settle
-  told-owes s pid asker request (Finishes f) h ended =
+  replied_or_joined-owes s pid asker request (Finishes f) h ended =
       let good = ended.good in
       let first = one-owes s pid asker request.serial f (ended.leaves pid).owed (good.body h.parts) good.wait in
       let later = (settle-has limits (length f.state.wait) f.state (good.state h.parts)).owes weigh most note light pid in
       let both = weight_to-append weigh pid (replied asker request.serial f).outcomes (settle limits f.state).outcomes in
       omega (arith, first, later, both)
-  told-owes s pid asker request Waits h ended = joins-owes s pid asker request (awaited_by request.kind)
+  replied_or_joined-owes s pid asker request Waits h ended = joins-owes s pid asker request (awaited_by request.kind)
 
   called-owes : (s : State) (pid asker : ℕ) (request : PlainRequest) → IsSound limits s
       → Owes s (called limits asker request s) pid (asking pid asker)
   called-owes s pid asker request h =
       choice (λ (t : Step). Owes s t pid (asking pid asker)) (is_waiting s asker) _ _
       (λ _. refused-owes s pid asker request.serial EALREADY)
-      (λ free. told-owes s pid asker request (tried limits s asker false request.kind) h (tried-ended limits s asker false request.kind free))
+      (λ free. replied_or_joined-owes s pid asker request (tried limits s asker false request.kind) h (tried-ended limits s asker false request.kind free))
 
   asked-owes : (s : State) (pid asker : ℕ) (request : PlainRequest) (kind : PlainKind) → IsSound limits s
       → Owes s (asked limits asker request kind s) pid (asking pid asker)
   asked-owes s pid asker request (Hello cred) h = refused-owes s pid asker request.serial EPROTO
   asked-owes s pid asker request Interrupts h = interrupt-owes s pid asker request.serial
-  asked-owes s pid asker request (Calls call) h = called-owes s pid asker request h
+  asked-owes s pid asker request (Sysv call) h = called-owes s pid asker request h
   asked-owes s pid asker request (Posix call) h = called-owes s pid asker request h
 
   connect-owes : (s : State) (cred : Cred) (serial pid : ℕ) → 0 < pid
@@ -259,7 +259,7 @@ module _ (limits : Limits) where
 
   -- each request is answered once at most
   pub step-once : (s : State) (e : PlainEvent) (pid : ℕ) → IsSound limits s → 0 < pid
-      → replies_to pid (step limits s e).outcomes + unanswered (step limits s e).state pid ≤ unanswered s pid + asked_by s e pid
+      → replies_to pid (step limits s e).outcomes + unanswered (step limits s e).state pid ≤ unanswered s pid + asked_count s e pid
   step-once s e pid h some =
       omega (
         arith,
@@ -295,9 +295,9 @@ module _ (limits : Limits) where
 
   -- who waits is a process
   waits-process : (s : State) (pid : ℕ) → IsSound limits s → is_process s pid ≡ false → is_waiting s pid ≡ false
-  waits-process s pid h gone = by_call (call_of (record { 0 = pid }) s.wait) refl
+  waits-process s pid h gone = by_call (waiting_call_of (record { 0 = pid }) s.wait) refl
     where
-      by_call : (r : Option PlainWaiting) → call_of (record { 0 = pid }) s.wait ≡ r → is_some r ≡ false
+      by_call : (r : Option PlainWaiting) → waiting_call_of (record { 0 = pid }) s.wait ≡ r → is_some r ≡ false
       by_call None is = refl
       by_call (Some w) is = absurd (
           let there = (found-all (is_of (record { 0 = pid })) (HasToWait limits s) s.wait w h.waits is).process in
@@ -330,14 +330,14 @@ module _ (limits : Limits) where
   interrupt-sent : (s : State) (pid asker serial : ℕ) → (pid == asker) ≡ true → bytes_to pid (interrupt asker serial s).outcomes ≡ 0 → ⊥
   interrupt-sent s pid asker serial same none =
       let o : PlainOutcome = record { pid = asker; serial = serial; errno = None; body = Empty } in
-      one-sent o [] pid same (bytes-parts (interrupted s asker (call_of (record { 0 = asker }) s.wait)).outcomes (o ∷ []) pid none).1
+      one-sent o [] pid same (bytes-parts (interrupted s asker (waiting_call_of (record { 0 = asker }) s.wait)).outcomes (o ∷ []) pid none).1
 
-  told-unanswered : (s : State) (asker : ℕ) (request : PlainRequest) (t : Tried) → tried limits s asker false request.kind ≡ t
-      → is_waiting s asker ≡ false → bytes_to asker (told limits asker request s t).outcomes ≡ 0
-      → (unanswered s asker ≡ 0) × (unanswered (told limits asker request s t).state asker ≡ 1)
-  told-unanswered s asker request (Finishes f) is free none =
+  replied_or_joined-unanswered : (s : State) (asker : ℕ) (request : PlainRequest) (t : Tried) → tried limits s asker false request.kind ≡ t
+      → is_waiting s asker ≡ false → bytes_to asker (replied_or_joined limits asker request s t).outcomes ≡ 0
+      → (unanswered s asker ≡ 0) × (unanswered (replied_or_joined limits asker request s t).state asker ≡ 1)
+  replied_or_joined-unanswered s asker request (Finishes f) is free none =
       absurd (one-sent (record { pid = asker; serial = request.serial; errno = f.errno; body = f.body }) _ asker (grind (arith, nat_tests)) none)
-  told-unanswered s asker request Waits is free none = (rw free refl, by_awaited (awaited_by request.kind) refl none)
+  replied_or_joined-unanswered s asker request Waits is free none = (rw free refl, by_awaited (awaited_by request.kind) refl none)
     where
       by_awaited : (on : Option Awaited) → awaited_by request.kind ≡ on → bytes_to asker (joins s asker request on).outcomes ≡ 0
           → unanswered (joins s asker request on).state asker ≡ 1
@@ -362,7 +362,7 @@ module _ (limits : Limits) where
       choice (λ (t : Step). bytes_to asker t.outcomes ≡ 0 → (unanswered s asker ≡ 0) × (unanswered t.state asker ≡ 1)) (is_waiting s asker) _ _
       (λ _ no. absurd (one-sent (record { pid = asker; serial = request.serial; errno = Some EALREADY; body = Empty }) [] asker (grind
       (arith, nat_tests)) no))
-      (λ free no. told-unanswered s asker request (tried limits s asker false request.kind) refl free no) none
+      (λ free no. replied_or_joined-unanswered s asker request (tried limits s asker false request.kind) refl free no) none
 
   asked-unanswered : (s : State) (asker : ℕ) (request : PlainRequest) (kind : PlainKind)
       → bytes_to asker (asked limits asker request kind s).outcomes ≡ 0
@@ -370,20 +370,20 @@ module _ (limits : Limits) where
   asked-unanswered s asker request (Hello cred) none =
       absurd (one-sent (record { pid = asker; serial = request.serial; errno = Some EPROTO; body = Empty }) [] asker (grind (arith, nat_tests)) none)
   asked-unanswered s asker request Interrupts none = absurd (interrupt-sent s asker asker request.serial (grind (arith, nat_tests)) none)
-  asked-unanswered s asker request (Calls call) none = called-unanswered s asker request none
+  asked-unanswered s asker request (Sysv call) none = called-unanswered s asker request none
   asked-unanswered s asker request (Posix call) none = called-unanswered s asker request none
 
   -- who is sent nothing at a moment waits on, if it waited
-  due-left : (now : Moment) (ws : List PlainWaiting) (pid : ℕ) → is_some (call_of (record { 0 = pid }) ws) ≡ true
-      → bytes_to pid (map expired (calls_due now ws)) ≡ 0 → is_some (call_of (record { 0 = pid }) (calls_left now ws)) ≡ true
+  due-left : (now : Moment) (ws : List PlainWaiting) (pid : ℕ) → is_some (waiting_call_of (record { 0 = pid }) ws) ≡ true
+      → bytes_to pid (map expired (calls_due now ws)) ≡ 0 → is_some (waiting_call_of (record { 0 = pid }) (calls_left now ws)) ≡ true
   due-left now [] pid is quiet = cc
   due-left now (w ∷ ws) pid is quiet = by_test (w.pid.0 == pid) (is_due now w) refl is quiet (due-left now ws pid)
     where
-      by_test : (b due : Bool) → (w.pid.0 == pid) ≡ b → is_some (if b then Some w else call_of (record { 0 = pid }) ws) ≡ true
+      by_test : (b due : Bool) → (w.pid.0 == pid) ≡ b → is_some (if b then Some w else waiting_call_of (record { 0 = pid }) ws) ≡ true
           → bytes_to pid (map expired (if due then w ∷ calls_due now ws else calls_due now ws)) ≡ 0
-          → (is_some (call_of (record { 0 = pid }) ws) ≡ true → bytes_to pid (map expired (calls_due now ws)) ≡ 0
-          → is_some (call_of (record { 0 = pid }) (calls_left now ws)) ≡ true)
-          → is_some (call_of (record { 0 = pid }) (if not due then w ∷ calls_left now ws else calls_left now ws)) ≡ true
+          → (is_some (waiting_call_of (record { 0 = pid }) ws) ≡ true → bytes_to pid (map expired (calls_due now ws)) ≡ 0
+          → is_some (waiting_call_of (record { 0 = pid }) (calls_left now ws)) ≡ true)
+          → is_some (waiting_call_of (record { 0 = pid }) (if not due then w ∷ calls_left now ws else calls_left now ws)) ≡ true
       by_test true true same is quiet rest = absurd (one-sent (expired w) (map expired (calls_due now ws)) pid (grind (arith, nat_tests)) quiet)
       by_test true false same is quiet rest = rw same refl
       by_test false true other is quiet rest =

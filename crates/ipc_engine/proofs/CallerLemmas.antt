@@ -15,7 +15,7 @@ use Rattle.ipc_state.specs.State.{State, start, has_all_processes, is_process, e
 use Rattle.ipc_state.specs.declared.processes.Process.{Process}
 use Rattle.ipc_engine.specs.Step.{Step, asked, settle, step, due, run}
 use Rattle.ipc_state.proofs.CallerLemmas.{same-connected, start-sound as start-parts}
-use Rattle.ipc_engine.specs.Bytes.{IsGreeted, allowed, asked_by, asks, bytes_to, most_owed, owed, replies_to, unanswered}
+use Rattle.ipc_engine.specs.Bytes.{IsGreeted, allowed, asked_count, asks, bytes_to, most_owed, owed, replies_to, unanswered}
 use Rattle.ipc_engine.proofs.Settled.{settle-kept}
 use Rattle.ipc_engine.proofs.Soundness as soundness
 use Rattle.ipc_engine.proofs.Answered as answered
@@ -47,7 +47,7 @@ step-owes = answered.step-owes
 
 -- each request is answered once at most
 pub step-once : (limits : Limits) (s : State) (e : PlainEvent) (pid : ℕ) → IsSound limits s → 0 < pid
-    → replies_to pid (step limits s e).outcomes + unanswered (step limits s e).state pid ≤ unanswered s pid + asked_by s e pid
+    → replies_to pid (step limits s e).outcomes + unanswered (step limits s e).state pid ≤ unanswered s pid + asked_count s e pid
 step-once = answered.step-once
 
 -- no process is owed more than that, and what is no process is owed nothing

@@ -4,8 +4,8 @@ use Rattle.std.specs.Prelude.{All, find, get_or}
 use Rattle.std.proofs.lemmas.List.Elements.{All-nil, All-filter, All-push}
 use Rattle.ipc_base.specs.declared.limits.Limits.{Limits}
 use Rattle.ipc_base.proofs.CallerLemmas.{choice}
-use Rattle.ipc_wait.specs.Waits.{call_of, is_of, is_due}
-use Rattle.ipc_wire.specs.Request.{PlainKind, PlainRequest, Hello, Interrupt as Interrupts, Calls, Posix}
+use Rattle.ipc_wait.specs.Waits.{waiting_call_of, is_of, is_due}
+use Rattle.ipc_wire.specs.Request.{PlainKind, PlainRequest, Hello, Interrupt as Interrupts, Sysv, Posix}
 use Rattle.ipc_state.specs.declared.parked.Awaited.{Awaited}
 use Rattle.ipc_state.specs.Finish.{Tried, Finishes, Waits, IfFinishes}
 use Rattle.ipc_state.specs.State.{State, has_all_processes, is_waiting, exit, with_waiting, without_waiting}
@@ -13,8 +13,8 @@ use Rattle.ipc_state.specs.Waiting.{PlainWaiting, awaited_by}
 use Rattle.ipc_engine.specs.Event.{PlainEvent, Connect, Call, Interrupt, Tick, Exit, Restart}
 use Rattle.ipc_engine.specs.Settling.{touched_by}
 use Rattle.ipc_engine.specs.Sound.{NoneIsDue}
-use Rattle.ipc_engine.specs.Step.{Step, step, due, waiting_on, asked, called, told, joins, answered, resumed, resumed_first}
-use Rattle.ipc_engine.specs.Step.{interrupted, settle, settle_within, can_go_on, tried}
+use Rattle.ipc_engine.specs.Step.{Step, step, due, waiting_on, asked, called, replied_or_joined, joins, answered, resumed, resumed_first}
+use Rattle.ipc_engine.specs.Step.{interrupted, settle, settle_within, can_resume, tried}
 use Rattle.ipc_engine.proofs.Lists.{none-left}
 use Rattle.ipc_engine.proofs.Settled.{left-free}
 use Rattle.ipc_engine.proofs.Tries.{HasEnded, tried-ended}
@@ -48,7 +48,7 @@ module _ (limits : Limits) where
   settled-early : (n : ℕ) (s : State) → NoneIsDue s → NoneIsDue (settle_within limits n s).state
   unfolding settle_within
   settled-early zero s h = h
-  settled-early (suc n) s h = by_first (find (can_go_on limits s) s.wait) (λ w. settled-early n (resumed limits s w).state (resumed-early s w h))
+  settled-early (suc n) s h = by_first (find (can_resume limits s) s.wait) (λ w. settled-early n (resumed limits s w).state (resumed-early s w h))
     where
       by_first : (r : Option PlainWaiting) → ((w : PlainWaiting) → NoneIsDue (settle_within limits n (resumed limits s w).state).state)
           → NoneIsDue (resumed_first limits s r (settle_within limits n)).state
@@ -65,15 +65,15 @@ module _ (limits : Limits) where
       choice (λ (t : Step). NoneIsDue t.state) (is_due (record { 0 = s.clock }) (waiting_on s pid request on)) _ _ (λ _. h)
       (λ early. All-push (IsEarly (with_waiting s (waiting_on s pid request on))) s.wait (waiting_on s pid request on) h early)
 
-  told-early : (s : State) (pid : ℕ) (request : PlainRequest) (t : Tried) → NoneIsDue s → IfFinishes (HasEnded limits s pid (touched_by s pid request.kind)) t
-      → NoneIsDue (told limits pid request s t).state
-  told-early s pid request (Finishes f) h ended = settle-early f.state (same-early s f.state ended.good.wait ended.good.clock h)
-  told-early s pid request Waits h ended = joins-early s pid request (awaited_by request.kind) h
+  replied_or_joined-early : (s : State) (pid : ℕ) (request : PlainRequest) (t : Tried) → NoneIsDue s → IfFinishes (HasEnded limits s pid (touched_by s pid request.kind)) t
+      → NoneIsDue (replied_or_joined limits pid request s t).state
+  replied_or_joined-early s pid request (Finishes f) h ended = settle-early f.state (same-early s f.state ended.good.wait ended.good.clock h)
+  replied_or_joined-early s pid request Waits h ended = joins-early s pid request (awaited_by request.kind) h
 
   called-early : (s : State) (pid : ℕ) (request : PlainRequest) → NoneIsDue s → NoneIsDue (called limits pid request s).state
   called-early s pid request h =
       choice (λ (t : Step). NoneIsDue t.state) (is_waiting s pid) _ _ (λ _. h)
-      (λ free. told-early s pid request (tried limits s pid false request.kind) h (tried-ended limits s pid false request.kind free))
+      (λ free. replied_or_joined-early s pid request (tried limits s pid false request.kind) h (tried-ended limits s pid false request.kind free))
 
   interrupted-early : (s : State) (pid : ℕ) (r : Option PlainWaiting) → NoneIsDue s → NoneIsDue (interrupted s pid r).state
   interrupted-early s pid None h = h
@@ -81,8 +81,8 @@ module _ (limits : Limits) where
 
   asked-early : (s : State) (pid : ℕ) (request : PlainRequest) (kind : PlainKind) → NoneIsDue s → NoneIsDue (asked limits pid request kind s).state
   asked-early s pid request (Hello cred) h = h
-  asked-early s pid request Interrupts h = interrupted-early s pid (call_of (record { 0 = pid }) s.wait) h
-  asked-early s pid request (Calls call) h = called-early s pid request h
+  asked-early s pid request Interrupts h = interrupted-early s pid (waiting_call_of (record { 0 = pid }) s.wait) h
+  asked-early s pid request (Sysv call) h = called-early s pid request h
   asked-early s pid request (Posix call) h = called-early s pid request h
 
   pub step-early : (s : State) (e : PlainEvent) → NoneIsDue (step limits s e).state
@@ -90,7 +90,7 @@ module _ (limits : Limits) where
       choice (λ (t : Step). NoneIsDue t.state) (has_all_processes limits (due moment s).state) _ _ (λ _. due-early s moment) (λ _. due-early s moment)
   step-early s (Call pid request moment) = asked-early (due moment s).state pid request request.kind (due-early s moment)
   step-early s (Interrupt pid serial moment) =
-      interrupted-early (due moment s).state pid (call_of (record { 0 = pid }) (due moment s).state.wait) (due-early s moment)
+      interrupted-early (due moment s).state pid (waiting_call_of (record { 0 = pid }) (due moment s).state.wait) (due-early s moment)
   step-early s (Tick moment) = due-early s moment
   step-early s (Exit pid moment) = settle-early (exit (due moment s).state pid) (left-early (due moment s).state pid (due-early s moment))
   step-early s Restart = All-nil _

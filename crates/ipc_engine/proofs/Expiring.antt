@@ -4,7 +4,7 @@ use Rattle.std.proofs.Common.{sym, ap, subst, ◌∙◌, arith, if◌then◌else
 use Rattle.std.specs.Prelude.{All}
 use Rattle.std.proofs.lemmas.List.Elements.{All-head}
 use Rattle.ipc_base.specs.declared.identity.Moment.{Moment}
-use Rattle.ipc_wait.specs.Waits.{call_of, is_due, is_of, without, HaveDistinctPids}
+use Rattle.ipc_wait.specs.Waits.{waiting_call_of, is_due, is_of, without, HaveDistinctPids}
 use Rattle.ipc_wait.proofs.CallerLemmas.{due-leaves, found-in, without-distinct}
 use Rattle.ipc_wire.specs.Request.{PlainRequest}
 use Rattle.ipc_state.specs.declared.parked.Awaited.{Awaited}
@@ -24,7 +24,7 @@ pub record Expires (s t : State) (old new : List PlainOutcome) : Type 0 where
   pub outcomes : new ++ map expired (due_calls t) ≡ old ++ map expired (due_calls s)
 
 pub expires : (s t : State) (old new : List PlainOutcome) (w : PlainWaiting) → HaveDistinctPids s.wait → due_calls s ≡ w ∷ due_calls t
-    → call_of w.pid s.wait ≡ Some w → t ≡ without_waiting s w.pid.0 → new ≡ old ++ expired w ∷ [] → Expires s t old new
+    → waiting_call_of w.pid s.wait ≡ Some w → t ≡ without_waiting s w.pid.0 → new ≡ old ++ expired w ∷ [] → Expires s t old new
 expires s t old new w distinct first here is said =
     let now : Moment = record { 0 = s.clock } in
     let due : is_due now w ≡ true = All-head (λ (v : PlainWaiting). is_due now v ≡ true) w (due_calls t)

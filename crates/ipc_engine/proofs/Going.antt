@@ -7,9 +7,9 @@ use Rattle.std.proofs.lemmas.Bool.Decides.{nat_tests}
 use Rattle.std.proofs.lemmas.List.Elements.{All-nil, All-cons, All-filter}
 use Rattle.ipc_base.specs.declared.limits.Limits.{Limits}
 use Rattle.ipc_base.proofs.CallerLemmas.{test_cases}
-use Rattle.ipc_wait.specs.Waits.{call_of, is_of, without}
+use Rattle.ipc_wait.specs.Waits.{waiting_call_of, is_of, without}
 use Rattle.ipc_wait.proofs.CallerLemmas.{found-in}
-use Rattle.ipc_wire.specs.Request.{PlainCall, PlainKind, Hello, Interrupt as Interrupts, Calls, Posix}
+use Rattle.ipc_wire.specs.Request.{PlainSysv, PlainKind, Hello, Interrupt as Interrupts, Sysv, Posix}
 use Rattle.ipc_wire.specs.Request as requests
 use Rattle.ipc_state.specs.declared.parked.Object.{Object}
 use Rattle.ipc_state.specs.declared.parked.Object.TheVariants as object
@@ -24,7 +24,7 @@ use Rattle.sysv_calls.proofs.CallerLemmas.{attempt-good, by-waiting, received-wa
 use Rattle.ipc_engine.specs.Event.{PlainOutcome}
 use Rattle.ipc_engine.specs.Settling.{AreLinked, HaveSameObjects, OthersWait, ReceivesWait, RestWaits}
 use Rattle.ipc_engine.specs.Sound.{IsSound}
-use Rattle.ipc_engine.specs.Step.{Step, silent, after, resumed, resumed_first, settle_within, settle, can_go_on, tried}
+use Rattle.ipc_engine.specs.Step.{Step, silent, after, resumed, resumed_first, settle_within, settle, can_resume, tried}
 use Rattle.ipc_engine.proofs.Lists.{found-all, found-passes}
 use Rattle.ipc_engine.proofs.Settled.{left-free, resumed-has, settle-nothing}
 use Rattle.ipc_engine.proofs.Soundness.{still-waits}
@@ -36,32 +36,32 @@ IsOrNot a o = (Some a ≡ o) ⊎ (Some a ≢ o)
 
 -- an object by its kind and its number
 abbrev kind : Object → ℕ
-kind (object.Queue a) = 0
-kind (object.Set a) = 1
+kind (object.MsgQueue a) = 0
+kind (object.Semset a) = 1
 kind (object.Mq n) = 2
-kind (object.NamedSem n) = 3
-kind (object.Segment n) = 4
+kind (object.Psem n) = 3
+kind (object.Pshm n) = 4
 
 abbrev number : Object → ℕ
-number (object.Queue a) = a.0
-number (object.Set a) = a.0
+number (object.MsgQueue a) = a.0
+number (object.Semset a) = a.0
 number (object.Mq n) = n
-number (object.NamedSem n) = n
-number (object.Segment n) = n
+number (object.Psem n) = n
+number (object.Pshm n) = n
 
 abbrev of_kind : ℕ → ℕ → Object
-of_kind zero n = object.Queue (record { 0 = n })
-of_kind (suc zero) n = object.Set (record { 0 = n })
+of_kind zero n = object.MsgQueue (record { 0 = n })
+of_kind (suc zero) n = object.Semset (record { 0 = n })
 of_kind (suc (suc zero)) n = object.Mq n
-of_kind (suc (suc (suc zero))) n = object.NamedSem n
-of_kind (suc (suc (suc (suc k)))) n = object.Segment n
+of_kind (suc (suc (suc zero))) n = object.Psem n
+of_kind (suc (suc (suc (suc k)))) n = object.Pshm n
 
 known : (a : Object) → of_kind (kind a) (number a) ≡ a
-known (object.Queue a) = refl
-known (object.Set a) = refl
+known (object.MsgQueue a) = refl
+known (object.Semset a) = refl
 known (object.Mq n) = refl
-known (object.NamedSem n) = refl
-known (object.Segment n) = refl
+known (object.Psem n) = refl
+known (object.Pshm n) = refl
 
 same_object : (a : Object) (o : Option Object) → IsOrNot a o
 same_object a None = inr (λ no. cc)
@@ -79,12 +79,12 @@ same_object a (Some b) = by_kind (test_cases (nat_eq (kind a) (kind b)))
     by_kind (inr other) = inr (λ same. absurd (let it : a ≡ b = cc in let also : kind a ≡ kind b = ap kind it in grind (arith, nat_tests)))
 
 -- each call of a list is found there by its process
-all-waiting : (ws : List PlainWaiting) → All (λ (w : PlainWaiting). is_some (call_of w.pid ws) ≡ true) ws
+all-waiting : (ws : List PlainWaiting) → All (λ (w : PlainWaiting). is_some (waiting_call_of w.pid ws) ≡ true) ws
 all-waiting [] = All-nil _
 all-waiting (w ∷ ws) =
-    All-cons (λ (v : PlainWaiting). is_some (call_of v.pid (w ∷ ws)) ≡ true) w ws (by_test (is_of w.pid w) (call_of w.pid ws) (inl (grind
+    All-cons (λ (v : PlainWaiting). is_some (waiting_call_of v.pid (w ∷ ws)) ≡ true) w ws (by_test (is_of w.pid w) (waiting_call_of w.pid ws) (inl (grind
     (arith, nat_tests))))
-    (λ k d i. by_test (is_of (get_or ws k d).pid w) (call_of (get_or ws k d).pid ws) (inr (all-waiting ws k d i)))
+    (λ k d i. by_test (is_of (get_or ws k d).pid w) (waiting_call_of (get_or ws k d).pid ws) (inr (all-waiting ws k d i)))
   where
     by_test : (b : Bool) (r : Option PlainWaiting) → (b ≡ true) ⊎ (is_some r ≡ true) → is_some (if b then Some w else r) ≡ true
     by_test true r is = refl
@@ -93,7 +93,7 @@ all-waiting (w ∷ ws) =
 
 module _ (limits : Limits) where
   -- the object on which a call waits is there
-  there-of : (s : State) (w : PlainWaiting) → IsSoundWaiting w → can_go_on limits s w ≡ false → is_there w.pid.0 w.on s ≡ true
+  there-of : (s : State) (w : PlainWaiting) → IsSoundWaiting w → can_resume limits s w ≡ false → is_there w.pid.0 w.on s ≡ true
   there-of s w sound waits = tried-there limits s w.pid.0 true w.call.kind w.on sound.on (opposite _ waits)
     where
       opposite : (b : Bool) → not b ≡ false → b ≡ true
@@ -102,22 +102,22 @@ module _ (limits : Limits) where
 
   -- one that waits on another object than the one that a call may have changed has to
   after-waits : (s : State) (touches : Option Object) (f : Finish) (w : PlainWaiting) → IsGood limits s touches f → HasSoundParts limits s
-      → IsSoundWaiting w → is_waiting s w.pid.0 ≡ true → can_go_on limits s w ≡ false → touches ≢ object_of s w.pid.0 w.on
-      → can_go_on limits f.state w ≡ false
+      → IsSoundWaiting w → is_waiting s w.pid.0 ≡ true → can_resume limits s w ≡ false → touches ≢ object_of s w.pid.0 w.on
+      → can_resume limits f.state w ≡ false
   after-waits s touches f w good h sound waiting waits apart =
       still-waits limits s f.state w sound (good.kept.creds w.pid.0) (good.others h w.pid.0 w.on waiting apart (there-of s w sound waits)) ∙ waits
 
   pub others-after : (s : State) (touches : Option Object) (f : Finish) → IsSound limits s → IsGood limits s touches f → HaveSameObjects s f.state
       → OthersWait limits f.state touches
   others-after s None f h good same =
-      subst (λ (ws : List PlainWaiting). All (λ (w : PlainWaiting). can_go_on limits f.state w ≡ false) ws) (sym good.wait)
+      subst (λ (ws : List PlainWaiting). All (λ (w : PlainWaiting). can_resume limits f.state w ≡ false) ws) (sym good.wait)
       (λ k d i.
       let w = get_or s.wait k d in
       let sound = h.parts.wait.each k d i in
       let waits = (h.waits k d i).waits in
       after-waits s None f w good h.parts sound (all-waiting s.wait k d i) waits (there-object s w.pid.0 w.on (there-of s w sound waits)))
   others-after s (Some changed) f h good same =
-      subst (λ (ws : List PlainWaiting). All (λ (w : PlainWaiting). Some changed ≢ object_of f.state w.pid.0 w.on → can_go_on limits f.state w ≡ false) ws)
+      subst (λ (ws : List PlainWaiting). All (λ (w : PlainWaiting). Some changed ≢ object_of f.state w.pid.0 w.on → can_resume limits f.state w ≡ false) ws)
       (sym good.wait)
       (λ k d i apart.
       after-waits s (Some changed) f (get_or s.wait k d) good h.parts (h.parts.wait.each k d i) (all-waiting s.wait k d i) (h.waits k d i).waits
@@ -125,8 +125,8 @@ module _ (limits : Limits) where
 
   -- after a receive the other receives have to wait on
   module _ (s : State) (pid : ℕ) (f : Finish) (h : IsSound limits s) where
-    abbrev StillReceive : PlainCall → Type 0
-    StillReceive call = attempt limits s pid false call ≡ Finishes f → is_receive (Calls call) ≡ true → ReceivesWait limits f.state
+    abbrev StillReceive : PlainSysv → Type 0
+    StillReceive call = attempt limits s pid false call ≡ Finishes f → is_receive (Sysv call) ≡ true → ReceivesWait limits f.state
 
     -- one that had to wait, if it is a receive
     abbrev StillWaits : ℕ → PlainKind → Type 0
@@ -135,7 +135,7 @@ module _ (limits : Limits) where
 
     after-receive : (id flags size : ℕ) (mtype : ℤ) → StillReceive (requests.Msgrcv id flags size mtype)
     after-receive id flags size mtype is receive =
-        subst (λ (ws : List PlainWaiting). All (λ (w : PlainWaiting). is_receive w.call.kind ≡ true → can_go_on limits f.state w ≡ false) ws) (sym good.wait)
+        subst (λ (ws : List PlainWaiting). All (λ (w : PlainWaiting). is_receive w.call.kind ≡ true → can_resume limits f.state w ≡ false) ws) (sym good.wait)
         (λ k d i other. by_kind (get_or s.wait k d).pid.0 (get_or s.wait k d).call.kind other (h.waits k d i).waits)
       where
         good : IsGood limits s (touched (requests.Msgrcv id flags size mtype)) f
@@ -147,21 +147,21 @@ module _ (limits : Limits) where
         opposite false is = cc
 
         by_kind : (other : ℕ) (kind : PlainKind) → StillWaits other kind
-        by_kind other (Calls call) = by-waiting (λ (c : PlainCall). StillWaits other (Calls c)) (λ i fs mt text one. cc)
+        by_kind other (Sysv call) = by-waiting (λ (c : PlainSysv). StillWaits other (Sysv c)) (λ i fs mt text one. cc)
             (λ i fs sz mt one waits. ap not (received-waits limits s pid false id flags size mtype f is other i fs sz mt (opposite _ waits)))
             (λ i timeout operations one. cc) (λ c none one. let both = sym none.no_receive ∙ one in cc) call
         by_kind other (Posix call) = λ one. cc
         by_kind other (Hello cred) = λ one. cc
         by_kind other Interrupts = λ one. cc
 
-    pub receives-after : (call : PlainCall) → attempt limits s pid false call ≡ Finishes f → is_receive (Calls call) ≡ true → ReceivesWait limits f.state
+    pub receives-after : (call : PlainSysv) → attempt limits s pid false call ≡ Finishes f → is_receive (Sysv call) ≡ true → ReceivesWait limits f.state
     receives-after = by-waiting StillReceive (λ id flags mtype text is one. cc) after-receive (λ id timeout operations is one. cc)
         (λ call none is one. let both = sym none.no_receive ∙ one in cc)
 
   -- the same of any kind, told as the program tells it
   pub receives-tried : (s : State) (pid : ℕ) (kind : PlainKind) (f : Finish) → IsSound limits s → tried limits s pid false kind ≡ Finishes f
       → is_receive kind ≡ true → ReceivesWait limits f.state
-  receives-tried s pid (Calls call) f h is receive = receives-after s pid f h call is receive
+  receives-tried s pid (Sysv call) f h is receive = receives-after s pid f h call is receive
   receives-tried s pid (Posix call) f h is receive = cc
   receives-tried s pid (Hello cred) f h is receive = cc
   receives-tried s pid Interrupts f h is receive = cc
@@ -194,9 +194,9 @@ module _ (limits : Limits) where
       cc
 
   module _ (s : State) (on : Object) (h : HasSoundParts limits s) (others : OthersWait limits s (Some on)) (w : PlainWaiting)
-      (first : find (can_go_on limits s) s.wait ≡ Some w) where
+      (first : find (can_resume limits s) s.wait ≡ Some w) where
     first-sound : IsSoundWaiting w
-    first-sound = found-all (can_go_on limits s) IsSoundWaiting s.wait w h.wait.each first
+    first-sound = found-all (can_resume limits s) IsSoundWaiting s.wait w h.wait.each first
 
     -- who goes on waited on the object
     first-on : Some on ≡ object_of s w.pid.0 w.on
@@ -205,16 +205,16 @@ module _ (limits : Limits) where
         by_object : (Some on ≡ object_of s w.pid.0 w.on) ⊎ (Some on ≢ object_of s w.pid.0 w.on) → Some on ≡ object_of s w.pid.0 w.on
         by_object (inl same) = same
         by_object (inr apart) =
-            let waits = found-all (can_go_on limits s) (λ (v : PlainWaiting). Some on ≢ object_of s v.pid.0 v.on → can_go_on limits s v ≡ false)
+            let waits = found-all (can_resume limits s) (λ (v : PlainWaiting). Some on ≢ object_of s v.pid.0 v.on → can_resume limits s v ≡ false)
             s.wait w others first in
-            absurd (let no = waits apart in let yes = found-passes (can_go_on limits s) s.wait w first in cc)
+            absurd (let no = waits apart in let yes = found-passes (can_resume limits s) s.wait w first in cc)
 
     pub others-resumed : OthersWait limits (resumed limits s w).state (Some on)
     others-resumed =
         let r = resumed-has limits s w first-sound in
         let t = (resumed limits s w).state in
         let rest = without w.pid s.wait in
-        subst (λ (ws : List PlainWaiting). All (λ (v : PlainWaiting). Some on ≢ object_of t v.pid.0 v.on → can_go_on limits t v ≡ false) ws) (sym r.wait)
+        subst (λ (ws : List PlainWaiting). All (λ (v : PlainWaiting). Some on ≢ object_of t v.pid.0 v.on → can_resume limits t v ≡ false) ws) (sym r.wait)
         (λ k d i apart.
         let v = get_or rest k d in
         let waiting = all-waiting rest k d i in
@@ -222,7 +222,7 @@ module _ (limits : Limits) where
         let same = r.objects v.pid.0 v.on (left-apart s w v.pid.0 waiting) in
         let other : Some on ≢ object_of s v.pid.0 v.on = λ one. apart (one ∙ sym same) in
         let waits = All-filter (λ (v : PlainWaiting). not (is_of w.pid v))
-        (λ (v : PlainWaiting). Some on ≢ object_of s v.pid.0 v.on → can_go_on limits s v ≡ false) s.wait others k d i other in
+        (λ (v : PlainWaiting). Some on ≢ object_of s v.pid.0 v.on → can_resume limits s v ≡ false) s.wait others k d i other in
         still-waits limits s t v sound (r.kept.creds v.pid.0)
         (r.others h v.pid.0 v.on waiting (λ one. other (first-on ∙ one)) (there-of s v sound waits)) ∙ waits)
 
@@ -234,12 +234,12 @@ module _ (limits : Limits) where
       (All-filter (λ (v : PlainWaiting). not (is_of w.pid v)) (λ (v : PlainWaiting). is_process t v.pid.0 ≡ true) s.wait
       (λ k d i. same-connected s t (get_or s.wait k d).pid.0 r.kept ∙ linked k d i))
 
-  pub within-none : (n : ℕ) (s : State) → find (can_go_on limits s) s.wait ≡ None → settle_within limits n s ≡ silent s
+  pub within-none : (n : ℕ) (s : State) → find (can_resume limits s) s.wait ≡ None → settle_within limits n s ≡ silent s
   unfolding settle_within
   within-none zero s none = refl
   within-none (suc n) s none = ap (λ (r : Option PlainWaiting). resumed_first limits s r (settle_within limits n)) none
 
-  pub within-some : (n : ℕ) (s : State) (w : PlainWaiting) → find (can_go_on limits s) s.wait ≡ Some w
+  pub within-some : (n : ℕ) (s : State) (w : PlainWaiting) → find (can_resume limits s) s.wait ≡ Some w
       → settle_within limits (suc n) s ≡ after (resumed limits s w) (settle_within limits n)
   unfolding settle_within
   within-some n s w first = ap (λ (r : Option PlainWaiting). resumed_first limits s r (settle_within limits n)) first
@@ -253,7 +253,7 @@ module _ (limits : Limits) where
   within-nothing s = refl
 
   -- one more has gone on: what is left to be done comes to the same
-  pub record GoesOn (s t : State) (among : Option Object) (n : ℕ) (old new : List PlainOutcome) : Type 0 where
+  pub record ResumesOne (s t : State) (among : Option Object) (n : ℕ) (old new : List PlainOutcome) : Type 0 where
     pub parts : HasSoundParts limits t
     pub linked : AreLinked t
     pub rest : RestWaits limits t among
@@ -263,16 +263,16 @@ module _ (limits : Limits) where
 
   -- what waits on objects that have not changed has to wait on
   rest-resumed : (s : State) (among : Option Object) (w : PlainWaiting) → HasSoundParts limits s → RestWaits limits s among
-      → find (can_go_on limits s) s.wait ≡ Some w → RestWaits limits (resumed limits s w).state among
+      → find (can_resume limits s) s.wait ≡ Some w → RestWaits limits (resumed limits s w).state among
   rest-resumed s None w h rest first = λ k d i no. absurd (no tt)
   rest-resumed s (Some on) w h rest first = others-resumed s on h rest w first
 
   pub goes-on : (s t : State) (among : Option Object) (n : ℕ) (old new : List PlainOutcome) (w : PlainWaiting) → HasSoundParts limits s → AreLinked s
       → RestWaits limits s among
-      → find (can_go_on limits s) s.wait ≡ Some w → t ≡ (resumed limits s w).state → new ≡ old ++ (resumed limits s w).outcomes → GoesOn s t among n old new
+      → find (can_resume limits s) s.wait ≡ Some w → t ≡ (resumed limits s w).state → new ≡ old ++ (resumed limits s w).outcomes → ResumesOne s t among n old new
   goes-on s t among n old new w h linked rest-waits first is said =
       let now = resumed limits s w in
-      let sound = found-all (can_go_on limits s) IsSoundWaiting s.wait w h.wait.each first in
+      let sound = found-all (can_resume limits s) IsSoundWaiting s.wait w h.wait.each first in
       let r = resumed-has limits s w sound in
       let more = within-some n s w first in
       let rest = settle_within limits n in
@@ -287,7 +287,7 @@ module _ (limits : Limits) where
           r.few,
           ap (λ (u : State). length u.wait) is,
           ap length r.wait,
-          (found-in (can_go_on limits s) s.wait w h.wait.pids first).fewer,
+          (found-in (can_resume limits s) s.wait w h.wait.pids first).fewer,
         );
         state = ap (λ (u : State). (rest u).state) is ∙ sym (ap (λ (u : Step). u.state) more);
         outcomes =

@@ -3,7 +3,7 @@ use Rattle.std.proofs.Common.{◌≡◌, ℕ, true, false, Option, Some, None, s
 use Rattle.std.specs.Prelude.{find}
 use Rattle.ipc_base.specs.declared.identity.Pid.{Pid}
 use Rattle.ipc_base.specs.declared.limits.Limits.{Limits}
-use Rattle.ipc_wait.specs.Waits.{call_of}
+use Rattle.ipc_wait.specs.Waits.{waiting_call_of}
 use Rattle.ipc_wait.proofs.CallerLemmas.{found-in}
 use Rattle.ipc_wire.specs.Request.{PlainKind}
 use Rattle.ipc_state.specs.Finish.{Finish, Tried, Finishes, Waits, IfFinishes}
@@ -14,7 +14,7 @@ use Rattle.ipc_state.specs.declared.parked.Object.{Object}
 use Rattle.ipc_state.proofs.CallerLemmas.{IsGood}
 use Rattle.ipc_engine.specs.Settling.{HaveSameObjects, touched_by}
 use Rattle.ipc_engine.specs.Sound.{IsSound}
-use Rattle.ipc_engine.specs.Step.{answered, replied, silent, can_go_on, resumed, tried}
+use Rattle.ipc_engine.specs.Step.{answered, replied, silent, can_resume, resumed, tried}
 use Rattle.ipc_engine.proofs.Going.{objects-after}
 use Rattle.ipc_engine.proofs.Lists.{found-all}
 use Rattle.ipc_engine.proofs.Tries.{HasEnded, tried-ended}
@@ -22,29 +22,29 @@ use Rattle.ipc_engine.proofs.Tries.{HasEnded, tried-ended}
 module _ (limits : Limits) where
   -- what has left the list is the call that was found
   pub left-is : (s : State) (pid : Pid) (w v : PlainWaiting) (r : Option PlainWaiting) → HasSoundParts limits s
-      → find (can_go_on limits s) s.wait ≡ Some w → w.pid ≡ pid
-      → r ≡ call_of pid s.wait → r ≡ Some v → v ≡ w
+      → find (can_resume limits s) s.wait ≡ Some w → w.pid ≡ pid
+      → r ≡ waiting_call_of pid s.wait → r ≡ Some v → v ≡ w
   left-is s pid w v r h first is left some =
       let both : Some v ≡ Some w =
-      sym some ∙ (left ∙ (ap (λ (p : Pid). call_of p s.wait) (sym is) ∙ (found-in (can_go_on limits s) s.wait w h.wait.pids first).here)) in
+      sym some ∙ (left ∙ (ap (λ (p : Pid). waiting_call_of p s.wait) (sym is) ∙ (found-in (can_resume limits s) s.wait w h.wait.pids first).here)) in
       cc
 
   -- it is there
   pub left-some : (s : State) (pid : Pid) (w : PlainWaiting) (r : Option PlainWaiting) → HasSoundParts limits s
-      → find (can_go_on limits s) s.wait ≡ Some w → w.pid ≡ pid
-      → r ≡ call_of pid s.wait → r ≡ None → ⊥
+      → find (can_resume limits s) s.wait ≡ Some w → w.pid ≡ pid
+      → r ≡ waiting_call_of pid s.wait → r ≡ None → ⊥
   left-some s pid w r h first is left none =
-      let there : None ≡ Some w = sym none ∙ (left ∙ (ap (λ (p : Pid). call_of p s.wait) (sym is)
-      ∙ (found-in (can_go_on limits s) s.wait w h.wait.pids first).here)) in
+      let there : None ≡ Some w = sym none ∙ (left ∙ (ap (λ (p : Pid). waiting_call_of p s.wait) (sym is)
+      ∙ (found-in (can_resume limits s) s.wait w h.wait.pids first).here)) in
       cc
 
-  pub first-sound : (s : State) (w : PlainWaiting) → HasSoundParts limits s → find (can_go_on limits s) s.wait ≡ Some w → IsSoundWaiting w
-  first-sound s w h first = found-all (can_go_on limits s) IsSoundWaiting s.wait w h.wait.each first
+  pub first-sound : (s : State) (w : PlainWaiting) → HasSoundParts limits s → find (can_resume limits s) s.wait ≡ Some w → IsSoundWaiting w
+  first-sound s w h first = found-all (can_resume limits s) IsSoundWaiting s.wait w h.wait.each first
 
   -- the program has found one, and tried what has left the list
   module _ (s t : State) (now : Limits) (pid : Pid) (serial : ℕ) (first : PlainWaiting) (v w : PlainWaiting) (h : HasSoundParts limits s)
-      (found : find (can_go_on limits s) s.wait ≡ Some first) (its : v ≡ first) (process : first.pid ≡ pid) (number : serial ≡ v.call.serial)
-      (same : now ≡ limits) (left : t ≡ without_waiting s pid.0) (also : find (can_go_on limits s) s.wait ≡ Some w) where
+      (found : find (can_resume limits s) s.wait ≡ Some first) (its : v ≡ first) (process : first.pid ≡ pid) (number : serial ≡ v.call.serial)
+      (same : now ≡ limits) (left : t ≡ without_waiting s pid.0) (also : find (can_resume limits s) s.wait ≡ Some w) where
     it_is : v ≡ w
     it_is = let both : Some first ≡ Some w = sym found ∙ also in cc
 

@@ -8,8 +8,8 @@ use Rattle.std.proofs.lemmas.List.Elements.{All-nil, All-cons, All-append, All-f
 use Rattle.ipc_base.specs.declared.identity.Moment.{Moment}
 use Rattle.ipc_base.specs.declared.identity.Pid.{Pid}
 use Rattle.ipc_base.specs.declared.limits.Limits.{Limits}
-use Rattle.ipc_wait.specs.Waits.{call_of, without, is_of, is_due}
-use Rattle.ipc_wait.proofs.CallerLemmas.{IsIn, found-in, call_of-without_same, call_of-without_other}
+use Rattle.ipc_wait.specs.Waits.{waiting_call_of, without, is_of, is_due}
+use Rattle.ipc_wait.proofs.CallerLemmas.{IsIn, found-in, waiting_call_of-without_same, waiting_call_of-without_other}
 use Rattle.sem_undo.specs.Undo.{Key, adjustment}
 use Rattle.sysv_msg.specs.Queue.{Queue}
 use Rattle.sysv_sem.specs.Set.{Set}
@@ -30,20 +30,20 @@ use Rattle.posix_mq.specs.declared.queue.Registration.{Registration}
 use Rattle.posix_mq.specs.Queue.{Queue as Mq}
 use Rattle.ipc_engine.specs.Event.{PlainOutcome}
 use Rattle.ipc_engine.specs.Settling.{touched_by}
-use Rattle.ipc_engine.specs.Step.{Step, silent, after, answered, notices, replied, tried, can_go_on, resumed, resumed_first, settle_within, settle}
+use Rattle.ipc_engine.specs.Step.{Step, silent, after, answered, notices, replied, tried, can_resume, resumed, resumed_first, settle_within, settle}
 use Rattle.ipc_engine.proofs.Lists.{found-all, nothing-passes, nothing-found}
 use Rattle.ipc_engine.proofs.Tries.{HasEnded, same-objects, tried-ended, waited-ended}
 use Rattle.ipc_engine.proofs.Weights.{weight_to, weight_to-append, replied-weighs, held, notes, notes-same, IsLight}
 
 -- who waits tells nothing of the objects
 pub there-with : (pid : ℕ) (on : Awaited) (s : State) (ws : List PlainWaiting) → is_there pid on s ≡ true → is_there pid on (record s { wait = ws }) ≡ true
-there-with pid (awaited.Queue n) s ws there = there
-there-with pid (awaited.Set n) s ws there = there
+there-with pid (awaited.MsgQueue n) s ws there = there
+there-with pid (awaited.Semset n) s ws there = there
 there-with pid (awaited.Descriptor fd) s ws there = there
 
 pub before-with : (pid : ℕ) (on : Awaited) (s t : State) (ws : List PlainWaiting) → IsAsBefore pid on (record s { wait = ws }) t → IsAsBefore pid on s t
-before-with pid (awaited.Queue n) s t ws before = before
-before-with pid (awaited.Set n) s t ws before = before
+before-with pid (awaited.MsgQueue n) s t ws before = before
+before-with pid (awaited.Semset n) s t ws before = before
 before-with pid (awaited.Descriptor fd) s t ws before = before
 
 -- the adjustments of each process are the same
@@ -51,10 +51,10 @@ abbrev pub HasSameUndo : State → State → Type 0
 HasSameUndo s t = (pid : ℕ) (k : Key) → adjustment (undo_of t pid) k ≡ adjustment (undo_of s pid) k
 
 -- the same queues, sets and adjustments, and the same process
-pub as-before : (pid : ℕ) (on : Awaited) (s t : State) → t.msg ≡ s.msg → t.sem ≡ s.sem → t.mq ≡ s.mq → t.named_sem ≡ s.named_sem → HasSameUndo s t
+pub as-before : (pid : ℕ) (on : Awaited) (s t : State) → t.msg ≡ s.msg → t.semset ≡ s.semset → t.mq ≡ s.mq → t.psem ≡ s.psem → HasSameUndo s t
     → entry_of t.processes pid ≡ entry_of s.processes pid → IsAsBefore pid on s t
-as-before pid (awaited.Queue n) s t queues sets mqs sems undo process = ap (λ (m : Keyed Queue). entry_of m n.0) queues
-as-before pid (awaited.Set n) s t queues sets mqs sems undo process = (ap (λ (m : Keyed Set). entry_of m n.0) sets, λ pid num. undo pid (n.0, num))
+as-before pid (awaited.MsgQueue n) s t queues sets mqs sems undo process = ap (λ (m : Keyed Queue). entry_of m n.0) queues
+as-before pid (awaited.Semset n) s t queues sets mqs sems undo process = (ap (λ (m : Keyed Set). entry_of m n.0) sets, λ pid num. undo pid (n.0, num))
 as-before pid (awaited.Descriptor fd) s t queues sets mqs sems undo process = (
   ap (λ (p : Option Process). value_at nat_eq (unwrap_or (option_map (λ (q : Process). q.descriptors) p) []) fd) process,
   λ n is. ap (λ (m : Named Mq). option_map (λ (e : NamedEntry Mq). e.object) (entry_of m n)) mqs,
@@ -67,7 +67,7 @@ same-then s t u first later =
 
 -- who has left the list waits no longer
 pub left-free : (s : State) (w : PlainWaiting) → is_waiting (without_waiting s w.pid.0) w.pid.0 ≡ false
-left-free s w = ap is_some (call_of-without_same w.pid s.wait)
+left-free s w = ap is_some (waiting_call_of-without_same w.pid s.wait)
 
 -- one notification at most
 notices-few : (fired : Option Registration) → length (notices fired) ≤ 1
@@ -162,7 +162,7 @@ module _ (limits : Limits) where
   settled-kept : (n : ℕ) (s : State) → HasSameProcesses s (settle_within limits n s).state × ((settle_within limits n s).state.clock ≡ s.clock)
   unfolding settle_within
   settled-kept zero s = (same-processes s s refl, refl)
-  settled-kept (suc n) s = by_found (find (can_go_on limits s) s.wait) (λ t. settled-kept n t)
+  settled-kept (suc n) s = by_found (find (can_resume limits s) s.wait) (λ t. settled-kept n t)
     where
       by_found : (r : Option PlainWaiting)
           → ((t : State) → HasSameProcesses t (settle_within limits n t).state × ((settle_within limits n t).state.clock ≡ t.clock))
@@ -218,16 +218,16 @@ module _ (limits : Limits) where
           let is : pid ≡ w.pid.0 = grind (arith, nat_tests) in
           let before : is_waiting s pid ≡ true = ap (λ (q : ℕ). is_waiting s q) is ∙ ap is_some there.here in
           let later : is_waiting t.state pid ≡ false =
-          ap (λ (q : ℕ). is_waiting t.state q) is ∙ (ap (λ (ws : List PlainWaiting). is_some (call_of w.pid ws)) r.wait
-          ∙ ap is_some (call_of-without_same w.pid s.wait)) in
+          ap (λ (q : ℕ). is_waiting t.state q) is ∙ (ap (λ (ws : List PlainWaiting). is_some (waiting_call_of w.pid ws)) r.wait
+          ∙ ap is_some (waiting_call_of-without_same w.pid s.wait)) in
           let least : weight_to weigh pid t.outcomes + notes note t.state pid ≤ notes note s pid + most =
           rw same at (r.weight weigh most note light h pid) in
           rw before (rw later (omega (arith, least)))
       by_test false other =
           let apart : record { 0 = pid } ≢ w.pid = λ e. absurd (let is : pid ≡ w.pid.0 = ap (λ (p : Pid). p.0) e in grind (arith, nat_tests)) in
           let same : is_waiting t.state pid ≡ is_waiting s pid =
-          ap (λ (ws : List PlainWaiting). is_some (call_of (record { 0 = pid }) ws)) r.wait
-          ∙ ap is_some (call_of-without_other w.pid (record { 0 = pid }) s.wait apart) in
+          ap (λ (ws : List PlainWaiting). is_some (waiting_call_of (record { 0 = pid }) ws)) r.wait
+          ∙ ap is_some (waiting_call_of-without_other w.pid (record { 0 = pid }) s.wait apart) in
           let none : weight_to weigh pid t.outcomes + notes note t.state pid ≤ notes note s pid + 0 =
           rw other at (r.weight weigh most note light h pid) in
           rw same (omega (arith, none))
@@ -261,18 +261,18 @@ module _ (limits : Limits) where
       }
 
   -- what a search finds is in the list, and sound
-  first-in : (s : State) (w : PlainWaiting) → HasSoundParts limits s → find (can_go_on limits s) s.wait ≡ Some w → IsIn s.wait w
-  first-in s w h is = found-in (can_go_on limits s) s.wait w h.wait.pids is
+  first-in : (s : State) (w : PlainWaiting) → HasSoundParts limits s → find (can_resume limits s) s.wait ≡ Some w → IsIn s.wait w
+  first-in s w h is = found-in (can_resume limits s) s.wait w h.wait.pids is
 
-  first-sound : (s : State) (w : PlainWaiting) → HasSoundParts limits s → find (can_go_on limits s) s.wait ≡ Some w → IsSoundWaiting w
-  first-sound s w h is = found-all (can_go_on limits s) IsSoundWaiting s.wait w h.wait.each is
+  first-sound : (s : State) (w : PlainWaiting) → HasSoundParts limits s → find (can_resume limits s) s.wait ≡ Some w → IsSoundWaiting w
+  first-sound s w h is = found-all (can_resume limits s) IsSoundWaiting s.wait w h.wait.each is
 
   pub settle-has : (n : ℕ) (s : State) → HasSoundParts limits s → HasSettled s (settle_within limits n s)
   unfolding settle_within
   settle-has zero s h = settled-silent s h
-  settle-has (suc n) s h = by_found (find (can_go_on limits s) s.wait) refl (λ t. settle-has n t)
+  settle-has (suc n) s h = by_found (find (can_resume limits s) s.wait) refl (λ t. settle-has n t)
     where
-      by_found : (r : Option PlainWaiting) → find (can_go_on limits s) s.wait ≡ r → ((t : State) → HasSoundParts limits t
+      by_found : (r : Option PlainWaiting) → find (can_resume limits s) s.wait ≡ r → ((t : State) → HasSoundParts limits t
           → HasSettled t (settle_within limits n t))
           → HasSettled s (resumed_first limits s r (settle_within limits n))
       by_found None is rest = settled-silent s h
@@ -282,30 +282,30 @@ module _ (limits : Limits) where
 
   -- then none can go on
   pub settle-done : (n : ℕ) (s : State) → HasSoundParts limits s → length s.wait ≤ n
-      → All (λ (w : PlainWaiting). can_go_on limits (settle_within limits n s).state w ≡ false) (settle_within limits n s).state.wait
+      → All (λ (w : PlainWaiting). can_resume limits (settle_within limits n s).state w ≡ false) (settle_within limits n s).state.wait
   unfolding settle_within
   settle-done zero s h none = by_list s.wait none
     where
-      by_list : (ws : List PlainWaiting) → length ws ≤ 0 → All (λ (w : PlainWaiting). can_go_on limits s w ≡ false) ws
+      by_list : (ws : List PlainWaiting) → length ws ≤ 0 → All (λ (w : PlainWaiting). can_resume limits s w ≡ false) ws
       by_list [] none = All-nil _
       by_list (w ∷ ws) none = absurd (omega arith)
-  settle-done (suc n) s h most = by_found (find (can_go_on limits s) s.wait) refl (λ t. settle-done n t)
+  settle-done (suc n) s h most = by_found (find (can_resume limits s) s.wait) refl (λ t. settle-done n t)
     where
-      by_found : (r : Option PlainWaiting) → find (can_go_on limits s) s.wait ≡ r
+      by_found : (r : Option PlainWaiting) → find (can_resume limits s) s.wait ≡ r
           → ((t : State) → HasSoundParts limits t → length t.wait ≤ n
-          → All (λ (w : PlainWaiting). can_go_on limits (settle_within limits n t).state w ≡ false) (settle_within limits n t).state.wait)
-          → All (λ (w : PlainWaiting). can_go_on limits (resumed_first limits s r (settle_within limits n)).state w ≡ false)
+          → All (λ (w : PlainWaiting). can_resume limits (settle_within limits n t).state w ≡ false) (settle_within limits n t).state.wait)
+          → All (λ (w : PlainWaiting). can_resume limits (resumed_first limits s r (settle_within limits n)).state w ≡ false)
           (resumed_first limits s r (settle_within limits n)).state.wait
-      by_found None is rest = nothing-passes (can_go_on limits s) s.wait is
+      by_found None is rest = nothing-passes (can_resume limits s) s.wait is
       by_found (Some w) is rest =
           let r = resumed-has s w (first-sound s w h is) in
           rest (resumed limits s w).state (r.parts h) (omega (arith, most, ap length r.wait, (first-in s w h is).fewer))
 
   -- nothing is done where none can go on
-  pub settle-nothing : (s : State) → All (λ (w : PlainWaiting). can_go_on limits s w ≡ false) s.wait → settle limits s ≡ silent s
+  pub settle-nothing : (s : State) → All (λ (w : PlainWaiting). can_resume limits s w ≡ false) s.wait → settle limits s ≡ silent s
   unfolding settle settle_within
   settle-nothing s all = by_count (length s.wait)
     where
       by_count : (n : ℕ) → settle_within limits n s ≡ silent s
       by_count zero = refl
-      by_count (suc n) = ap (λ (r : Option PlainWaiting). resumed_first limits s r (settle_within limits n)) (nothing-found (can_go_on limits s) s.wait all)
+      by_count (suc n) = ap (λ (r : Option PlainWaiting). resumed_first limits s r (settle_within limits n)) (nothing-found (can_resume limits s) s.wait all)

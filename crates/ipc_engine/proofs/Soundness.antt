@@ -13,8 +13,8 @@ use Rattle.ipc_base.specs.declared.errno.Errno.TheVariants.{EALREADY}
 use Rattle.ipc_base.specs.declared.limits.Limits.{Limits}
 use Rattle.ipc_base.specs.declared.identity.Cred.{Cred}
 use Rattle.ipc_base.proofs.CallerLemmas.{choice, other-push, rising-found, value_at-without}
-use Rattle.ipc_wait.specs.Waits.{call_of, without, is_of, is_due}
-use Rattle.ipc_wire.specs.Request.{PlainKind, PlainRequest, Hello, Interrupt as Interrupts, Calls, Posix}
+use Rattle.ipc_wait.specs.Waits.{waiting_call_of, without, is_of, is_due}
+use Rattle.ipc_wire.specs.Request.{PlainKind, PlainRequest, Hello, Interrupt as Interrupts, Sysv, Posix}
 use Rattle.ipc_wire.specs.Spelling.{HasFrame}
 use Rattle.ipc_wire.specs.declared.reply.Body.TheVariants.{Empty}
 use Rattle.ipc_state.specs.declared.parked.Awaited.{Awaited}
@@ -27,14 +27,14 @@ use Rattle.ipc_state.specs.State.{State, at_moment, cred_of, due_calls, has_all_
 use Rattle.ipc_state.specs.State.{with_process, with_waiting, without_waiting}
 use Rattle.ipc_state.specs.Touching.{IsAsBefore}
 use Rattle.ipc_state.specs.Waiting.{PlainWaiting, IsSoundWaiting, awaited_by, expiry}
-use Rattle.ipc_state.proofs.CallerLemmas.{IsGood, same-connected, begin-sound, exit-sound, restart-sound, with_process-sound, with_waiting-sound}
+use Rattle.ipc_state.proofs.CallerLemmas.{IsGood, same-connected, set_moment-sound, exit-sound, restart-sound, with_process-sound, with_waiting-sound}
 use Rattle.ipc_state.proofs.CallerLemmas.{deadline-sound, without_due-sound, without_waiting-sound}
 use Rattle.ipc_engine.specs.Engine.{IsForProcess, HasRequest}
 use Rattle.ipc_engine.specs.Event.{PlainEvent, Connect, Call, Interrupt, Tick, Exit, Restart, PlainOutcome}
 use Rattle.ipc_engine.specs.Settling.{AreLinked, touched_by}
 use Rattle.ipc_engine.specs.Sound.{IsSound, HasToWait}
-use Rattle.ipc_engine.specs.Step.{Step, silent, step, due, expired, waiting_on, connect, asked, called, told, joins}
-use Rattle.ipc_engine.specs.Step.{interrupt, interrupted, replied, settle, can_go_on, tried}
+use Rattle.ipc_engine.specs.Step.{Step, silent, step, due, expired, waiting_on, connect, asked, called, replied_or_joined, joins}
+use Rattle.ipc_engine.specs.Step.{interrupt, interrupted, replied, settle, can_resume, tried}
 use Rattle.ipc_engine.proofs.Lists.{none-left}
 use Rattle.ipc_engine.proofs.Settled.{settle-has, settle-done, settle-nothing, as-before, replied-fits, HasSameUndo}
 use Rattle.ipc_engine.proofs.Tries.{HasEnded, tried-alike, tried-ended}
@@ -51,7 +51,7 @@ module _ (limits : Limits) where
 
   -- of the same caller, and with the same object
   pub still-waits : (s t : State) (w : PlainWaiting) → IsSoundWaiting w → cred_of t w.pid.0 ≡ cred_of s w.pid.0 → IsAsBefore w.pid.0 w.on s t
-      → can_go_on limits t w ≡ can_go_on limits s w
+      → can_resume limits t w ≡ can_resume limits s w
   still-waits s t w sound cred before = ap not (tried-alike limits s t w.pid.0 true true w.call.kind w.on sound.on cred before)
 
   -- the same process has the same user and group
@@ -67,7 +67,7 @@ module _ (limits : Limits) where
   IsEarly s w = is_due (record { 0 = s.clock }) w ≡ false
 
   -- those that waited do so still if the objects are the same, the adjustments and their processes, and no deadline has come
-  pub all-wait : (s t : State) (ws : List PlainWaiting) → All IsSoundWaiting ws → t.msg ≡ s.msg → t.sem ≡ s.sem → t.mq ≡ s.mq → t.named_sem ≡ s.named_sem
+  pub all-wait : (s t : State) (ws : List PlainWaiting) → All IsSoundWaiting ws → t.msg ≡ s.msg → t.semset ≡ s.semset → t.mq ≡ s.mq → t.psem ≡ s.psem
       → HasSameUndo s t → All (IsSame s t) ws → All (IsEarly t) ws
       → All (HasToWait limits s) ws → All (HasToWait limits t) ws
   all-wait s t ws sound queues sets mqs sems undo same early waits = λ k d h.
@@ -112,7 +112,7 @@ module _ (limits : Limits) where
       let test : PlainWaiting → Bool = is_due (record { 0 = t.clock }) in
       let left : List PlainWaiting = (due moment s).state.wait in
       record {
-        parts = without_due-sound limits t (begin-sound limits s moment h.parts);
+        parts = without_due-sound limits t (set_moment-sound limits s moment h.parts);
         waits = all-wait s (due moment s).state left
             (All-filter (λ (w : PlainWaiting). not (test w)) IsSoundWaiting s.wait h.parts.wait.each) refl refl refl refl (λ pid k. refl)
             (λ k d i. refl) (none-left test s.wait)
@@ -200,7 +200,7 @@ module _ (limits : Limits) where
   interrupted-sound s pid (Some w) h = left-waits s pid h
 
   pub interrupt-sound : (s : State) (pid serial : ℕ) → IsSound limits s → IsSound limits (interrupt pid serial s).state
-  interrupt-sound s pid serial h = interrupted-sound s pid (call_of (record { 0 = pid }) s.wait) h
+  interrupt-sound s pid serial h = interrupted-sound s pid (waiting_call_of (record { 0 = pid }) s.wait) h
 
   -- a call that has to wait joins those that do, unless its deadline has come
   pub joins-sound : (s : State) (pid : ℕ) (request : PlainRequest) (on : Option Awaited) → IsSound limits s → is_process s pid ≡ true
@@ -236,31 +236,31 @@ module _ (limits : Limits) where
       (subst (λ (ws : List PlainWaiting). All (IsEarly f.state) ws) (sym good.wait)
       (λ k d i. ap (λ (n : ℕ). is_due (record { 0 = n }) (get_or s.wait k d)) good.clock ∙ (h.waits k d i).early))
 
-  told-sound : (s : State) (pid : ℕ) (request : PlainRequest) (t : Tried) → IsSound limits s → is_process s pid ≡ true
+  replied_or_joined-sound : (s : State) (pid : ℕ) (request : PlainRequest) (t : Tried) → IsSound limits s → is_process s pid ≡ true
       → is_waiting s pid ≡ false
       → HasFrame request → tried limits s pid false request.kind ≡ t → IfFinishes (HasEnded limits s pid (touched_by s pid request.kind)) t
-      → IsSound limits (told limits pid request s t).state
-  told-sound s pid request (Finishes f) h process free frame is ended = ended-waits s (touched_by s pid request.kind) f h ended.good
-  told-sound s pid request Waits h process free frame is ended =
+      → IsSound limits (replied_or_joined limits pid request s t).state
+  replied_or_joined-sound s pid request (Finishes f) h process free frame is ended = ended-waits s (touched_by s pid request.kind) f h ended.good
+  replied_or_joined-sound s pid request Waits h process free frame is ended =
       joins-sound s pid request (awaited_by request.kind) h process free frame refl (ap has_to_wait is)
 
   called-sound : (s : State) (pid : ℕ) (request : PlainRequest) → IsSound limits s → is_process s pid ≡ true → HasFrame request
       → IsSound limits (called limits pid request s).state
   called-sound s pid request h process frame =
       choice (λ (t : Step). IsSound limits t.state) (is_waiting s pid) _ _ (λ _. h)
-      (λ free. told-sound s pid request (tried limits s pid false request.kind) h process free frame refl (tried-ended limits s pid false request.kind free))
+      (λ free. replied_or_joined-sound s pid request (tried limits s pid false request.kind) h process free frame refl (tried-ended limits s pid false request.kind free))
 
   asked-sound : (s : State) (pid : ℕ) (request : PlainRequest) (kind : PlainKind) → IsSound limits s → is_process s pid ≡ true → HasFrame request
       → IsSound limits (asked limits pid request kind s).state
   asked-sound s pid request (Hello cred) h process frame = h
   asked-sound s pid request Interrupts h process frame = interrupt-sound s pid request.serial h
-  asked-sound s pid request (Calls call) h process frame = called-sound s pid request h process frame
+  asked-sound s pid request (Sysv call) h process frame = called-sound s pid request h process frame
   asked-sound s pid request (Posix call) h process frame = called-sound s pid request h process frame
 
   -- a call that is refused changes nothing, and nobody goes on
-  pub refused-told : (s : State) (pid : ℕ) (request : PlainRequest) (e : Errno) → IsSound limits s
-      → told limits pid request s (Finishes (refused s e)) ≡ replied pid request.serial (refused s e)
-  refused-told s pid request e h =
+  pub refused-replied_or_joined : (s : State) (pid : ℕ) (request : PlainRequest) (e : Errno) → IsSound limits s
+      → replied_or_joined limits pid request s (Finishes (refused s e)) ≡ replied pid request.serial (refused s e)
+  refused-replied_or_joined s pid request e h =
       ap (λ (t : Step). let u : Step = record { state = t.state; outcomes = (replied pid request.serial (refused s e)).outcomes ++ t.outcomes } in u)
       (sound-settled s h)
 
@@ -269,8 +269,8 @@ module _ (limits : Limits) where
       → tried limits s pid false request.kind ≡ Finishes (refused s e) → called limits pid request s ≡ replied pid request.serial (refused s e)
   refused-called s pid request e h free is =
       ap (λ (b : Bool).
-      if b then replied pid request.serial (refused s EALREADY) else told limits pid request s (tried limits s pid false request.kind)) free
-      ∙ (ap (told limits pid request s) is ∙ refused-told s pid request e h)
+      if b then replied pid request.serial (refused s EALREADY) else replied_or_joined limits pid request s (tried limits s pid false request.kind)) free
+      ∙ (ap (replied_or_joined limits pid request s) is ∙ refused-replied_or_joined s pid request e h)
 
   pub step-sound : (s : State) (e : PlainEvent) → IsSound limits s → IsForProcess s e → HasRequest e → IsSound limits (step limits s e).state
   step-sound s (Connect cred serial moment) h is has = connect-sound (due moment s).state cred serial (due-sound s moment h)
@@ -295,7 +295,7 @@ module _ (limits : Limits) where
 
   interrupt-fits : (s : State) (pid serial : ℕ) → All (λ (o : PlainOutcome). FitsBody limits o.body) (interrupt pid serial s).outcomes
   interrupt-fits s pid serial =
-      All-append Fits (interrupted s pid (call_of (record { 0 = pid }) s.wait)).outcomes _ (interrupted-fits s pid (call_of
+      All-append Fits (interrupted s pid (waiting_call_of (record { 0 = pid }) s.wait)).outcomes _ (interrupted-fits s pid (waiting_call_of
       (record { 0 = pid }) s.wait)) (one-fits _ empty-fits)
 
   joins-fits : (s : State) (pid : ℕ) (request : PlainRequest) (on : Option Awaited) → All (λ (o : PlainOutcome). FitsBody limits o.body)
@@ -309,26 +309,26 @@ module _ (limits : Limits) where
   unfolding settle
   settled-fits s h = (settle-has limits (length s.wait) s h).fits
 
-  told-fits : (s : State) (pid : ℕ) (request : PlainRequest) (t : Tried) → IsSound limits s
+  replied_or_joined-fits : (s : State) (pid : ℕ) (request : PlainRequest) (t : Tried) → IsSound limits s
       → IfFinishes (HasEnded limits s pid (touched_by s pid request.kind)) t
-      → All (λ (o : PlainOutcome). FitsBody limits o.body) (told limits pid request s t).outcomes
+      → All (λ (o : PlainOutcome). FitsBody limits o.body) (replied_or_joined limits pid request s t).outcomes
   unfolding settle
-  told-fits s pid request (Finishes f) h ended =
+  replied_or_joined-fits s pid request (Finishes f) h ended =
       All-append Fits (replied pid request.serial f).outcomes _ (replied-fits limits pid request.serial f (ended.good.body h.parts))
       (settle-has limits (length f.state.wait) f.state (ended.good.state h.parts)).fits
-  told-fits s pid request Waits h ended = joins-fits s pid request (awaited_by request.kind)
+  replied_or_joined-fits s pid request Waits h ended = joins-fits s pid request (awaited_by request.kind)
 
   called-fits : (s : State) (pid : ℕ) (request : PlainRequest) → IsSound limits s
       → All (λ (o : PlainOutcome). FitsBody limits o.body) (called limits pid request s).outcomes
   called-fits s pid request h =
       choice (λ (t : Step). All (λ (o : PlainOutcome). FitsBody limits o.body) t.outcomes) (is_waiting s pid) _ _ (λ _. one-fits _ empty-fits)
-      (λ free. told-fits s pid request (tried limits s pid false request.kind) h (tried-ended limits s pid false request.kind free))
+      (λ free. replied_or_joined-fits s pid request (tried limits s pid false request.kind) h (tried-ended limits s pid false request.kind free))
 
   asked-fits : (s : State) (pid : ℕ) (request : PlainRequest) (kind : PlainKind) → IsSound limits s
       → All (λ (o : PlainOutcome). FitsBody limits o.body) (asked limits pid request kind s).outcomes
   asked-fits s pid request (Hello cred) h = one-fits _ empty-fits
   asked-fits s pid request Interrupts h = interrupt-fits s pid request.serial
-  asked-fits s pid request (Calls call) h = called-fits s pid request h
+  asked-fits s pid request (Sysv call) h = called-fits s pid request h
   asked-fits s pid request (Posix call) h = called-fits s pid request h
 
   due-fits : (s : State) (moment : ℕ) → All (λ (o : PlainOutcome). FitsBody limits o.body) (due moment s).outcomes

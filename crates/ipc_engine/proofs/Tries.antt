@@ -7,7 +7,7 @@ use Rattle.ipc_base.specs.declared.errno.Errno.TheVariants.{EPROTO}
 use Rattle.ipc_base.specs.declared.limits.Limits.{Limits}
 use Rattle.ipc_wire.specs.Posix.{PlainPosix}
 use Rattle.ipc_wire.specs.Posix as requests
-use Rattle.ipc_wire.specs.Request.{PlainCall, PlainKind, Hello, Interrupt as Interrupts, Calls, Posix}
+use Rattle.ipc_wire.specs.Request.{PlainSysv, PlainKind, Hello, Interrupt as Interrupts, Sysv, Posix}
 use Rattle.ipc_state.specs.declared.descriptors.Descriptor.{Descriptor}
 use Rattle.ipc_state.specs.declared.parked.Awaited.{Awaited}
 use Rattle.ipc_state.specs.declared.parked.Awaited.TheVariants as awaited
@@ -36,15 +36,15 @@ use Rattle.ipc_engine.specs.Step.{tried}
 
 -- the same processes have the same objects
 pub same-objects : (s t : State) (pid : ℕ) (on : Awaited) → t.processes ≡ s.processes → object_of t pid on ≡ object_of s pid on
-same-objects s t pid (awaited.Queue id) same = refl
-same-objects s t pid (awaited.Set id) same = refl
+same-objects s t pid (awaited.MsgQueue id) same = refl
+same-objects s t pid (awaited.Semset id) same = refl
 same-objects s t pid (awaited.Descriptor fd) same =
     ap (λ (ps : Numbered Process). option_map (λ (d : Descriptor). object_on d.on) (descriptor_at ps.entries pid fd)) same
 
 -- what is there is an object
 pub there-object : (s : State) (pid : ℕ) (on : Awaited) → is_there pid on s ≡ true → None ≢ object_of s pid on
-there-object s pid (awaited.Queue id) there = λ no. cc
-there-object s pid (awaited.Set id) there = λ no. cc
+there-object s pid (awaited.MsgQueue id) there = λ no. cc
+there-object s pid (awaited.Semset id) there = λ no. cc
 there-object s pid (awaited.Descriptor fd) there = by_found (descriptor_at s.processes.entries pid fd) there
   where
     by_found : (r : Option Descriptor) → is_some r ≡ true → None ≢ option_map (λ (d : Descriptor). object_on d.on) r
@@ -52,21 +52,21 @@ there-object s pid (awaited.Descriptor fd) there = by_found (descriptor_at s.pro
     by_found (Some d) there = λ no. cc
 
 -- a call that waits on an object is one that may change it
-waits-touched : (s : State) (pid : ℕ) (call : PlainCall) (on : Awaited) → awaited_by (Calls call) ≡ Some on → touched call ≡ object_of s pid on
+waits-touched : (s : State) (pid : ℕ) (call : PlainSysv) (on : Awaited) → awaited_by (Sysv call) ≡ Some on → touched call ≡ object_of s pid on
 waits-touched s pid =
-    by-waiting (λ call. (on : Awaited) → awaited_by (Calls call) ≡ Some on → touched call ≡ object_of s pid on)
+    by-waiting (λ call. (on : Awaited) → awaited_by (Sysv call) ≡ Some on → touched call ≡ object_of s pid on)
     (λ id flags mtype text on is. on_queue id on is)
     (λ id flags size mtype on is. on_queue id on is)
     (λ id timeout operations on is. on_set id on is)
     (λ call other on is. let both = sym is ∙ other.never in cc)
   where
-    on_queue : (id : ℕ) (on : Awaited) → Some (awaited.Queue (record { 0 = id })) ≡ Some on
-        → object_of s pid (awaited.Queue (record { 0 = id })) ≡ object_of s pid on
-    on_queue id on is = let same : awaited.Queue (record { 0 = id }) ≡ on = cc in ap (object_of s pid) same
+    on_queue : (id : ℕ) (on : Awaited) → Some (awaited.MsgQueue (record { 0 = id })) ≡ Some on
+        → object_of s pid (awaited.MsgQueue (record { 0 = id })) ≡ object_of s pid on
+    on_queue id on is = let same : awaited.MsgQueue (record { 0 = id }) ≡ on = cc in ap (object_of s pid) same
 
-    on_set : (id : ℕ) (on : Awaited) → Some (awaited.Set (record { 0 = id })) ≡ Some on
-        → object_of s pid (awaited.Set (record { 0 = id })) ≡ object_of s pid on
-    on_set id on is = let same : awaited.Set (record { 0 = id }) ≡ on = cc in ap (object_of s pid) same
+    on_set : (id : ℕ) (on : Awaited) → Some (awaited.Semset (record { 0 = id })) ≡ Some on
+        → object_of s pid (awaited.Semset (record { 0 = id })) ≡ object_of s pid on
+    on_set id on is = let same : awaited.Semset (record { 0 = id }) ≡ on = cc in ap (object_of s pid) same
 
 posix-touched : (s : State) (pid : ℕ) (call : PlainPosix) (on : Awaited) → awaited_by (Posix call) ≡ Some on
     → posix.touched s pid call ≡ object_of s pid on
@@ -92,7 +92,7 @@ module _ (limits : Limits) where
         leaves = λ p. record { owed = omega arith; objects = λ other on. refl };
       }
 
-  call-ended : (s : State) (pid : ℕ) (call : PlainCall) (t : Tried) → IfFinishes (IsGood limits s (touched call)) t → IfFinishes (IsApart s) t
+  call-ended : (s : State) (pid : ℕ) (call : PlainSysv) (t : Tried) → IfFinishes (IsGood limits s (touched call)) t → IfFinishes (IsApart s) t
       → IfFinishes (HasEnded limits s pid (touched call)) t
   call-ended s pid call (Finishes f) good apart =
       record {
@@ -115,7 +115,7 @@ module _ (limits : Limits) where
 
   pub tried-ended : (s : State) (pid : ℕ) (again : Bool) (kind : PlainKind) → is_waiting s pid ≡ false
       → IfFinishes (HasEnded limits s pid (touched_by s pid kind)) (tried limits s pid again kind)
-  tried-ended s pid again (Calls call) free =
+  tried-ended s pid again (Sysv call) free =
       call-ended s pid call (attempt limits s pid again call) (attempt-good limits s pid again call) (attempt-apart limits s pid again call)
   tried-ended s pid again (Posix call) free =
       posix-ended s pid (posix.touched s pid call) (posix.attempt limits s pid call) (posixly.attempt-good limits s pid call free)
@@ -126,9 +126,9 @@ module _ (limits : Limits) where
   -- one that waited on an object may change it alone
   pub waited-ended : (s : State) (pid : ℕ) (kind : PlainKind) (on : Awaited) → is_waiting s pid ≡ false → awaited_by kind ≡ Some on
       → IfFinishes (HasEnded limits s pid (object_of s pid on)) (tried limits s pid true kind)
-  waited-ended s pid (Calls call) on free is =
+  waited-ended s pid (Sysv call) on free is =
       subst (λ (o : Option Object). IfFinishes (HasEnded limits s pid o) (attempt limits s pid true call)) (waits-touched s pid call on is)
-      (tried-ended s pid true (Calls call) free)
+      (tried-ended s pid true (Sysv call) free)
   waited-ended s pid (Posix call) on free is =
       subst (λ (o : Option Object). IfFinishes (HasEnded limits s pid o) (posix.attempt limits s pid call)) (posix-touched s pid call on is)
       (tried-ended s pid true (Posix call) free)
@@ -141,7 +141,7 @@ module _ (limits : Limits) where
   pub tried-alike : (s t : State) (pid : ℕ) (again other : Bool) (kind : PlainKind) (on : Awaited) → awaited_by kind ≡ Some on
       → cred_of t pid ≡ cred_of s pid → IsAsBefore pid on s t
       → has_to_wait (tried limits t pid other kind) ≡ has_to_wait (tried limits s pid again kind)
-  tried-alike s t pid again other (Calls call) on is cred before = waits-alike limits s t pid again other call on is cred before
+  tried-alike s t pid again other (Sysv call) on is cred before = waits-alike limits s t pid again other call on is cred before
   tried-alike s t pid again other (Posix call) on is cred before = posixly.waits-alike limits s t pid call on is before
   tried-alike s t pid again other (Hello cred) on is same before = refl
   tried-alike s t pid again other Interrupts on is cred before = refl
@@ -149,7 +149,7 @@ module _ (limits : Limits) where
   -- what waits on an object finds it there
   pub tried-there : (s : State) (pid : ℕ) (again : Bool) (kind : PlainKind) (on : Awaited) → awaited_by kind ≡ Some on
       → has_to_wait (tried limits s pid again kind) ≡ true → is_there pid on s ≡ true
-  tried-there s pid again (Calls call) on is waits = waits-there limits s pid again call on is waits
+  tried-there s pid again (Sysv call) on is waits = waits-there limits s pid again call on is waits
   tried-there s pid again (Posix call) on is waits = posixly.waits-there limits s pid call on is waits
   tried-there s pid again (Hello cred) on is waits = cc
   tried-there s pid again Interrupts on is waits = cc
@@ -157,7 +157,7 @@ module _ (limits : Limits) where
   -- a call that waits on nothing never waits
   pub tried-never : (s : State) (pid : ℕ) (again : Bool) (kind : PlainKind) → awaited_by kind ≡ None
       → has_to_wait (tried limits s pid again kind) ≡ false
-  tried-never s pid again (Calls call) is = never-waits limits s pid again call is
+  tried-never s pid again (Sysv call) is = never-waits limits s pid again call is
   tried-never s pid again (Posix call) is = posixly.never-waits limits s pid call is
   tried-never s pid again (Hello cred) is = refl
   tried-never s pid again Interrupts is = refl

@@ -10,9 +10,9 @@ use Rattle.ipc_base.specs.declared.errno.Errno.TheVariants.{EALREADY}
 use Rattle.ipc_base.specs.declared.limits.Limits.{Limits}
 use Rattle.ipc_base.proofs.CallerLemmas.{choice}
 use Rattle.ipc_base.specs.declared.identity.Moment.{Moment}
-use Rattle.ipc_wait.specs.Waits.{call_of, calls_due, calls_left, without, is_due, is_of, HaveDistinctPids}
+use Rattle.ipc_wait.specs.Waits.{waiting_call_of, calls_due, calls_left, without, is_due, is_of, HaveDistinctPids}
 use Rattle.ipc_wait.proofs.CallerLemmas.{due-or-left, without-here}
-use Rattle.ipc_wire.specs.Request.{PlainKind, PlainRequest, Hello, Interrupt as Interrupts, Calls, Posix}
+use Rattle.ipc_wire.specs.Request.{PlainKind, PlainRequest, Hello, Interrupt as Interrupts, Sysv, Posix}
 use Rattle.ipc_wire.specs.declared.reply.Body.TheVariants.{Empty}
 use Rattle.ipc_state.specs.declared.parked.Awaited.{Awaited}
 use Rattle.ipc_state.specs.Finish.{Tried, Finishes, Waits, IfFinishes, has_to_wait, done, refused}
@@ -24,9 +24,9 @@ use Rattle.ipc_engine.specs.Bytes.{IsAnswered}
 use Rattle.ipc_engine.specs.Event.{PlainEvent, Connect, Call, Interrupt, Tick, Exit, Restart, PlainOutcome, moment_of}
 use Rattle.ipc_engine.specs.Settling.{touched_by}
 use Rattle.ipc_engine.specs.Sound.{IsSound, NoneIsDue}
-use Rattle.ipc_engine.specs.Step.{Step, silent, after, step, due, expired, waiting_on, asked, called, told, joins, interrupt, interrupted}
+use Rattle.ipc_engine.specs.Step.{Step, silent, after, step, due, expired, waiting_on, asked, called, replied_or_joined, joins, interrupt, interrupted}
 use Rattle.ipc_engine.specs.Step.{replied, connect, settle, settle_within, resumed, resumed_first, tried, is_call}
-use Rattle.ipc_engine.specs.Step.{answered, can_go_on, most_replies}
+use Rattle.ipc_engine.specs.Step.{answered, can_resume, most_replies}
 use Rattle.ipc_engine.proofs.Settled.{as-before, left-free, replied-few, same-then, settle-has, settle-kept, resumed-has}
 use Rattle.ipc_engine.proofs.Tries.{HasEnded, tried-alike, tried-ended}
 use Rattle.ipc_engine.proofs.Soundness.{due-sound, sound-settled}
@@ -53,32 +53,32 @@ joins-same s pid request on =
     (same-processes s (joins s pid request on).state kept.0, kept.1)
 
 module _ (limits : Limits) where
-  told-keeps : (s : State) (pid : ℕ) (request : PlainRequest) (t : Tried) → IfFinishes (HasEnded limits s pid (touched_by s pid request.kind)) t
-      → HasSameProcesses s (told limits pid request s t).state × ((told limits pid request s t).state.clock ≡ s.clock)
-  told-keeps s pid request (Finishes f) ended =
+  replied_or_joined-keeps : (s : State) (pid : ℕ) (request : PlainRequest) (t : Tried) → IfFinishes (HasEnded limits s pid (touched_by s pid request.kind)) t
+      → HasSameProcesses s (replied_or_joined limits pid request s t).state × ((replied_or_joined limits pid request s t).state.clock ≡ s.clock)
+  replied_or_joined-keeps s pid request (Finishes f) ended =
       let later = settle-kept limits f.state in
       (same-then s f.state (settle limits f.state).state ended.good.kept later.0, later.1 ∙ ended.good.clock)
-  told-keeps s pid request Waits ended = joins-same s pid request (awaited_by request.kind)
+  replied_or_joined-keeps s pid request Waits ended = joins-same s pid request (awaited_by request.kind)
 
   called-keeps : (s : State) (pid : ℕ) (request : PlainRequest)
       → HasSameProcesses s (called limits pid request s).state × ((called limits pid request s).state.clock ≡ s.clock)
   called-keeps s pid request =
       choice (λ (t : Step). HasSameProcesses s t.state × (t.state.clock ≡ s.clock)) (is_waiting s pid) _ _ (λ _. (same-processes s s refl, refl))
-      (λ free. told-keeps s pid request (tried limits s pid false request.kind) (tried-ended limits s pid false request.kind free))
+      (λ free. replied_or_joined-keeps s pid request (tried limits s pid false request.kind) (tried-ended limits s pid false request.kind free))
 
   -- a request leaves the same processes, and the clock
   pub asked-keeps : (s : State) (pid : ℕ) (request : PlainRequest) (kind : PlainKind)
       → HasSameProcesses s (asked limits pid request kind s).state × ((asked limits pid request kind s).state.clock ≡ s.clock)
   asked-keeps s pid request (Hello cred) = (same-processes s s refl, refl)
   asked-keeps s pid request Interrupts =
-      let kept = interrupted-keeps s pid (call_of (record { 0 = pid }) s.wait) in
+      let kept = interrupted-keeps s pid (waiting_call_of (record { 0 = pid }) s.wait) in
       (same-processes s (interrupt pid request.serial s).state kept.0, kept.1)
-  asked-keeps s pid request (Calls call) = called-keeps s pid request
+  asked-keeps s pid request (Sysv call) = called-keeps s pid request
   asked-keeps s pid request (Posix call) = called-keeps s pid request
 
   pub interrupt-keeps : (s : State) (pid serial : ℕ)
       → ((interrupt pid serial s).state.processes ≡ s.processes) × ((interrupt pid serial s).state.clock ≡ s.clock)
-  interrupt-keeps s pid serial = interrupted-keeps s pid (call_of (record { 0 = pid }) s.wait)
+  interrupt-keeps s pid serial = interrupted-keeps s pid (waiting_call_of (record { 0 = pid }) s.wait)
 
   pub sets-clock : (s : State) (e : PlainEvent) → (step limits s e).state.clock ≡ max s.clock (moment_of e)
   sets-clock s (Connect cred serial moment) =
@@ -97,11 +97,11 @@ module _ (limits : Limits) where
       choice (λ (t : Step). length t.outcomes ≤ 2 * (length s.wait + 1)) (is_due (record { 0 = s.clock }) (waiting_on s pid request on)) _ _
       (λ _. omega arith) (λ _. omega arith)
 
-  told-few : (s : State) (pid : ℕ) (request : PlainRequest) (t : Tried) → IsSound limits s
+  replied_or_joined-few : (s : State) (pid : ℕ) (request : PlainRequest) (t : Tried) → IsSound limits s
       → IfFinishes (HasEnded limits s pid (touched_by s pid request.kind)) t
-      → length (told limits pid request s t).outcomes ≤ 2 * (length s.wait + 1)
+      → length (replied_or_joined limits pid request s t).outcomes ≤ 2 * (length s.wait + 1)
   unfolding settle
-  told-few s pid request (Finishes f) h ended =
+  replied_or_joined-few s pid request (Finishes f) h ended =
       let good = ended.good in
       let later = (settle-has limits (length f.state.wait) f.state (good.state h.parts)).few in
       omega (
@@ -111,12 +111,12 @@ module _ (limits : Limits) where
         replied-few pid request.serial f,
         length-append (replied pid request.serial f).outcomes (settle limits f.state).outcomes,
       )
-  told-few s pid request Waits h ended = joins-few s pid request (awaited_by request.kind)
+  replied_or_joined-few s pid request Waits h ended = joins-few s pid request (awaited_by request.kind)
 
   interrupt-few : (s : State) (pid serial : ℕ) → length (interrupt pid serial s).outcomes ≤ 2 * (length s.wait + 1)
-  interrupt-few s pid serial = by_call (call_of (record { 0 = pid }) s.wait) refl
+  interrupt-few s pid serial = by_call (waiting_call_of (record { 0 = pid }) s.wait) refl
     where
-      by_call : (r : Option PlainWaiting) → call_of (record { 0 = pid }) s.wait ≡ r
+      by_call : (r : Option PlainWaiting) → waiting_call_of (record { 0 = pid }) s.wait ≡ r
           → length ((interrupted s pid r).outcomes ++ (replied pid serial (done (interrupted s pid r).state Empty)).outcomes) ≤ 2 * (length s.wait + 1)
       by_call None is = omega arith
       by_call (Some w) is = omega arith
@@ -124,13 +124,13 @@ module _ (limits : Limits) where
   called-few : (s : State) (pid : ℕ) (request : PlainRequest) → IsSound limits s → length (called limits pid request s).outcomes ≤ 2 * (length s.wait + 1)
   called-few s pid request h =
       choice (λ (t : Step). length t.outcomes ≤ 2 * (length s.wait + 1)) (is_waiting s pid) _ _ (λ _. omega arith)
-      (λ free. told-few s pid request (tried limits s pid false request.kind) h (tried-ended limits s pid false request.kind free))
+      (λ free. replied_or_joined-few s pid request (tried limits s pid false request.kind) h (tried-ended limits s pid false request.kind free))
 
   asked-few : (s : State) (pid : ℕ) (request : PlainRequest) (kind : PlainKind) → IsSound limits s
       → length (asked limits pid request kind s).outcomes ≤ 2 * (length s.wait + 1)
   asked-few s pid request (Hello cred) h = omega arith
   asked-few s pid request Interrupts h = interrupt-few s pid request.serial
-  asked-few s pid request (Calls call) h = called-few s pid request h
+  asked-few s pid request (Sysv call) h = called-few s pid request h
   asked-few s pid request (Posix call) h = called-few s pid request h
 
   -- those whose deadline has come, and then the others
@@ -185,18 +185,18 @@ module _ (limits : Limits) where
     goes-left =
         (resumed-has limits s w in_list).wait ∙ (ap (without w.pid) is ∙ without-here w later before (subst HaveDistinctPids is h.wait.pids))
 
-    pub goes-first : All (λ (v : PlainWaiting). can_go_on limits s v ≡ false) before → can_go_on limits s w ≡ true
+    pub goes-first : All (λ (v : PlainWaiting). can_resume limits s v ≡ false) before → can_resume limits s w ≡ true
         → settle limits s ≡ after (resumed limits s w) (settle limits)
     unfolding settle settle_within
     goes-first none goes =
-        let found : find (can_go_on limits s) s.wait ≡ Some w = ap (find (can_go_on limits s)) is
-        ∙ found-here (can_go_on limits s) before later w none goes in
+        let found : find (can_resume limits s) s.wait ≡ Some w = ap (find (can_resume limits s)) is
+        ∙ found-here (can_resume limits s) before later w none goes in
         let count : length s.wait ≡ suc (length (resumed limits s w).state.wait) =
         omega (arith, ap length is, ap length goes-left, length-append before (w ∷ later), length-append before later) in
         ap (λ (n : ℕ). settle_within limits n s) count
         ∙ ap (λ (r : Option PlainWaiting). resumed_first limits s r (settle_within limits (length (resumed limits s w).state.wait))) found
 
-    pub goes-answered : can_go_on limits s w ≡ true → IsAnswered w (resumed limits s w)
+    pub goes-answered : can_resume limits s w ≡ true → IsAnswered w (resumed limits s w)
     goes-answered goes =
         by_tried (tried limits (without_waiting s w.pid.0) w.pid.0 true w.call.kind)
         (tried-ended limits (without_waiting s w.pid.0) w.pid.0 true w.call.kind (left-free s w))
@@ -220,14 +220,14 @@ module _ (limits : Limits) where
       → asked limits pid request kind s ≡ called limits pid request s
   asked-called s pid request (Hello cred) never = cc
   asked-called s pid request Interrupts never = cc
-  asked-called s pid request (Calls call) is = refl
+  asked-called s pid request (Sysv call) is = refl
   asked-called s pid request (Posix call) is = refl
 
   -- what is no call never waits
   call-if-waits : (s : State) (pid : ℕ) (kind : PlainKind) → tried limits s pid false kind ≡ Waits → is_call kind ≡ true
   call-if-waits s pid (Hello cred) never = cc
   call-if-waits s pid Interrupts never = cc
-  call-if-waits s pid (Calls call) waits = refl
+  call-if-waits s pid (Sysv call) waits = refl
   call-if-waits s pid (Posix call) waits = refl
 
   module _ (s : State) (pid moment : ℕ) (request : PlainRequest) where
@@ -242,17 +242,17 @@ module _ (limits : Limits) where
         (asked-called here pid request request.kind is ∙ same)
 
     by-waiting : (b : Bool) → is_waiting here pid ≡ b → called limits pid request here
-        ≡ (if b then replied pid request.serial (refused here EALREADY) else told limits pid request here (tried limits here pid false request.kind))
+        ≡ (if b then replied pid request.serial (refused here EALREADY) else replied_or_joined limits pid request here (tried limits here pid false request.kind))
     by-waiting b same =
         ap (λ (w : Bool).
-        if w then replied pid request.serial (refused here EALREADY) else told limits pid request here (tried limits here pid false request.kind)) same
+        if w then replied pid request.serial (refused here EALREADY) else replied_or_joined limits pid request here (tried limits here pid false request.kind)) same
 
     pub refused-same : (e : Errno) → IsSound limits s → is_call request.kind ≡ true
         → tried limits here pid false request.kind ≡ Finishes (refused here e) → (step limits s (Call pid request moment)).state ≡ here
     refused-same e h is comes =
         ap (λ (t : Step). t.state) (comes-to is (called limits pid request) refl)
         ∙ choice (λ (u : Step). u.state ≡ here) (is_waiting here pid) _ _ (λ _. refl)
-        (λ _. ap (λ (r : Tried). (told limits pid request here r).state) comes
+        (λ _. ap (λ (r : Tried). (replied_or_joined limits pid request here r).state) comes
         ∙ ap (λ (u : Step). u.state) (sound-settled limits here (due-sound limits s moment h)))
 
     pub already-same : is_call request.kind ≡ true → is_waiting here pid ≡ true
@@ -264,7 +264,7 @@ module _ (limits : Limits) where
       by-due : (b : Bool) → is_due (record { 0 = max s.clock moment }) (waiting_on here pid request on) ≡ b → called limits pid request here
           ≡ (if b then replied pid request.serial (refused here (expiry request.kind)) else silent (with_waiting here (waiting_on here pid request on)))
       by-due b same =
-          by-waiting false free ∙ (ap (told limits pid request here) comes ∙ (ap (λ (o : Option Awaited). joins here pid request o) awaits
+          by-waiting false free ∙ (ap (replied_or_joined limits pid request here) comes ∙ (ap (λ (o : Option Awaited). joins here pid request o) awaits
           ∙ ap (λ (d : Bool).
           if d then replied pid request.serial (refused here (expiry request.kind)) else silent
           (with_waiting here (waiting_on here pid request on))) same))

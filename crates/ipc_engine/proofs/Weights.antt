@@ -8,7 +8,7 @@ use Rattle.ipc_base.specs.declared.identity.Moment.{Moment}
 use Rattle.ipc_base.specs.declared.identity.Pid.{Pid}
 use Rattle.ipc_base.specs.declared.limits.Limits.{Limits}
 use Rattle.ipc_base.specs.Limits.{longest_reply}
-use Rattle.ipc_wait.specs.Waits.{call_of, calls_due, calls_left, is_due, HaveDistinctPids}
+use Rattle.ipc_wait.specs.Waits.{waiting_call_of, calls_due, calls_left, is_due, HaveDistinctPids}
 use Rattle.ipc_wire.specs.declared.reply.Body.TheVariants.{Empty, Number, Message, MqMessage, Notification, Record}
 use Rattle.ipc_wire.specs.Reply.{PlainBody, body_bytes, reply_bytes}
 use Rattle.ipc_wire.proofs.CallerLemmas.{length-reply_bytes}
@@ -29,9 +29,9 @@ use Rattle.ipc_engine.specs.View.{reply_of}
 times-split : (n a b c d : ℕ) → a + b ≤ c + d → n * a + n * b ≤ n * c + n * d
 times-split n a b c d less = subst (λ (k : ℕ). k ≤ n * c + n * d) (mul-add n a b) (subst (λ (k : ℕ). n * (a + b) ≤ k) (mul-add n c d) (mul-le-mul_left n less))
 
-all-together : (reply told made owns left before most : ℕ) → reply + made ≤ most → told ≤ owns → owns + left ≤ before + made
-    → reply + told + left ≤ before + most
-all-together reply told made owns left before most own notices all = omega (arith, own, notices, all)
+all-together : (reply replied_or_joined made owns left before most : ℕ) → reply + made ≤ most → replied_or_joined ≤ owns → owns + left ≤ before + made
+    → reply + replied_or_joined + left ≤ before + most
+all-together reply replied_or_joined made owns left before most own notices all = omega (arith, own, notices, all)
 
 abbrev pub weight_to : (PlainOutcome → ℕ) → ℕ → List PlainOutcome → ℕ
 weight_to weigh pid [] = 0
@@ -152,7 +152,7 @@ module _ (weigh : PlainOutcome → ℕ) where
         (times-split note (own pid f.fired) (registrations f.state pid) (registrations s pid) (may_make asker f.body pid) owed)
 
     abbrev owing : ℕ → List PlainWaiting → ℕ
-    owing pid ws = if is_some (call_of (record { 0 = pid }) ws) then most else 0
+    owing pid ws = if is_some (waiting_call_of (record { 0 = pid }) ws) then most else 0
 
     -- a call whose deadline has come is answered, and waits no longer
     pub due-owes : (now : Moment) (pid : ℕ) (ws : List PlainWaiting) → HaveDistinctPids ws
@@ -171,13 +171,13 @@ module _ (weigh : PlainOutcome → ℕ) where
         owing-none : (w.pid.0 == pid) ≡ true → owing pid ws ≡ 0
         owing-none same =
             let one : record { 0 = pid } ≡ w.pid = ap (λ (n : ℕ). let p : Pid = record { 0 = n } in p) (grind (arith, nat_tests)) in
-            ap (λ (b : Bool). if b then most else 0) (ap (λ (p : Pid). is_some (call_of p ws)) one ∙ ap is_some distinct.0)
+            ap (λ (b : Bool). if b then most else 0) (ap (λ (p : Pid). is_some (waiting_call_of p ws)) one ∙ ap is_some distinct.0)
 
         by_test : (b due : Bool) → (w.pid.0 == pid) ≡ b → is_due now w ≡ due
             → weight_to weigh pid (map expired (calls_due now ws)) + owing pid (calls_left now ws) ≤ owing pid ws
             → weight_to weigh pid (map expired (cond due (w ∷ calls_due now ws) (calls_due now ws)))
             + owing pid (cond (not due) (w ∷ calls_left now ws) (calls_left now ws))
-            ≤ (if is_some (cond b (Some w) (call_of (record { 0 = pid }) ws)) then most else 0)
+            ≤ (if is_some (cond b (Some w) (waiting_call_of (record { 0 = pid }) ws)) then most else 0)
         by_test true true same is rest =
             let none = owing-none same in
             rw (turned true same) (omega (arith, rest, none, light-here))

@@ -50,8 +50,8 @@ abbrev pub most_owed : Limits → ℕ
 most_owed limits = longest_reply limits + notice_bytes * limits.queues
 
 -- how many requests an event brings of a process
-abbrev pub asked_by : State → PlainEvent → ℕ → ℕ
-asked_by s e pid = if asks s e pid then 1 else 0
+abbrev pub asked_count : State → PlainEvent → ℕ → ℕ
+asked_count s e pid = if asks s e pid then 1 else 0
 
 -- how many bytes an event adds to what a process is owed: the longest reply if it asks, and else none
 abbrev pub allowed : Limits → State → PlainEvent → ℕ → ℕ

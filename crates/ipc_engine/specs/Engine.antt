@@ -5,7 +5,7 @@ use Rattle.ipc_wire.specs.Spelling.{HasFrame}
 use Rattle.ipc_state.specs.State.{State, is_process, is_waiting, has_all_processes}
 use Rattle.ipc_state.specs.Held.{Room}
 use Rattle.ipc_engine.specs.Event.{PlainEvent, Connect, Call, Interrupt, Tick, Exit, Restart, PlainOutcome}
-use Rattle.ipc_engine.specs.Reserved.{takes_memory as kind_takes_memory}
+use Rattle.ipc_engine.specs.Reserved.{takes_memory}
 use Rattle.ipc_engine.specs.Step.{due}
 
 -- the limits that it keeps, the state, and the replies of the last event
@@ -29,14 +29,14 @@ HasRequest (Call pid request moment) = HasFrame request
 HasRequest e = Unit {0}
 
 -- whether an event may need memory, and so may be refused; a call of a process that waits needs none
-abbrev pub takes_memory : Limits → State → PlainEvent → Bool
-takes_memory limits s (Connect cred serial moment) = not (has_all_processes limits s)
-takes_memory limits s (Call pid request moment) =
-    kind_takes_memory request.kind && not (is_waiting (due moment s).state pid)
-takes_memory limits s (Interrupt pid serial moment) = false
-takes_memory limits s (Tick moment) = false
-takes_memory limits s (Exit pid moment) = false
-takes_memory limits s Restart = false
+abbrev pub event_takes_memory : Limits → State → PlainEvent → Bool
+event_takes_memory limits s (Connect cred serial moment) = not (has_all_processes limits s)
+event_takes_memory limits s (Call pid request moment) =
+    takes_memory request.kind && not (is_waiting (due moment s).state pid)
+event_takes_memory limits s (Interrupt pid serial moment) = false
+event_takes_memory limits s (Tick moment) = false
+event_takes_memory limits s (Exit pid moment) = false
+event_takes_memory limits s Restart = false
 
 -- what a HELLO needs is there
 abbrev pub IsReadyForHello : Limits → State → Room → Type 0

@@ -2,14 +2,14 @@
 use Rattle.std.specs.Prelude.{◌≡◌, ◌≢◌, ℕ, Bool, true, false, All, List, Option, Some, None, find}
 use Rattle.ipc_base.specs.declared.identity.Pid.{Pid}
 use Rattle.ipc_base.specs.declared.limits.Limits.{Limits}
-use Rattle.ipc_wire.specs.Request.{PlainKind, Calls, Posix}
+use Rattle.ipc_wire.specs.Request.{PlainKind, Sysv, Posix}
 use Rattle.ipc_state.specs.declared.parked.Object.{Object}
 use Rattle.ipc_state.specs.State.{State, is_process}
 use Rattle.ipc_state.specs.Touching.{object_of}
 use Rattle.ipc_state.specs.Waiting.{PlainWaiting}
 use Rattle.sysv_calls.specs.Calls.{is_receive, touched}
 use Rattle.posix_calls.specs.Calls.{touched as touched_posix}
-use Rattle.ipc_engine.specs.Step.{can_go_on}
+use Rattle.ipc_engine.specs.Step.{can_resume}
 
 -- each call that waits is one of a connected process
 abbrev pub AreLinked : State → Type 0
@@ -17,7 +17,7 @@ AreLinked s = All (λ (w : PlainWaiting). is_process s w.pid.0 ≡ true) s.wait
 
 -- the object that a request of a process may change, so that those that wait on it may go on
 abbrev pub touched_by : State → ℕ → PlainKind → Option Object
-touched_by s pid (Calls call) = touched call
+touched_by s pid (Sysv call) = touched call
 touched_by s pid (Posix call) = touched_posix s pid call
 touched_by s pid kind = None
 
@@ -28,9 +28,9 @@ HaveSameObjects before after =
 
 -- those that wait on another object than this have to; all, if it is none
 abbrev pub OthersWait : Limits → State → Option Object → Type 0
-OthersWait limits s None = All (λ (w : PlainWaiting). can_go_on limits s w ≡ false) s.wait
+OthersWait limits s None = All (λ (w : PlainWaiting). can_resume limits s w ≡ false) s.wait
 OthersWait limits s (Some changed) =
-    All (λ (w : PlainWaiting). Some changed ≢ object_of s w.pid.0 w.on → can_go_on limits s w ≡ false) s.wait
+    All (λ (w : PlainWaiting). Some changed ≢ object_of s w.pid.0 w.on → can_resume limits s w ≡ false) s.wait
 
 -- an object may have changed: this one, or any
 abbrev pub MayBe : Option Object → Option Object → Type 0
@@ -40,12 +40,12 @@ MayBe (Some changed) on = Some changed ≡ on
 -- those that wait on an object that has not changed have to
 abbrev pub RestWaits : Limits → State → Option Object → Type 0
 RestWaits limits s among =
-    All (λ (w : PlainWaiting). ¬ MayBe among (object_of s w.pid.0 w.on) → can_go_on limits s w ≡ false) s.wait
+    All (λ (w : PlainWaiting). ¬ MayBe among (object_of s w.pid.0 w.on) → can_resume limits s w ≡ false) s.wait
 
 -- the receives that wait have to
 abbrev pub ReceivesWait : Limits → State → Type 0
 ReceivesWait limits s =
-    All (λ (w : PlainWaiting). is_receive w.call.kind ≡ true → can_go_on limits s w ≡ false) s.wait
+    All (λ (w : PlainWaiting). is_receive w.call.kind ≡ true → can_resume limits s w ≡ false) s.wait
 
 -- the process of the first that passes, or none
 abbrev pub IsFirst : (PlainWaiting → Bool) → List PlainWaiting → Option Pid → Type 0

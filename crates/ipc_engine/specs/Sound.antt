@@ -6,12 +6,12 @@ use Rattle.ipc_wait.specs.Waits.{is_due}
 use Rattle.ipc_state.specs.Sound.{HasSoundParts}
 use Rattle.ipc_state.specs.State.{State, is_process}
 use Rattle.ipc_state.specs.Waiting.{PlainWaiting}
-use Rattle.ipc_engine.specs.Step.{can_go_on}
+use Rattle.ipc_engine.specs.Step.{can_resume}
 
 pub record HasToWait (limits : Limits) (s : State) (w : PlainWaiting) : Type 0 where
   pub process : is_process s w.pid.0 ≡ true
   pub early : is_due (record { 0 = s.clock }) w ≡ false
-  pub waits : can_go_on limits s w ≡ false
+  pub waits : can_resume limits s w ≡ false
 
 pub record IsSound (limits : Limits) (s : State) : Type 0 where
   pub parts : HasSoundParts limits s

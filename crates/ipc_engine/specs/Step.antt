@@ -6,8 +6,8 @@ use Rattle.std.specs.Prelude.{not, Option, Some, None, find, map}
 use Rattle.ipc_base.specs.declared.errno.Errno.TheVariants.{EALREADY, EINTR, ENFILE, EPROTO}
 use Rattle.ipc_base.specs.declared.identity.Cred.{Cred}
 use Rattle.ipc_base.specs.declared.limits.Limits.{Limits}
-use Rattle.ipc_wait.specs.Waits.{call_of, is_due}
-use Rattle.ipc_wire.specs.Request.{PlainKind, PlainRequest, Hello, Interrupt as Interrupts, Calls, Posix}
+use Rattle.ipc_wait.specs.Waits.{waiting_call_of, is_due}
+use Rattle.ipc_wire.specs.Request.{PlainKind, PlainRequest, Hello, Interrupt as Interrupts, Sysv, Posix}
 use Rattle.ipc_wire.specs.declared.reply.Body.TheVariants.{Empty, Notification, Number}
 use Rattle.ipc_state.specs.declared.parked.Awaited.{Awaited}
 use Rattle.ipc_state.specs.Finish.{Finish, Tried, Finishes, Waits, has_to_wait, done, refused}
@@ -49,13 +49,13 @@ replied pid serial f =
 
 -- what comes of a call, as the state is now; again where it is one that waited; what is no call never waits
 abbrev pub tried : Limits → State → ℕ → Bool → PlainKind → Tried
-tried limits s pid again (Calls call) = sysv.attempt limits s pid again call
+tried limits s pid again (Sysv call) = sysv.attempt limits s pid again call
 tried limits s pid again (Posix call) = posix.attempt limits s pid call
 tried limits s pid again kind = Finishes (refused s EPROTO)
 
 -- it can go on now: it is done, or refused
-abbrev pub can_go_on : Limits → State → PlainWaiting → Bool
-can_go_on limits s w = not (has_to_wait (tried limits s w.pid.0 true w.call.kind))
+abbrev pub can_resume : Limits → State → PlainWaiting → Bool
+can_resume limits s w = not (has_to_wait (tried limits s w.pid.0 true w.call.kind))
 
 -- a call that goes on is answered
 abbrev pub answered : PlainWaiting → State → Tried → Step
@@ -76,7 +76,7 @@ resumed_first limits s (Some w) next = after (resumed limits s w) next
 unfoldable pub settle_within : Limits → ℕ → State → Step
 settle_within limits zero s = silent s
 settle_within limits (suc n) s =
-    resumed_first limits s (find (can_go_on limits s) s.wait) (settle_within limits n)
+    resumed_first limits s (find (can_resume limits s) s.wait) (settle_within limits n)
 
 -- until none can go on
 unfoldable pub settle : Limits → State → Step
@@ -121,16 +121,16 @@ connect limits cred serial s =
     }
 
 -- what a process is told whose call was tried: how it ends, and then others go on; or nothing yet
-abbrev pub told : Limits → ℕ → PlainRequest → State → Tried → Step
-told limits pid request s (Finishes f) = after (replied pid request.serial f) (settle limits)
-told limits pid request s Waits = joins s pid request (awaited_by request.kind)
+abbrev pub replied_or_joined : Limits → ℕ → PlainRequest → State → Tried → Step
+replied_or_joined limits pid request s (Finishes f) = after (replied pid request.serial f) (settle limits)
+replied_or_joined limits pid request s Waits = joins s pid request (awaited_by request.kind)
 
 -- a call of a process, which has one at a time
 abbrev pub called : Limits → ℕ → PlainRequest → State → Step
 called limits pid request s =
     if is_waiting s pid
     then replied pid request.serial (refused s EALREADY)
-    else told limits pid request s (tried limits s pid false request.kind)
+    else replied_or_joined limits pid request s (tried limits s pid false request.kind)
 
 -- the call of a process that waits, if there is one, ends with EINTR
 abbrev pub interrupted : State → ℕ → Option PlainWaiting → Step
@@ -140,11 +140,11 @@ interrupted s pid (Some w) = replied pid w.call.serial (refused (without_waiting
 -- INTERRUPT: that, and then its own reply
 abbrev pub interrupt : ℕ → ℕ → State → Step
 interrupt pid serial s =
-    after (interrupted s pid (call_of (record { 0 = pid }) s.wait)) (λ t. replied pid serial (done t Empty))
+    after (interrupted s pid (waiting_call_of (record { 0 = pid }) s.wait)) (λ t. replied pid serial (done t Empty))
 
 -- it is a call: HELLO and INTERRUPT are none
 abbrev pub is_call : PlainKind → Bool
-is_call (Calls call) = true
+is_call (Sysv call) = true
 is_call (Posix call) = true
 is_call kind = false
 

@@ -14,6 +14,6 @@ tried_of s (Finishes answer fired) = finish.Finishes (finish_firing s answer fir
 tried_of s (Waits parked) = finish.Waits
 
 -- if it waits, it is the same request as before, and the state is as it was
-abbrev pub IsKeptIn : Held → PlainRequest → Held → Trial → Type 0
-IsKeptIn before request after (Finishes answer fired) = Unit {0}
-IsKeptIn before request after (Waits kept) = (kept ≡ request) × (after ≡ before)
+abbrev pub WaitsUnchanged : Held → PlainRequest → Held → Trial → Type 0
+WaitsUnchanged before request after (Finishes answer fired) = Unit {0}
+WaitsUnchanged before request after (Waits kept) = (kept ≡ request) × (after ≡ before)

@@ -2,7 +2,7 @@
 
 ghost use Rattle.std.specs.Prelude.{◌≡◌, ◌+◌, ◌*◌, ◌<◌, ◌≤◌, ◌++◌, true, false, length, map, max, vec_capacity};
 ghost use Rattle.ipc_base.specs.Limits.{longest_body};
-ghost use Rattle.ipc_wait.specs.Waits.{call_of};
+ghost use Rattle.ipc_wait.specs.Waits.{waiting_call_of};
 ghost use Rattle.ipc_wire.specs.Request.{plain_kind};
 ghost use Rattle.ipc_wire.specs.View.{plain_request};
 ghost use Rattle.ipc_state.proofs.CallerLemmas.{IsGood};
@@ -15,11 +15,11 @@ ghost use Rattle.ipc_engine.specs.Reserved.{Has, IsReserved};
 ghost use Rattle.ipc_engine.specs.Settling.{HaveSameObjects, ReceivesWait};
 ghost use Rattle.ipc_engine.specs.Sound.{IsSound};
 ghost use Rattle.ipc_engine.specs.Step.{after, asked, called, interrupt as interrupt_step, interrupted, joins};
-ghost use Rattle.ipc_engine.specs.Step.{replied, settle as settled, told, tried};
+ghost use Rattle.ipc_engine.specs.Step.{replied, settle as settled, replied_or_joined, tried};
 ghost use Rattle.ipc_engine.specs.View.{plain_outcome};
 
 use crate::event::Outcome;
-use crate::replies::{push, reply_to, tell};
+use crate::replies::{push, push_reply, reply_to};
 use crate::settling::{settle, settle_all};
 use crate::trying::{Trial, is_receive, touched_by, try_at_once, try_kept};
 use ipc_base::{Errno, Pid};
@@ -57,7 +57,7 @@ pub(crate) fn ask(
     match &request.kind {
         RequestKind::Hello(_) => refuse(outcomes, pid, request.serial, Errno::EPROTO),
         RequestKind::Interrupt => interrupt(state, outcomes, pid, request.serial),
-        RequestKind::Call(_) | RequestKind::Posix(_) => {
+        RequestKind::Sysv(_) | RequestKind::Posix(_) => {
             make(state, outcomes, spare, pid, request, kept);
         }
     }
@@ -112,10 +112,10 @@ fn at_once(
     requires room { Has (plain_kind request.now.kind) state.old.state state.old.room }
     requires places { length outcomes.old.items + 2 * (length state.old.state.wait + 1) ≤ vec_capacity outcomes.old }
     requires spare { IsSpare state.old.limits spare.old }
-    ensures state { state.new.state ≡ (told state.old.limits pid.0 (plain_request request.now) state.old.state
+    ensures state { state.new.state ≡ (replied_or_joined state.old.limits pid.0 (plain_request request.now) state.old.state
         (tried state.old.limits state.old.state pid.0 false (plain_kind request.now.kind))).state }
     ensures outcomes { map plain_outcome outcomes.new.items ≡ map plain_outcome outcomes.old.items
-        ++ (told state.old.limits pid.0 (plain_request request.now) state.old.state
+        ++ (replied_or_joined state.old.limits pid.0 (plain_request request.now) state.old.state
         (tried state.old.limits state.old.state pid.0 false (plain_kind request.now.kind))).outcomes }
     ensures limits { state.new.limits ≡ state.old.limits }
     ensures waits { state.new.room.waits ≡ state.old.room.waits }
@@ -142,10 +142,10 @@ fn try_once(state: &mut State, outcomes: &mut Vec<Outcome>, pid: Pid, parked: Pa
     requires free { is_waiting state.old.state pid.0 ≡ false }
     requires waits { state.old.limits.processes ≤ state.old.room.waits }
     requires places { length outcomes.old.items + 2 * (length state.old.state.wait + 1) ≤ vec_capacity outcomes.old }
-    ensures state { state.new.state ≡ (told state.old.limits pid.0 parked state.old.state
+    ensures state { state.new.state ≡ (replied_or_joined state.old.limits pid.0 parked state.old.state
         (tried state.old.limits state.old.state pid.0 false parked.kind)).state }
     ensures outcomes { map plain_outcome outcomes.new.items ≡ map plain_outcome outcomes.old.items
-        ++ (told state.old.limits pid.0 parked state.old.state
+        ++ (replied_or_joined state.old.limits pid.0 parked state.old.state
         (tried state.old.limits state.old.state pid.0 false parked.kind)).outcomes }
     ensures limits { state.new.limits ≡ state.old.limits }
     ensures waits { state.new.room.waits ≡ state.old.room.waits }
@@ -217,7 +217,7 @@ fn finish(
     ensures capacity { vec_capacity outcomes.old ≤ vec_capacity outcomes.new }
     ensures room { room_in_answer answer ≤ room_in outcomes.new.items }
 {
-    tell(outcomes, pid, serial, answer, fired);
+    push_reply(outcomes, pid, serial, answer, fired);
     settle(state, outcomes, touched, received);
 }
 
@@ -265,9 +265,9 @@ pub(crate) fn leave(state: &mut State, outcomes: &mut Vec<Outcome>, pid: Pid)
 /// The call of a process that waits, if there is one, ends with EINTR.
 fn end_waiting(state: &mut State, outcomes: &mut Vec<Outcome>, pid: Pid)
     requires place { length outcomes.old.items < vec_capacity outcomes.old }
-    ensures state { state.new.state ≡ (interrupted state.old.state pid.0 (call_of pid state.old.state.wait)).state }
+    ensures state { state.new.state ≡ (interrupted state.old.state pid.0 (waiting_call_of pid state.old.state.wait)).state }
     ensures outcomes { map plain_outcome outcomes.new.items ≡ map plain_outcome outcomes.old.items
-        ++ (interrupted state.old.state pid.0 (call_of pid state.old.state.wait)).outcomes }
+        ++ (interrupted state.old.state pid.0 (waiting_call_of pid state.old.state.wait)).outcomes }
     ensures limits { state.new.limits ≡ state.old.limits }
     ensures waits { state.new.room.waits ≡ state.old.room.waits }
     ensures capacity { vec_capacity outcomes.old ≤ vec_capacity outcomes.new }

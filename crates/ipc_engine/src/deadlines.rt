@@ -17,7 +17,7 @@ use ipc_wait::Waiting;
 /// The replies of the last event go, and a moment comes: the clock is the greatest so far, and each call whose deadline
 /// has come leaves and is answered, in order. It takes no memory; if no deadline has come, it takes no longer with more
 /// calls.
-pub(crate) fn begin(
+pub(crate) fn advance(
     state: &mut State,
     outcomes: &mut Vec<Outcome>,
     spare: &mut Vec<u8>,
@@ -36,7 +36,7 @@ pub(crate) fn begin(
     ensures buffer { max (vec_capacity spare.old) (room_in outcomes.old.items) ≤ vec_capacity spare.new }
 {
     take_back(outcomes, spare);
-    state.begin(moment);
+    state.set_moment(moment);
     expire(state, outcomes);
 }
 

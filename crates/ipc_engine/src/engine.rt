@@ -36,14 +36,14 @@ ghost use Rattle.ipc_wait.specs.Waits.{next_deadline};
 ghost use Rattle.ipc_engine.specs.Buffer.{room_in, HasBuffer};
 ghost use Rattle.ipc_engine.specs.Bytes.{most_owed, owed};
 ghost use Rattle.ipc_engine.specs.Engine.{IsReadyForHello};
-ghost use Rattle.ipc_engine.specs.Reserved.{IsReserved, takes_memory as kind_takes_memory};
+ghost use Rattle.ipc_engine.specs.Reserved.{IsReserved, takes_memory};
 ghost use Rattle.ipc_engine.specs.Step.{step as step_on, connect as connect_step, due, replied, most_replies};
 ghost use Rattle.ipc_engine.specs.Listing.{plain_row, rows_of};
 ghost use Rattle.ipc_engine.specs.Sound.{IsSound};
 ghost use Rattle.ipc_engine.specs.View.{plain_event, plain_outcome, step_of};
 
 use crate::asking::{ask, interrupt, leave};
-use crate::deadlines::begin;
+use crate::deadlines::advance;
 use crate::event::{Event, Outcome};
 use crate::fault::StateFault;
 use crate::listing::{Row, list_objects};
@@ -94,7 +94,7 @@ impl Model for Engine {
 }
 
 impl Engine {
-    ghost use Rattle.ipc_engine.specs.Engine.{IsForProcess, takes_memory};
+    ghost use Rattle.ipc_engine.specs.Engine.{IsForProcess, event_takes_memory};
 
     /// A machine to which nothing has happened. Refused for want of memory.
     pub fn new(alloc: Global, limits: Limits) -> Result<Engine, AllocError>
@@ -160,11 +160,11 @@ impl Engine {
     {
         list_objects(
             alloc,
-            self.state.queues(),
-            self.state.sets(),
+            self.state.msg_queues(),
+            self.state.semsets(),
             self.state.mqs(),
-            self.state.named_sems().items(),
-            self.state.segments().items(),
+            self.state.psems().items(),
+            self.state.pshms().items(),
         )
     }
 
@@ -251,7 +251,7 @@ impl Engine {
             ≡ (step_on self.old.limits self.old.state (plain_event event.entry)).outcomes) }
         ensures limits { self.new.limits ≡ self.old.limits }
         ensures err { OnErr result (self.new ≡ self.old) }
-        ensures memory { takes_memory self.old.limits self.old.state (plain_event event.entry) ≡ false
+        ensures memory { event_takes_memory self.old.limits self.old.state (plain_event event.entry) ≡ false
             → IsOk result }
         ensures passed { ArePassed self.old.limits }
         ensures was_sound { IsSound self.old.limits self.old.state }
@@ -265,7 +265,7 @@ impl Engine {
                 moment,
             } => {
                 reserve_hello(&mut self.state)?;
-                begin(&mut self.state, &mut self.outcomes, &mut self.spare, moment);
+                advance(&mut self.state, &mut self.outcomes, &mut self.spare, moment);
                 let outcome = connect(&mut self.state, cred, serial);
                 push(&mut self.outcomes, outcome);
             }
@@ -276,7 +276,7 @@ impl Engine {
             } => {
                 let alloc = *self.outcomes.allocator();
                 let kept = prepare(&mut self.state, alloc, pid, &request, moment)?;
-                begin(&mut self.state, &mut self.outcomes, &mut self.spare, moment);
+                advance(&mut self.state, &mut self.outcomes, &mut self.spare, moment);
                 ask(
                     &mut self.state,
                     &mut self.outcomes,
@@ -291,14 +291,14 @@ impl Engine {
                 serial,
                 moment,
             } => {
-                begin(&mut self.state, &mut self.outcomes, &mut self.spare, moment);
+                advance(&mut self.state, &mut self.outcomes, &mut self.spare, moment);
                 interrupt(&mut self.state, &mut self.outcomes, pid, serial);
             }
             Event::Tick { moment } => {
-                begin(&mut self.state, &mut self.outcomes, &mut self.spare, moment);
+                advance(&mut self.state, &mut self.outcomes, &mut self.spare, moment);
             }
             Event::Exit { pid, moment } => {
-                begin(&mut self.state, &mut self.outcomes, &mut self.spare, moment);
+                advance(&mut self.state, &mut self.outcomes, &mut self.spare, moment);
                 leave(&mut self.state, &mut self.outcomes, pid);
             }
             Event::Restart => {
@@ -344,7 +344,7 @@ fn prepare(
     ensures waits { state.new.room.waits ≡ state.old.room.waits }
     ensures ok { IfOk result (λ kept. is_waiting (due moment.0 state.old.state).state pid.0 ≡ false
         → IsReserved state.new.state state.new.room (plain_request request.now) kept) }
-    ensures memory { kind_takes_memory (plain_kind request.now.kind)
+    ensures memory { takes_memory (plain_kind request.now.kind)
         && not (is_waiting (due moment.0 state.old.state).state pid.0) ≡ false → IsOk result }
 {
     if state.still_waits(pid, moment) {

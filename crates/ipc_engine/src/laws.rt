@@ -21,10 +21,10 @@ ghost use Rattle.ipc_state.specs.State.{State, start, cred_of, is_process, is_wa
 ghost use Rattle.ipc_state.specs.Waiting.{PlainWaiting, awaited_by, expiry};
 ghost use Rattle.ipc_wait.specs.Waits.{calls_due, calls_left, is_due};
 ghost use Rattle.ipc_engine.specs.Event.{PlainEvent, Connect, Call, Interrupt, Tick, Exit, Restart, moment_of};
-ghost use Rattle.ipc_engine.specs.Step.{step, run, silent, replied, after, settle, resumed, can_go_on, most_replies};
+ghost use Rattle.ipc_engine.specs.Step.{step, run, silent, replied, after, settle, resumed, can_resume, most_replies};
 ghost use Rattle.ipc_engine.specs.Step.{due, expired, is_call, tried, waiting_on};
 ghost use Rattle.ipc_state.specs.Sound.{HasSoundParts, FitsBody};
-ghost use Rattle.ipc_engine.specs.Bytes.{IsAnswered, IsGreeted, allowed, asked_by, asks, bytes_to, most_owed, owed};
+ghost use Rattle.ipc_engine.specs.Bytes.{IsAnswered, IsGreeted, allowed, asked_count, asks, bytes_to, most_owed, owed};
 ghost use Rattle.ipc_engine.specs.Bytes.{replies_to, unanswered};
 ghost use Rattle.ipc_engine.specs.Engine.{IsForProcess, HasRequest};
 ghost use Rattle.ipc_engine.specs.Sound.{IsSound, NoneIsDue};
@@ -41,7 +41,7 @@ pub fn step_keeps_soundness()
 pub fn nobody_waits_who_could_go_on()
     ensures waits { (limits : Limits) (s : State) (e : PlainEvent)
         → IsSound limits s → IsForProcess s e → HasRequest e
-        → All (λ w. can_go_on limits (step limits s e).state w ≡ false) (step limits s e).state.wait }
+        → All (λ w. can_resume limits (step limits s e).state w ≡ false) (step limits s e).state.wait }
     ensures early { (limits : Limits) (s : State) (e : PlainEvent) → NoneIsDue (step limits s e).state }
 {}
 
@@ -51,10 +51,10 @@ pub fn nobody_waits_who_could_go_on()
 pub fn the_earliest_goes_on_first()
     ensures first { (limits : Limits) (s : State) (before later : List PlainWaiting) (w : PlainWaiting)
         → HasSoundParts limits s → s.wait ≡ before ++ w ∷ later
-        → All (λ v. can_go_on limits s v ≡ false) before → can_go_on limits s w ≡ true
+        → All (λ v. can_resume limits s v ≡ false) before → can_resume limits s w ≡ true
         → settle limits s ≡ after (resumed limits s w) (settle limits) }
     ensures answered { (limits : Limits) (s : State) (before later : List PlainWaiting) (w : PlainWaiting)
-        → HasSoundParts limits s → s.wait ≡ before ++ w ∷ later → can_go_on limits s w ≡ true
+        → HasSoundParts limits s → s.wait ≡ before ++ w ∷ later → can_resume limits s w ≡ true
         → IsAnswered w (resumed limits s w) }
     ensures left { (limits : Limits) (s : State) (before later : List PlainWaiting) (w : PlainWaiting)
         → HasSoundParts limits s → s.wait ≡ before ++ w ∷ later
@@ -79,7 +79,7 @@ pub fn replies_are_few()
 pub fn a_request_is_answered_once()
     ensures { (limits : Limits) (s : State) (e : PlainEvent) (pid : ℕ) → IsSound limits s → 0 < pid
         → replies_to pid (step limits s e).outcomes + unanswered (step limits s e).state pid
-        ≤ unanswered s pid + asked_by s e pid }
+        ≤ unanswered s pid + asked_count s e pid }
 {}
 
 /// An event sends a process no more bytes of frames than it has asked for: what it is sent and what it is owed then are
@@ -235,7 +235,7 @@ pub fn exit_leaves_no_adjustment()
 /// After a restart there are no adjustments: they were added to the semaphores, by rising pid, set and number.
 pub fn restart_adds_adjustments()
     ensures none { (limits : Limits) (s : State) → (step limits s Restart).state.undo ≡ [] }
-    ensures added { (limits : Limits) (s : State) → (step limits s Restart).state.sem ≡ fold undone s.sem s.undo }
+    ensures added { (limits : Limits) (s : State) → (step limits s Restart).state.semset ≡ fold undone s.semset s.undo }
 {}
 
 /// A restart leaves the queues, the identifiers of the sets and the numbers of those to come as they are. Of POSIX
@@ -246,18 +246,18 @@ pub fn restart_keeps_objects()
         → (step limits s Restart).state.processes.next ≡ s.processes.next }
     ensures queues { (limits : Limits) (s : State) → (step limits s Restart).state.msg ≡ s.msg }
     ensures sets { (limits : Limits) (s : State)
-        → keys_of (step limits s Restart).state.sem.entries ≡ keys_of s.sem.entries }
-    ensures next_set { (limits : Limits) (s : State) → (step limits s Restart).state.sem.next ≡ s.sem.next }
+        → keys_of (step limits s Restart).state.semset.entries ≡ keys_of s.semset.entries }
+    ensures next_semset { (limits : Limits) (s : State) → (step limits s Restart).state.semset.next ≡ s.semset.next }
     ensures named { (limits : Limits) (s : State) (n : ℕ) (e : NamedEntry Mq) → entry_of s.mq n ≡ Some e
         → has_name e ≡ true
         → entry_of (step limits s Restart).state.mq n ≡ Some (with_object e (deregistered e.object)) }
     ensures no_other { (limits : Limits) (s : State)
         → All (λ e. has_name e.1 ≡ true) (step limits s Restart).state.mq.entries }
     ensures next_mq { (limits : Limits) (s : State) → (step limits s Restart).state.mq.next ≡ s.mq.next }
-    ensures named_sems { (limits : Limits) (s : State)
-        → (step limits s Restart).state.named_sem ≡ kept_if (λ e. has_name e.1) s.named_sem }
+    ensures psems { (limits : Limits) (s : State)
+        → (step limits s Restart).state.psem ≡ kept_if (λ e. has_name e.1) s.psem }
     ensures segments { (limits : Limits) (s : State)
-        → (step limits s Restart).state.shm ≡ kept_if (λ e. has_name e.1) s.shm }
+        → (step limits s Restart).state.pshm ≡ kept_if (λ e. has_name e.1) s.pshm }
 {}
 
 /// A restart twice is a restart once.

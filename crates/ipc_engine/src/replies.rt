@@ -43,7 +43,7 @@ pub(crate) fn push(outcomes: &mut Vec<Outcome>, outcome: Outcome)
 
 /// Tells a process how its call ended, and then the process of the registration that it fired, if one. A call that is
 /// refused fires none. Both have their places.
-pub(crate) fn tell(
+pub(crate) fn push_reply(
     outcomes: &mut Vec<Outcome>,
     pid: Pid,
     serial: u32,

@@ -10,11 +10,11 @@ ghost use Rattle.ipc_engine.specs.Buffer.{room_in};
 ghost use Rattle.sysv_calls.specs.Calls.{is_receive};
 ghost use Rattle.ipc_engine.specs.Settling.{AreLinked, IsFirst, MayBe, OthersWait, ReceivesWait, RestWaits};
 ghost use Rattle.ipc_engine.specs.Sound.{HasToWait};
-ghost use Rattle.ipc_engine.specs.Step.{can_go_on, resumed, settle as settled};
+ghost use Rattle.ipc_engine.specs.Step.{can_resume, resumed, settle as settled};
 ghost use Rattle.ipc_engine.specs.View.{plain_outcome};
 
 use crate::event::Outcome;
-use crate::replies::tell;
+use crate::replies::push_reply;
 use crate::trying::{Trial, has_to_wait, is_receive, try_kept};
 use ipc_base::Pid;
 use ipc_state::{Awaited, Object, Parked, State};
@@ -100,7 +100,7 @@ fn first_to_go(state: &State, among: Option<Object>, received: bool) -> Option<P
     requires linked { AreLinked state.now.state }
     requires rest { RestWaits state.now.limits state.now.state among }
     requires receives { received ≡ true → ReceivesWait state.now.limits state.now.state }
-    ensures { IsFirst (can_go_on state.now.limits state.now.state) state.now.state.wait result }
+    ensures { IsFirst (can_resume state.now.limits state.now.state) state.now.state.wait result }
 {
     first_among(state, among, received, state.waits())
 }
@@ -115,10 +115,10 @@ fn first_among(
     requires sound { All IsSoundWaiting calls.now }
     requires linked { All (λ w. is_process state.now.state w.pid.0 ≡ true) calls.now }
     requires rest { All (λ w. ¬ MayBe among (object_of state.now.state w.pid.0 w.on)
-        → can_go_on state.now.limits state.now.state w ≡ false) calls.now }
+        → can_resume state.now.limits state.now.state w ≡ false) calls.now }
     requires receives { received ≡ true → All (λ w. is_receive w.call.kind ≡ true
-        → can_go_on state.now.limits state.now.state w ≡ false) calls.now }
-    ensures { IsFirst (can_go_on state.now.limits state.now.state) calls.now result }
+        → can_resume state.now.limits state.now.state w ≡ false) calls.now }
+    ensures { IsFirst (can_resume state.now.limits state.now.state) calls.now result }
 {
     for waiting in calls {
         if can_go(state, among, received, waiting) {
@@ -139,10 +139,10 @@ fn can_go(
     requires sound { IsSoundWaiting waiting.now }
     requires process { is_process state.now.state waiting.now.pid.0 ≡ true }
     requires other { ¬ MayBe among (object_of state.now.state waiting.now.pid.0 waiting.now.on)
-        → can_go_on state.now.limits state.now.state waiting.now ≡ false }
+        → can_resume state.now.limits state.now.state waiting.now ≡ false }
     requires receive { received ≡ true → is_receive waiting.now.call.kind ≡ true
-        → can_go_on state.now.limits state.now.state waiting.now ≡ false }
-    ensures { result ≡ can_go_on state.now.limits state.now.state waiting.now }
+        → can_resume state.now.limits state.now.state waiting.now ≡ false }
+    ensures { result ≡ can_resume state.now.limits state.now.state waiting.now }
 {
     if !may_be(state, waiting, among) || received && is_receive(&waiting.call) {
         return false;
@@ -164,13 +164,13 @@ fn may_be(state: &State, waiting: &Waiting<Awaited, Parked>, among: Option<Objec
 fn resume(state: &mut State, outcomes: &mut Vec<Outcome>, pid: Pid)
     requires parts { HasSoundParts state.old.limits state.old.state }
     requires linked { AreLinked state.old.state }
-    requires first { IsFirst (can_go_on state.old.limits state.old.state) state.old.state.wait (Some pid) }
+    requires first { IsFirst (can_resume state.old.limits state.old.state) state.old.state.wait (Some pid) }
     requires room { length outcomes.old.items + 2 ≤ vec_capacity outcomes.old }
     ensures state { (w : PlainWaiting)
-        → find (can_go_on state.old.limits state.old.state) state.old.state.wait ≡ Some w
+        → find (can_resume state.old.limits state.old.state) state.old.state.wait ≡ Some w
         → state.new.state ≡ (resumed state.old.limits state.old.state w).state }
     ensures outcomes { (w : PlainWaiting)
-        → find (can_go_on state.old.limits state.old.state) state.old.state.wait ≡ Some w
+        → find (can_resume state.old.limits state.old.state) state.old.state.wait ≡ Some w
         → map plain_outcome outcomes.new.items
         ≡ map plain_outcome outcomes.old.items ++ (resumed state.old.limits state.old.state w).outcomes }
     ensures limits { state.new.limits ≡ state.old.limits }
@@ -183,7 +183,7 @@ fn resume(state: &mut State, outcomes: &mut Vec<Outcome>, pid: Pid)
     };
     let serial = waiting.call.serial();
     match try_kept(state, pid, true, waiting.call) {
-        Trial::Finishes { answer, fired } => tell(outcomes, pid, serial, answer, fired),
+        Trial::Finishes { answer, fired } => push_reply(outcomes, pid, serial, answer, fired),
         Trial::Waits(_parked) => {}
     }
 }

@@ -5,14 +5,14 @@ ghost use Rattle.ipc_wire.specs.Request.{plain_kind};
 ghost use Rattle.ipc_wire.specs.View.{plain_request};
 ghost use Rattle.ipc_state.specs.Finish as finish;
 ghost use Rattle.ipc_state.specs.Sound.{HasSoundParts};
-ghost use Rattle.ipc_state.specs.Spare.{IsKept, IsSpare};
+ghost use Rattle.ipc_state.specs.Spare.{KeepsBuffer, IsSpare};
 ghost use Rattle.ipc_state.specs.State.{is_process};
 ghost use Rattle.ipc_state.specs.Waiting.{may_wait};
 ghost use Rattle.sysv_calls.specs.Calls as sysv;
 ghost use Rattle.ipc_engine.specs.Reserved.{Has, IsReserved, takes_memory};
 ghost use Rattle.ipc_engine.specs.Settling.{touched_by};
 ghost use Rattle.ipc_engine.specs.Step.{tried};
-ghost use Rattle.ipc_engine.specs.Trial.{IsKeptIn, tried_of};
+ghost use Rattle.ipc_engine.specs.Trial.{WaitsUnchanged, tried_of};
 
 use ipc_base::{Errno, Pid};
 use ipc_state::{Answer, Object, Parked, ParkedKind, State};
@@ -36,7 +36,7 @@ pub(crate) fn reserve(
 {
     match &request.kind {
         RequestKind::Posix(_) => posix_calls::reserve(state, alloc, request),
-        RequestKind::Call(_) | RequestKind::Hello(_) | RequestKind::Interrupt => {
+        RequestKind::Sysv(_) | RequestKind::Hello(_) | RequestKind::Interrupt => {
             sysv_calls::reserve(state, alloc, request)
         }
     }
@@ -59,10 +59,10 @@ pub(crate) fn try_at_once(
     ensures touched { result.1 ≡ touched_by state.old.state pid.0 (plain_kind kind.now) }
     ensures limits { state.new.limits ≡ state.old.limits }
     ensures waits { state.new.room.waits ≡ state.old.room.waits }
-    ensures spare { IsKept state.old.limits spare.new result.0 }
+    ensures spare { KeepsBuffer state.old.limits spare.new result.0 }
 {
     match kind {
-        RequestKind::Call(call) => {
+        RequestKind::Sysv(call) => {
             let answer = sysv_calls::attempt(state, pid, call, spare);
             (answer, sysv_calls::touched(call))
         }
@@ -92,19 +92,19 @@ pub(crate) fn try_kept(state: &mut State, pid: Pid, again: bool, parked: Parked)
     requires process { is_process state.old.state pid.0 ≡ true }
     ensures finish { tried_of state.new.state result
         ≡ tried state.old.limits state.old.state pid.0 again parked.kind }
-    ensures kept { IsKeptIn state.old parked state.new result }
+    ensures kept { WaitsUnchanged state.old parked state.new result }
     ensures limits { state.new.limits ≡ state.old.limits }
     ensures waits { state.new.room.waits ≡ state.old.room.waits }
 {
     let serial = parked.serial();
     match parked.into_kind() {
-        ParkedKind::Call(call) => match sysv_calls::try_parked(state, pid, again, call) {
+        ParkedKind::Sysv(call) => match sysv_calls::try_parked(state, pid, again, call) {
             sysv_calls::Tried::Finishes(answer) => Trial::Finishes {
                 answer,
                 fired: None,
             },
             sysv_calls::Tried::Waits(call) => {
-                Trial::Waits(Parked::of_kind(serial, ParkedKind::Call(call)))
+                Trial::Waits(Parked::of_kind(serial, ParkedKind::Sysv(call)))
             }
         },
         ParkedKind::Posix(call) => match posix_calls::try_parked(state, pid, call) {
@@ -122,7 +122,7 @@ pub(crate) fn has_to_wait(state: &State, pid: Pid, parked: &Parked) -> bool
     ensures { result ≡ finish.has_to_wait (tried state.now.limits state.now.state pid.0 true parked.now.kind) }
 {
     match parked.kind() {
-        ParkedKind::Call(call) => sysv_calls::has_to_wait(state, pid, call),
+        ParkedKind::Sysv(call) => sysv_calls::has_to_wait(state, pid, call),
         ParkedKind::Posix(call) => posix_calls::has_to_wait(state, pid, call),
     }
 }
@@ -132,7 +132,7 @@ pub(crate) fn is_receive(parked: &Parked) -> bool
     ensures { result ≡ sysv.is_receive parked.now.kind }
 {
     match parked.kind() {
-        ParkedKind::Call(call) => sysv_calls::is_receive(call),
+        ParkedKind::Sysv(call) => sysv_calls::is_receive(call),
         ParkedKind::Posix(_) => false,
     }
 }
@@ -142,7 +142,7 @@ pub(crate) fn touched_by(state: &State, pid: Pid, parked: &Parked) -> Option<Obj
     ensures { result ≡ touched_by state.now.state pid.0 parked.now.kind }
 {
     match parked.kind() {
-        ParkedKind::Call(call) => sysv_calls::touched(&call.lend()),
+        ParkedKind::Sysv(call) => sysv_calls::touched(&call.lend()),
         ParkedKind::Posix(call) => posix_calls::touched(state, pid, &call.lend()),
     }
 }

@@ -22,11 +22,11 @@ use Rattle.ipc_hub.specs.Clients.{accepted, Client, Clients, client_at, last_rep
 use Rattle.ipc_hub.specs.View.{ConnectionView, HubView, kept}
 use Rattle.ipc_hub.specs.Relations.Delivery.{last_frames, owed_to, unanswered_of, pushed, put_all, given, answered, with_answer, IsShort}
 use Rattle.ipc_hub.specs.Relations.Rows.{Table, process_in}
-use Rattle.ipc_hub.specs.Relations.Delivery.{HaveRoom, HasRoomToGreet, HasRoomToAnswer}
-use Rattle.ipc_hub.specs.Relations.Invariant.{AreApart, AreOwn, IsKept, IsKeptIn, HubInvariant, GoesOn}
+use Rattle.ipc_hub.specs.Relations.Delivery.{HaveSpace, HasSpaceToGreet, HasSpaceToAnswer}
+use Rattle.ipc_hub.specs.Relations.Invariant.{AreApart, AreOwn, IsSoundConnection, IsSoundIn, HubInvariant, Continues}
 use Rattle.ipc_hub.specs.Relations.Matches.{ClientMatches, HubMatches, IsAhead}
 use Rattle.ipc_hub.proofs.Deliveries.{push-matches, matches-later, accept-matches}
-use Rattle.ipc_hub.proofs.Keeping.{owing, owing-some, owing-none, kept-owing, kept-pushed, length-pushed, heard, nothing, length-heard, owing-have_room}
+use Rattle.ipc_hub.proofs.Keeping.{owing, owing-some, owing-none, kept-owing, kept-pushed, length-pushed, heard, nothing, length-heard, owing-have_space}
 use Rattle.ipc_hub.proofs.Keeping.{quiet-kept, delivery-goes-on, process-with}
 use Rattle.ipc_hub.proofs.Ending.{client-there}
 use Rattle.ipc_hub.proofs.Requests.{Asks, last-fits, last-is, last-sent, asked-owes, connected-above, connected-below, next-above, step-short}
@@ -44,7 +44,7 @@ by-answer r v P = by_process v.process
     by_process (Some pid) none same = same pid refl
 
 module _ (h : HubView) (conn : ℕ) (v : ConnectionView) (e : PlainEvent) (inv : HubInvariant h) (found : value_at nat_eq h.connections conn ≡ Some v)
-    (live : v.ended ≡ false) (room : owed_to h.limits h.state v.process + longest_reply h.limits + last_frames ≤ v.outbox.free)
+    (live : v.ended ≡ false) (space : owed_to h.limits h.state v.process + longest_reply h.limits + last_frames ≤ v.outbox.free)
     (passed : ArePassed h.limits) (sound : IsSound h.limits h.state) (a : Asks h.limits h.state v.process e) where
   abbrev now : Step
   now = step h.limits h.state e
@@ -91,8 +91,8 @@ module _ (h : HubView) (conn : ℕ) (v : ConnectionView) (e : PlainEvent) (inv :
   mine : process_in h.connections conn ≡ v.process
   mine = ap process_of found
 
-  here : IsKeptIn h v
-  here = each-at (IsKeptIn h) h.connections conn v inv.each found
+  here : IsSoundIn h v
+  here = each-at (IsSoundIn h) h.connections conn v inv.each found
 
   fresh-above : (pid : ℕ) → IsFresh pid → 0 < pid
   fresh-above pid new = omega (arith, next-above h.limits h.state sound, new.1)
@@ -110,22 +110,22 @@ module _ (h : HubView) (conn : ℕ) (v : ConnectionView) (e : PlainEvent) (inv :
       by_test false never = refl
 
   -- it has room for what it is sent, and is owed then
-  told-kept : IsKept h.limits debt told
+  told-kept : IsSoundConnection h.limits debt told
   told-kept =
-      by-told (IsKept h.limits debt)
+      by-told (IsSoundConnection h.limits debt)
       (λ o none last.
       let fits = (last-fits h.limits h.state e o passed sound last).1 in
       let owes = ap (owed_to h.limits h.state) none in
       let less = ap debt none in
-      kept-pushed h.limits (owed_to h.limits h.state) debt o v here (omega (arith, fits, room))
-      (λ _. omega (arith, fits, room, owes, less, owing-none now.outcomes (owed_to h.limits now.state))))
-      (λ pid new. kept-owing h.limits (owed_to h.limits h.state) debt v (Some pid) here live (omega (arith, fresh-owes pid new, room)))
+      kept-pushed h.limits (owed_to h.limits h.state) debt o v here (omega (arith, fits, space))
+      (λ _. omega (arith, fits, space, owes, less, owing-none now.outcomes (owed_to h.limits now.state))))
+      (λ pid new. kept-owing h.limits (owed_to h.limits h.state) debt v (Some pid) here live (omega (arith, fresh-owes pid new, space)))
       (λ pid some.
       let above = connected-above h.limits h.state pid sound (inv.own.connected conn pid (mine ∙ some)) in
       let owes = ap (owed_to h.limits h.state) some in
       let less = ap debt some in
       kept-owing h.limits (owed_to h.limits h.state) debt v v.process here live
-      (omega (arith, asked-owes h.limits h.state e pid sound above, room, owes, less, owing-some now.outcomes (owed_to h.limits now.state) pid)))
+      (omega (arith, asked-owes h.limits h.state e pid sound above, space, owes, less, owing-some now.outcomes (owed_to h.limits now.state) pid)))
 
   -- If it keeps no frame after its replies, it kept none before, and its request is the one that is not answered yet.
   pub told-none : kept (heard now.outcomes told).outbox ≡ []
@@ -157,29 +157,29 @@ module _ (h : HubView) (conn : ℕ) (v : ConnectionView) (e : PlainEvent) (inv :
   rising : keys_of table ≡ keys_of h.connections
   rising = keys_of-with_value nat_eq h.connections conn told
 
-  each-now : EachValue (IsKept h.limits debt) table
-  each-now = each-by_key (IsKept h.limits debt) 0 table (2 ^ 32) (rw rising inv.rising) (λ k x is.
+  each-now : EachValue (IsSoundConnection h.limits debt) table
+  each-now = each-by_key (IsSoundConnection h.limits debt) 0 table (2 ^ 32) (rw rising inv.rising) (λ k x is.
       elim (cases_eq k conn) [
-        | inl same ↦ subst (IsKept h.limits debt) (same_value told x (sym (at-with h.connections conn told v found) ∙ (rw same at is))) told-kept
+        | inl same ↦ subst (IsSoundConnection h.limits debt) (same_value told x (sym (at-with h.connections conn told v found) ∙ (rw same at is))) told-kept
         | inr apart ↦ other k x apart (sym (other-with h.connections conn k told apart) ∙ is)
       ])
     where
       -- no other connection's process asks
-      other : (k : ℕ) (x : ConnectionView) → k ≢ conn → value_at nat_eq h.connections k ≡ Some x → IsKept h.limits debt x
+      other : (k : ℕ) (x : ConnectionView) → k ≢ conn → value_at nat_eq h.connections k ≡ Some x → IsSoundConnection h.limits debt x
       other k x apart there =
-          quiet-kept h.limits h.state e sound x (each-at (IsKeptIn h) h.connections k x inv.each there)
+          quiet-kept h.limits h.state e sound x (each-at (IsSoundIn h) h.connections k x inv.each there)
           (λ pid some. let is = inv.own.connected k pid (ap process_of there ∙ some) in
           (is, a.others pid is (λ same. apart (inv.own.one k conn pid (ap process_of there ∙ some) (mine ∙ same)))))
 
-  all-room : HaveRoom now.outcomes table
-  all-room = owing-have_room h.limits (owed_to h.limits now.state) now.outcomes table (step-short h.limits h.state e passed sound) each-now
+  all-space : HaveSpace now.outcomes table
+  all-space = owing-have_space h.limits (owed_to h.limits now.state) now.outcomes table (step-short h.limits h.state e passed sound) each-now
 
-  greet-room : (r : Option PlainOutcome) → last_reply now.outcomes ≡ r → HasRoomToGreet r v
-  greet-room None last = tt
-  greet-room (Some o) last = let fits = last-fits h.limits h.state e o passed sound last in (fits.0, omega (arith, fits.1, room))
+  greet-space : (r : Option PlainOutcome) → last_reply now.outcomes ≡ r → HasSpaceToGreet r v
+  greet-space None last = tt
+  greet-space (Some o) last = let fits = last-fits h.limits h.state e o passed sound last in (fits.0, omega (arith, fits.1, space))
 
-  pub answer-room : HasRoomToAnswer now.outcomes conn h.connections
-  answer-room = record { own = rw found (λ _. greet-room (last_reply now.outcomes) refl); all = rw found all-room }
+  pub answer-space : HasSpaceToAnswer now.outcomes conn h.connections
+  answer-space = record { own = rw found (λ _. greet-space (last_reply now.outcomes) refl); all = rw found all-space }
 
   own : AreOwn now.state table
   own =
@@ -216,9 +216,9 @@ module _ (h : HubView) (conn : ℕ) (v : ConnectionView) (e : PlainEvent) (inv :
   answer-apart = rw found own.one
 
   pub answer-goes-on : (new : HubView) → new.limits ≡ h.limits → new.state ≡ now.state
-      → new.connections ≡ put_all now.outcomes (with_answer now.outcomes conn h.connections) → GoesOn h new
+      → new.connections ≡ put_all now.outcomes (with_answer now.outcomes conn h.connections) → Continues h new
   answer-goes-on new limits state rows =
-      let goes : GoesOn (record h { connections = table }) new =
+      let goes : Continues (record h { connections = table }) new =
       delivery-goes-on (record h { connections = table }) new now.outcomes (rw state own) (rw state each-now) (rw rising inv.rising) limits
       (rows ∙ rw found refl) in
       record { limits = goes.limits; numbers = goes.numbers ∙ rising; invariant = goes.invariant }

@@ -48,7 +48,7 @@ pub written : {Z : Type 0} (v : Vec ℕ Z) (xs out bytes : List ℕ) (end : ℕ)
     → out ≡ bytes ++ drop (length bytes) (take (length xs - end) (drop end xs))
     → (with_items v (take end xs ++ (out ++ drop (length xs - end) (drop end xs)))).items
     ≡ take end xs ++ ((bytes ++ drop (length bytes) (take (length xs - end) (drop end xs))) ++ drop (length xs - end) (drop end xs))
-written v xs out bytes end same long room is =
+written v xs out bytes end same long space is =
     let free : List ℕ = drop end xs in
     let rest : List ℕ = drop (length bytes) (take (length xs - end) free) in
     let behind : List ℕ = drop (length xs - end) free in

@@ -20,7 +20,7 @@ use Rattle.ipc_hub.proofs.Rows.{process_of}
 use Rattle.ipc_hub.specs.Relations.Rows.{Table, process_in, output_in, changed}
 use Rattle.ipc_engine.specs.Bytes.{most_owed}
 use Rattle.ipc_hub.specs.Relations.Delivery.{owed_to, released, consumed, failed}
-use Rattle.ipc_hub.specs.Relations.Invariant.{IsKept, IsKeptIn, IsNew, HubInvariant, StoredInvariant, IsNobodys}
+use Rattle.ipc_hub.specs.Relations.Invariant.{IsSoundConnection, IsSoundIn, IsNew, HubInvariant, StoredInvariant, IsNobodys}
 use Rattle.ipc_hub.specs.Relations.Matches.{IsFrame, ClientMatches, HubMatches, AreFrames}
 use Rattle.ipc_hub.proofs.Deliveries.{IsOf, all-confirmed, confirmed-short, consumed-bytes, consumed-shown, consumed-all, table-matches, frames-later}
 use Rattle.ipc_hub.proofs.Keeping.{table-invariant, changed-keys, changed-invariant, at-changed}
@@ -43,13 +43,13 @@ entry-invariant h conn v inv small none new =
           let never : None ≡ Some pid = sym new.process ∙ here in cc
       | inr apart ↦ sym (ap process_of (entry-other h.connections conn k v apart)) ∙ is
     ])
-    (each-entry (IsKeptIn h) h.connections conn v inv.each
+    (each-entry (IsSoundIn h) h.connections conn v inv.each
     (record {
       input = rw new.input (first_short [] (omega arith));
-      last = λ _. rw new.process (omega (arith, new.room));
+      last = λ _. rw new.process (omega (arith, new.space));
       over = λ ended. let never : false ≡ true = sym new.ended ∙ ended in cc;
-      spare = omega (arith, new.room);
-      size = omega (arith, new.room);
+      spare = omega (arith, new.space);
+      size = omega (arith, new.space);
     }))
     (rising-entry 0 h.connections (2 ^ 32) conn v inv.rising (omega arith) small none)
 
@@ -86,7 +86,7 @@ process-without h conn k pid inv is =
 pub without-invariant : (h : HubView) (conn : ℕ) → HubInvariant h → HubInvariant (record h { connections = without nat_eq h.connections conn })
 without-invariant h conn inv =
     table-invariant h (without nat_eq h.connections conn) inv (λ k pid is. (process-without h conn k pid inv is).1)
-    (each-without (IsKeptIn h) h.connections conn inv.each) (rising-without 0 h.connections (2 ^ 32) conn inv.rising)
+    (each-without (IsSoundIn h) h.connections conn inv.each) (rising-without 0 h.connections (2 ^ 32) conn inv.rising)
 
 pub without-nobodys : (h : HubView) (conn : ℕ) → HubInvariant h → IsNobodys (without nat_eq h.connections conn) (process_in h.connections conn)
 without-nobodys h conn inv k pid mine is = let other = process-without h conn k pid inv is in other.0 (inv.own.one k conn pid other.1 mine)
@@ -131,7 +131,7 @@ without-matches limits confirmed old new h conn m same state rows =
 
 -- ---- all frames are seen
 
-released-kept : (limits : Limits) (owed : Option ℕ → ℕ) (v : ConnectionView) → IsKept limits owed v → IsKept limits owed (released v)
+released-kept : (limits : Limits) (owed : Option ℕ → ℕ) (v : ConnectionView) → IsSoundConnection limits owed v → IsSoundConnection limits owed (released v)
 released-kept limits owed v k =
     record { input = k.input; last = k.last; over = k.over; spare = k.spare; size = omega (arith, k.size, length-append (kept v.outbox) []) }
 
@@ -139,7 +139,7 @@ pub released-invariant : (h : HubView) → HubInvariant h → HubInvariant (reco
 released-invariant h inv =
     table-invariant h (seen_as released h.connections) inv
     (λ k pid is. by_value (value_at nat_eq h.connections k) (sym (ap process_of (at-map released h.connections k)) ∙ is))
-    (each-seen (IsKeptIn h) (IsKeptIn h) (IsKeptIn h) h.connections released inv.each inv.each
+    (each-seen (IsSoundIn h) (IsSoundIn h) (IsSoundIn h) h.connections released inv.each inv.each
     (λ v k _. released-kept h.limits (owed_to h.limits h.state) v k))
     (rw (keys-map released h.connections) inv.rising)
   where
@@ -175,8 +175,8 @@ release-matches limits confirmed old new h m same state rows =
 
 -- ---- some output is taken
 
-pub consumed-kept : (limits : Limits) (owed : Option ℕ → ℕ) (v : ConnectionView) (n : ℕ) → n ≤ length v.outbox.visible → IsKept limits owed v
-    → IsKept limits owed (consumed n v)
+pub consumed-kept : (limits : Limits) (owed : Option ℕ → ℕ) (v : ConnectionView) (n : ℕ) → n ≤ length v.outbox.visible → IsSoundConnection limits owed v
+    → IsSoundConnection limits owed (consumed n v)
 consumed-kept limits owed v n within k =
     record {
       input = k.input;
@@ -238,7 +238,7 @@ pub consumed-stands : {D : Type 0} (v : StoredHub D) (conn n : ℕ) → n ≤ le
     → StoredInvariant (record v { hub = record (v.hub) { connections = changed (consumed n) conn v.hub.connections } })
 consumed-stands v conn n within inv = record {
   rising = rw (changed-keys (consumed n) conn v.hub.connections) inv.rising;
-  goes_on = λ on. changed-invariant v.hub conn (consumed n) (inv.goes_on on)
+  running = λ on. changed-invariant v.hub conn (consumed n) (inv.running on)
       (λ c is k. (λ pid mine. mine, consumed-kept v.hub.limits (owed_to v.hub.limits v.hub.state) c n (rw is at within) k));
 }
 

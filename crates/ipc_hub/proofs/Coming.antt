@@ -16,7 +16,7 @@ use Rattle.ipc_hub.specs.Relations.Delivery.{released}
 use Rattle.ipc_hub.specs.Relations.Invariant.{HasPassed, SameButSeen}
 use Rattle.ipc_hub.specs.Relations.Matches.{HubMatches, StoredMatches, Simulates, TakesIn, Comes, Accepts, Pends}
 use Rattle.ipc_hub.specs.Relations.Requests.{exit_of}
-use Rattle.ipc_hub.specs.Relations.Rows.{Table, hub_view, stored_view, process_in, goes_on_in}
+use Rattle.ipc_hub.specs.Relations.Rows.{Table, hub_view, stored_view, process_in, is_open_in}
 use Rattle.ipc_hub.proofs.Changes.{without-matches, process-matches}
 use Rattle.ipc_hub.proofs.Ending.{leave-adds}
 
@@ -37,7 +37,7 @@ module _ (old new : HubView) (same : SameButSeen old new) (conn : ℕ) where
       by_value None none = tt
       by_value (Some v) none = append-nil (kept v.outbox) ∙ none
 
-  pub still-over : goes_on_in old.connections conn ≡ false → goes_on_in new.connections conn ≡ false
+  pub still-over : is_open_in old.connections conn ≡ false → is_open_in new.connections conn ≡ false
   still-over over = now-at (λ r. unwrap_or (option_map (λ c. not c.ended) r) false ≡ false) over (by_value (connection_of old conn) over)
     where
       by_value : (r : Option ConnectionView) → unwrap_or (option_map (λ (c : ConnectionView). not c.ended) r) false ≡ false
@@ -50,11 +50,11 @@ pub passes-then : (old mid new : HubView) → SameButSeen old mid → HasPassed 
 passes-then old mid new same passed =
     record {
       ended = λ conn over. passed.ended conn (still-over old mid same conn over);
-      room = λ conn none. passed.room conn (still-empty old mid same conn none);
+      space = λ conn none. passed.space conn (still-empty old mid same conn none);
     }
 
 -- a connection that has ended does not go on
-pub ended-over : (h : HubView) (conn : ℕ) → ended_of h conn ≡ true → goes_on_in h.connections conn ≡ false
+pub ended-over : (h : HubView) (conn : ℕ) → ended_of h conn ≡ true → is_open_in h.connections conn ≡ false
 ended-over h conn = by_value (connection_of h conn)
   where
     by_value : (r : Option ConnectionView) → unwrap_or (option_map (λ (c : ConnectionView). c.ended) r) false ≡ true

@@ -15,7 +15,7 @@ use Rattle.ipc_hub.specs.Clients.{Clients, accepted}
 use Rattle.ipc_hub.specs.View.{HubView, StoredHub, HasStopped, most_events}
 use Rattle.ipc_hub.specs.Relations.Delivery.{released, failed, HasSpare}
 use Rattle.ipc_hub.specs.Relations.Faults.{Fails, Halts}
-use Rattle.ipc_hub.specs.Relations.Invariant.{IsKeptIn, HubInvariant, StoredInvariant}
+use Rattle.ipc_hub.specs.Relations.Invariant.{IsSoundIn, HubInvariant, StoredInvariant}
 use Rattle.ipc_hub.specs.Relations.Matches.{Adds, StoredMatches}
 use Rattle.ipc_hub.specs.Relations.Rows.{Table, hub_view, stored_view}
 use Rattle.ipc_hub.proofs.Changes.{released-invariant, release-matches, fail-matches}
@@ -50,7 +50,7 @@ adds-both n first next fits = record {
 pub spare : (h : HubView) → HubInvariant h → EachValue HasSpare h.connections
 spare h inv = by_rows h.connections inv.each
   where
-    by_rows : (es : Table) → EachValue (IsKeptIn h) es → EachValue HasSpare es
+    by_rows : (es : Table) → EachValue (IsSoundIn h) es → EachValue HasSpare es
     by_rows [] each = tt
     by_rows (e ∷ es) each = (each.0.spare, by_rows es each.1)
 
@@ -61,14 +61,14 @@ module _ {D : Type 0} (old new : StoreView D) (before after : Table) (same : new
   Told done = OnOk done (after ≡ seen_as released before) × OnErr done (after ≡ seen_as failed before) × OnErr done (IsStopped new)
 
   pub told-spare : StoredInvariant (stored_view old before) → EachValue HasSpare before
-  told-spare inv = spare (hub_view old.machine before) (inv.goes_on goes)
+  told-spare inv = spare (hub_view old.machine before) (inv.running goes)
 
   pub told-stands : (done : Result ⊤ CommitError) → Told done → StoredInvariant (stored_view old before) → StoredInvariant (stored_view new after)
   told-stands (Ok _) told inv =
-      let still : HubInvariant (hub_view new.machine after) = rw (same, told.0) (released-invariant (hub_view old.machine before) (inv.goes_on goes)) in
-      record { rising = still.rising; goes_on = λ _. still }
+      let still : HubInvariant (hub_view new.machine after) = rw (same, told.0) (released-invariant (hub_view old.machine before) (inv.running goes)) in
+      record { rising = still.rising; running = λ _. still }
   told-stands (Err e) told inv =
-      record { rising = rw told.1 (rw (keys-map failed before) inv.rising); goes_on = λ on. let never : true ≡ false = sym told.2 ∙ on in cc }
+      record { rising = rw told.1 (rw (keys-map failed before) inv.rising); running = λ on. let never : true ≡ false = sym told.2 ∙ on in cc }
 
   pub told-numbers : (done : Result ⊤ CommitError) → Told done → keys_of after ≡ keys_of before
   told-numbers (Ok _) told = ap keys_of told.0 ∙ keys-map released before

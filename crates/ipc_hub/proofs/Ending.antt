@@ -19,8 +19,8 @@ use Rattle.ipc_hub.proofs.Deliveries.{push-matches, table-matches}
 use Rattle.ipc_hub.proofs.Keeping.{with_connection, changed-invariant, changed-keys, change-nobodys, connected-in, kept-pushed, live-at, pushed-frame}
 use Rattle.ipc_wire.proofs.CallerLemmas.{first_short, length-reply_bytes}
 use Rattle.ipc_engine.specs.Engine.{Machine}
-use Rattle.ipc_hub.specs.Relations.Rows.{Table, hub_view, changed, process_in, goes_on_in}
-use Rattle.ipc_hub.specs.Relations.Invariant.{IsKeptIn, HubInvariant, GoesOn, IsConnected, IsNobodys, LeavesOthers}
+use Rattle.ipc_hub.specs.Relations.Rows.{Table, hub_view, changed, process_in, is_open_in}
+use Rattle.ipc_hub.specs.Relations.Invariant.{IsSoundIn, HubInvariant, Continues, IsConnected, IsNobodys, LeavesOthers}
 
 pub ended-matches : (confirmed accepted : ℕ) (v : ConnectionView) (c : Client) → ClientMatches confirmed accepted v c
     → ClientMatches confirmed accepted (closed v) (over c)
@@ -99,15 +99,15 @@ end-matches limits confirmed old left new h conn serial moment v c ahead found h
 
 -- ---- the steps, over the table
 
-module _ (engine : Machine) (table : Table) (conn : ℕ) (inv : HubInvariant (hub_view engine table)) (live : goes_on_in table conn ≡ true) where
+module _ (engine : Machine) (table : Table) (conn : ℕ) (inv : HubInvariant (hub_view engine table)) (live : is_open_in table conn ≡ true) where
   abbrev v : ConnectionView
   v = (live-at table conn live).0
 
   found : value_at nat_eq table conn ≡ Some v
   found = (live-at table conn live).1.0
 
-  kept : IsKeptIn (hub_view engine table) v
-  kept = each-at (IsKeptIn (hub_view engine table)) table conn v inv.each found
+  kept : IsSoundIn (hub_view engine table) v
+  kept = each-at (IsSoundIn (hub_view engine table)) table conn v inv.each found
 
   -- the connection is over
   pub closed-invariant : HubInvariant (hub_view engine (changed closed conn table))
@@ -130,13 +130,13 @@ module _ (engine : Machine) (table : Table) (conn : ℕ) (inv : HubInvariant (hu
 
   -- ---- its process has left
 
-  module _ (left : Machine) (gone after : Table) (is : gone ≡ changed closed conn table) (goes_on : GoesOn (hub_view engine gone) (hub_view left after))
+  module _ (left : Machine) (gone after : Table) (is : gone ≡ changed closed conn table) (continues : Continues (hub_view engine gone) (hub_view left after))
       (others : LeavesOthers gone after) where
     here : value_at nat_eq after conn ≡ Some (closed v)
     here = others conn (closed v) (ap (λ (t : Table). value_at nat_eq t conn) is ∙ rw found (at-with table conn (closed v) v found)) refl
 
-    pub left-room : IfSome (value_at nat_eq after conn) (λ c. last_frame ≤ c.outbox.free)
-    left-room = rw here (omega (arith, kept.last (live-at table conn live).1.1))
+    pub left-space : IfSome (value_at nat_eq after conn) (λ c. last_frame ≤ c.outbox.free)
+    left-space = rw here (omega (arith, kept.last (live-at table conn live).1.1))
 
     -- ---- the last frame follows
 
@@ -144,13 +144,13 @@ module _ (engine : Machine) (table : Table) (conn : ℕ) (inv : HubInvariant (hu
       abbrev last : ConnectionView → ConnectionView
       last = pushed (reply_of (refusal serial EPROTO))
 
-      pub last-goes-on : GoesOn (hub_view engine table) (hub_view left (changed last conn after))
+      pub last-goes-on : Continues (hub_view engine table) (hub_view left (changed last conn after))
       last-goes-on =
           let long = length-reply_bytes (reply_of (refusal serial EPROTO)) in
           record {
-            limits = goes_on.limits;
-            numbers = changed-keys last conn after ∙ goes_on.numbers ∙ ap keys_of is ∙ changed-keys closed conn table;
-            invariant = changed-invariant (hub_view left after) conn last goes_on.invariant (λ w is k.
+            limits = continues.limits;
+            numbers = changed-keys last conn after ∙ continues.numbers ∙ ap keys_of is ∙ changed-keys closed conn table;
+            invariant = changed-invariant (hub_view left after) conn last continues.invariant (λ w is k.
                 let same : w ≡ closed v = same_value w (closed v) (sym is ∙ here) in
                 let free = ap (λ (c : ConnectionView). c.outbox.free) same in
                 let over = ap (λ (c : ConnectionView). c.ended) same in (

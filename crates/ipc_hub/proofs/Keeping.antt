@@ -26,9 +26,9 @@ use Rattle.ipc_hub.proofs.Requests.{quiet-owes, step-short}
 use Rattle.ipc_hub.proofs.Rows.{process_of, for-one, same-changed}
 use Rattle.ipc_base.specs.Limits.{ArePassed, longest_reply}
 use Rattle.ipc_hub.specs.Relations.Delivery.{last_frame, last_frames, owed_to, pushed, put_for, put_all}
-use Rattle.ipc_hub.specs.Relations.Delivery.{AllShort, HasRoomIn, HasRoomFor, HasRoomForAll, HaveRoom}
-use Rattle.ipc_hub.specs.Relations.Rows.{Table, hub_view, changed, process_in, goes_on_in}
-use Rattle.ipc_hub.specs.Relations.Invariant.{AreApart, AreOwn, IsKept, IsKeptIn, HubInvariant, GoesOn, HasPassed, LeavesOthers, IsNobodys, IsConnected}
+use Rattle.ipc_hub.specs.Relations.Delivery.{AllShort, HasSpaceIn, HasSpaceFor, HasSpaceForAll, HaveSpace}
+use Rattle.ipc_hub.specs.Relations.Rows.{Table, hub_view, changed, process_in, is_open_in}
+use Rattle.ipc_hub.specs.Relations.Invariant.{AreApart, AreOwn, IsSoundConnection, IsSoundIn, HubInvariant, Continues, HasPassed, LeavesOthers, IsNobodys, IsConnected}
 
 -- ---- one connection
 
@@ -51,30 +51,30 @@ owing-more [] owed n p = refl
 owing-more (o ∷ os) owed n p = omega (arith, owing-more os owed n p)
 
 -- it is owed otherwise, and so much has room, or it has another process
-pub kept-owing : (limits : Limits) (f g : Option ℕ → ℕ) (v : ConnectionView) (p : Option ℕ) → IsKept limits f v → v.ended ≡ false
-    → g p + last_frames ≤ v.outbox.free → IsKept limits g (record v { process = p })
-kept-owing limits f g v p k live room =
+pub kept-owing : (limits : Limits) (f g : Option ℕ → ℕ) (v : ConnectionView) (p : Option ℕ) → IsSoundConnection limits f v → v.ended ≡ false
+    → g p + last_frames ≤ v.outbox.free → IsSoundConnection limits g (record v { process = p })
+kept-owing limits f g v p k live space =
     record {
       input = k.input;
-      last = λ _. room;
+      last = λ _. space;
       over = λ ended. let never : false ≡ true = sym live ∙ ended in cc;
       spare = k.spare;
       size = k.size;
     }
 
 -- the same, whether or not the connection has ended
-pub kept-less : (limits : Limits) (f g : Option ℕ → ℕ) (v : ConnectionView) → IsKept limits f v → g v.process ≤ f v.process → IsKept limits g v
+pub kept-less : (limits : Limits) (f g : Option ℕ → ℕ) (v : ConnectionView) → IsSoundConnection limits f v → g v.process ≤ f v.process → IsSoundConnection limits g v
 kept-less limits f g v k le =
     record { input = k.input; last = λ live. omega (arith, k.last live, le); over = k.over; spare = k.spare; size = k.size }
 
-pub kept-pushed : (limits : Limits) (f g : Option ℕ → ℕ) (o : PlainOutcome) (v : ConnectionView) → IsKept limits f v
+pub kept-pushed : (limits : Limits) (f g : Option ℕ → ℕ) (o : PlainOutcome) (v : ConnectionView) → IsSoundConnection limits f v
     → length (reply_bytes (reply_of o)) + last_frame ≤ v.outbox.free
-    → (v.ended ≡ false → length (reply_bytes (reply_of o)) + (g v.process + last_frames) ≤ v.outbox.free) → IsKept limits g (pushed (reply_of o) v)
-kept-pushed limits f g o v k fits room =
+    → (v.ended ≡ false → length (reply_bytes (reply_of o)) + (g v.process + last_frames) ≤ v.outbox.free) → IsSoundConnection limits g (pushed (reply_of o) v)
+kept-pushed limits f g o v k fits space =
     let bytes : List ℕ = reply_bytes (reply_of o) in
     record {
       input = k.input;
-      last = λ live. omega (arith, room live);
+      last = λ live. omega (arith, space live);
       over = k.over;
       spare = omega (arith, fits);
       size = omega (
@@ -102,7 +102,7 @@ pub pushed-some : (reply : PlainReply) (v : ConnectionView) → kept (pushed rep
 pushed-some reply v none = omega (arith, ap length none, length-pushed reply v, length-reply_bytes reply)
 
 -- a connection that goes on has a process or none; what is for its process has room
-live-for : (limits : Limits) (f : Option ℕ → ℕ) (v : ConnectionView) (pid : ℕ) → IsKept limits f v → v.process ≡ Some pid → v.ended ≡ false
+live-for : (limits : Limits) (f : Option ℕ → ℕ) (v : ConnectionView) (pid : ℕ) → IsSoundConnection limits f v → v.process ≡ Some pid → v.ended ≡ false
 live-for limits f v pid k some = by_end v.ended refl
   where
     by_end : (b : Bool) → v.ended ≡ b → v.ended ≡ false
@@ -111,12 +111,12 @@ live-for limits f v pid k some = by_end v.ended refl
 
 -- a reply that was on its way has come
 put-kept : (limits : Limits) (f : Option ℕ → ℕ) (o : PlainOutcome) (os : List PlainOutcome) (v : ConnectionView)
-    → IsKept limits (owing (o ∷ os) f) v → IsKept limits (owing os f) (put_for o v)
+    → IsSoundConnection limits (owing (o ∷ os) f) v → IsSoundConnection limits (owing os f) (put_for o v)
 put-kept limits f o os v k =
-    choice (IsKept limits (owing os f)) (is_for o.pid v.process) (pushed (reply_of o) v) v
+    choice (IsSoundConnection limits (owing os f)) (is_for o.pid v.process) (pushed (reply_of o) v) v
     (λ is.
-    let room = rw is at (k.last (live-for limits (owing (o ∷ os) f) v o.pid k (for-one o v.process is))) in
-    kept-pushed limits (owing (o ∷ os) f) (owing os f) o v k (omega (arith, room)) (λ _. omega (arith, room)))
+    let space = rw is at (k.last (live-for limits (owing (o ∷ os) f) v o.pid k (for-one o v.process is))) in
+    kept-pushed limits (owing (o ∷ os) f) (owing os f) o v k (omega (arith, space)) (λ _. omega (arith, space)))
     (λ is. kept-less limits (owing (o ∷ os) f) (owing os f) v k (omega arith))
 
 put-process : (o : PlainOutcome) (r : Option ConnectionView)
@@ -129,31 +129,31 @@ put-none : (o : PlainOutcome) (v : ConnectionView) → v.process ≡ None → pu
 put-none o v none = rw none refl
 
 -- the replies that are on their way have room
-pub owing-room : (limits : Limits) (f : Option ℕ → ℕ) (os : List PlainOutcome) (v : ConnectionView) → IsKept limits (owing os f) v → HasRoomForAll os v
-owing-room limits f os v k pid some =
+pub owing-space : (limits : Limits) (f : Option ℕ → ℕ) (os : List PlainOutcome) (v : ConnectionView) → IsSoundConnection limits (owing os f) v → HasSpaceForAll os v
+owing-space limits f os v k pid some =
     omega (arith, k.last (live-for limits (owing os f) v pid k some), ap (owing os f) some, owing-some os f pid)
 
 -- the first of some replies has room if all have
-room-first : (o : PlainOutcome) (os : List PlainOutcome) (v : ConnectionView) → HasRoomForAll (o ∷ os) v → HasRoomIn o v
-room-first o os v room is =
+space-first : (o : PlainOutcome) (os : List PlainOutcome) (v : ConnectionView) → HasSpaceForAll (o ∷ os) v → HasSpaceIn o v
+space-first o os v space is =
     let same = for-one o v.process is in
     let mine = rw same at is in
-    let all = rw mine at (room o.pid same) in omega (arith, all)
+    let all = rw mine at (space o.pid same) in omega (arith, all)
 
 -- and then the others have
-room-rest : (o : PlainOutcome) (os : List PlainOutcome) (v : ConnectionView) → HasRoomForAll (o ∷ os) v → HasRoomForAll os (put_for o v)
-room-rest o os v room =
-    choice (HasRoomForAll os) (is_for o.pid v.process) (pushed (reply_of o) v) v
-    (λ is pid mine. let this : (pid == o.pid) ≡ true = rw mine at is in let all = rw this at (room pid mine) in omega (arith, all))
-    (λ is pid mine. omega (arith, room pid mine))
+space-rest : (o : PlainOutcome) (os : List PlainOutcome) (v : ConnectionView) → HasSpaceForAll (o ∷ os) v → HasSpaceForAll os (put_for o v)
+space-rest o os v space =
+    choice (HasSpaceForAll os) (is_for o.pid v.process) (pushed (reply_of o) v) v
+    (λ is pid mine. let this : (pid == o.pid) ≡ true = rw mine at is in let all = rw this at (space pid mine) in omega (arith, all))
+    (λ is pid mine. omega (arith, space pid mine))
 
 -- a connection that has heard some replies
 abbrev pub heard : List PlainOutcome → ConnectionView → ConnectionView
 heard [] v = v
 heard (o ∷ os) v = heard os (put_for o v)
 
-pub heard-kept : (limits : Limits) (f : Option ℕ → ℕ) (os : List PlainOutcome) (v : ConnectionView) → IsKept limits (owing os f) v
-    → IsKept limits f (heard os v)
+pub heard-kept : (limits : Limits) (f : Option ℕ → ℕ) (os : List PlainOutcome) (v : ConnectionView) → IsSoundConnection limits (owing os f) v
+    → IsSoundConnection limits f (heard os v)
 heard-kept limits f [] v k = k
 heard-kept limits f (o ∷ os) v k = heard-kept limits f os (put_for o v) (put-kept limits f o os v k)
 
@@ -189,33 +189,33 @@ length-heard (o ∷ os) v =
 
 -- ---- all connections
 
-pub first-each : (o : PlainOutcome) (os : List PlainOutcome) (table : Table) → EachValue (HasRoomForAll (o ∷ os)) table → EachValue (HasRoomIn o) table
+pub first-each : (o : PlainOutcome) (os : List PlainOutcome) (table : Table) → EachValue (HasSpaceForAll (o ∷ os)) table → EachValue (HasSpaceIn o) table
 first-each o os [] each = tt
-first-each o os (e ∷ es) each = (room-first o os e.1 each.0, first-each o os es each.1)
+first-each o os (e ∷ es) each = (space-first o os e.1 each.0, first-each o os es each.1)
 
-pub rest-room : (o : PlainOutcome) (os : List PlainOutcome) (table : Table) → HaveRoom (o ∷ os) table → HaveRoom os (seen_as (put_for o) table)
-rest-room o os table room =
+pub rest-space : (o : PlainOutcome) (os : List PlainOutcome) (table : Table) → HaveSpace (o ∷ os) table → HaveSpace os (seen_as (put_for o) table)
+rest-space o os table space =
     record {
-      short = room.short.1;
-      each = each-seen (HasRoomForAll (o ∷ os)) (HasRoomForAll (o ∷ os)) (HasRoomForAll os) table (put_for o) room.each room.each
-          (λ v has _. room-rest o os v has);
+      short = space.short.1;
+      each = each-seen (HasSpaceForAll (o ∷ os)) (HasSpaceForAll (o ∷ os)) (HasSpaceForAll os) table (put_for o) space.each space.each
+          (λ v has _. space-rest o os v has);
     }
 
 -- the replies that are on their way have room in each connection
-pub owing-have_room : (limits : Limits) (f : Option ℕ → ℕ) (os : List PlainOutcome) (table : Table) → AllShort os
-    → EachValue (IsKept limits (owing os f)) table → HaveRoom os table
-owing-have_room limits f os table short each = record { short = short; each = by_rows table each }
+pub owing-have_space : (limits : Limits) (f : Option ℕ → ℕ) (os : List PlainOutcome) (table : Table) → AllShort os
+    → EachValue (IsSoundConnection limits (owing os f)) table → HaveSpace os table
+owing-have_space limits f os table short each = record { short = short; each = by_rows table each }
   where
-    by_rows : (es : Table) → EachValue (IsKept limits (owing os f)) es → EachValue (HasRoomForAll os) es
+    by_rows : (es : Table) → EachValue (IsSoundConnection limits (owing os f)) es → EachValue (HasSpaceForAll os) es
     by_rows [] all = tt
-    by_rows (e ∷ es) all = (owing-room limits f os e.1 all.0, by_rows es all.1)
+    by_rows (e ∷ es) all = (owing-space limits f os e.1 all.0, by_rows es all.1)
 
-pub put-each : (limits : Limits) (f : Option ℕ → ℕ) (os : List PlainOutcome) (table : Table) → EachValue (IsKept limits (owing os f)) table
-    → EachValue (IsKept limits f) (put_all os table)
+pub put-each : (limits : Limits) (f : Option ℕ → ℕ) (os : List PlainOutcome) (table : Table) → EachValue (IsSoundConnection limits (owing os f)) table
+    → EachValue (IsSoundConnection limits f) (put_all os table)
 put-each limits f [] table each = each
 put-each limits f (o ∷ os) table each =
     put-each limits f os (seen_as (put_for o) table)
-    (each-seen (IsKept limits (owing (o ∷ os) f)) (IsKept limits (owing (o ∷ os) f)) (IsKept limits (owing os f)) table (put_for o) each each
+    (each-seen (IsSoundConnection limits (owing (o ∷ os) f)) (IsSoundConnection limits (owing (o ∷ os) f)) (IsSoundConnection limits (owing os f)) table (put_for o) each each
     (λ v k _. put-kept limits f o os v k))
 
 pub put-keys : (os : List PlainOutcome) (table : Table) → keys_of (put_all os table) ≡ keys_of table
@@ -268,9 +268,9 @@ module _ (limits : Limits) (s : State) (e : PlainEvent) (sound : IsSound limits 
       omega (arith, quiet-owes limits s e pid sound is.0 is.1, owing-some (step limits s e).outcomes (owed_to limits (step limits s e).state) pid)
 
   -- so its connection has room for what it is sent, and is owed then
-  pub quiet-kept : (v : ConnectionView) → IsKept limits (owed_to limits s) v
+  pub quiet-kept : (v : ConnectionView) → IsSoundConnection limits (owed_to limits s) v
       → ((pid : ℕ) → v.process ≡ Some pid → (is_process s pid ≡ true) × (asks s e pid ≡ false))
-      → IsKept limits (owing (step limits s e).outcomes (owed_to limits (step limits s e).state)) v
+      → IsSoundConnection limits (owing (step limits s e).outcomes (owed_to limits (step limits s e).state)) v
   quiet-kept v k none = kept-less limits (owed_to limits s) _ v k (quiet-less v.process none)
 
 -- ---- the hub
@@ -286,7 +286,7 @@ own-less s s' table table' own less =
 
 -- other connections of the same hub
 pub table-invariant : (h : HubView) (table : Table) → HubInvariant h
-    → ((conn pid : ℕ) → process_in table conn ≡ Some pid → process_in h.connections conn ≡ Some pid) → EachValue (IsKeptIn h) table
+    → ((conn pid : ℕ) → process_in table conn ≡ Some pid → process_in h.connections conn ≡ Some pid) → EachValue (IsSoundIn h) table
     → IsRising 0 (keys_of table) (2 ^ 32) → HubInvariant (record h { connections = table })
 table-invariant h table inv less each rising =
     record {
@@ -297,8 +297,8 @@ table-invariant h table inv less each rising =
 
 -- replies are put into the outboxes of connections that have room for them, and for what is owed then
 pub delivery-goes-on : (mid new : HubView) (os : List PlainOutcome) → AreOwn new.state mid.connections
-    → EachValue (IsKept mid.limits (owing os (owed_to mid.limits new.state))) mid.connections → IsRising 0 (keys_of mid.connections) (2 ^ 32)
-    → new.limits ≡ mid.limits → new.connections ≡ put_all os mid.connections → GoesOn mid new
+    → EachValue (IsSoundConnection mid.limits (owing os (owed_to mid.limits new.state))) mid.connections → IsRising 0 (keys_of mid.connections) (2 ^ 32)
+    → new.limits ≡ mid.limits → new.connections ≡ put_all os mid.connections → Continues mid new
 delivery-goes-on mid new os own each rising same rows =
     let keys : keys_of new.connections ≡ keys_of mid.connections = ap keys_of rows ∙ put-keys os mid.connections in
     let processes : (conn : ℕ) → process_in new.connections conn ≡ process_in mid.connections conn =
@@ -337,31 +337,31 @@ module _ (old : HubView) (e : PlainEvent) (sound : IsSound old.limits old.state)
   abbrev after : State
   after = (step old.limits old.state e).state
 
-  quiet-each : EachValue (IsKept old.limits (owing sent (owed_to old.limits after))) old.connections
-  quiet-each = each-by_key (IsKept old.limits _) 0 old.connections (2 ^ 32) inv.rising (λ k v is.
-      quiet-kept old.limits old.state e sound v (each-at (IsKeptIn old) old.connections k v inv.each is)
+  quiet-each : EachValue (IsSoundConnection old.limits (owing sent (owed_to old.limits after))) old.connections
+  quiet-each = each-by_key (IsSoundConnection old.limits _) 0 old.connections (2 ^ 32) inv.rising (λ k v is.
+      quiet-kept old.limits old.state e sound v (each-at (IsSoundIn old) old.connections k v inv.each is)
       (λ pid some. (inv.own.connected k pid (ap process_of is ∙ some), none pid)))
 
-  pub quiet-room : ArePassed old.limits → HaveRoom sent old.connections
-  quiet-room passed =
-      owing-have_room old.limits (owed_to old.limits after) sent old.connections (step-short old.limits old.state e passed sound) quiet-each
+  pub quiet-space : ArePassed old.limits → HaveSpace sent old.connections
+  quiet-space passed =
+      owing-have_space old.limits (owed_to old.limits after) sent old.connections (step-short old.limits old.state e passed sound) quiet-each
 
   -- a connection that kept no frame has room for what its process is owed then, and for a request
-  quiet-roomy : (v : ConnectionView) → IsKeptIn old v → ((pid : ℕ) → v.process ≡ Some pid → is_process old.state pid ≡ true) → kept v.outbox ≡ []
+  quiet-spacious : (v : ConnectionView) → IsSoundIn old v → ((pid : ℕ) → v.process ≡ Some pid → is_process old.state pid ≡ true) → kept v.outbox ≡ []
       → v.ended ≡ false → owed_to old.limits after v.process + longest_reply old.limits + last_frames ≤ (heard sent v).outbox.free
-  quiet-roomy v k is empty live =
+  quiet-spacious v k is empty live =
       let more : Option ℕ → ℕ = λ p. owed_to old.limits after p + longest_reply old.limits in
       let less = quiet-less old.limits old.state e sound v.process (λ pid some. (is pid some, none pid)) in
       let most = owed_to-most old.limits old.state v.process sound in
       let same = heard-same sent v in
-      let room : IsKept old.limits (owing sent more) v =
+      let space : IsSoundConnection old.limits (owing sent more) v =
       kept-owing old.limits (owed_to old.limits old.state) (owing sent more) v v.process k live
       (omega (arith, k.size, ap length empty, less, most, owing-more sent (owed_to old.limits after) (longest_reply old.limits) v.process)) in
-      omega (arith, (heard-kept old.limits more sent v room).last (same.1 ∙ live), ap more same.0)
+      omega (arith, (heard-kept old.limits more sent v space).last (same.1 ∙ live), ap more same.0)
 
   module _ (new : HubView) (is : Happened old new e) where
     pub quiet-goes-on : ((conn pid : ℕ) → process_in old.connections conn ≡ Some pid → is_process after pid ≡ true)
-        → GoesOn old new
+        → Continues old new
     quiet-goes-on stay =
         delivery-goes-on old new sent
         (rw is.state (own-less old.state after old.connections old.connections inv.own (λ conn pid mine. (mine, stay conn pid mine))))
@@ -373,10 +373,10 @@ module _ (old : HubView) (e : PlainEvent) (sound : IsSound old.limits old.state)
           ended = λ conn over.
               subst (λ (r : Option ConnectionView). unwrap_or (option_map (λ c. not c.ended) r) false ≡ false) (sym (at conn))
               (still-over (value_at nat_eq old.connections conn) over);
-          room = λ conn empty.
+          space = λ conn empty.
               subst (λ (r : Option ConnectionView). IfSome r (λ c. c.ended ≡ false
               → owed_to new.limits new.state c.process + longest_reply new.limits + last_frames ≤ c.outbox.free)) (sym (at conn))
-              (roomy conn (value_at nat_eq old.connections conn) refl empty);
+              (spacious conn (value_at nat_eq old.connections conn) refl empty);
         }
       where
         at : (conn : ℕ) → value_at nat_eq new.connections conn ≡ option_map (heard sent) (value_at nat_eq old.connections conn)
@@ -387,14 +387,14 @@ module _ (old : HubView) (e : PlainEvent) (sound : IsSound old.limits old.state)
         still-over None over = over
         still-over (Some v) over = ap not (heard-same sent v).1 ∙ over
 
-        roomy : (conn : ℕ) (r : Option ConnectionView) → value_at nat_eq old.connections conn ≡ r → IfSome r (λ c. kept c.outbox ≡ [])
+        spacious : (conn : ℕ) (r : Option ConnectionView) → value_at nat_eq old.connections conn ≡ r → IfSome r (λ c. kept c.outbox ≡ [])
             → IfSome (option_map (heard sent) r) (λ c. c.ended ≡ false
             → owed_to new.limits new.state c.process + longest_reply new.limits + last_frames ≤ c.outbox.free)
-        roomy conn None here empty = tt
-        roomy conn (Some v) here empty = λ live.
-            let room = quiet-roomy v (each-at (IsKeptIn old) old.connections conn v inv.each here)
+        spacious conn None here empty = tt
+        spacious conn (Some v) here empty = λ live.
+            let space = quiet-spacious v (each-at (IsSoundIn old) old.connections conn v inv.each here)
             (λ pid some. inv.own.connected conn pid (ap process_of here ∙ some)) empty (sym (heard-same sent v).1 ∙ live) in
-            rw is.limits (rw is.state (rw (heard-same sent v).0 room))
+            rw is.limits (rw is.state (rw (heard-same sent v).0 space))
 
 -- ---- one connection of the hub is changed
 
@@ -413,26 +413,26 @@ process-with table conn k pid was v found is =
 
 -- it has the process that it had, or none
 pub change-invariant : (h : HubView) (conn : ℕ) (was v : ConnectionView) → HubInvariant h → value_at nat_eq h.connections conn ≡ Some was
-    → ((pid : ℕ) → v.process ≡ Some pid → was.process ≡ Some pid) → IsKeptIn h v → HubInvariant (with_connection h conn v)
+    → ((pid : ℕ) → v.process ≡ Some pid → was.process ≡ Some pid) → IsSoundIn h v → HubInvariant (with_connection h conn v)
 change-invariant h conn was v inv found less kept =
     table-invariant h (with_value nat_eq h.connections conn v) inv
     (λ k pid is. elim (process-with h.connections conn k pid was v found is) [
       | inl here ↦ ap (process_in h.connections) here.0 ∙ ap process_of found ∙ less pid here.1
       | inr there ↦ there.1
     ])
-    (each-with (IsKeptIn h) h.connections conn v inv.each kept) (rw (keys_of-with_value nat_eq h.connections conn v) inv.rising)
+    (each-with (IsSoundIn h) h.connections conn v inv.each kept) (rw (keys_of-with_value nat_eq h.connections conn v) inv.rising)
 
 -- the same, where it is changed if it is there
 pub changed-invariant : (h : HubView) (conn : ℕ) (see : ConnectionView → ConnectionView) → HubInvariant h
-    → ((v : ConnectionView) → value_at nat_eq h.connections conn ≡ Some v → IsKeptIn h v
-    → ((pid : ℕ) → (see v).process ≡ Some pid → v.process ≡ Some pid) × IsKeptIn h (see v))
+    → ((v : ConnectionView) → value_at nat_eq h.connections conn ≡ Some v → IsSoundIn h v
+    → ((pid : ℕ) → (see v).process ≡ Some pid → v.process ≡ Some pid) × IsSoundIn h (see v))
     → HubInvariant (record h { connections = changed see conn h.connections })
 changed-invariant h conn see inv kept = by_value (value_at nat_eq h.connections conn) refl
   where
     by_value : (r : Option ConnectionView) → value_at nat_eq h.connections conn ≡ r → HubInvariant (record h { connections = changed see conn h.connections })
     by_value None is = rw is inv
     by_value (Some v) is =
-        let k = kept v is (each-at (IsKeptIn h) h.connections conn v inv.each is) in
+        let k = kept v is (each-at (IsSoundIn h) h.connections conn v inv.each is) in
         rw is (change-invariant h conn v (see v) inv is k.0 k.1)
 
 pub changed-keys : (see : ConnectionView → ConnectionView) (conn : ℕ) (table : Table) → keys_of (changed see conn table) ≡ keys_of table
@@ -452,7 +452,7 @@ at-changed see conn table = by_value (value_at nat_eq table conn) refl
     by_value (Some v) is = rw is (at-with table conn (see v) v is)
 
 -- a connection that goes on is there
-pub live-at : (table : Table) (conn : ℕ) → goes_on_in table conn ≡ true
+pub live-at : (table : Table) (conn : ℕ) → is_open_in table conn ≡ true
     → (v : ConnectionView) × ((value_at nat_eq table conn ≡ Some v) × (v.ended ≡ false))
 live-at table conn live = by_value (value_at nat_eq table conn) refl live
   where
@@ -473,14 +473,14 @@ pushed-frame engine table conn reply v found none =
     (at-changed (pushed reply) conn table ∙ ap (option_map (pushed reply)) found) none)
 
 -- one that keeps none has room for a request
-pub empty-room : (h : HubView) (conn : ℕ) → IsSound h.limits h.state → HubInvariant h → HasNoFrame h conn → HasRoomFor h (longest_reply h.limits) conn
-empty-room h conn sound inv = by_value (value_at nat_eq h.connections conn) refl
+pub empty-space : (h : HubView) (conn : ℕ) → IsSound h.limits h.state → HubInvariant h → HasNoFrame h conn → HasSpaceFor h (longest_reply h.limits) conn
+empty-space h conn sound inv = by_value (value_at nat_eq h.connections conn) refl
   where
     by_value : (r : Option ConnectionView) → value_at nat_eq h.connections conn ≡ r → IfSome r (λ c. kept c.outbox ≡ [])
         → IfSome r (λ c. c.ended ≡ false → owed_to h.limits h.state c.process + longest_reply h.limits + last_frames ≤ c.outbox.free)
     by_value None is none = tt
     by_value (Some v) is none = λ live.
-        omega (arith, (each-at (IsKeptIn h) h.connections conn v inv.each is).size, ap length none, owed_to-most h.limits h.state v.process sound)
+        omega (arith, (each-at (IsSoundIn h) h.connections conn v inv.each is).size, ap length none, owed_to-most h.limits h.state v.process sound)
 
 -- nobody has the process that it had if it has none now
 pub change-nobodys : (h : HubView) (conn : ℕ) (was v : ConnectionView) → HubInvariant h → value_at nat_eq h.connections conn ≡ Some was

@@ -11,7 +11,7 @@ use Rattle.ipc_wire.proofs.CallerLemmas.{stream_begun, stream_pieces as pieces}
 use Rattle.ipc_base.specs.Table.{value_at, with_value}
 use Rattle.ipc_engine.specs.Event.{PlainEvent, PlainOutcome, Exit}
 use Rattle.ipc_engine.specs.Step.{step}
-use Rattle.ipc_engine.specs.Engine.{takes_memory}
+use Rattle.ipc_engine.specs.Engine.{event_takes_memory}
 use Rattle.ipc_hub.specs.Clients.{Client, Clients, client_at, with_client, with_frame, delivered, deliver, deliver_all, is_for, leave, over, break_off}
 use Rattle.ipc_hub.specs.Clients.{refuse, event_of, last_reply, greeted, welcomed, serve, on_request, unless_ended, on_requests, on_ending, first_of, take_in}
 use Rattle.ipc_hub.specs.Clients.{fitted, arriving}
@@ -118,10 +118,10 @@ module _ (limits : Limits) where
       by_event : (e : Option PlainEvent)
           → KeepsNone (elim e as (λ _. Clients) [
             | None ↦ break_off limits h conn c request.serial moment
-            | Some e' ↦ if refused && takes_memory limits h.state e' then refuse h conn c request.serial else serve limits h conn c e'
+            | Some e' ↦ if refused && event_takes_memory limits h.state e' then refuse h conn c request.serial else serve limits h conn c e'
           ]) conn
       by_event None = put-keeps _ conn _ refl
-      by_event (Some e) = event-keeps h conn request.serial c e (refused && takes_memory limits h.state e) none
+      by_event (Some e) = event-keeps h conn request.serial c e (refused && event_takes_memory limits h.state e) none
 
   unless-keeps : (h : Clients) (conn : ℕ) (act : Client → Clients) → KeepsNone h conn
       → ((c : Client) → client_at h conn ≡ Some c → KeepsNone (act c) conn) → KeepsNone (unless_ended h conn act) conn
@@ -167,11 +167,11 @@ module _ (limits : Limits) where
   ending-over h conn moment (Broken serial) over = over (λ c. break_off limits h conn c serial moment)
 
   -- how a stream goes on with a client of which the requests so far are answered
-  abbrev pub settled : Clients → ℕ → ℕ → Stream → List Bool → Clients
-  settled h conn moment s refused = on_ending limits (on_requests limits h conn moment s.requests refused) conn moment s.ending
+  abbrev pub after_stream : Clients → ℕ → ℕ → Stream → List Bool → Clients
+  after_stream h conn moment s refused = on_ending limits (on_requests limits h conn moment s.requests refused) conn moment s.ending
 
-  settled-over : (h : Clients) (conn moment : ℕ) (s : Stream) (refused : List Bool) → IsOver h conn → settled h conn moment s refused ≡ h
-  settled-over h conn moment s refused done =
+  after_stream-over : (h : Clients) (conn moment : ℕ) (s : Stream) (refused : List Bool) → IsOver h conn → after_stream h conn moment s refused ≡ h
+  after_stream-over h conn moment s refused done =
       ap (λ (t : Clients). on_ending limits t conn moment s.ending) (requests-over h conn moment s.requests refused done)
       ∙ ending-over h conn moment s.ending done
 
@@ -180,9 +180,9 @@ module _ (limits : Limits) where
   emptied h conn c = with_client h conn (record c { input = [] })
 
   pub take_in-acts : (h : Clients) (conn moment : ℕ) (c : Client) (bytes : List ℕ) (refused : List Bool) → client_at h conn ≡ Some c → c.ended ≡ false
-      → take_in limits h conn bytes moment refused ≡ settled (emptied h conn c) conn moment (stream_of (c.input ++ bytes)) refused
+      → take_in limits h conn bytes moment refused ≡ after_stream (emptied h conn c) conn moment (stream_of (c.input ++ bytes)) refused
   take_in-acts h conn moment c bytes refused here live =
-      acts h conn (λ d. settled (emptied h conn d) conn moment (stream_of (d.input ++ bytes)) refused) c here live
+      acts h conn (λ d. after_stream (emptied h conn d) conn moment (stream_of (d.input ++ bytes)) refused) c here live
 
   -- a client without a process stays as it is when a process leaves
   left_at : (h : Clients) (conn moment : ℕ) (c : Client) (p : Option ℕ) → client_at h conn ≡ Some c → c.process ≡ None
@@ -208,13 +208,13 @@ module _ (limits : Limits) where
 
   -- the rest of a stream that did not break, with more bytes
   rest-more : (h : Clients) (conn moment : ℕ) (bytes more : List ℕ) (refused : List Bool) → KeepsNone h conn
-      → take_in limits (on_ending limits h conn moment (Rest bytes)) conn more moment refused ≡ settled h conn moment (stream_of (bytes ++ more)) refused
+      → take_in limits (on_ending limits h conn moment (Rest bytes)) conn more moment refused ≡ after_stream h conn moment (stream_of (bytes ++ more)) refused
   rest-more h conn moment bytes more refused none =
       elim (over_or_live h conn) [
         | inl done ↦
             ap (λ (t : Clients). take_in limits t conn more moment refused) (ending-over h conn moment (Rest bytes) done)
-            ∙ done (λ d. settled (emptied h conn d) conn moment (stream_of (d.input ++ more)) refused)
-            ∙ sym (settled-over h conn moment (stream_of (bytes ++ more)) refused done)
+            ∙ done (λ d. after_stream (emptied h conn d) conn moment (stream_of (d.input ++ more)) refused)
+            ∙ sym (after_stream-over h conn moment (stream_of (bytes ++ more)) refused done)
         | inr l ↦
             let kept : Client = record (l.c) { input = bytes } in
             let bare : Client = record (l.c) { input = [] } in
@@ -225,20 +225,20 @@ module _ (limits : Limits) where
             ap (λ (t : Clients). take_in limits t conn more moment refused)
             (acts h conn (λ d. with_client h conn (record d { input = bytes })) l.c l.here l.live)
             ∙ take_in-acts (with_client h conn kept) conn moment kept more refused (at-with h.clients conn kept l.c l.here) l.live
-            ∙ ap (λ (t : Clients). settled t conn moment (stream_of (bytes ++ more)) refused) back
+            ∙ ap (λ (t : Clients). after_stream t conn moment (stream_of (bytes ++ more)) refused) back
       ]
 
   goes-on : (h : Clients) (conn moment : ℕ) (rs : List PlainRequest) (ending : Ending) (more : List ℕ) (xs ys : List Bool) → KeepsNone h conn
       → length xs ≡ length rs
       → take_in limits (on_ending limits (on_requests limits h conn moment rs xs) conn moment ending) conn more moment ys
-      ≡ settled h conn moment (continued rs ending more) (xs ++ ys)
+      ≡ after_stream h conn moment (continued rs ending more) (xs ++ ys)
   goes-on h conn moment rs (Rest bytes) more xs ys none same =
       rest-more (on_requests limits h conn moment rs xs) conn moment bytes more ys (requests-keep h conn moment rs xs none)
       ∙ ap (λ (t : Clients). on_ending limits t conn moment (stream_of (bytes ++ more)).ending)
       (sym (requests-append h conn moment rs (stream_of (bytes ++ more)).requests xs ys same))
   goes-on h conn moment rs (Broken serial) more xs ys none same =
       let now : Clients = on_requests limits h conn moment rs xs in
-      broken-over now conn moment serial (λ d. settled (emptied (on_ending limits now conn moment (Broken serial)) conn d) conn moment
+      broken-over now conn moment serial (λ d. after_stream (emptied (on_ending limits now conn moment (Broken serial)) conn d) conn moment
       (stream_of (d.input ++ more)) ys)
       ∙ ap (λ (t : Clients). on_ending limits t conn moment (Broken serial))
       (sym (ap (λ (qs : List PlainRequest). on_requests limits h conn moment qs (xs ++ ys)) (sym (append-nil rs))
@@ -260,7 +260,7 @@ module _ (limits : Limits) where
             (take_in-acts h conn moment l.c bytes xs l.here l.live
             ∙ ap (λ (t : Clients). on_ending limits t conn moment s.ending) (sym (requests-fitted bare conn moment s.requests xs)))
             ∙ goes-on bare conn moment s.requests s.ending more zs ys (put-keeps h.clients conn _ refl) (length-fitted (length s.requests) xs)
-            ∙ ap (λ (t : Stream). settled bare conn moment t (zs ++ ys))
+            ∙ ap (λ (t : Stream). after_stream bare conn moment t (zs ++ ys))
             (sym (pieces (l.c.input ++ bytes) more) ∙ ap stream_of (append_assoc l.c.input bytes more))
             ∙ sym (take_in-acts h conn moment l.c (bytes ++ more) (zs ++ ys) l.here l.live)
             ∙ ap (λ (rs : List PlainRequest). take_in limits h conn (bytes ++ more) moment (fitted (length rs) xs ++ ys)) (sym came)
@@ -275,7 +275,7 @@ module _ (limits : Limits) where
         | inr l ↦
             let e : Client = record (l.c) { input = [] } in
             take_in-acts h conn moment l.c [] [] l.here l.live
-            ∙ ap (λ (t : Stream). settled (emptied h conn l.c) conn moment t [])
+            ∙ ap (λ (t : Stream). after_stream (emptied h conn l.c) conn moment t [])
             (ap stream_of (append-nil l.c.input) ∙ stream_begun l.c.input More (partial l.c l.here))
             ∙ acts (emptied h conn l.c) conn (λ d. with_client (emptied h conn l.c) conn (record d { input = l.c.input })) e
             (at-with h.clients conn e l.c l.here) l.live

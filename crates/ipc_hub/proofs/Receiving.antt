@@ -18,29 +18,29 @@ use Rattle.ipc_hub.specs.declared.serving.Asked.{Asked}
 use Rattle.ipc_hub.specs.declared.serving.Asked.TheVariants as asks
 use Rattle.ipc_hub.specs.Clients.{Client, Clients, last_reply, refusal, break_off, refuse, over as over-client, with_client}
 use Rattle.ipc_hub.specs.View.{ConnectionView, HubView, HasNoFrame, kept as outbox_kept}
-use Rattle.ipc_hub.specs.Relations.Rows.{Table, hub_view, changed, process_in, goes_on_in}
-use Rattle.ipc_hub.specs.Relations.Delivery.{last_frame, owed_to, unanswered_of, pushed, put_all, answered as answered-by, with_answer, HasRoomToAnswer}
-use Rattle.ipc_hub.specs.Relations.Invariant.{AreApart, IsKept, GoesOn}
+use Rattle.ipc_hub.specs.Relations.Rows.{Table, hub_view, changed, process_in, is_open_in}
+use Rattle.ipc_hub.specs.Relations.Delivery.{last_frame, owed_to, unanswered_of, pushed, put_all, answered as answered-by, with_answer, HasSpaceToAnswer}
+use Rattle.ipc_hub.specs.Relations.Invariant.{AreApart, IsSoundConnection, Continues}
 use Rattle.ipc_hub.specs.Relations.Matches.{IsAhead, SimulatesAt, Pends, Accepts}
 use Rattle.ipc_hub.specs.Relations.Requests.{Steps, ComesTo, exit_of, taken_off, Received, Took, Waits}
 use Rattle.ipc_hub.proofs.Rows.{same_value, process_of}
 use Rattle.ipc_hub.proofs.Keeping.{at-changed, changed-invariant, changed-keys, heard, heard-same, pushed-frame, kept-pushed, put-at}
 use Rattle.ipc_hub.proofs.Ending.{leave-adds}
 use Rattle.ipc_hub.proofs.Requests.{Asks, request-asks}
-use Rattle.ipc_hub.proofs.Answering.{answer-room, answer-apart, answer-goes-on, told-none, serve-matches}
+use Rattle.ipc_hub.proofs.Answering.{answer-space, answer-apart, answer-goes-on, told-none, serve-matches}
 use Rattle.ipc_hub.proofs.Taking.{Open, bare, mine, emptied_hub, bare-here, emptied-matches, refused-matches}
 use Rattle.ipc_hub.proofs.Taking.{more-taken, fault-taken, served-taken, broken-taken, refused-taken, same-accepts}
 
 -- ---- bytes come, and a whole frame is taken off
 
-other-input : (limits : Limits) (owed : Option ℕ → ℕ) (v : ConnectionView) (xs : List ℕ) → IsKept limits owed v → first xs ≡ More
-    → IsKept limits owed (record v { input = xs })
+other-input : (limits : Limits) (owed : Option ℕ → ℕ) (v : ConnectionView) (xs : List ℕ) → IsSoundConnection limits owed v → first xs ≡ More
+    → IsSoundConnection limits owed (record v { input = xs })
 other-input limits owed v xs k more = record { input = more; last = k.last; over = k.over; spare = k.spare; size = k.size }
 
 -- whether or not a frame was whole, what is left is none, and the process is the one that it had
 pub still-kept : {D : Type 0} (medium : D → Medium) (old new : StoreView D) (limits : Limits) (owed : Option ℕ → ℕ) (v : ConnectionView) (bytes : List ℕ)
-    (moment : ℕ) (asked : Asked) → IsKept limits owed v → ComesTo medium old new v.process (first bytes) moment asked
-    → IsKept limits owed (taken_off asked (record v { input = bytes })) × ((taken_off asked (record v { input = bytes })).process ≡ v.process)
+    (moment : ℕ) (asked : Asked) → IsSoundConnection limits owed v → ComesTo medium old new v.process (first bytes) moment asked
+    → IsSoundConnection limits owed (taken_off asked (record v { input = bytes })) × ((taken_off asked (record v { input = bytes })).process ≡ v.process)
 still-kept medium old new limits owed v bytes moment asks.More k comes = (other-input limits owed v bytes k comes.0, refl)
 still-kept medium old new limits owed v bytes moment asks.Served k comes = (other-input limits owed v [] k (first_short [] (omega arith)), refl)
 still-kept medium old new limits owed v bytes moment (asks.NoMemory n) k comes = (other-input limits owed v [] k (first_short [] (omega arith)), refl)
@@ -55,7 +55,7 @@ none-of [] none = refl
 none-of (x ∷ xs) none = absurd (omega (arith, none))
 
 -- the same hub goes on with other connections
-pub goes-further : (old mid new : HubView) → mid.limits ≡ old.limits → keys_of mid.connections ≡ keys_of old.connections → GoesOn mid new → GoesOn old new
+pub goes-further : (old mid new : HubView) → mid.limits ≡ old.limits → keys_of mid.connections ≡ keys_of old.connections → Continues mid new → Continues old new
 goes-further old mid new limits numbers g = record { limits = g.limits ∙ limits; numbers = g.numbers ∙ numbers; invariant = g.invariant }
 
 module _ {D : Type 0} {medium : D → Medium} {old new : StoreView D} {before after : Table} {conn : ℕ} {next : List ℕ} {moment : ℕ}
@@ -78,7 +78,7 @@ module _ {D : Type 0} {medium : D → Medium} {old new : StoreView D} {before af
   pub more-took : Took medium old new before after conn next moment
   more-took =
       record {
-        goes_on = rw r.comes.1 (record { limits = refl; numbers = r.numbers; invariant = r.still });
+        continues = rw r.comes.1 (record { limits = refl; numbers = r.numbers; invariant = r.still });
         bytes = λ limits confirmed h ahead. more-taken (opened r ahead) next moment (IsAhead limits confirmed (hub_view new.machine after))
             (Accepts medium old new h) (hub_view new.machine after)
             (ap (λ (s : StoreView D). s.machine.limits) r.comes.1) (ap (λ (s : StoreView D). s.machine.state) r.comes.1) r.table r.comes.0
@@ -115,15 +115,15 @@ module _ {D : Type 0} {medium : D → Medium} {old new : StoreView D} {before af
   abbrev bare-now : ConnectionView
   bare-now = record (r.was) { input = [] }
 
-  pub served-room : HasRoomToAnswer new.machine.outcomes conn after
-  served-room =
-      subst (λ (os : List PlainOutcome). HasRoomToAnswer os conn after) (sym steps.outcomes)
-      (answer-room mid conn bare-now e r.still (found' r) r.live r.room r.passed steps.sound made)
+  pub served-space : HasSpaceToAnswer new.machine.outcomes conn after
+  served-space =
+      subst (λ (os : List PlainOutcome). HasSpaceToAnswer os conn after) (sym steps.outcomes)
+      (answer-space mid conn bare-now e r.still (found' r) r.live r.space r.passed steps.sound made)
 
   pub served-apart : AreApart (with_answer new.machine.outcomes conn after)
   served-apart =
       subst (λ (os : List PlainOutcome). AreApart (with_answer os conn after)) (sym steps.outcomes)
-      (answer-apart mid conn bare-now e r.still (found' r) r.live r.room r.passed steps.sound made)
+      (answer-apart mid conn bare-now e r.still (found' r) r.live r.space r.passed steps.sound made)
 
   module _ (last : Table) (answered : last ≡ put_all new.machine.outcomes (with_answer new.machine.outcomes conn after)) where
     told : last ≡ put_all now.outcomes (with_answer now.outcomes conn after)
@@ -142,7 +142,7 @@ module _ {D : Type 0} {medium : D → Medium} {old new : StoreView D} {before af
     -- if it keeps no frame, the reply is still to come
     served-waits : HasNoFrame (hub_view new.machine last) conn → Waits old new before last conn
     served-waits none =
-        let waits = told-none mid conn bare-now e r.still (found' r) r.live r.room r.passed steps.sound made (rw found-now at none) in
+        let waits = told-none mid conn bare-now e r.still (found' r) r.live r.space r.passed steps.sound made (rw found-now at none) in
         let process : process_in last conn ≡ asked_one.process = ap process_of found-now ∙ (heard-same now.outcomes asked_one).0 in
         let later = subst (λ (s : State). 0 < unanswered_of s asked_one.process) (sym steps.state) waits.2 in
         record {
@@ -157,8 +157,8 @@ module _ {D : Type 0} {medium : D → Medium} {old new : StoreView D} {before af
     pub served-took : Took medium old new before last conn next moment
     served-took =
         record {
-          goes_on = goes-further (hub_view old.machine before) mid (hub_view new.machine last) refl r.numbers
-              (answer-goes-on mid conn bare-now e r.still (found' r) r.live r.room r.passed steps.sound made
+          continues = goes-further (hub_view old.machine before) mid (hub_view new.machine last) refl r.numbers
+              (answer-goes-on mid conn bare-now e r.still (found' r) r.live r.space r.passed steps.sound made
               (hub_view new.machine last) steps.limits steps.state told);
           bytes = λ limits confirmed h ahead.
               let o = opened r ahead in
@@ -180,8 +180,8 @@ module _ {D : Type 0} {medium : D → Medium} {old new : StoreView D} {before af
   abbrev nack : ConnectionView → ConnectionView
   nack = pushed (reply_of (refusal serial ENOMEM))
 
-  pub refused-room : IfSome (value_at nat_eq after conn) (λ c. last_frame ≤ c.outbox.free)
-  refused-room = rw (found' r) (omega (arith, r.room))
+  pub refused-space : IfSome (value_at nat_eq after conn) (λ c. last_frame ≤ c.outbox.free)
+  refused-space = rw (found' r) (omega (arith, r.space))
 
   pub refused-took : Took medium old new before (changed nack conn after) conn next moment
   refused-took =
@@ -189,7 +189,7 @@ module _ {D : Type 0} {medium : D → Medium} {old new : StoreView D} {before af
       let same = r.comes.same in
       let last : Table = changed nack conn after in
       record {
-        goes_on = rw same (record {
+        continues = rw same (record {
           limits = refl;
           numbers = changed-keys nack conn after ∙ r.numbers;
           invariant = changed-invariant (hub_view old.machine after) conn nack r.still (λ v is k.
@@ -197,7 +197,7 @@ module _ {D : Type 0} {medium : D → Medium} {old new : StoreView D} {before af
               let owes = ap (λ (c : ConnectionView). owed_to old.machine.limits old.machine.state c.process) (same_value v bare-n (sym is ∙ found' r)) in (
                 λ pid mine. mine,
                 kept-pushed old.machine.limits (owed_to old.machine.limits old.machine.state) (owed_to old.machine.limits old.machine.state)
-                    (refusal serial ENOMEM) v k (omega (arith, r.room, free, long)) (λ _. omega (arith, r.room, free, owes, long)),
+                    (refusal serial ENOMEM) v k (omega (arith, r.space, free, long)) (λ _. omega (arith, r.space, free, owes, long)),
               ));
         });
         bytes = λ limits confirmed h ahead.
@@ -215,17 +215,17 @@ module _ {D : Type 0} {medium : D → Medium} {old new : StoreView D} {before af
 
 module _ {D : Type 0} {medium : D → Medium} {old new : StoreView D} {before after : Table} {conn : ℕ} {next : List ℕ}
     {moment serial : ℕ} (r : Received medium old new before after conn next moment (asks.Broken serial)) where
-  pub broken-live : goes_on_in after conn ≡ true
+  pub broken-live : is_open_in after conn ≡ true
   broken-live = rw (found' r) (ap not r.live)
 
-  pub broken-took : (store : StoreView D) (last : Table) → GoesOn (hub_view new.machine after) (hub_view store.machine last)
+  pub broken-took : (store : StoreView D) (last : Table) → Continues (hub_view new.machine after) (hub_view store.machine last)
       → ((client : Client) → SimulatesAt conn client (hub_view new.machine after) (hub_view store.machine last)
       (λ limits h. break_off limits h conn client serial moment))
       → Pends medium new (exit_of (process_in after conn) moment) store → (HasNoFrame (hub_view store.machine last) conn → ⊥)
       → Took medium old store before last conn next moment
   broken-took store last goes ends went some =
       record {
-        goes_on = goes-further (hub_view old.machine before) (hub_view new.machine after) (hub_view store.machine last)
+        continues = goes-further (hub_view old.machine before) (hub_view new.machine after) (hub_view store.machine last)
             (ap (λ (s : StoreView D). s.machine.limits) r.comes.0) r.numbers goes;
         bytes = λ limits confirmed h ahead.
             let o = opened r ahead in

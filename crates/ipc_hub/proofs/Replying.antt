@@ -12,7 +12,7 @@ use Rattle.ipc_wire.specs.Reply.{reply_bytes}
 use Rattle.ipc_wire.specs.Stream.{Ending, stream_of}
 use Rattle.ipc_wire.specs.Stream.Ending.{Rest, Broken}
 use Rattle.ipc_state.specs.State.{State}
-use Rattle.ipc_engine.specs.Engine.{takes_memory}
+use Rattle.ipc_engine.specs.Engine.{event_takes_memory}
 use Rattle.ipc_engine.specs.Event.{PlainEvent, PlainOutcome, Exit, Tick}
 use Rattle.ipc_engine.specs.Step.{step, run}
 use Rattle.ipc_engine.specs.View.{reply_of}
@@ -163,7 +163,7 @@ module _ (limits : Limits) (base : State) where
       by_event : (made : Option PlainEvent) → event_of c.process request moment ≡ made → IsTold (on_request limits h conn c moment request refused)
       by_event None is = rw is (told-break h conn c request.serial moment told says)
       by_event (Some e) is =
-          rw is (choice IsTold (refused && takes_memory limits h.state e) (refuse h conn c request.serial) (serve limits h conn c e)
+          rw is (choice IsTold (refused && event_takes_memory limits h.state e) (refuse h conn c request.serial) (serve limits h conn c e)
           (λ t. told-refuse h conn c request.serial told says) (λ t. told-serve h conn c e told says))
 
   told-unless : (h : Clients) (conn : ℕ) (act : Client → Clients) → IsTold h

@@ -10,7 +10,7 @@ use Rattle.ipc_base.specs.declared.limits.Limits.{Limits}
 use Rattle.ipc_base.proofs.CallerLemmas.{rising-bounds, rising-found, longest_reply-bound, same_key, other_key}
 use Rattle.ipc_base.specs.Table.{keys_of}
 use Rattle.ipc_wire.specs.Reply.{reply_bytes}
-use Rattle.ipc_wire.specs.Request.{PlainRequest, PlainKind, Hello, Interrupt as Interrupts, Calls, Posix}
+use Rattle.ipc_wire.specs.Request.{PlainRequest, PlainKind, Hello, Interrupt as Interrupts, Sysv, Posix}
 use Rattle.ipc_wire.proofs.CallerLemmas.{length-reply_bytes}
 use Rattle.ipc_state.specs.Sound.{FitsBody}
 use Rattle.ipc_engine.specs.Sound.{IsSound}
@@ -139,11 +139,11 @@ request-asks limits s process request moment e sound made = by_case process requ
     by_case : (p : Option ℕ) (kind : PlainKind) → event_of p (record request { kind = kind }) moment ≡ Some e → Asks limits s p e
     by_case None (Hello cred) is = one (Connect cred request.serial moment) None (hello-asks limits s cred request.serial moment sound) is
     by_case None Interrupts is = cc
-    by_case None (Calls call) is = cc
+    by_case None (Sysv call) is = cc
     by_case None (Posix call) is = cc
     by_case (Some q) (Hello cred) is = cc
     by_case (Some q) Interrupts is =
         let e' : PlainEvent = Interrupt q request.serial moment in
         one e' (Some q) (process-asks limits s q e' (λ _. refl) (λ pid. interrupt-stays limits s q request.serial moment pid)) is
-    by_case (Some q) (Calls call) is = by_call q (record request { kind = Calls call }) is
+    by_case (Some q) (Sysv call) is = by_call q (record request { kind = Sysv call }) is
     by_case (Some q) (Posix call) is = by_call q (record request { kind = Posix call }) is

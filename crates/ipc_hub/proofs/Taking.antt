@@ -11,7 +11,7 @@ use Rattle.ipc_wire.specs.Stream.{PlainFrame, first, missing, Stream, begins_wit
 use Rattle.ipc_wire.specs.Stream.PlainFrame.{More, Whole, Fault}
 use Rattle.ipc_wire.specs.Stream.Ending.{Rest}
 use Rattle.ipc_wire.proofs.CallerLemmas.{first_short, whole_last, stream_begun}
-use Rattle.ipc_engine.specs.Engine.{takes_memory}
+use Rattle.ipc_engine.specs.Engine.{event_takes_memory}
 use Rattle.ipc_engine.specs.Event.{PlainEvent}
 use Rattle.ipc_engine.specs.View.{reply_of}
 use Rattle.ipc_hub.specs.Clients.{accepted, Client, Clients, client_at, with_client, refusal, event_of, break_off, refuse, serve}
@@ -26,9 +26,9 @@ use Rattle.ipc_hub.specs.Relations.Requests.{IsRequest}
 use Rattle.ipc_hub.proofs.Deliveries.{push-matches}
 use Rattle.ipc_hub.proofs.Ending.{change-matches, pair-at}
 use Rattle.ipc_hub.proofs.Rows.{same_value}
-use Rattle.ipc_hub.specs.Relations.Rows.{goes_on_in}
-use Rattle.ipc_hub.specs.Relations.Invariant.{IsKeptIn, HubInvariant}
-use Rattle.ipc_hub.proofs.Pieces.{KeepsNone, over_or_live, acts, ended-stays, settled, emptied, take_in-acts, take_in-nothing, take_in-pieces, request-keeps}
+use Rattle.ipc_hub.specs.Relations.Rows.{is_open_in}
+use Rattle.ipc_hub.specs.Relations.Invariant.{IsSoundIn, HubInvariant}
+use Rattle.ipc_hub.proofs.Pieces.{KeepsNone, over_or_live, acts, ended-stays, after_stream, emptied, take_in-acts, take_in-nothing, take_in-pieces, request-keeps}
 
 -- nothing is behind the requests, and nothing is kept
 ending-none : (limits : Limits) (h : Clients) (conn moment : ℕ) → KeepsNone h conn → on_ending limits h conn moment (Rest []) ≡ h
@@ -120,10 +120,10 @@ module _ {limits : Limits} {confirmed : ℕ} {old : HubView} {h : Clients} {conn
     -- what taking in comes to
     taken : (refused : List Bool) (f : PlainFrame) → first bytes ≡ f
         → take_in limits h conn next moment refused
-        ≡ settled limits emptied_hub conn moment (begins_with f bytes (λ used. stream_of (drop used bytes))) refused
+        ≡ after_stream limits emptied_hub conn moment (begins_with f bytes (λ used. stream_of (drop used bytes))) refused
     taken refused f is =
         take_in-acts limits h conn moment cl next refused here open_still
-        ∙ ap (λ (s : Stream). settled limits emptied_hub conn moment s refused)
+        ∙ ap (λ (s : Stream). after_stream limits emptied_hub conn moment s refused)
         (ap (λ (i : List ℕ). stream_of (i ++ next)) (sym mine.input) ∙ stream_begun bytes f is)
 
     -- no whole frame yet
@@ -156,7 +156,7 @@ module _ {limits : Limits} {confirmed : ℕ} {old : HubView} {h : Clients} {conn
           let after : Clients = on_request limits emptied_hub conn bare moment asked.request refused in
           let to : take_in limits h conn next moment (refused ∷ []) ≡ after =
           taken (refused ∷ []) (Whole asked.used asked.request) asked.whole
-          ∙ ap (λ (s : Stream). settled limits emptied_hub conn moment (record { requests = asked.request ∷ s.requests; ending = s.ending }) (refused ∷ []))
+          ∙ ap (λ (s : Stream). after_stream limits emptied_hub conn moment (record { requests = asked.request ∷ s.requests; ending = s.ending }) (refused ∷ []))
           (ap stream_of nothing-behind ∙ stream_begun [] More (first_short [] (omega arith)))
           ∙ ap (λ (t : Clients). on_ending limits t conn moment (Rest [])) (acts emptied_hub conn _ bare bare-here open_still)
           ∙ ending-none limits after conn moment (request-keeps limits emptied_hub conn moment bare asked.request refused refl) in
@@ -172,10 +172,10 @@ module _ {limits : Limits} {confirmed : ℕ} {old : HubView} {h : Clients} {conn
           × Q (break_off limits emptied_hub conn bare asked.request.serial moment) → Comes-to
       broken-taken is came = request-taken false (rw (made-by ∙ is) came)
 
-      pub refused-taken : (e : PlainEvent) → made ≡ Some e → takes_memory old.limits old.state e ≡ true
+      pub refused-taken : (e : PlainEvent) → made ≡ Some e → event_takes_memory old.limits old.state e ≡ true
           → P (refuse emptied_hub conn bare asked.request.serial) × Q (refuse emptied_hub conn bare asked.request.serial) → Comes-to
       refused-taken e is takes came =
-          let takes' : takes_memory limits h.state e ≡ true = sym (λ i. takes_memory (o.ahead.matches.same i) (o.ahead.matches.state i) e) ∙ takes in
+          let takes' : event_takes_memory limits h.state e ≡ true = sym (λ i. event_takes_memory (o.ahead.matches.same i) (o.ahead.matches.state i) e) ∙ takes in
           request-taken true (rw (made-by ∙ is) (rw takes' came))
 
 -- ---- nothing, an ended connection, and bytes in a row
@@ -205,11 +205,11 @@ module _ {D : Type 0} (medium : D → Medium) (law : (d : D) (image : Image) →
           | inl none ↦ let never : None ≡ Some c = sym none.1 ∙ is in cc
           | inr p ↦
               ap (λ (d : Client). first d.input) (same_value c p.c (sym is ∙ p.here)) ∙ ap first (sym p.mine.input)
-              ∙ (each-at (IsKeptIn old.hub) old.hub.connections conn p.v inv.each p.at).input
+              ∙ (each-at (IsSoundIn old.hub) old.hub.connections conn p.v inv.each p.at).input
         ]))
 
     -- the connection has ended, or there is none
-    pub over-takes : (old : StoredHub D) (conn moment : ℕ) (bytes : List ℕ) → goes_on_in old.hub.connections conn ≡ false
+    pub over-takes : (old : StoredHub D) (conn moment : ℕ) (bytes : List ℕ) → is_open_in old.hub.connections conn ≡ false
         → TakesIn medium old old conn bytes moment
     over-takes old conn moment next over = takes-none old conn moment next (λ limits confirmed h ahead.
         elim (pair-at limits confirmed old.hub h conn ahead.matches) [

@@ -11,7 +11,7 @@ use Rattle.ipc_wire.specs.Request.{PlainRequest}
 use Rattle.ipc_wire.specs.Stream.{Ending, Stream, stream_of}
 use Rattle.ipc_wire.specs.Stream.Ending.{Rest, Broken}
 use Rattle.ipc_state.specs.State.{State}
-use Rattle.ipc_engine.specs.Engine.{takes_memory}
+use Rattle.ipc_engine.specs.Engine.{event_takes_memory}
 use Rattle.ipc_engine.specs.Event.{PlainEvent, PlainOutcome, Exit, Tick, moment_of}
 use Rattle.ipc_engine.specs.Sound.{NoneIsDue}
 use Rattle.ipc_engine.specs.Step.{Step, step, silent}
@@ -162,7 +162,7 @@ module _ (limits : Limits) where
       does r =
           elim r as (λ _. Clients) [
             | None ↦ break_off limits h conn d request.serial moment
-            | Some e ↦ if refused && takes_memory limits h.state e then refuse h conn d request.serial else serve limits h conn d e
+            | Some e ↦ if refused && event_takes_memory limits h.state e then refuse h conn d request.serial else serve limits h conn d e
           ]
 
       by_memory : (e : PlainEvent) (a b : Bool) → a ≡ b
@@ -179,12 +179,12 @@ module _ (limits : Limits) where
       by_event : (r : Option PlainEvent)
           → Alike (elim r as (λ _. Clients) [
             | None ↦ break_off limits g conn c request.serial moment
-            | Some e ↦ if refused && takes_memory limits g.state e then refuse g conn c request.serial else serve limits g conn c e
+            | Some e ↦ if refused && event_takes_memory limits g.state e then refuse g conn c request.serial else serve limits g conn c e
           ]) (does r)
       by_event None = break_off-alike g h conn c d request.serial moment alike same
       by_event (Some e) =
-          by_memory e (refused && takes_memory limits g.state e) (refused && takes_memory limits h.state e)
-          (ap (λ (s : State). refused && takes_memory limits s e) (states g h alike))
+          by_memory e (refused && event_takes_memory limits g.state e) (refused && event_takes_memory limits h.state e)
+          (ap (λ (s : State). refused && event_takes_memory limits s e) (states g h alike))
 
   requests-alike : (g h : Clients) (conn moment : ℕ) (rs : List PlainRequest) (refused : List Bool) → Alike g h
       → Alike (on_requests limits g conn moment rs refused) (on_requests limits h conn moment rs refused)
@@ -246,11 +246,11 @@ module _ (limits : Limits) (step-early : (s : State) (e : PlainEvent) → NoneIs
       by_event : (r : Option PlainEvent)
           → Quiet moment (elim r as (λ _. Clients) [
             | None ↦ break_off limits h conn c request.serial moment
-            | Some e ↦ if refused && takes_memory limits h.state e then refuse h conn c request.serial else serve limits h conn c e
+            | Some e ↦ if refused && event_takes_memory limits h.state e then refuse h conn c request.serial else serve limits h conn c e
           ])
       by_event None = break_off-quiet h conn c request.serial quiet
       by_event (Some e) =
-          choice (Quiet moment) (refused && takes_memory limits h.state e) (refuse h conn c request.serial) (serve limits h conn c e)
+          choice (Quiet moment) (refused && event_takes_memory limits h.state e) (refuse h conn c request.serial) (serve limits h conn c e)
           (λ _. put-quiet h conn _ quiet) (λ _. accept-quiet (with_client h conn _) e (put-quiet h conn _ quiet))
 
   unless-quiet : (h : Clients) (conn : ℕ) (act : Client → Clients) → Quiet moment h → ((c : Client) → Quiet moment (act c))

@@ -9,7 +9,7 @@ use Rattle.ipc_base.specs.declared.limits.Limits.{Limits}
 use Rattle.ipc_wire.specs.Request.{PlainKind, PlainRequest, Hello, Interrupt as Interrupts}
 use Rattle.ipc_wire.specs.declared.reply.Body.TheVariants.{Empty}
 use Rattle.ipc_wire.specs.Reply.{reply_bytes}
-use Rattle.ipc_engine.specs.Engine.{takes_memory}
+use Rattle.ipc_engine.specs.Engine.{event_takes_memory}
 use Rattle.ipc_wire.specs.Stream.{Ending, stream_of}
 use Rattle.ipc_wire.specs.Stream.Ending.{Rest, Broken}
 use Rattle.ipc_base.specs.Table.{value_at, with_value, with_entry, without, seen_as}
@@ -159,7 +159,7 @@ on_request limits h conn c moment request refused = by_event (event_of c.process
     by_event : Option PlainEvent → Clients
     by_event None = break_off limits h conn c request.serial moment
     by_event (Some e) =
-        if refused && takes_memory limits h.state e then refuse h conn c request.serial else serve limits h conn c e
+        if refused && event_takes_memory limits h.state e then refuse h conn c request.serial else serve limits h conn c e
 
 -- what a connection does, unless it has ended
 abbrev pub unless_ended : Clients → ℕ → (Client → Clients) → Clients

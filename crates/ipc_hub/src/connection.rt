@@ -34,7 +34,7 @@ pub struct Connection {
     pub(crate) outbox: Outbox,
     /// The server has ended it: what comes is dropped.
     pub(crate) ended: bool,
-    ghost room: { 8452 ≤ vec_capacity input },
+    ghost space: { 8452 ≤ vec_capacity input },
 }
 
 impl Connection {
@@ -46,7 +46,7 @@ impl Connection {
       last_frames,
       owed_to,
       closed,
-      HasRoomToGreet,
+      HasSpaceToGreet,
       released,
       consumed,
       pushed,
@@ -100,7 +100,7 @@ impl Connection {
 
     /// Whether what its process is owed has room, and behind it a reply of so many bytes and the last frames. What it
     /// is owed is counted only where the most that any is owed has no room.
-    pub(crate) fn has_room(&self, engine: &Engine, reply: u32) -> bool
+    pub(crate) fn has_space(&self, engine: &Engine, reply: u32) -> bool
         ensures { IsTrue result ↔ (owed_to engine.now.limits engine.now.state (pid_of self.now.process) + reply
             + last_frames ≤ self.now.outbox.free) }
     {
@@ -150,7 +150,7 @@ impl Connection {
 
     /// Takes a reply.
     pub(crate) fn push(&mut self, reply: &Reply<'_>)
-        requires room { length (reply_bytes (plain_reply reply.now)) ≤ self.old.outbox.free }
+        requires space { length (reply_bytes (plain_reply reply.now)) ≤ self.old.outbox.free }
         requires length { 6 + length (body_bytes (plain_reply reply.now).body) < 2 ^ 32 }
         ensures number { self.new.number ≡ self.old.number }
         ensures view { view_of self.new ≡ pushed (plain_reply reply.now) (view_of self.old) }
@@ -161,8 +161,8 @@ impl Connection {
     /// Is told the reply to its request. If it had no process, the request was a HELLO: it has the process that the
     /// reply names, or takes the reply if that names none.
     pub(crate) fn hear_own(&mut self, reply: Option<&Outcome>)
-        requires room { self.old.process ≡ None
-            → HasRoomToGreet (option_map plain_outcome (option_copied reply)) (view_of self.old) }
+        requires space { self.old.process ≡ None
+            → HasSpaceToGreet (option_map plain_outcome (option_copied reply)) (view_of self.old) }
         ensures number { self.new.number ≡ self.old.number }
         ensures view { view_of self.new
             ≡ answered (option_map plain_outcome (option_copied reply.entry)) (view_of self.old) }

@@ -10,10 +10,10 @@ ghost use Rattle.ipc_engine.specs.View.{plain_outcome};
 ghost use Rattle.ipc_hub.specs.declared.connection.Connection.{Connection};
 ghost use Rattle.ipc_hub.specs.Clients.{is_for};
 ghost use Rattle.ipc_hub.specs.Relations.Delivery.{released, failed, consumed, put_for, put_all};
-ghost use Rattle.ipc_hub.specs.Relations.Delivery.{HasSpare, IsShort, HasRoomIn, HaveRoom, HasRoomFor};
+ghost use Rattle.ipc_hub.specs.Relations.Delivery.{HasSpare, IsShort, HasSpaceIn, HaveSpace, HasSpaceFor};
 ghost use Rattle.ipc_hub.specs.Relations.Invariant.{AreApart};
 ghost use Rattle.ipc_hub.specs.Relations.Rows.{pid_of, view_of, rows, table_of, hub_view, changed};
-ghost use Rattle.ipc_hub.specs.Relations.Rows.{process_in, goes_on_in, ended_in, output_in};
+ghost use Rattle.ipc_hub.specs.Relations.Rows.{process_in, is_open_in, ended_in, output_in};
 ghost use Rattle.ipc_hub.specs.Relations.Lends.{lends_connection};
 
 use crate::connection::Connection;
@@ -73,9 +73,9 @@ impl Connections {
     }
 
     /// Whether a connection has the number, and the server has not ended it.
-    pub(crate) fn goes_on(&self, conn: u32) -> bool
+    pub(crate) fn is_open(&self, conn: u32) -> bool
         requires { IsRising 0 (keys_of (table_of self.now)) (2 ^ 32) }
-        ensures { result ≡ goes_on_in (table_of self.now) conn }
+        ensures { result ≡ is_open_in (table_of self.now) conn }
     {
         match self.get(conn) {
             Some(connection) => !connection.ended,
@@ -134,12 +134,12 @@ impl Connections {
 
     /// Whether in a connection, if it goes on, what its process is owed has room, and behind it a reply of so many
     /// bytes and the last frames.
-    pub(crate) fn has_room(&self, conn: u32, engine: &Engine, reply: u32) -> bool
+    pub(crate) fn has_space(&self, conn: u32, engine: &Engine, reply: u32) -> bool
         requires { IsRising 0 (keys_of (table_of self.now)) (2 ^ 32) }
-        ensures { IsTrue result ↔ HasRoomFor (hub_view engine.now (table_of self.now)) reply conn }
+        ensures { IsTrue result ↔ HasSpaceFor (hub_view engine.now (table_of self.now)) reply conn }
     {
         match self.get(conn) {
-            Some(connection) => connection.ended || connection.has_room(engine, reply),
+            Some(connection) => connection.ended || connection.has_space(engine, reply),
             None => true,
         }
     }
@@ -170,7 +170,7 @@ impl Connections {
 
     /// They learn what a commit or a save has come to. If it is done, the frames that wait are seen; if it has failed,
     /// they are dropped, and an EIO frame is the last of each.
-    pub(crate) fn tell(&mut self, done: Result<(), CommitError>)
+    pub(crate) fn after_commit(&mut self, done: Result<(), CommitError>)
         requires { EachValue HasSpare (table_of self.old) }
         ensures ok { OnOk done (table_of self.new ≡ seen_as released (table_of self.old)) }
         ensures err { OnErr done (table_of self.new ≡ seen_as failed (table_of self.old)) }
@@ -186,7 +186,7 @@ impl Connections {
     pub(crate) fn deliver(&mut self, asked: Option<u32>, outcomes: &[Outcome])
         requires rising { IsRising 0 (keys_of (table_of self.old)) (2 ^ 32) }
         requires apart { AreApart (table_of self.old) }
-        requires room { HaveRoom (map plain_outcome outcomes.now) (table_of self.old) }
+        requires space { HaveSpace (map plain_outcome outcomes.now) (table_of self.old) }
         ensures { table_of self.new ≡ put_all (map plain_outcome outcomes.now) (table_of self.old) }
     {
         let first = match asked {
@@ -270,7 +270,7 @@ fn put(connections: &mut [Connection], first: usize, outcome: &Outcome)
     requires rising { IsRising 0 (keys_of (rows connections.old)) (2 ^ 32) }
     requires apart { AreApart (rows connections.old) }
     requires short { IsShort (plain_outcome outcome.now) }
-    requires room { EachValue (HasRoomIn (plain_outcome outcome.now)) (rows connections.old) }
+    requires space { EachValue (HasSpaceIn (plain_outcome outcome.now)) (rows connections.old) }
     ensures { rows connections.new ≡ seen_as (put_for (plain_outcome outcome.now)) (rows connections.old) }
 {
     if let Some(place) = place_of_process(connections, first, outcome.pid) {

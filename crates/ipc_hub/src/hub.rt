@@ -102,7 +102,7 @@ impl<D: SectorDisk> Hub<D> {
 
     fn add(&mut self, conn: u32) -> Result<(), AllocError>
         requires free { is_connected self.old.hub conn ≡ false }
-        requires goes_on { ¬ HasStopped self.old }
+        requires running { ¬ HasStopped self.old }
         ensures ok { OnOk result (Simulates self.old.hub self.new.hub (λ _ h. connect h conn)) }
         ensures joins { OnOk result ((other : ℕ) → is_connected self.new.hub other
             ≡ (other == conn || is_connected self.old.hub other)) }
@@ -142,7 +142,7 @@ impl<D: SectorDisk> Hub<D> {
         if !self.connections.contains(conn) {
             return Err(ServeError::Unknown);
         }
-        if let Err(error) = self.pass(moment) {
+        if let Err(error) = self.advance(moment) {
             return Err(ServeError::from(error));
         }
         let taken = serving::take_in(&mut self.store, &mut self.connections, conn, piece, moment);
@@ -168,7 +168,7 @@ impl<D: SectorDisk> Hub<D> {
         if !self.connections.contains(conn) {
             return Err(ServeError::Unknown);
         }
-        if let Err(error) = self.pass(moment) {
+        if let Err(error) = self.advance(moment) {
             return Err(ServeError::from(error));
         }
         let process = self.connections.remove(conn);
@@ -188,11 +188,11 @@ impl<D: SectorDisk> Hub<D> {
         if self.has_stopped() {
             return Err(CommitError::Stopped);
         }
-        self.pass(moment)
+        self.advance(moment)
     }
 
     // Time passes, and two events more have room then. The call begins with a release if three may have no room.
-    fn pass(&mut self, moment: Moment) -> Result<(), CommitError>
+    fn advance(&mut self, moment: Moment) -> Result<(), CommitError>
         requires { ¬ HasStopped self.old }
         ensures ok { OnOk result (Serves D.medium self.old self.new (λ limits h. tick limits h moment.0)) }
         ensures numbers { numbers_of self.new.hub ≡ numbers_of self.old.hub }
@@ -203,7 +203,7 @@ impl<D: SectorDisk> Hub<D> {
         ensures spends { OnOk result (Spends D.counts 2 self.old.store self.new.store) }
         ensures honest { IsHonest (D.medium self.old.store.disk) → IsHonest (D.medium self.new.store.disk) }
     {
-        if let Err(error) = self.make_room() {
+        if let Err(error) = self.make_space() {
             return Err(error);
         }
         serving::tick(&mut self.store, &mut self.connections, moment);
@@ -233,7 +233,7 @@ impl<D: SectorDisk> Hub<D> {
             return Err(CommitError::Stopped);
         }
         let done = self.store.commit();
-        self.connections.tell(done);
+        self.connections.after_commit(done);
         done
     }
 
@@ -259,7 +259,7 @@ impl<D: SectorDisk> Hub<D> {
             return Err(CommitError::Stopped);
         }
         let done = self.store.save();
-        self.connections.tell(done);
+        self.connections.after_commit(done);
         done
     }
 
@@ -279,7 +279,7 @@ impl<D: SectorDisk> Hub<D> {
     }
 
     // Releases if the events of a call may have no room among those that wait.
-    fn make_room(&mut self) -> Result<(), CommitError>
+    fn make_space(&mut self) -> Result<(), CommitError>
         requires { ¬ HasStopped self.old }
         ensures ok { OnOk result ((limits : Limits) (h : Clients) → StoredMatches limits self.old h
             → StoredMatches limits self.new h) }

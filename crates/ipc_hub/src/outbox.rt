@@ -35,11 +35,11 @@ impl Model for Outbox {
 
 impl Outbox {
     /// No frame is kept, and so many bytes have room.
-    pub(crate) fn new(alloc: Global, room: usize) -> Result<Outbox, AllocError>
-        ensures { IfOk result (λ o. o ≡ record { visible = []; waiting = []; free = room }) }
+    pub(crate) fn new(alloc: Global, space: usize) -> Result<Outbox, AllocError>
+        ensures { IfOk result (λ o. o ≡ record { visible = []; waiting = []; free = space }) }
     {
         Ok(Outbox {
-            buffer: vec![in alloc; 0; room]?,
+            buffer: vec![in alloc; 0; space]?,
             released: 0,
             end: 0,
         })
@@ -61,7 +61,7 @@ impl Outbox {
 
     /// Puts a frame behind those that wait.
     pub(crate) fn push(&mut self, reply: &Reply<'_>)
-        requires room { length (reply_bytes (plain_reply reply.now)) ≤ self.old.free }
+        requires space { length (reply_bytes (plain_reply reply.now)) ≤ self.old.free }
         requires length { 6 + length (body_bytes (plain_reply reply.now).body) < 2 ^ 32 }
         ensures { self.new ≡ with_bytes self.old (reply_bytes (plain_reply reply.now)) }
     {

@@ -12,10 +12,10 @@ ghost use Rattle.ipc_hub.specs.Clients.{Client, refusal as refusal_of, event_of 
 ghost use Rattle.ipc_hub.specs.Clients.{leave as leaves, break_off as breaks_off, tick as ticks};
 ghost use Rattle.ipc_hub.specs.View.{HasNoFrame};
 ghost use Rattle.ipc_hub.specs.Relations.Rows.{pid_of, view_of, table_of, hub_view, stored_view};
-ghost use Rattle.ipc_hub.specs.Relations.Rows.{changed, process_in, goes_on_in};
+ghost use Rattle.ipc_hub.specs.Relations.Rows.{changed, process_in, is_open_in};
 ghost use Rattle.ipc_hub.specs.Relations.Delivery.{last_frame, closed, pushed, put_all, with_answer};
-ghost use Rattle.ipc_hub.specs.Relations.Delivery.{HasRoomToAnswer, HasRoomFor};
-ghost use Rattle.ipc_hub.specs.Relations.Invariant.{HubInvariant, GoesOn, HasPassed, IsConnected, IsNobodys};
+ghost use Rattle.ipc_hub.specs.Relations.Delivery.{HasSpaceToAnswer, HasSpaceFor};
+ghost use Rattle.ipc_hub.specs.Relations.Invariant.{HubInvariant, Continues, HasPassed, IsConnected, IsNobodys};
 ghost use Rattle.ipc_hub.specs.Relations.Invariant.{AreApart, LeavesOthers};
 ghost use Rattle.ipc_hub.specs.Relations.Matches.{Adds, Simulates, SimulatesAt, TakesIn, Pends};
 ghost use Rattle.ipc_hub.specs.Relations.Requests.{ComesTo, exit_of, taken_off, Received, Took};
@@ -59,12 +59,12 @@ fn event_of<'a>(process: Option<Pid>, request: &Request<'a>, moment: Moment) -> 
             serial: request.serial,
             moment,
         }),
-        (Some(pid), RequestKind::Call(_) | RequestKind::Posix(_)) => Some(Event::Call {
+        (Some(pid), RequestKind::Sysv(_) | RequestKind::Posix(_)) => Some(Event::Call {
             pid,
             request: *request,
             moment,
         }),
-        (None, RequestKind::Interrupt | RequestKind::Call(_) | RequestKind::Posix(_))
+        (None, RequestKind::Interrupt | RequestKind::Sysv(_) | RequestKind::Posix(_))
         | (Some(_), RequestKind::Hello(_)) => None,
     }
 }
@@ -79,7 +79,7 @@ pub(crate) fn tick<D: SectorDisk>(
     requires ready { IsReadyFor store.old 3 }
     ensures ready { IsReadyFor store.new 2 }
     ensures accepts { Pends D.medium store.old (Tick moment.0 ∷ []) store.new }
-    ensures goes_on { GoesOn (hub_view store.old.machine (table_of connections.old))
+    ensures continues { Continues (hub_view store.old.machine (table_of connections.old))
         (hub_view store.new.machine (table_of connections.new)) }
     ensures ticks { Simulates (hub_view store.old.machine (table_of connections.old))
         (hub_view store.new.machine (table_of connections.new))
@@ -104,7 +104,7 @@ pub(crate) fn leave<D: SectorDisk>(
     requires nobodys { IsNobodys (table_of connections.old) (pid_of process) }
     requires ready { IsReadyFor store.old 1 }
     ensures accepts { Pends D.medium store.old (exit_of (pid_of process) moment.0) store.new }
-    ensures goes_on { GoesOn (hub_view store.old.machine (table_of connections.old))
+    ensures continues { Continues (hub_view store.old.machine (table_of connections.old))
         (hub_view store.new.machine (table_of connections.new)) }
     ensures leaves { Simulates (hub_view store.old.machine (table_of connections.old))
         (hub_view store.new.machine (table_of connections.new))
@@ -164,7 +164,7 @@ fn come_to<D: SectorDisk>(store: &mut Store<D>, connection: &Connection, moment:
 fn answer(connections: &mut Connections, conn: u32, outcomes: &[Outcome])
     requires rising { IsRising 0 (keys_of (table_of connections.old)) (2 ^ 32) }
     requires apart { AreApart (with_answer (map plain_outcome outcomes.now) conn (table_of connections.old)) }
-    requires room { HasRoomToAnswer (map plain_outcome outcomes.now) conn (table_of connections.old) }
+    requires space { HasSpaceToAnswer (map plain_outcome outcomes.now) conn (table_of connections.old) }
     ensures { table_of connections.new ≡ put_all (map plain_outcome outcomes.now)
         (with_answer (map plain_outcome outcomes.now) conn (table_of connections.old)) }
 {
@@ -177,7 +177,7 @@ fn answer(connections: &mut Connections, conn: u32, outcomes: &[Outcome])
 /// Puts a reply without a body into a connection: memory was refused to its request, or the server ends it.
 fn refuse(connections: &mut Connections, conn: u32, serial: u32, errno: Errno)
     requires rising { IsRising 0 (keys_of (table_of connections.old)) (2 ^ 32) }
-    requires room { IfSome (value_at nat_eq (table_of connections.old) conn) (λ c. last_frame ≤ c.outbox.free) }
+    requires space { IfSome (value_at nat_eq (table_of connections.old) conn) (λ c. last_frame ≤ c.outbox.free) }
     ensures { table_of connections.new
         ≡ changed (pushed (reply_of (refusal_of serial errno))) conn (table_of connections.old) }
 {
@@ -205,11 +205,11 @@ fn break_off<D: SectorDisk>(
     moment: Moment,
 )
     requires hub { HubInvariant (hub_view store.old.machine (table_of connections.old)) }
-    requires live { goes_on_in (table_of connections.old) conn ≡ true }
+    requires live { is_open_in (table_of connections.old) conn ≡ true }
     requires ready { IsReadyFor store.old 1 }
     ensures accepts { Pends D.medium store.old
         (exit_of (process_in (table_of connections.old) conn) moment.0) store.new }
-    ensures goes_on { GoesOn (hub_view store.old.machine (table_of connections.old))
+    ensures continues { Continues (hub_view store.old.machine (table_of connections.old))
         (hub_view store.new.machine (table_of connections.new)) }
     ensures ends { (client : Client)
         → SimulatesAt conn client (hub_view store.old.machine (table_of connections.old))
@@ -234,8 +234,8 @@ fn receive<D: SectorDisk>(
 ) -> (usize, Asked)
     requires passed { ArePassed store.old.machine.limits }
     requires hub { HubInvariant (hub_view store.old.machine (table_of connections.old)) }
-    requires live { goes_on_in (table_of connections.old) conn ≡ true }
-    requires room { HasRoomFor (hub_view store.old.machine (table_of connections.old))
+    requires live { is_open_in (table_of connections.old) conn ≡ true }
+    requires space { HasSpaceFor (hub_view store.old.machine (table_of connections.old))
         (longest_reply store.old.machine.limits) conn }
     requires ready { IsReadyFor store.old 1 }
     ensures received { Received D.medium store.old store.new (table_of connections.old) (table_of connections.new)
@@ -261,7 +261,7 @@ fn take<D: SectorDisk>(
 ) -> usize
     requires passed { ArePassed store.old.machine.limits }
     requires hub { HubInvariant (hub_view store.old.machine (table_of connections.old)) }
-    requires room { HasRoomFor (hub_view store.old.machine (table_of connections.old))
+    requires space { HasSpaceFor (hub_view store.old.machine (table_of connections.old))
         (longest_reply store.old.machine.limits) conn }
     requires ready { IsReadyFor store.old 1 }
     ensures took { Took D.medium store.old store.new (table_of connections.old) (table_of connections.new)
@@ -270,7 +270,7 @@ fn take<D: SectorDisk>(
     ensures some { 0 < length piece.now → 0 < result }
     ensures adds { Adds 1 store.old store.new }
 {
-    if !connections.goes_on(conn) {
+    if !connections.is_open(conn) {
         return piece.len();
     }
     let (count, asked) = receive(store, connections, conn, piece, moment);
@@ -296,19 +296,19 @@ pub(crate) fn take_in<D: SectorDisk>(
 ) -> usize
     requires hub { HubInvariant (hub_view store.old.machine (table_of connections.old)) }
     requires ready { IsReadyFor store.old 2 }
-    ensures goes_on { GoesOn (hub_view store.old.machine (table_of connections.old))
+    ensures continues { Continues (hub_view store.old.machine (table_of connections.old))
         (hub_view store.new.machine (table_of connections.new)) }
     ensures bytes { TakesIn D.medium (stored_view store.old (table_of connections.old))
         (stored_view store.new (table_of connections.new)) conn (take result piece.now) moment.0 }
     ensures within { result ≤ length piece.now }
     ensures whole { HasNoFrame (hub_view store.new.machine (table_of connections.new)) conn
         → result ≡ length piece.now }
-    ensures starts { HasRoomFor (hub_view store.old.machine (table_of connections.old))
+    ensures starts { HasSpaceFor (hub_view store.old.machine (table_of connections.old))
         (longest_reply store.old.machine.limits) conn → 0 < length piece.now → 0 < result }
-    ensures dropped { goes_on_in (table_of connections.old) conn ≡ false → result ≡ length piece.now }
+    ensures dropped { is_open_in (table_of connections.old) conn ≡ false → result ≡ length piece.now }
     ensures adds { Adds result store.old store.new }
 {
-    if !connections.goes_on(conn) {
+    if !connections.is_open(conn) {
         return piece.len();
     }
     let mut taken = 0;
@@ -317,7 +317,7 @@ pub(crate) fn take_in<D: SectorDisk>(
             return taken;
         }
         let reply = store.engine().limits().longest_reply();
-        if !connections.has_room(conn, store.engine(), reply) {
+        if !connections.has_space(conn, store.engine(), reply) {
             return taken;
         }
         taken += take(store, connections, conn, &piece[taken..], moment);

@@ -63,7 +63,7 @@ name-short {X} kind e formed = by_name e.1.name formed
         by_length true is = let refused = too-long (fault kind (b ∷ name)) (nat_lt (most_bytes kind) (length (b ∷ name))) is in cc
         by_length false is = grind (arith, nat_tests)
 
-module _ (limits : Limits) (n : ℕ) (e : NamedEntry Mq) (sound : IsSoundMq limits e.object) (formed : is_named_so names.Queue (n, e) ≡ true) where
+module _ (limits : Limits) (n : ℕ) (e : NamedEntry Mq) (sound : IsSoundMq limits e.object) (formed : is_named_so names.Mq (n, e) ≡ true) where
   pub mq-short : length (mq_bytes e) ≤ 299 + limits.maxmsg * (8 + limits.msgsize)
   mq-short =
       let q : Mq = e.object in
@@ -73,7 +73,7 @@ module _ (limits : Limits) (n : ℕ) (e : NamedEntry Mq) (sound : IsSoundMq limi
       omega (
         arith,
         mq-long e,
-        name-short names.Queue (n, e) formed,
+        name-short names.Mq (n, e) formed,
         length-most mq_message_bytes (8 + q.msgsize) q.messages each,
         mul-le (length q.messages) (8 + q.msgsize) limits.maxmsg (8 + limits.msgsize) (omega (arith, sound.count, sound.maxmsg.1))
             (omega (arith, sound.msgsize.1)),
@@ -83,7 +83,7 @@ module _ (limits : Limits) (n : ℕ) (e : NamedEntry Mq) (sound : IsSoundMq limi
   mq-small passed =
       let b = passed-bounds limits passed in
       record {
-        name = omega (arith, name-short names.Queue (n, e) formed);
+        name = omega (arith, name-short names.Mq (n, e) formed);
         count = omega (arith, sound.count, sound.maxmsg.1, b.maxmsg);
         texts = All-weaker (IsSoundMqMessage e.object.msgsize) (λ m. length m.text < 2 ^ 32)
             (λ m good. omega (arith, good.short, sound.msgsize.1, b.msgsize)) e.object.messages sound.messages;

@@ -21,27 +21,27 @@ use Rattle.ipc_state.specs.Opening.{NamedObjects, is_named_so}
 use Rattle.ipc_state.specs.Sound.{AreHeld, IsSoundMq}
 use Rattle.ipc_state.specs.State.{State, named_in}
 use Rattle.ipc_engine.specs.Sound.{IsSound}
-use Rattle.ipc_image.specs.Saved.{mq_bytes, mq_object, named_sem_bytes, named_sem_object, segment_bytes, segment_object, named_objects}
+use Rattle.ipc_image.specs.Saved.{mq_bytes, mq_object, psem_bytes, psem_object, segment_bytes, pshm_object, named_objects}
 use Rattle.ipc_image.specs.SavedParts.{IsSmallMq}
 use Rattle.ipc_image.specs.Sizes.{sectors}
 use Rattle.ipc_image.proofs.KindSizes.{kind-sectors, objects-rise}
 use Rattle.ipc_image.proofs.MqObjects.{mq-long, mq-short, mq-small, name-short}
-use Rattle.ipc_image.proofs.NamedObjects.{sems_and_segments}
+use Rattle.ipc_image.proofs.NamedObjects.{psems_and_pshms}
 
 -- ---- how many
 
 abbrev pub named_count : NamedObjects → ℕ
-named_count o = length o.mq.entries + (length o.named_sem.entries + length o.shm.entries)
+named_count o = length o.mq.entries + (length o.psem.entries + length o.pshm.entries)
 
 pub named-counted : (o : NamedObjects) → length (named_objects o) ≡ named_count o
 named-counted o =
     omega (
       arith,
-      length-append (map mq_object o.mq.entries) (sems_and_segments o),
-      length-append (map named_sem_object o.named_sem.entries) (map segment_object o.shm.entries),
+      length-append (map mq_object o.mq.entries) (psems_and_pshms o),
+      length-append (map psem_object o.psem.entries) (map pshm_object o.pshm.entries),
       length-map o.mq.entries mq_object,
-      length-map o.named_sem.entries named_sem_object,
-      length-map o.shm.entries segment_object,
+      length-map o.psem.entries psem_object,
+      length-map o.pshm.entries pshm_object,
     )
 
 -- ---- how long
@@ -59,8 +59,8 @@ each-held {X} most IsSoundOne kind processes o P from held = both o.entries held
         All-cons P e es one (both es (All-tail (λ (f : ℕ × NamedEntry X). IsSoundOne f.1.object) e es each)
         (All-tail (λ (f : ℕ × NamedEntry X). is_named_so kind f ≡ true) e es formed))
 
-pub named_sem-long : (e : NamedEntry ℕ) → length (named_sem_bytes e) ≡ 20 + length e.name
-named_sem-long e = omega arith
+pub psem-long : (e : NamedEntry ℕ) → length (psem_bytes e) ≡ 20 + length e.name
+psem-long e = omega arith
 
 pub segment-long : (e : NamedEntry Segment) → length (segment_bytes e) ≡ 24 + length e.name + length e.object.bytes
 segment-long e = omega (arith, length-append e.name e.object.bytes)
@@ -70,7 +70,7 @@ of o = sectors (length o.1)
 
 -- the sectors of segments: two for each that are not full of its bytes
 segment-sectors : (es : List (ℕ × NamedEntry Segment)) → All (λ e. length e.1.name ≤ 255) es
-    → 512 * sum_by of (map segment_object es) ≤ sum_by (λ e. length e.1.object.bytes) es + 790 * length es
+    → 512 * sum_by of (map pshm_object es) ≤ sum_by (λ e. length e.1.object.bytes) es + 790 * length es
 segment-sectors [] short = omega arith
 segment-sectors (e ∷ es) short =
     omega (
@@ -78,7 +78,7 @@ segment-sectors (e ∷ es) short =
       All-head (λ (f : ℕ × NamedEntry Segment). length f.1.name ≤ 255) e es short,
       segment-sectors es (All-tail (λ (f : ℕ × NamedEntry Segment). length f.1.name ≤ 255) e es short),
       segment-long e.1,
-      sum_by-cons of (segment_object e) (map segment_object es),
+      sum_by-cons of (pshm_object e) (map pshm_object es),
       sum_by-cons (λ (f : ℕ × NamedEntry Segment). length f.1.object.bytes) e es,
     )
 
@@ -118,37 +118,37 @@ module _ (limits : Limits) (s : State) where
         omega (
           arith,
           sound.parts.mq.held.named.numbered.count,
-          sound.parts.named_sem.named.numbered.count,
-          sound.parts.shm.held.named.numbered.count,
+          sound.parts.psem.named.numbered.count,
+          sound.parts.pshm.held.named.numbered.count,
         )
 
     -- their numbers rise
     pub named-rise : IsRising (3 * 2 ^ 32 + 1) (keys_of (named_objects o)) (2 ^ 64)
     named-rise =
-        let segments : PlainObjects = map segment_object o.shm.entries in
+        let segments : PlainObjects = map pshm_object o.pshm.entries in
         let last : IsRising (5 * 2 ^ 32 + 1) (keys_of segments) (2 ^ 64) =
         subst (λ (os : PlainObjects). IsRising (5 * 2 ^ 32 + 1) (keys_of os) (2 ^ 64)) (append-nil segments)
-        (objects-rise (5 * 2 ^ 32) segment_bytes 1 o.shm.next (2 ^ 64) o.shm.entries [] sound.parts.shm.held.named.numbered.numbers
-        (omega (arith, sound.parts.shm.held.named.numbered.next))) in
-        let sems : IsRising (4 * 2 ^ 32 + 1) (keys_of (sems_and_segments o)) (2 ^ 64) =
-        objects-rise (4 * 2 ^ 32) named_sem_bytes 1 o.named_sem.next (2 ^ 64) o.named_sem.entries segments sound.parts.named_sem.named.numbered.numbers
-        (rising-lower (4 * 2 ^ 32 + o.named_sem.next) (5 * 2 ^ 32 + 1) (keys_of segments) (2 ^ 64) (omega (arith, sound.parts.named_sem.named.numbered.next)) last) in
-        objects-rise (3 * 2 ^ 32) mq_bytes 1 o.mq.next (2 ^ 64) o.mq.entries (sems_and_segments o) sound.parts.mq.held.named.numbered.numbers
-        (rising-lower (3 * 2 ^ 32 + o.mq.next) (4 * 2 ^ 32 + 1) (keys_of (sems_and_segments o)) (2 ^ 64) (omega (arith, sound.parts.mq.held.named.numbered.next)) sems)
+        (objects-rise (5 * 2 ^ 32) segment_bytes 1 o.pshm.next (2 ^ 64) o.pshm.entries [] sound.parts.pshm.held.named.numbered.numbers
+        (omega (arith, sound.parts.pshm.held.named.numbered.next))) in
+        let sems : IsRising (4 * 2 ^ 32 + 1) (keys_of (psems_and_pshms o)) (2 ^ 64) =
+        objects-rise (4 * 2 ^ 32) psem_bytes 1 o.psem.next (2 ^ 64) o.psem.entries segments sound.parts.psem.named.numbered.numbers
+        (rising-lower (4 * 2 ^ 32 + o.psem.next) (5 * 2 ^ 32 + 1) (keys_of segments) (2 ^ 64) (omega (arith, sound.parts.psem.named.numbered.next)) last) in
+        objects-rise (3 * 2 ^ 32) mq_bytes 1 o.mq.next (2 ^ 64) o.mq.entries (psems_and_pshms o) sound.parts.mq.held.named.numbered.numbers
+        (rising-lower (3 * 2 ^ 32 + o.mq.next) (4 * 2 ^ 32 + 1) (keys_of (psems_and_pshms o)) (2 ^ 64) (omega (arith, sound.parts.mq.held.named.numbered.next)) sems)
 
-    segment-names : All (λ e. length e.1.name ≤ 255) o.shm.entries
+    segment-names : All (λ e. length e.1.name ≤ 255) o.pshm.entries
     segment-names =
-        All-weaker (λ (e : ℕ × NamedEntry Segment). is_named_so names.Segment e ≡ true) (λ e. length e.1.name ≤ 255)
-        (λ e formed. name-short names.Segment e formed) o.shm.entries sound.parts.shm.held.forms
+        All-weaker (λ (e : ℕ × NamedEntry Segment). is_named_so names.Pshm e ≡ true) (λ e. length e.1.name ≤ 255)
+        (λ e formed. name-short names.Pshm e formed) o.pshm.entries sound.parts.pshm.held.forms
 
-    sem-names : All (λ e. length e.1.name ≤ 251) o.named_sem.entries
+    sem-names : All (λ e. length e.1.name ≤ 251) o.psem.entries
     sem-names =
-        All-weaker (λ (e : ℕ × NamedEntry ℕ). is_named_so names.Semaphore e ≡ true) (λ e. length e.1.name ≤ 251)
-        (λ e formed. name-short names.Semaphore e formed) o.named_sem.entries sound.parts.named_sem.forms
+        All-weaker (λ (e : ℕ × NamedEntry ℕ). is_named_so names.Psem e ≡ true) (λ e. length e.1.name ≤ 251)
+        (λ e formed. name-short names.Psem e formed) o.psem.entries sound.parts.psem.forms
 
     mqs-short : All (λ e. length (mq_bytes e.1) ≤ most_mq limits) o.mq.entries
     mqs-short =
-        each-held limits.queues (IsSoundMq limits) names.Queue s.processes.entries s.mq (λ e. length (mq_bytes e.1) ≤ most_mq limits)
+        each-held limits.queues (IsSoundMq limits) names.Mq s.processes.entries s.mq (λ e. length (mq_bytes e.1) ≤ most_mq limits)
         (λ e good formed. mq-short limits e.0 e.1 good formed) sound.parts.mq.held
 
     -- they have some bytes, and not too many to be counted
@@ -158,23 +158,23 @@ module _ (limits : Limits) (s : State) where
         let most : most_mq limits < 2 ^ 64 = omega (arith, mul-le limits.maxmsg (8 + limits.msgsize) 10 8200 b.maxmsg (omega (arith, b.msgsize))) in
         let Some-bytes : ℕ × List ℕ → Type 0 = λ x. 0 < length x.1 in
         let Few-bytes : ℕ × List ℕ → Type 0 = λ x. length x.1 < 2 ^ 64 in
-        let segments = segment-within o.shm.entries limits.segment_bytes sound.parts.shm.bytes in
+        let segments = segment-within o.pshm.entries limits.segment_bytes sound.parts.pshm.bytes in
         record {
-          some = All-append Some-bytes (map mq_object o.mq.entries) (sems_and_segments o)
+          some = All-append Some-bytes (map mq_object o.mq.entries) (psems_and_pshms o)
               (All-map Some-bytes mq_object o.mq.entries
               (All-weaker (λ (e : ℕ × NamedEntry Mq). length (mq_bytes e.1) ≤ most_mq limits) (λ e. Some-bytes (mq_object e)) (λ e short. omega (arith, mq-long e.1)) o.mq.entries mqs-short))
-              (All-append Some-bytes (map named_sem_object o.named_sem.entries) (map segment_object o.shm.entries)
-              (All-map Some-bytes named_sem_object o.named_sem.entries
-              (All-weaker (λ (e : ℕ × NamedEntry ℕ). length e.1.name ≤ 251) (λ e. Some-bytes (named_sem_object e)) (λ e short. omega (arith, named_sem-long e.1)) o.named_sem.entries sem-names))
-              (All-map Some-bytes segment_object o.shm.entries
-              (All-weaker (λ (e : ℕ × NamedEntry Segment). length e.1.name ≤ 255) (λ e. Some-bytes (segment_object e)) (λ e short. omega (arith, segment-long e.1)) o.shm.entries segment-names)));
-          few = All-append Few-bytes (map mq_object o.mq.entries) (sems_and_segments o)
+              (All-append Some-bytes (map psem_object o.psem.entries) (map pshm_object o.pshm.entries)
+              (All-map Some-bytes psem_object o.psem.entries
+              (All-weaker (λ (e : ℕ × NamedEntry ℕ). length e.1.name ≤ 251) (λ e. Some-bytes (psem_object e)) (λ e short. omega (arith, psem-long e.1)) o.psem.entries sem-names))
+              (All-map Some-bytes pshm_object o.pshm.entries
+              (All-weaker (λ (e : ℕ × NamedEntry Segment). length e.1.name ≤ 255) (λ e. Some-bytes (pshm_object e)) (λ e short. omega (arith, segment-long e.1)) o.pshm.entries segment-names)));
+          few = All-append Few-bytes (map mq_object o.mq.entries) (psems_and_pshms o)
               (All-map Few-bytes mq_object o.mq.entries
               (All-weaker (λ (e : ℕ × NamedEntry Mq). length (mq_bytes e.1) ≤ most_mq limits) (λ e. Few-bytes (mq_object e)) (λ e short. omega (arith, short, most)) o.mq.entries mqs-short))
-              (All-append Few-bytes (map named_sem_object o.named_sem.entries) (map segment_object o.shm.entries)
-              (All-map Few-bytes named_sem_object o.named_sem.entries
-              (All-weaker (λ (e : ℕ × NamedEntry ℕ). length e.1.name ≤ 251) (λ e. Few-bytes (named_sem_object e)) (λ e short. omega (arith, short, named_sem-long e.1)) o.named_sem.entries sem-names))
-              (All-map Few-bytes segment_object o.shm.entries (segments-few o.shm.entries segments segment-names)));
+              (All-append Few-bytes (map psem_object o.psem.entries) (map pshm_object o.pshm.entries)
+              (All-map Few-bytes psem_object o.psem.entries
+              (All-weaker (λ (e : ℕ × NamedEntry ℕ). length e.1.name ≤ 251) (λ e. Few-bytes (psem_object e)) (λ e short. omega (arith, short, psem-long e.1)) o.psem.entries sem-names))
+              (All-map Few-bytes pshm_object o.pshm.entries (segments-few o.pshm.entries segments segment-names)));
         }
       where
         segments-few : (es : List (ℕ × NamedEntry Segment)) → All (λ e. length e.1.object.bytes ≤ limits.segment_bytes) es → All (λ e. length e.1.name ≤ 255) es
@@ -197,27 +197,27 @@ module _ (limits : Limits) (s : State) where
     pub named-sectors : sum_by of (named_objects o) ≤ named_most limits
     named-sectors =
         let mqs = kind-sectors (3 * 2 ^ 32) limits.queues (most_mq limits) mq_bytes o.mq.entries mqs-short sound.parts.mq.held.named.numbered.count in
-        let short : All (λ e. length (named_sem_bytes e.1) ≤ 271) o.named_sem.entries =
-        All-weaker (λ (e : ℕ × NamedEntry ℕ). length e.1.name ≤ 251) (λ e. length (named_sem_bytes e.1) ≤ 271) (λ e less. omega (arith, less, named_sem-long e.1)) o.named_sem.entries sem-names in
-        let sems = kind-sectors (4 * 2 ^ 32) limits.named_semaphores 271 named_sem_bytes o.named_sem.entries short sound.parts.named_sem.named.numbered.count in
+        let short : All (λ e. length (psem_bytes e.1) ≤ 271) o.psem.entries =
+        All-weaker (λ (e : ℕ × NamedEntry ℕ). length e.1.name ≤ 251) (λ e. length (psem_bytes e.1) ≤ 271) (λ e less. omega (arith, less, psem-long e.1)) o.psem.entries sem-names in
+        let sems = kind-sectors (4 * 2 ^ 32) limits.named_semaphores 271 psem_bytes o.psem.entries short sound.parts.psem.named.numbered.count in
         omega (
           arith,
           mqs,
           sems,
-          segment-sectors o.shm.entries segment-names,
-          sound.parts.shm.bytes,
-          sound.parts.shm.held.named.numbered.count,
-          sum_by-append of (map mq_object o.mq.entries) (sems_and_segments o),
-          sum_by-append of (map named_sem_object o.named_sem.entries) (map segment_object o.shm.entries),
+          segment-sectors o.pshm.entries segment-names,
+          sound.parts.pshm.bytes,
+          sound.parts.pshm.held.named.numbered.count,
+          sum_by-append of (map mq_object o.mq.entries) (psems_and_pshms o),
+          sum_by-append of (map psem_object o.psem.entries) (map pshm_object o.pshm.entries),
         )
 
     pub mqs-small : ArePassed limits → All (λ e. IsSmallMq e.1) o.mq.entries
     mqs-small passed =
-        each-held limits.queues (IsSoundMq limits) names.Queue s.processes.entries s.mq (λ e. IsSmallMq e.1)
+        each-held limits.queues (IsSoundMq limits) names.Mq s.processes.entries s.mq (λ e. IsSmallMq e.1)
         (λ e good formed. mq-small limits e.0 e.1 good formed passed) sound.parts.mq.held
 
-    pub names-small : (All (λ e. length e.1.name < 2 ^ 32) o.named_sem.entries) × (All (λ e. length e.1.name < 2 ^ 32) o.shm.entries)
+    pub names-small : (All (λ e. length e.1.name < 2 ^ 32) o.psem.entries) × (All (λ e. length e.1.name < 2 ^ 32) o.pshm.entries)
     names-small = (
-      All-weaker (λ (e : ℕ × NamedEntry ℕ). length e.1.name ≤ 251) (λ e. length e.1.name < 2 ^ 32) (λ e short. omega (arith, short)) o.named_sem.entries sem-names,
-      All-weaker (λ (e : ℕ × NamedEntry Segment). length e.1.name ≤ 255) (λ e. length e.1.name < 2 ^ 32) (λ e short. omega (arith, short)) o.shm.entries segment-names,
+      All-weaker (λ (e : ℕ × NamedEntry ℕ). length e.1.name ≤ 251) (λ e. length e.1.name < 2 ^ 32) (λ e short. omega (arith, short)) o.psem.entries sem-names,
+      All-weaker (λ (e : ℕ × NamedEntry Segment). length e.1.name ≤ 255) (λ e. length e.1.name < 2 ^ 32) (λ e short. omega (arith, short)) o.pshm.entries segment-names,
     )

@@ -14,10 +14,10 @@ emptied s =
       wait = [];
       undo = [];
       msg = record { next = s.msg.next; entries = [] };
-      sem = record { next = s.sem.next; entries = [] };
+      semset = record { next = s.semset.next; entries = [] };
       mq = record { next = s.mq.next; entries = [] };
-      named_sem = record { next = s.named_sem.next; entries = [] };
-      shm = record { next = s.shm.next; entries = [] };
+      psem = record { next = s.psem.next; entries = [] };
+      pshm = record { next = s.pshm.next; entries = [] };
     }
 
 -- states with the same clock's object have the same clock and next numbers
@@ -31,9 +31,9 @@ clock_one s t fit also same =
       wait = [];
       undo = [];
       msg = record { next = get_or ns 2 0; entries = [] };
-      sem = record { next = get_or ns 3 0; entries = [] };
+      semset = record { next = get_or ns 3 0; entries = [] };
       mq = record { next = get_or ns 4 0; entries = [] };
-      named_sem = record { next = get_or ns 5 0; entries = [] };
-      shm = record { next = get_or ns 6 0; entries = [] };
+      psem = record { next = get_or ns 5 0; entries = [] };
+      pshm = record { next = get_or ns 6 0; entries = [] };
     } in
     ap made first.0

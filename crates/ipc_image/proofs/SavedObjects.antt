@@ -19,7 +19,7 @@ use Rattle.sysv_msg.specs.declared.queue.QueueStat.{QueueStat}
 use Rattle.ipc_state.specs.declared.numbered.Item.{Item}
 use Rattle.ipc_state.specs.declared.keyed.Entry.{Entry}
 use Rattle.ipc_state.specs.declared.named.NamedEntry.{NamedEntry}
-use Rattle.ipc_state.specs.Sound.{IsSoundQueue, IsSoundSet, HasNumbers, AreSoundDescriptors}
+use Rattle.ipc_state.specs.Sound.{IsSoundMsgQueue, IsSoundSemset, HasNumbers, AreSoundDescriptors}
 use Rattle.posix_mq.specs.Queue.{Queue as Mq}
 use Rattle.shm_segment.specs.Segment.{Segment}
 use Rattle.sysv_sem.specs.Set.{Set, stat_of as set_stat}
@@ -89,18 +89,18 @@ set-long e = omega (arith, length-each semaphore_bytes 6 (λ x. refl) e.object.s
 
 -- the things that have objects of their own
 abbrev pub things : State → PlainObjects
-things s = map queue_object s.msg.entries ++ (map set_object s.sem.entries ++ named_objects (named_in s))
+things s = map queue_object s.msg.entries ++ (map set_object s.semset.entries ++ named_objects (named_in s))
 
 module _ (s : State) where
-  pub saved-count : length (saved s) ≡ 4 + (length s.msg.entries + (length s.sem.entries + named_count (named_in s)))
+  pub saved-count : length (saved s) ≡ 4 + (length s.msg.entries + (length s.semset.entries + named_count (named_in s)))
   unfolding saved
   saved-count =
       omega (
         arith,
-        length-append (map queue_object s.msg.entries) (map set_object s.sem.entries ++ named_objects (named_in s)),
-        length-append (map set_object s.sem.entries) (named_objects (named_in s)),
+        length-append (map queue_object s.msg.entries) (map set_object s.semset.entries ++ named_objects (named_in s)),
+        length-append (map set_object s.semset.entries) (named_objects (named_in s)),
         length-map s.msg.entries queue_object,
-        length-map s.sem.entries set_object,
+        length-map s.semset.entries set_object,
         named-counted (named_in s),
       )
 
@@ -141,7 +141,7 @@ module _ (s : State) where
   -- what holds of the four, and of each thing that has an object of its own, holds of all
   each-saved : (P : ℕ × List ℕ → Type 0) → P (0, fields_bytes clock_sizes (clock_numbers s)) → P (1, processes_bytes s.processes.entries)
       → P (2, waits_bytes s.wait) → P (3, adjustments_bytes s.undo) → All (λ e. P (queue_object e)) s.msg.entries
-      → All (λ e. P (set_object e)) s.sem.entries → All P (named_objects (named_in s)) → All P (saved s)
+      → All (λ e. P (set_object e)) s.semset.entries → All P (named_objects (named_in s)) → All P (saved s)
   unfolding saved
   each-saved P clock processes waiting adjustments queues sets named =
       let two : List (ℕ × List ℕ) = (2, waits_bytes s.wait) ∷ (3, adjustments_bytes s.undo) ∷ things s in
@@ -149,16 +149,16 @@ module _ (s : State) where
       (All-cons P _ two processes
       (All-cons P _ ((3, adjustments_bytes s.undo) ∷ things s) waiting
       (All-cons P _ (things s) adjustments
-      (All-append P (map queue_object s.msg.entries) (map set_object s.sem.entries ++ named_objects (named_in s))
+      (All-append P (map queue_object s.msg.entries) (map set_object s.semset.entries ++ named_objects (named_in s))
       (All-map P queue_object s.msg.entries queues)
-      (All-append P (map set_object s.sem.entries) (named_objects (named_in s)) (All-map P set_object s.sem.entries sets) named)))))
+      (All-append P (map set_object s.semset.entries) (named_objects (named_in s)) (All-map P set_object s.semset.entries sets) named)))))
 
 -- the state that tables are, and how many objects it has
 module _ (n : Numbers) (ps : List (Item Process)) (ws : List PlainWaiting) (us : List (Item Undo)) (qs : List (Item (Entry Queue)))
     (xs : List (Item (Entry Set))) (o : NamedObjects) where
-  pub seen-is : (s : State) → n.clock.0 ≡ s.clock → n.next_pid ≡ s.processes.next → n.next_queue ≡ s.msg.next → n.next_set ≡ s.sem.next
+  pub seen-is : (s : State) → n.clock.0 ≡ s.clock → n.next_pid ≡ s.processes.next → n.next_msg_queue ≡ s.msg.next → n.next_semset ≡ s.semset.next
       → map item_row ps ≡ s.processes.entries → ws ≡ s.wait → map item_row us ≡ s.undo → map item_row qs ≡ s.msg.entries
-      → map item_row xs ≡ s.sem.entries → o ≡ named_in s → seen_state n ps ws us qs xs o ≡ s
+      → map item_row xs ≡ s.semset.entries → o ≡ named_in s → seen_state n ps ws us qs xs o ≡ s
   seen-is s clock pid queue set processes waits undo queues sets named =
       λ i. record {
         clock = clock i;
@@ -166,10 +166,10 @@ module _ (n : Numbers) (ps : List (Item Process)) (ws : List PlainWaiting) (us :
         wait = waits i;
         undo = undo i;
         msg = record { next = queue i; entries = queues i };
-        sem = record { next = set i; entries = sets i };
+        semset = record { next = set i; entries = sets i };
         mq = (named i).mq;
-        named_sem = (named i).named_sem;
-        shm = (named i).shm;
+        psem = (named i).psem;
+        pshm = (named i).pshm;
       }
 
   pub seen_count : length (saved (seen_state n ps ws us qs xs o)) ≡ 4 + (length qs + (length xs + named_count o))
@@ -215,17 +215,17 @@ module _ (limits : Limits) (s : State) (passed : ArePassed limits) (sound : IsSo
   rows-numbers rows are =
       let P : ℕ × Entry Queue → Type 0 = λ e. HasNumbers e.1.object in
       All-seen P item_row rows (subst (All P) (sym are)
-      (All-weaker (λ (e : ℕ × Entry Queue). IsSoundQueue limits e.1.object) P (λ e good. queue-numbers limits e.1.object passed good)
+      (All-weaker (λ (e : ℕ × Entry Queue). IsSoundMsgQueue limits e.1.object) P (λ e good. queue-numbers limits e.1.object passed good)
       s.msg.entries sound.parts.msg.each))
 
   -- and the count of the semaphores of a set
-  pub sets-numbers : (rows : List (Item (Entry Set))) → map item_row rows ≡ s.sem.entries → All (λ e. length e.value.object.semaphores < 2 ^ 32) rows
+  pub sets-numbers : (rows : List (Item (Entry Set))) → map item_row rows ≡ s.semset.entries → All (λ e. length e.value.object.semaphores < 2 ^ 32) rows
   sets-numbers rows are =
       let b = passed-bounds limits passed in
       let P : ℕ × Entry Set → Type 0 = λ e. length e.1.object.semaphores < 2 ^ 32 in
       All-seen P item_row rows (subst (All P) (sym are)
-      (All-weaker (λ (e : ℕ × Entry Set). IsSoundSet limits e.1.object) P (λ e good. omega (arith, good.few, b.semmsl))
-      s.sem.entries sound.parts.sem.keyed.each))
+      (All-weaker (λ (e : ℕ × Entry Set). IsSoundSemset limits e.1.object) P (λ e good. omega (arith, good.few, b.semmsl))
+      s.semset.entries sound.parts.semset.keyed.each))
 
   -- the count of the descriptors of a process
   pub descriptors-few : All (λ p. length p.1.descriptors ≤ limits.descriptors) s.processes.entries
@@ -250,12 +250,12 @@ module _ (limits : Limits) (s : State) (passed : ArePassed limits) (sound : IsSo
       let P : ℕ × NamedEntry Mq → Type 0 = λ e. IsSmallMq e.1 in
       All-seen P item_row rows (subst (All P) (sym are) (mqs-small limits s sound passed))
 
-  pub sems-numbers : (rows : List (Item (NamedEntry ℕ))) → map item_row rows ≡ s.named_sem.entries → All (λ e. length e.value.name < 2 ^ 32) rows
+  pub sems-numbers : (rows : List (Item (NamedEntry ℕ))) → map item_row rows ≡ s.psem.entries → All (λ e. length e.value.name < 2 ^ 32) rows
   sems-numbers rows are =
       let P : ℕ × NamedEntry ℕ → Type 0 = λ e. length e.1.name < 2 ^ 32 in
       All-seen P item_row rows (subst (All P) (sym are) (names-small limits s sound).0)
 
-  pub segments-numbers : (rows : List (Item (NamedEntry Segment))) → map item_row rows ≡ s.shm.entries → All (λ e. length e.value.name < 2 ^ 32) rows
+  pub segments-numbers : (rows : List (Item (NamedEntry Segment))) → map item_row rows ≡ s.pshm.entries → All (λ e. length e.value.name < 2 ^ 32) rows
   segments-numbers rows are =
       let P : ℕ × NamedEntry Segment → Type 0 = λ e. length e.1.name < 2 ^ 32 in
       All-seen P item_row rows (subst (All P) (sym are) (names-small limits s sound).1)
@@ -275,13 +275,13 @@ module _ (limits : Limits) (s : State) (passed : ArePassed limits) (sound : IsSo
 
   queues-short : All (λ e. length (queue_bytes e.1) ≤ 64 + 13 * limits.msgmnb) s.msg.entries
   queues-short =
-      All-weaker (λ (e : ℕ × Entry Queue). IsSoundQueue limits e.1.object) (λ e. length (queue_bytes e.1) ≤ 64 + 13 * limits.msgmnb)
+      All-weaker (λ (e : ℕ × Entry Queue). IsSoundMsgQueue limits e.1.object) (λ e. length (queue_bytes e.1) ≤ 64 + 13 * limits.msgmnb)
       (λ e good. omega (arith, queue-long e.1, good.count, good.bytes)) s.msg.entries sound.parts.msg.each
 
-  sets-short : All (λ e. length (set_bytes e.1) ≤ 44 + 6 * limits.semmsl) s.sem.entries
+  sets-short : All (λ e. length (set_bytes e.1) ≤ 44 + 6 * limits.semmsl) s.semset.entries
   sets-short =
-      All-weaker (λ (e : ℕ × Entry Set). IsSoundSet limits e.1.object) (λ e. length (set_bytes e.1) ≤ 44 + 6 * limits.semmsl)
-      (λ e good. omega (arith, set-long e.1, good.few)) s.sem.entries sound.parts.sem.keyed.each
+      All-weaker (λ (e : ℕ × Entry Set). IsSoundSemset limits e.1.object) (λ e. length (set_bytes e.1) ≤ 44 + 6 * limits.semmsl)
+      (λ e good. omega (arith, set-long e.1, good.few)) s.semset.entries sound.parts.semset.keyed.each
 
   waits-short : length (waits_bytes s.wait) ≤ 4 + limits.processes * 8464
   waits-short = omega (arith, waits-long s.wait, length-waits s.wait sound.parts.wait.each, sound.parts.wait.few)
@@ -308,10 +308,10 @@ module _ (limits : Limits) (s : State) (passed : ArePassed limits) (sound : IsSo
   numbers-rise =
       let named : PlainObjects = named_objects (named_in s) in
       let third : IsRising (3 * 2 ^ 32 + 1) (keys_of named) (2 ^ 64) = named-rise limits s sound in
-      let sets : PlainObjects = map set_object s.sem.entries ++ named in
+      let sets : PlainObjects = map set_object s.semset.entries ++ named in
       let second : IsRising (2 * 2 ^ 32 + 1) (keys_of sets) (2 ^ 64) =
-      objects-rise (2 * 2 ^ 32) set_bytes 1 s.sem.next (2 ^ 64) s.sem.entries named sound.parts.sem.keyed.numbered.numbers
-      (rising-lower (2 * 2 ^ 32 + s.sem.next) (3 * 2 ^ 32 + 1) (keys_of named) (2 ^ 64) (omega (arith, sound.parts.sem.keyed.numbered.next)) third) in
+      objects-rise (2 * 2 ^ 32) set_bytes 1 s.semset.next (2 ^ 64) s.semset.entries named sound.parts.semset.keyed.numbered.numbers
+      (rising-lower (2 * 2 ^ 32 + s.semset.next) (3 * 2 ^ 32 + 1) (keys_of named) (2 ^ 64) (omega (arith, sound.parts.semset.keyed.numbered.next)) third) in
       let all = objects-rise (2 ^ 32) queue_bytes 1 s.msg.next (2 ^ 64) s.msg.entries sets sound.parts.msg.numbered.numbers
       (rising-lower (2 ^ 32 + s.msg.next) (2 * 2 ^ 32 + 1) (keys_of sets) (2 ^ 64) (omega (arith, sound.parts.msg.numbered.next)) second) in
       (omega arith, (omega arith, (omega arith, (omega arith, rising-lower 4 (2 ^ 32 + 1) (keys_of (things s)) (2 ^ 64) (omega arith) all))))
@@ -331,19 +331,19 @@ module _ (limits : Limits) (s : State) (passed : ArePassed limits) (sound : IsSo
             (omega (arith, adjustments-long s.undo))
             (All-weaker (λ (e : ℕ × Entry Queue). length (queue_bytes e.1) ≤ 64 + 13 * limits.msgmnb) (λ e. Some-bytes (queue_object e))
             (λ e short. omega (arith, queue-long e.1)) s.msg.entries queues-short)
-            (All-weaker IsShort (λ e. Some-bytes (set_object e)) (λ e short. omega (arith, set-long e.1)) s.sem.entries sets-short) named.some;
+            (All-weaker IsShort (λ e. Some-bytes (set_object e)) (λ e short. omega (arith, set-long e.1)) s.semset.entries sets-short) named.some;
         lengths = each-saved s Few-bytes (omega arith)
             (omega (arith, processes-short, processes))
             (omega (arith, waits-short, b.processes.1)) (omega (arith, adjustments-long s.undo, undo-counted))
             (All-weaker (λ (e : ℕ × Entry Queue). length (queue_bytes e.1) ≤ 64 + 13 * limits.msgmnb) (λ e. Few-bytes (queue_object e))
             (λ e short. omega (arith, short, b.msgmnb.1)) s.msg.entries queues-short)
-            (All-weaker IsShort (λ e. Few-bytes (set_object e)) (λ e short. omega (arith, short, b.semmsl)) s.sem.entries sets-short) named.few;
+            (All-weaker IsShort (λ e. Few-bytes (set_object e)) (λ e short. omega (arith, short, b.semmsl)) s.semset.entries sets-short) named.few;
         count = omega (
           arith,
           saved-count s,
           sound.parts.msg.numbered.count,
           b.msgmni,
-          sound.parts.sem.keyed.numbered.count,
+          sound.parts.semset.keyed.numbered.count,
           b.semmni,
           named-few limits s sound,
           b.queues,
@@ -361,8 +361,8 @@ module _ (limits : Limits) (s : State) (passed : ArePassed limits) (sound : IsSo
   object-sectors =
       let of : ℕ × List ℕ → ℕ = λ o. sectors (length o.1) in
       let queues = kind-sectors (2 ^ 32) limits.msgmni (64 + 13 * limits.msgmnb) queue_bytes s.msg.entries queues-short sound.parts.msg.numbered.count in
-      let sets = kind-sectors (2 * 2 ^ 32) limits.semmni (44 + 6 * limits.semmsl) set_bytes s.sem.entries sets-short
-      sound.parts.sem.keyed.numbered.count in
+      let sets = kind-sectors (2 * 2 ^ 32) limits.semmni (44 + 6 * limits.semmsl) set_bytes s.semset.entries sets-short
+      sound.parts.semset.keyed.numbered.count in
       let first : ℕ = sectors 32 + sectors (length (processes_bytes s.processes.entries)) + sectors (length (waits_bytes s.wait))
       + sectors (length (adjustments_bytes s.undo)) in
       let undo : 12 * length (adjustments_in s.undo) ≤ 12 * limits.processes * limits.semmns =
@@ -370,8 +370,8 @@ module _ (limits : Limits) (s : State) (passed : ArePassed limits) (sound : IsSo
       omega (
         arith,
         sum_by_from of first (things s),
-        sum_by-append of (map queue_object s.msg.entries) (map set_object s.sem.entries ++ named_objects (named_in s)),
-        sum_by-append of (map set_object s.sem.entries) (named_objects (named_in s)),
+        sum_by-append of (map queue_object s.msg.entries) (map set_object s.semset.entries ++ named_objects (named_in s)),
+        sum_by-append of (map set_object s.semset.entries) (named_objects (named_in s)),
         named-sectors limits s sound,
         processes-short,
         waits-short,
@@ -386,7 +386,7 @@ module _ (limits : Limits) (s : State) (passed : ArePassed limits) (sound : IsSo
         object-sectors,
         saved-count s,
         sound.parts.msg.numbered.count,
-        sound.parts.sem.keyed.numbered.count,
+        sound.parts.semset.keyed.numbered.count,
         named-few limits s sound,
       )
 
@@ -406,7 +406,7 @@ start-places = record {
   distinct = rising-distinct 1 [] 1 (omega arith);
   queues = All-nil _;
   sets = All-nil _;
-  named = record { mqs = All-nil _; named_sems = All-nil _; segments = All-nil _ };
+  named = record { mqs = All-nil _; psems = All-nil _; segments = All-nil _ };
 }
 
 pub start-are : AreObjects (saved start)

@@ -77,11 +77,11 @@ state_of n ps ws us es fs o =
       processes = record { next = n.next_pid; entries = ps };
       wait = ws;
       undo = us;
-      msg = record { next = n.next_queue; entries = es };
-      sem = record { next = n.next_set; entries = fs };
+      msg = record { next = n.next_msg_queue; entries = es };
+      semset = record { next = n.next_semset; entries = fs };
       mq = record { next = n.next_mq; entries = o.mq.entries };
-      named_sem = record { next = n.next_named_sem; entries = o.named_sem.entries };
-      shm = record { next = n.next_segment; entries = o.shm.entries };
+      psem = record { next = n.next_psem; entries = o.psem.entries };
+      pshm = record { next = n.next_pshm; entries = o.pshm.entries };
     }
 
 -- with these adjustments
@@ -91,10 +91,10 @@ put_undo s us = (record s.0 { undo = us }, s.1)
 pub all-added : (n : Numbers) (limits : Limits) (one two three four five six seven : State × Limits) (ps : List (ℕ × Process)) (ws : List PlainWaiting)
     (us : List (ℕ × Undo)) (es : List (ℕ × Entry Queue)) (fs : List (ℕ × Entry Set)) (o : NamedObjects) → one ≡ (with_numbers start n, limits)
     → two ≡ with_more (λ s. s.0.processes.entries) put_processes one ps → three ≡ (with_waits two.0 ws, two.1) → four ≡ put_undo three us
-    → five ≡ with_more (λ s. s.0.msg.entries) put_queues four es → six ≡ with_more (λ s. s.0.sem.entries) put_sets five fs
+    → five ≡ with_more (λ s. s.0.msg.entries) put_queues four es → six ≡ with_more (λ s. s.0.semset.entries) put_sets five fs
     → seven ≡ with_more_named six o → seven ≡ (state_of n ps ws us es fs o, limits)
 all-added n limits one two three four five six seven ps ws us es fs o from processes waits undo queues sets named =
-    named ∙ ap (λ (s : State × Limits). with_more_named s o) (sets ∙ ap (λ (s : State × Limits). put_sets s (s.0.sem.entries ++ fs)) (queues ∙ ap (λ (s : State × Limits). put_queues s (s.0.msg.entries ++ es))
+    named ∙ ap (λ (s : State × Limits). with_more_named s o) (sets ∙ ap (λ (s : State × Limits). put_sets s (s.0.semset.entries ++ fs)) (queues ∙ ap (λ (s : State × Limits). put_queues s (s.0.msg.entries ++ es))
     (undo ∙ ap (λ (s : State × Limits). put_undo s us) (waits ∙ ap (λ (s : State × Limits). let t : State × Limits = (with_waits s.0 ws, s.1) in t)
     (processes ∙ ap (λ (s : State × Limits). put_processes s (s.0.processes.entries ++ ps)) from)))))
 
@@ -144,7 +144,7 @@ all_restored objects n ps ws us es fs o s clock processes calls adjustments at0 
       distinct = apart;
       queues = places;
       sets = holds;
-      named = record { mqs = named.mqs; named_sems = named.named_sems; segments = named.segments };
+      named = record { mqs = named.mqs; psems = named.psems; segments = named.segments };
     } in
     let parts : HasParts t objects = record {
       clock = at0 ∙ ap (λ (l : List ℕ). let o : Option (ℕ × List ℕ) = Some (0, l) in o) numbers.1;
@@ -167,10 +167,10 @@ with_parts u ps ws us es fs o =
       wait = ws;
       undo = us;
       msg = record { next = u.msg.next; entries = es };
-      sem = record { next = u.sem.next; entries = fs };
+      semset = record { next = u.semset.next; entries = fs };
       mq = record { next = u.mq.next; entries = o.mq.entries };
-      named_sem = record { next = u.named_sem.next; entries = o.named_sem.entries };
-      shm = record { next = u.shm.next; entries = o.shm.entries };
+      psem = record { next = u.psem.next; entries = o.psem.entries };
+      pshm = record { next = u.pshm.next; entries = o.pshm.entries };
     }
 
 -- two queues with the same bytes, and two semaphore sets
@@ -187,11 +187,11 @@ set_one =
 
 -- what follows the queues, and what follows the semaphore sets, is of other kinds
 abbrev pub sets_and_named : State → PlainObjects
-sets_and_named s = map set_object s.sem.entries ++ named_objects (named_in s)
+sets_and_named s = map set_object s.semset.entries ++ named_objects (named_in s)
 
 pub after-queues : (s : State) → IsOther (2 ^ 32) (sets_and_named s)
 after-queues s =
-    later-both (2 ^ 32) (2 * 2 ^ 32) set_bytes s.sem.entries (named_objects (named_in s)) (omega arith)
+    later-both (2 ^ 32) (2 * 2 ^ 32) set_bytes s.semset.entries (named_objects (named_in s)) (omega arith)
     (later-named (2 ^ 32) (named_in s) (omega arith))
 
 pub after-sets : (s : State) → IsOther (2 * 2 ^ 32) (named_objects (named_in s))
@@ -215,16 +215,16 @@ saved_once s t at also same =
     (at.undo_pids ∙ ap (λ (l : List (ℕ × Process)). keys_of l) processes ∙ sym also.undo_pids) adjustments in
     let queues = objects_one (2 ^ 32) queue_bytes FitsQueue queue_one s.msg.entries t.msg.entries (sets_and_named s)
     (sets_and_named t) at.queues also.queues (after-queues s) (after-queues t) (sym mine.things ∙ its.things) in
-    let sets = objects_one (2 * 2 ^ 32) set_bytes FitsSet set_one s.sem.entries t.sem.entries (named_objects (named_in s)) (named_objects (named_in t))
+    let sets = objects_one (2 * 2 ^ 32) set_bytes FitsSet set_one s.semset.entries t.semset.entries (named_objects (named_in s)) (named_objects (named_in t))
     at.sets also.sets (after-sets s) (after-sets t) queues.1 in
     let named = named_one (named_in s) (named_in t) at.named also.named sets.1 in
-    ap (λ (u : State). with_parts u ps s.wait s.undo s.msg.entries s.sem.entries (named_in s)) clock
-    ∙ ap (λ (l : List (ℕ × Process)). with_parts t l s.wait s.undo s.msg.entries s.sem.entries (named_in s)) processes
-    ∙ ap (λ (ws : List PlainWaiting). with_parts t qs ws s.undo s.msg.entries s.sem.entries (named_in s)) waits
-    ∙ ap (λ (us : List (ℕ × Undo)). with_parts t qs t.wait us s.msg.entries s.sem.entries (named_in s)) undo
-    ∙ ap (λ (es : List (ℕ × Entry Queue)). with_parts t qs t.wait t.undo es s.sem.entries (named_in s)) queues.0
+    ap (λ (u : State). with_parts u ps s.wait s.undo s.msg.entries s.semset.entries (named_in s)) clock
+    ∙ ap (λ (l : List (ℕ × Process)). with_parts t l s.wait s.undo s.msg.entries s.semset.entries (named_in s)) processes
+    ∙ ap (λ (ws : List PlainWaiting). with_parts t qs ws s.undo s.msg.entries s.semset.entries (named_in s)) waits
+    ∙ ap (λ (us : List (ℕ × Undo)). with_parts t qs t.wait us s.msg.entries s.semset.entries (named_in s)) undo
+    ∙ ap (λ (es : List (ℕ × Entry Queue)). with_parts t qs t.wait t.undo es s.semset.entries (named_in s)) queues.0
     ∙ ap (λ (fs : List (ℕ × Entry Set)). with_parts t qs t.wait t.undo t.msg.entries fs (named_in s)) sets.0
-    ∙ ap (λ (o : NamedLists). with_parts t qs t.wait t.undo t.msg.entries t.sem.entries (listed (named_in t) o)) named
+    ∙ ap (λ (o : NamedLists). with_parts t qs t.wait t.undo t.msg.entries t.semset.entries (listed (named_in t) o)) named
 
 -- what was read is the state, if one has these objects
 pub restored_once : (s t : State) (objects : PlainObjects) (ps : List (ℕ × Process)) (processes : List ℕ) → HasAllPlaces s → objects ≡ saved s

@@ -48,7 +48,7 @@ clock_sizes = Eight ∷ Four ∷ Four ∷ Four ∷ Four ∷ Four ∷ Four ∷ []
 
 abbrev pub clock_numbers : State → List ℕ
 clock_numbers s =
-    s.clock ∷ s.processes.next ∷ s.msg.next ∷ s.sem.next ∷ s.mq.next ∷ s.named_sem.next ∷ s.shm.next ∷ []
+    s.clock ∷ s.processes.next ∷ s.msg.next ∷ s.semset.next ∷ s.mq.next ∷ s.psem.next ∷ s.pshm.next ∷ []
 
 abbrev pub count_bytes : ℕ → List ℕ
 count_bytes n = fields_bytes (Four ∷ []) (n ∷ [])
@@ -60,14 +60,14 @@ counted_bytes bytes_of xs = count_bytes (length xs) ++ flat_map bytes_of xs
 -- what a descriptor is open on: its kind, of which 3 is a POSIX queue, 4 a named semaphore and 5 a segment, and its
 -- number
 abbrev pub opened_kind : Opened → ℕ
-opened_kind (opened.Queue number) = 3
-opened_kind (opened.Semaphore number) = 4
-opened_kind (opened.Segment number) = 5
+opened_kind (opened.Mq number) = 3
+opened_kind (opened.Psem number) = 4
+opened_kind (opened.Pshm number) = 5
 
 abbrev pub opened_number : Opened → ℕ
-opened_number (opened.Queue number) = number
-opened_number (opened.Semaphore number) = number
-opened_number (opened.Segment number) = number
+opened_number (opened.Mq number) = number
+opened_number (opened.Psem number) = number
+opened_number (opened.Pshm number) = number
 
 -- a descriptor: its number, what it is open on, and its flags
 abbrev pub descriptor_sizes : List Size
@@ -288,25 +288,25 @@ mq_object = object_in (3 * 2 ^ 32) mq_bytes
 -- ---- named semaphores
 
 -- uid, gid, mode, value, how long the name is
-abbrev pub named_sem_sizes : List Size
-named_sem_sizes = Four ∷ Four ∷ Four ∷ Four ∷ Four ∷ []
+abbrev pub psem_sizes : List Size
+psem_sizes = Four ∷ Four ∷ Four ∷ Four ∷ Four ∷ []
 
-abbrev pub named_sem_numbers : NamedEntry ℕ → List ℕ
-named_sem_numbers e = e.owner.uid ∷ e.owner.gid ∷ e.mode ∷ e.object ∷ length e.name ∷ []
+abbrev pub psem_numbers : NamedEntry ℕ → List ℕ
+psem_numbers e = e.owner.uid ∷ e.owner.gid ∷ e.mode ∷ e.object ∷ length e.name ∷ []
 
 -- these, and the name
-abbrev pub named_sem_shape : Shape
-named_sem_shape = Texts named_sem_sizes (λ ns. slice_index ns 4)
+abbrev pub psem_shape : Shape
+psem_shape = Texts psem_sizes (λ ns. slice_index ns 4)
 
-abbrev pub named_sem_tree : NamedEntry ℕ → Tree named_sem_shape
-named_sem_tree e = (named_sem_numbers e, e.name)
+abbrev pub psem_tree : NamedEntry ℕ → Tree psem_shape
+psem_tree e = (psem_numbers e, e.name)
 
-abbrev pub named_sem_bytes : NamedEntry ℕ → List ℕ
-named_sem_bytes = bytes_in named_sem_shape named_sem_tree
+abbrev pub psem_bytes : NamedEntry ℕ → List ℕ
+psem_bytes = bytes_in psem_shape psem_tree
 
 -- its object
-abbrev pub named_sem_object : ℕ × NamedEntry ℕ → ℕ × List ℕ
-named_sem_object = object_in (4 * 2 ^ 32) named_sem_bytes
+abbrev pub psem_object : ℕ × NamedEntry ℕ → ℕ × List ℕ
+psem_object = object_in (4 * 2 ^ 32) psem_bytes
 
 -- ---- segments
 
@@ -328,15 +328,15 @@ abbrev pub segment_bytes : NamedEntry Segment → List ℕ
 segment_bytes = bytes_in segment_shape segment_tree
 
 -- its object
-abbrev pub segment_object : ℕ × NamedEntry Segment → ℕ × List ℕ
-segment_object = object_in (5 * 2 ^ 32) segment_bytes
+abbrev pub pshm_object : ℕ × NamedEntry Segment → ℕ × List ℕ
+pshm_object = object_in (5 * 2 ^ 32) segment_bytes
 
 -- ---- all of it
 
 -- those with a name, each kind by number
 abbrev pub named_objects : NamedObjects → PlainObjects
 named_objects o =
-    map mq_object o.mq.entries ++ (map named_sem_object o.named_sem.entries ++ map segment_object o.shm.entries)
+    map mq_object o.mq.entries ++ (map psem_object o.psem.entries ++ map pshm_object o.pshm.entries)
 
 -- the objects: the clock, the processes, the waiting calls, the adjustments, the queues by identifier, the semaphore
 -- sets by identifier, and those with a name
@@ -344,7 +344,7 @@ unfoldable pub saved : State → PlainObjects
 saved s =
     (0, fields_bytes clock_sizes (clock_numbers s)) ∷ (1, processes_bytes s.processes.entries)
     ∷ (2, waits_bytes s.wait) ∷ (3, adjustments_bytes s.undo)
-    ∷ map queue_object s.msg.entries ++ (map set_object s.sem.entries ++ named_objects (named_in s))
+    ∷ map queue_object s.msg.entries ++ (map set_object s.semset.entries ++ named_objects (named_in s))
 
 -- ---- each number has its place
 
@@ -392,8 +392,8 @@ FitsMqMessage m = IsTree mq_message_shape (mq_message_tree m)
 abbrev pub FitsMq : NamedEntry Mq → Type 0
 FitsMq e = IsTree mq_shape (mq_tree e) × All FitsMqMessage (mq_messages e.object)
 
-abbrev pub FitsNamedSem : NamedEntry ℕ → Type 0
-FitsNamedSem e = (e.object ≤ sem_value_max) × IsTree named_sem_shape (named_sem_tree e)
+abbrev pub FitsPsem : NamedEntry ℕ → Type 0
+FitsPsem e = (e.object ≤ sem_value_max) × IsTree psem_shape (psem_tree e)
 
 abbrev pub FitsSegment : NamedEntry Segment → Type 0
 FitsSegment e = IsTree segment_shape (segment_tree e)
@@ -401,8 +401,8 @@ FitsSegment e = IsTree segment_shape (segment_tree e)
 -- of those with a name
 pub record FitNamed (o : NamedObjects) : Type 0 where
   pub mqs : All (FitsIn FitsMq) o.mq.entries
-  pub named_sems : All (FitsIn FitsNamedSem) o.named_sem.entries
-  pub segments : All (FitsIn FitsSegment) o.shm.entries
+  pub psems : All (FitsIn FitsPsem) o.psem.entries
+  pub segments : All (FitsIn FitsSegment) o.pshm.entries
 
 -- of the state
 pub record HasAllPlaces (s : State) : Type 0 where
@@ -419,7 +419,7 @@ pub record HasAllPlaces (s : State) : Type 0 where
   pub undo_pids : keys_of s.undo ≡ keys_of s.processes.entries
   pub distinct : IsDistinct nat_eq (keys_of s.undo)
   pub queues : All (FitsIn FitsQueue) s.msg.entries
-  pub sets : All (FitsIn FitsSet) s.sem.entries
+  pub sets : All (FitsIn FitsSet) s.semset.entries
   pub named : FitNamed (named_in s)
 
 -- the objects stand for a sound state

@@ -42,7 +42,7 @@ use Rattle.ipc_image.specs.declared.state_objects.Thing.TheVariants as thing
 use Rattle.ipc_image.specs.Kind.{FitsIn}
 use Rattle.ipc_image.specs.Saved.{Adjustment, process_bytes, waiting_bytes, message_bytes, queue_object, FitsQueue}
 use Rattle.ipc_image.specs.Saved.{semaphore_bytes, set_object, FitsSet, mq_message_bytes, mq_object, FitsMq, saved}
-use Rattle.ipc_image.specs.Saved.{named_sem_object, FitsNamedSem, segment_object, FitsSegment}
+use Rattle.ipc_image.specs.Saved.{psem_object, FitsPsem, pshm_object, FitsSegment}
 
 -- ---- what was added
 
@@ -64,23 +64,23 @@ abbrev pub put_queues : State × Limits → List (ℕ × Entry Queue) → State 
 put_queues s xs = (record s.0 { msg = record { next = s.0.msg.next; entries = xs } }, s.1)
 
 abbrev pub put_sets : State × Limits → List (ℕ × Entry Set) → State × Limits
-put_sets s xs = (record s.0 { sem = record { next = s.0.sem.next; entries = xs } }, s.1)
+put_sets s xs = (record s.0 { semset = record { next = s.0.semset.next; entries = xs } }, s.1)
 
 abbrev pub put_mqs : State × Limits → List (ℕ × NamedEntry Mq) → State × Limits
 put_mqs s xs = (record s.0 { mq = record { next = s.0.mq.next; entries = xs } }, s.1)
 
-abbrev pub put_named_sems : State × Limits → List (ℕ × NamedEntry ℕ) → State × Limits
-put_named_sems s xs = (record s.0 { named_sem = record { next = s.0.named_sem.next; entries = xs } }, s.1)
+abbrev pub put_psems : State × Limits → List (ℕ × NamedEntry ℕ) → State × Limits
+put_psems s xs = (record s.0 { psem = record { next = s.0.psem.next; entries = xs } }, s.1)
 
 abbrev pub put_segments : State × Limits → List (ℕ × NamedEntry Segment) → State × Limits
-put_segments s xs = (record s.0 { shm = record { next = s.0.shm.next; entries = xs } }, s.1)
+put_segments s xs = (record s.0 { pshm = record { next = s.0.pshm.next; entries = xs } }, s.1)
 
 -- those of each kind with a name after those that are there
 abbrev pub with_more_named : State × Limits → NamedObjects → State × Limits
 with_more_named s o =
-    with_more (λ t. t.0.shm.entries) put_segments
-    (with_more (λ t. t.0.named_sem.entries) put_named_sems
-    (with_more (λ t. t.0.mq.entries) put_mqs s o.mq.entries) o.named_sem.entries) o.shm.entries
+    with_more (λ t. t.0.pshm.entries) put_segments
+    (with_more (λ t. t.0.psem.entries) put_psems
+    (with_more (λ t. t.0.mq.entries) put_mqs s o.mq.entries) o.psem.entries) o.pshm.entries
 
 -- with an adjustment of a process, if the process is there; with all of these
 abbrev pub attached : List (ℕ × Undo) → Adjustment → List (ℕ × Undo)
@@ -123,12 +123,12 @@ IsAnyMark e m = Unit {0}
 -- of the one at a place among those with a name
 abbrev pub IsMarkOfNamed : NamedObjects → ℕ → Mark → Type 0
 IsMarkOfNamed o =
-    MarkAt IsMarkOfMq (MarkAt IsAnyMark (MarkAt IsAnyMark (λ at m. Unit {0}) o.shm.entries) o.named_sem.entries)
+    MarkAt IsMarkOfMq (MarkAt IsAnyMark (MarkAt IsAnyMark (λ at m. Unit {0}) o.pshm.entries) o.psem.entries)
     o.mq.entries
 
 -- of the one at a place after the four objects that every state has
 abbrev pub IsMarkAfter : State → ℕ → Mark → Type 0
-IsMarkAfter s = MarkAt IsMarkOfQueue (MarkAt IsMarkOfSet (IsMarkOfNamed (named_in s)) s.sem.entries) s.msg.entries
+IsMarkAfter s = MarkAt IsMarkOfQueue (MarkAt IsMarkOfSet (IsMarkOfNamed (named_in s)) s.semset.entries) s.msg.entries
 
 -- it is a mark of the i-th object; those of objects without a list are never looked at
 pub record IsMarkOf (s : State) (i : ℕ) (m : Mark) : Type 0 where
@@ -144,27 +144,27 @@ pub record Stands (objects : PlainObjects) (IsMark : ℕ → Mark → Type 0) (a
 
 -- the object of what has one
 abbrev pub object_of : Thing → ℕ × List ℕ
-object_of (thing.Queue q) = queue_object (item_row q.now)
-object_of (thing.Set e) = set_object (item_row e.now)
+object_of (thing.MsgQueue q) = queue_object (item_row q.now)
+object_of (thing.Semset e) = set_object (item_row e.now)
 object_of (thing.Mq e) = mq_object (item_row e.now)
-object_of (thing.Sem e) = named_sem_object (item_row e.now)
-object_of (thing.Segment e) = segment_object (item_row e.now)
+object_of (thing.Psem e) = psem_object (item_row e.now)
+object_of (thing.Pshm e) = pshm_object (item_row e.now)
 
 -- each of its numbers has its place
 abbrev pub FitsThing : Thing → Type 0
-FitsThing (thing.Queue q) = FitsIn FitsQueue (item_row q.now)
-FitsThing (thing.Set e) = FitsIn FitsSet (item_row e.now)
+FitsThing (thing.MsgQueue q) = FitsIn FitsQueue (item_row q.now)
+FitsThing (thing.Semset e) = FitsIn FitsSet (item_row e.now)
 FitsThing (thing.Mq e) = FitsIn FitsMq (item_row e.now)
-FitsThing (thing.Sem e) = FitsIn FitsNamedSem (item_row e.now)
-FitsThing (thing.Segment e) = FitsIn FitsSegment (item_row e.now)
+FitsThing (thing.Psem e) = FitsIn FitsPsem (item_row e.now)
+FitsThing (thing.Pshm e) = FitsIn FitsSegment (item_row e.now)
 
 -- the mark is of its parts
 abbrev pub IsMarkOfThing : Thing → Mark → Type 0
-IsMarkOfThing (thing.Queue q) m = IsMarkOfQueue (item_row q.now) m
-IsMarkOfThing (thing.Set e) m = IsMarkOfSet (item_row e.now) m
+IsMarkOfThing (thing.MsgQueue q) m = IsMarkOfQueue (item_row q.now) m
+IsMarkOfThing (thing.Semset e) m = IsMarkOfSet (item_row e.now) m
 IsMarkOfThing (thing.Mq e) m = IsMarkOfMq (item_row e.now) m
-IsMarkOfThing (thing.Sem e) m = Unit {0}
-IsMarkOfThing (thing.Segment e) m = Unit {0}
+IsMarkOfThing (thing.Psem e) m = Unit {0}
+IsMarkOfThing (thing.Pshm e) m = Unit {0}
 
 -- this is the i-th object, and of what it is each number has its place
 pub record IsFound (s : State) (i : ℕ) (o : ℕ × List ℕ) (IsOfIt : Mark → Type 0) (Fits : Type 0) : Type 0 where
@@ -188,7 +188,7 @@ process_from ns descriptors = (
 -- what has this kind and this number; a kind that is none of them is taken for the last
 abbrev pub opened_from : ℕ → ℕ → Opened
 opened_from kind number =
-    if kind == 3 then opened.Queue number else if kind == 4 then opened.Semaphore number else opened.Segment number
+    if kind == 3 then opened.Mq number else if kind == 4 then opened.Psem number else opened.Pshm number
 
 abbrev pub descriptor_of : List ℕ → ℕ × Descriptor
 descriptor_of ns =
@@ -207,7 +207,7 @@ request_in (Whole used request) = request
 request_in _ = record { serial = 0; kind = Interrupt }
 
 abbrev pub awaited_or_any : Option Awaited → Awaited
-awaited_or_any on = unwrap_or on (awaited.Queue (record { 0 = 0 }))
+awaited_or_any on = unwrap_or on (awaited.MsgQueue (record { 0 = 0 }))
 
 abbrev pub deadline_from : ℕ → Option Moment
 deadline_from n = if n == 2 ^ 64 - 1 then None else Some (record { 0 = n })
@@ -295,8 +295,8 @@ mq_from t messages =
       };
     }
 
-abbrev pub named_sem_from : List ℕ × List ℕ → NamedEntry ℕ
-named_sem_from t =
+abbrev pub psem_from : List ℕ × List ℕ → NamedEntry ℕ
+psem_from t =
     record {
       name = t.1;
       owner = record { uid = slice_index t.0 0; gid = slice_index t.0 1 };
@@ -325,8 +325,8 @@ abbrev pub seen_named : Numbers → List (Item (NamedEntry Mq)) → List (Item (
 seen_named n mqs sems segments =
     record {
       mq = record { next = n.next_mq; entries = map item_row mqs };
-      named_sem = record { next = n.next_named_sem; entries = map item_row sems };
-      shm = record { next = n.next_segment; entries = map item_row segments };
+      psem = record { next = n.next_psem; entries = map item_row sems };
+      pshm = record { next = n.next_pshm; entries = map item_row segments };
     }
 
 -- the state that has these tables, and these named objects
@@ -338,9 +338,9 @@ seen_state n processes waits undo queues sets named =
       processes = record { next = n.next_pid; entries = map item_row processes };
       wait = waits;
       undo = map item_row undo;
-      msg = record { next = n.next_queue; entries = map item_row queues };
-      sem = record { next = n.next_set; entries = map item_row sets };
+      msg = record { next = n.next_msg_queue; entries = map item_row queues };
+      semset = record { next = n.next_semset; entries = map item_row sets };
       mq = named.mq;
-      named_sem = named.named_sem;
-      shm = named.shm;
+      psem = named.psem;
+      pshm = named.pshm;
     }

@@ -15,19 +15,19 @@ use ipc_state::Numbers;
 /// The clock, the next pid, and the next number of each kind.
 pub(crate) fn put_clock(window: &mut Window, numbers: Numbers)
     ensures { window.new ≡ passed (fields_bytes clock_sizes
-        (numbers.clock.0 ∷ numbers.next_pid ∷ numbers.next_queue ∷ numbers.next_set
-        ∷ numbers.next_mq ∷ numbers.next_named_sem ∷ numbers.next_segment ∷ [])) window.old }
+        (numbers.clock.0 ∷ numbers.next_pid ∷ numbers.next_msg_queue ∷ numbers.next_semset
+        ∷ numbers.next_mq ∷ numbers.next_psem ∷ numbers.next_pshm ∷ [])) window.old }
 {
     put_fields(
         window,
         &[
             Field::U64(numbers.clock.0),
             Field::U32(numbers.next_pid),
-            Field::U32(numbers.next_queue),
-            Field::U32(numbers.next_set),
+            Field::U32(numbers.next_msg_queue),
+            Field::U32(numbers.next_semset),
             Field::U32(numbers.next_mq),
-            Field::U32(numbers.next_named_sem),
-            Field::U32(numbers.next_segment),
+            Field::U32(numbers.next_psem),
+            Field::U32(numbers.next_pshm),
         ],
     );
 }
@@ -46,10 +46,10 @@ pub(crate) fn read_clock(bytes: &[u8]) -> Option<Numbers>
     Some(Numbers {
         clock: Moment(numbers[0]),
         next_pid: numbers[1] as u32,
-        next_queue: numbers[2] as u32,
-        next_set: numbers[3] as u32,
+        next_msg_queue: numbers[2] as u32,
+        next_semset: numbers[3] as u32,
         next_mq: numbers[4] as u32,
-        next_named_sem: numbers[5] as u32,
-        next_segment: numbers[6] as u32,
+        next_psem: numbers[5] as u32,
+        next_pshm: numbers[6] as u32,
     })
 }

@@ -56,7 +56,7 @@ impl<T: Kind> Stored for Entry<T> {
 
     fn read(alloc: Global, bytes: &[u8]) -> Result<Entry<T>, StateFault> {
         let (head, rest) = take_head(bytes).ok_or(StateFault::Unsound)?;
-        let (mut object, rest) = T::begin(alloc, rest)?;
+        let (mut object, rest) = T::read_head(alloc, rest)?;
         object.read_parts(rest)?;
         Ok(Entry {
             key: head.key,

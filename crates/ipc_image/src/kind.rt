@@ -79,7 +79,7 @@ pub(crate) trait Kind: Drop {
         ensures mark { IsMarkIn part_bytes (parts self.now) mark.new };
 
     /// Reads its numbers: it has no parts yet, and the bytes after them are left.
-    fn begin(alloc: Global, bytes: &[u8]) -> Result<(Self, &[u8]), StateFault>
+    fn read_head(alloc: Global, bytes: &[u8]) -> Result<(Self, &[u8]), StateFault>
         ensures ok { IfOk result (λ found. (ns : List ℕ) × FitFields sizes ns
             × (bytes.now ≡ fields_bytes sizes ns ++ found.1.now) × (found.0 ≡ from ns [])) }
         ensures damaged { result ≡ Err StateFault.Unsound → (ns rest : List ℕ) → FitFields sizes ns

@@ -66,7 +66,7 @@ impl Saved for DescriptorRow {
             &[
                 Field::U32(self.fd),
                 Field::U32(kind_of(descriptor.on)),
-                Field::U32(number_of(descriptor.on)),
+                Field::U32(object_number(descriptor.on)),
                 Field::U32(descriptor.flags),
             ],
         );
@@ -93,20 +93,20 @@ pub(crate) fn kind_of(on: Opened) -> u32
     ensures { result ≡ opened_kind on }
 {
     match on {
-        Opened::Queue(_) => QUEUE,
-        Opened::Semaphore(_) => SEMAPHORE,
-        Opened::Segment(_) => SEGMENT,
+        Opened::Mq(_) => QUEUE,
+        Opened::Psem(_) => SEMAPHORE,
+        Opened::Pshm(_) => SEGMENT,
     }
 }
 
 /// And its number within the kind.
-pub(crate) fn number_of(on: Opened) -> u32
+pub(crate) fn object_number(on: Opened) -> u32
     ensures { result ≡ opened_number on }
 {
     match on {
-        Opened::Queue(number) => number,
-        Opened::Semaphore(number) => number,
-        Opened::Segment(number) => number,
+        Opened::Mq(number) => number,
+        Opened::Psem(number) => number,
+        Opened::Pshm(number) => number,
     }
 }
 
@@ -116,9 +116,9 @@ fn opened(kind: u32, number: u32) -> Option<Opened>
     ensures none { IfNone result ((on : PlainOpened) → kind ≢ opened_kind on) }
 {
     match kind {
-        QUEUE => Some(Opened::Queue(number)),
-        SEMAPHORE => Some(Opened::Semaphore(number)),
-        SEGMENT => Some(Opened::Segment(number)),
+        QUEUE => Some(Opened::Mq(number)),
+        SEMAPHORE => Some(Opened::Psem(number)),
+        SEGMENT => Some(Opened::Pshm(number)),
         _ => None,
     }
 }

@@ -48,11 +48,11 @@ pub struct StateObjects<'a> {
 /// What has an object of its own.
 #[derive(Clone, Copy)]
 pub(crate) enum Thing<'a> {
-    Queue(&'a Item<Entry<MsgQueue>>),
-    Set(&'a Item<Entry<SemSet>>),
+    MsgQueue(&'a Item<Entry<MsgQueue>>),
+    Semset(&'a Item<Entry<SemSet>>),
     Mq(&'a Item<NamedEntry<Mq>>),
-    Sem(&'a Item<NamedEntry<NamedSem>>),
-    Segment(&'a Item<NamedEntry<Segment>>),
+    Psem(&'a Item<NamedEntry<NamedSem>>),
+    Pshm(&'a Item<NamedEntry<Segment>>),
 }
 
 impl<'a> Model for StateObjects<'a> {
@@ -92,20 +92,20 @@ pub fn objects_of<'a>(engine: &'a Engine) -> StateObjects<'a>
         numbers: Numbers {
             clock: state.clock(),
             next_pid: state.next_pid(),
-            next_queue: state.next_queue(),
-            next_set: state.next_set(),
+            next_msg_queue: state.next_msg_queue(),
+            next_semset: state.next_semset(),
             next_mq: state.next_mq(),
-            next_named_sem: state.named_sems().next(),
-            next_segment: state.segments().next(),
+            next_psem: state.psems().next(),
+            next_pshm: state.pshms().next(),
         },
         processes: state.processes(),
         waits: state.waits(),
         undo: state.adjustments(),
-        queues: state.queues(),
-        sets: state.sets(),
+        queues: state.msg_queues(),
+        sets: state.semsets(),
         mqs: state.mqs(),
-        sems: state.named_sems().items(),
-        segments: state.segments().items(),
+        sems: state.psems().items(),
+        segments: state.pshms().items(),
     }
 }
 
@@ -118,11 +118,11 @@ pub fn start_objects() -> StateObjects<'static>
         numbers: Numbers {
             clock: Moment(0),
             next_pid: 1,
-            next_queue: 1,
-            next_set: 1,
+            next_msg_queue: 1,
+            next_semset: 1,
             next_mq: 1,
-            next_named_sem: 1,
-            next_segment: 1,
+            next_psem: 1,
+            next_pshm: 1,
         },
         processes: &[],
         waits: &[],
@@ -157,11 +157,11 @@ impl<'a> Objects for StateObjects<'a> {
             return u64::from(i);
         }
         match thing_at(self, i) {
-            Thing::Queue(queue) => Entry::<MsgQueue>::FIRST + u64::from(queue.number),
-            Thing::Set(set) => Entry::<SemSet>::FIRST + u64::from(set.number),
+            Thing::MsgQueue(queue) => Entry::<MsgQueue>::FIRST + u64::from(queue.number),
+            Thing::Semset(set) => Entry::<SemSet>::FIRST + u64::from(set.number),
             Thing::Mq(mq) => NamedEntry::<Mq>::FIRST + u64::from(mq.number),
-            Thing::Sem(sem) => NamedEntry::<NamedSem>::FIRST + u64::from(sem.number),
-            Thing::Segment(segment) => NamedEntry::<Segment>::FIRST + u64::from(segment.number),
+            Thing::Psem(sem) => NamedEntry::<NamedSem>::FIRST + u64::from(sem.number),
+            Thing::Pshm(segment) => NamedEntry::<Segment>::FIRST + u64::from(segment.number),
         }
     }
 
@@ -198,11 +198,11 @@ fn thing_at<'a, 'b>(objects: &'b StateObjects<'a>, i: u32) -> Thing<'a>
 {
     let at = (i - ALWAYS) as usize;
     if at < objects.queues.len() {
-        return Thing::Queue(&objects.queues[at]);
+        return Thing::MsgQueue(&objects.queues[at]);
     }
     let at = at - objects.queues.len();
     if at < objects.sets.len() {
-        return Thing::Set(&objects.sets[at]);
+        return Thing::Semset(&objects.sets[at]);
     }
     named_at(objects, at - objects.sets.len())
 }
@@ -219,9 +219,9 @@ fn named_at<'a, 'b>(objects: &'b StateObjects<'a>, at: usize) -> Thing<'a>
     }
     let at = at - objects.mqs.len();
     if at < objects.sems.len() {
-        return Thing::Sem(&objects.sems[at]);
+        return Thing::Psem(&objects.sems[at]);
     }
-    Thing::Segment(&objects.segments[at - objects.sems.len()])
+    Thing::Pshm(&objects.segments[at - objects.sems.len()])
 }
 
 // How many bytes its object has.
@@ -231,11 +231,11 @@ fn thing_len(thing: &Thing<'_>) -> u64
     ensures { result ≡ length (object_of thing.now).1 }
 {
     match thing {
-        Thing::Queue(queue) => queue.value.len(),
-        Thing::Set(set) => set.value.len(),
+        Thing::MsgQueue(queue) => queue.value.len(),
+        Thing::Semset(set) => set.value.len(),
         Thing::Mq(mq) => mq.value.len(),
-        Thing::Sem(sem) => sem.value.len(),
-        Thing::Segment(segment) => segment.value.len(),
+        Thing::Psem(sem) => sem.value.len(),
+        Thing::Pshm(segment) => segment.value.len(),
     }
 }
 
@@ -248,11 +248,11 @@ fn put_thing(window: &mut Window, thing: &Thing<'_>, mark: &mut Mark)
     ensures mark { IsMarkOfThing thing.now mark.new }
 {
     match thing {
-        Thing::Queue(queue) => queue.value.put(window, mark),
-        Thing::Set(set) => set.value.put(window, mark),
+        Thing::MsgQueue(queue) => queue.value.put(window, mark),
+        Thing::Semset(set) => set.value.put(window, mark),
         Thing::Mq(mq) => mq.value.put(window, mark),
-        Thing::Sem(sem) => sem.value.put(window, mark),
-        Thing::Segment(segment) => segment.value.put(window, mark),
+        Thing::Psem(sem) => sem.value.put(window, mark),
+        Thing::Pshm(segment) => segment.value.put(window, mark),
     }
 }
 

@@ -15,7 +15,7 @@ ghost use Rattle.ipc_image.specs.Kind.{FitsIn};
 ghost use Rattle.ipc_image.specs.Saved.{clock_sizes, clock_numbers, adjustments_of, HasAllPlaces};
 ghost use Rattle.ipc_image.specs.Saved.{FitsAdjustment, FitsDescriptor, FitsProcess, FitsWaiting};
 
-use crate::process::{kind_of, number_of};
+use crate::process::{kind_of, object_number};
 use crate::stored::Stored;
 use ipc_state::{Awaited, DescriptorRow, Item, Parked, Process, State};
 use ipc_wait::Waiting;
@@ -56,7 +56,7 @@ impl Wide for DescriptorRow {
     fn read(&self) {
         let _fd = self.fd;
         let _kind = kind_of(self.descriptor.on);
-        let _number = number_of(self.descriptor.on);
+        let _number = object_number(self.descriptor.on);
         let _flags = self.descriptor.flags;
     }
 }
@@ -124,11 +124,11 @@ pub(crate) fn read_state(state: &State)
     read_each(state.processes());
     read_each(state.waits());
     read_each(state.adjustments());
-    read_each(state.queues());
-    read_each(state.sets());
+    read_each(state.msg_queues());
+    read_each(state.semsets());
     read_each(state.mqs());
-    read_each(state.named_sems().items());
-    read_each(state.segments().items());
+    read_each(state.psems().items());
+    read_each(state.pshms().items());
 }
 
 fn read_clock(state: &State)
@@ -136,9 +136,9 @@ fn read_clock(state: &State)
 {
     let _clock = state.clock().0;
     let _next_pid = state.next_pid();
-    let _next_queue = state.next_queue();
-    let _next_set = state.next_set();
+    let _next_msg_queue = state.next_msg_queue();
+    let _next_semset = state.next_semset();
     let _next_mq = state.next_mq();
-    let _next_named_sem = state.named_sems().next();
-    let _next_segment = state.segments().next();
+    let _next_psem = state.psems().next();
+    let _next_pshm = state.pshms().next();
 }

@@ -10,7 +10,7 @@ use crate::JournalError;
 use crate::header::header_sector;
 use byteorder::{BigEndian, ByteOrder};
 use ipc_disk::{
-    DiskFault, Range, SectorDisk, read_bytes, sectors_for_len, settle_sector, write_bytes,
+    DiskFault, Range, SectorDisk, read_bytes, sectors_for_len, write_bytes, write_durably,
 };
 
 /// A place between two batches: the number of the body's sectors passed, 0 at first.
@@ -244,7 +244,7 @@ impl Journal {
         write_bytes(disk, self.range.first + 1 + self.used, batch)?;
         // The batch has to be on the disk before a header that counts it may be.
         disk.sync()?;
-        settle_sector(disk, self.range.first, &header_sector(self.epoch, used))?;
+        write_durably(disk, self.range.first, &header_sector(self.epoch, used))?;
         self.used = used;
         Ok(())
     }

@@ -8,7 +8,7 @@ use Rattle.std.specs.Str.{bytes_eq}
 use Rattle.ipc_base.specs.declared.errno.Errno.{Errno}
 use Rattle.ipc_base.specs.declared.errno.Errno.TheVariants.{EINVAL, ENOENT, EACCES, ENAMETOOLONG}
 use Rattle.ipc_keys.specs.declared.check.NameKind.{NameKind}
-use Rattle.ipc_keys.specs.declared.check.NameKind.TheVariants.{Queue, Semaphore, Segment}
+use Rattle.ipc_keys.specs.declared.check.NameKind.TheVariants.{Mq, Psem, Pshm}
 
 -- no bytes are no name
 abbrev pub is_none : List ℕ → Bool
@@ -41,15 +41,15 @@ form_fault name =
     else Some EINVAL
 
 abbrev pub fault : NameKind → List ℕ → Option Errno
-fault Queue name = queue_fault name
-fault Semaphore name = form_fault name
-fault Segment name = form_fault name
+fault Mq name = queue_fault name
+fault Psem name = form_fault name
+fault Pshm name = form_fault name
 
 -- how many bytes a name may have
 abbrev pub most_bytes : NameKind → ℕ
-most_bytes Queue = 255
-most_bytes Semaphore = 251
-most_bytes Segment = 255
+most_bytes Mq = 255
+most_bytes Psem = 251
+most_bytes Pshm = 255
 
 abbrev pub unless : Option Errno → Result (Unit {0}) Errno → Result (Unit {0}) Errno
 unless (Some errno) other = Err errno

@@ -9,11 +9,11 @@ use ipc_base::Errno;
 #[derive(Clone, Copy, Debug, PartialEq, Eq)]
 pub enum NameKind {
     /// A message queue, of mq_overview(7).
-    Queue,
+    Mq,
     /// A semaphore, of sem_overview(7).
-    Semaphore,
+    Psem,
     /// A memory segment, of shm_overview(7).
-    Segment,
+    Pshm,
 }
 
 /// Whether there may be such a name: a slash and then one or more bytes, none of them a slash or 0. The
@@ -25,9 +25,9 @@ pub fn check_name(kind: NameKind, name: &[u8]) -> Result<(), Errno>
     ensures { result ≡ check_name kind name.now }
 {
     let (fault, most) = match kind {
-        NameKind::Queue => (queue_fault(name), 255),
-        NameKind::Semaphore => (form_fault(name), 251),
-        NameKind::Segment => (form_fault(name), 255),
+        NameKind::Mq => (queue_fault(name), 255),
+        NameKind::Psem => (form_fault(name), 251),
+        NameKind::Pshm => (form_fault(name), 255),
     };
     match fault {
         Some(errno) => Err(errno),

@@ -11,7 +11,7 @@ use Rattle.std.specs.Char.{is_ascii_digit, digit_value}
 use Rattle.std.specs.Result.{OkIff, result_ok}
 use Rattle.std.specs.Str.{all_ascii_digits}
 use Rattle.std.specs.Str.Parse.{AllDigits, digits_value}
-use Rattle.ipc_script.specs.Line.{decimal_value, number_of, limited, moment_of, conn_of}
+use Rattle.ipc_script.specs.Line.{decimal_value, decimal_number, limited, moment_of, conn_of}
 
 -- the value by places is the value by turns
 own : IsNumeralModel (λ ds. all_ascii_digits ds ≡ true) decimal_value
@@ -89,7 +89,7 @@ limited_twice a b (Some n) le = limited_some a b n (ltb n b) refl le
 
 pub conn_from_moment : (word : List ℕ) → conn_of word ≡ limited (2 ^ 32) (moment_of word)
 unfolding moment_of conn_of
-conn_from_moment word = limited_twice (2 ^ 32) (2 ^ 64) (number_of word) (omega arith)
+conn_from_moment word = limited_twice (2 ^ 32) (2 ^ 64) (decimal_number word) (omega arith)
 
 -- what a conversion to 32 bits keeps
 pub narrowed : {E : Type 0} (n : ℕ) (r : Result ℕ E) → OkIff r (n < 2 ^ 32) n → result_ok r ≡ limited (2 ^ 32) (Some n)

@@ -4,7 +4,7 @@ use Rattle.ipc_base.specs.declared.limits.Limits.{Limits}
 use Rattle.ipc_disk.specs.Medium.{Image, Medium}
 use Rattle.ipc_disk.specs.Since.{EachImageSince}
 use Rattle.ipc_engine.specs.Event.{PlainEvent, Restart}
-use Rattle.ipc_store.specs.Histories.{History, accepted, acknowledged, reopened, state_after, GoesOn, Keeps, OpensOn, StandsForPrefix, Takes}
+use Rattle.ipc_store.specs.Histories.{History, accepted, acknowledged, reopened, state_after, IsRunning, Keeps, OpensOn, StandsForPrefix, Takes}
 use Rattle.ipc_store.specs.Image.{StandsFor}
 use Rattle.ipc_store.specs.Lives.{StandsAfter}
 use Rattle.ipc_store.specs.View.{StoreView}
@@ -14,7 +14,7 @@ use Rattle.ipc_script.specs.ByLines.{HasRunLines, KeepsLines}
 use Rattle.ipc_script.specs.ByLines.HasRunLines.{None as none_run, Line, Again}
 use Rattle.ipc_script.specs.Script.{IsYoung, Run}
 use Rattle.ipc_script.proofs.Stopping.{lives-none, lives-more, lives-stop}
-use Rattle.ipc_script.specs.Stops.{GoesOnFrom, IsReopened, LivesOn}
+use Rattle.ipc_script.specs.Stops.{ContinuesFrom, IsReopened, LivesOn}
 use Rattle.ipc_script.specs.Stops.LivesOn.{One, Stop}
 use Rattle.ipc_script.specs.Relations.Lasts.{Lasts}
 
@@ -24,7 +24,7 @@ no-events (e ∷ es) none = absurd (omega arith)
 
 module _ {D : Type 0} (medium : D → Medium) where
   -- the disk of a store that goes on, in which nothing waits
-  rests-on : (store : StoreView D) (h : History) → GoesOn (medium store.disk) store h → store.waiting ≡ 0
+  rests-on : (store : StoreView D) (h : History) → IsRunning (medium store.disk) store h → store.waiting ≡ 0
       → StandsAfter store.machine.limits (accepted h) (medium store.disk)
   rests-on store h goes empty =
       let none : h.waiting ≡ [] = no-events h.waiting (sym goes.waits.count ∙ empty) in
@@ -37,21 +37,21 @@ module _ {D : Type 0} (medium : D → Medium) where
 
   rests : (store : StoreView D) (h : History) → Keeps (medium store.disk) store h → store.stopped ≡ false → store.waiting ≡ 0
       → StandsAfter store.machine.limits (accepted h) (medium store.disk)
-  rests store h keeps goes_on empty =
+  rests store h keeps running empty =
       elim keeps.stands [
         | inl goes ↦ rests-on store h goes empty
-        | inr halted ↦ let bad : true ≡ false = sym halted.stopped ∙ goes_on in cc
+        | inr halted ↦ let bad : true ≡ false = sym halted.stopped ∙ running in cc
       ]
 
   -- no event of its history waits
   none-waits : (store : StoreView D) (h : History) → Keeps (medium store.disk) store h → store.stopped ≡ false → store.waiting ≡ 0 → h.waiting ≡ []
-  none-waits store h keeps goes_on empty =
+  none-waits store h keeps running empty =
       elim keeps.stands [
         | inl goes ↦ no-events h.waiting (sym goes.waits.count ∙ empty)
-        | inr halted ↦ let bad : true ≡ false = sym halted.stopped ∙ goes_on in cc
+        | inr halted ↦ let bad : true ≡ false = sym halted.stopped ∙ running in cc
       ]
 
-  begun : (store : StoreView D) (before : History) → Keeps (medium store.disk) store before → GoesOnFrom medium before store
+  begun : (store : StoreView D) (before : History) → Keeps (medium store.disk) store before → ContinuesFrom medium before store
   begun store before keeps = record {
     after = before;
     keeps = keeps;
@@ -63,7 +63,7 @@ module _ {D : Type 0} (medium : D → Medium) where
   }
 
   -- a life goes on
-  goes-more : (before : History) (mid new : StoreView D) → GoesOnFrom medium before mid → Lasts medium mid new → GoesOnFrom medium before new
+  goes-more : (before : History) (mid new : StoreView D) → ContinuesFrom medium before mid → Lasts medium mid new → ContinuesFrom medium before new
   goes-more before mid new so_far next =
       let was : History = so_far.after in
       let moves = next.1 was so_far.keeps in
@@ -87,13 +87,13 @@ module _ {D : Type 0} (medium : D → Medium) where
   module _ (finds : (limits : Limits) (events : List PlainEvent) (disk : D) (opened : StoreView D) → StandsAfter limits events (medium disk)
       → OpensOn (medium disk).contents (medium opened.disk) opened → Keeps (medium opened.disk) opened (reopened events)) where
     -- a life ends, and the next begins
-    goes-again : (before : History) (closed opened : StoreView D) → GoesOnFrom medium before closed → IsReopened medium closed opened
-        → GoesOnFrom medium before opened
+    goes-again : (before : History) (closed opened : StoreView D) → ContinuesFrom medium before closed → IsReopened medium closed opened
+        → ContinuesFrom medium before opened
     goes-again before closed opened so_far stop =
         let was : History = so_far.after in
         let one : List PlainEvent = Restart ∷ [] in
         let keeps : Keeps (medium opened.disk) opened (reopened (accepted was)) =
-        finds closed.machine.limits (accepted was) closed.disk opened (so_far.rests stop.goes_on stop.empty) stop.opens in
+        finds closed.machine.limits (accepted was) closed.disk opened (so_far.rests stop.running stop.empty) stop.opens in
         record {
           after = reopened (accepted was);
           keeps = keeps;
@@ -108,7 +108,7 @@ module _ {D : Type 0} (medium : D → Medium) where
         }
 
     pub goes-on : (before : History) (old new : StoreView D) → Keeps (medium old.disk) old before → LivesOn medium old new
-        → GoesOnFrom medium before new
+        → ContinuesFrom medium before new
     goes-on before old new keeps (One _ lasts) = goes-more before old new (begun old before keeps) lasts
     goes-on before old new keeps (Stop closed opened _ first stop lasts) =
         goes-more before opened new (goes-again before closed opened (goes-on before old closed keeps first) stop) lasts
@@ -121,35 +121,35 @@ module _ {D : Type 0} (medium : D → Medium) where
       lives-of : (number : ℕ) (lines : List (List ℕ)) (last : StoreView D) (r : Run) (text : List ℕ)
           → HasRunLines medium limits old h number lines last r text → LivesOn medium old last
       lives-of _ _ _ _ _ none_run = lives-none medium old law
-      lives-of _ _ next _ _ (Line number lines line last _ r text cut p before is took settled goes) =
+      lives-of _ _ next _ _ (Line number lines line last _ r text cut p before is took committed goes) =
           lives-more medium old last next (lives-of number lines last r text before) took
       lives-of _ _ opened _ text (Again number lines line last closed _ r _ before is took again) =
           lives-stop medium old law last closed opened (lives-of number lines last r text before) took again
 
       -- nothing waits after any of them
-      settled-of : (number : ℕ) (lines : List (List ℕ)) (last : StoreView D) (r : Run) (text : List ℕ)
+      committed-of : (number : ℕ) (lines : List (List ℕ)) (last : StoreView D) (r : Run) (text : List ℕ)
           → HasRunLines medium limits old h number lines last r text → old.waiting ≡ 0 → last.waiting ≡ 0
-      settled-of _ _ _ _ _ none_run empty = empty
-      settled-of _ _ next _ _ (Line number lines line last _ r text cut p before is took settled goes) empty =
-          settled (settled-of number lines last r text before empty)
-      settled-of _ _ opened _ text (Again number lines line last closed _ r _ before is took again) empty = again.opens.found.2.waits.count
+      committed-of _ _ _ _ _ none_run empty = empty
+      committed-of _ _ next _ _ (Line number lines line last _ r text cut p before is took committed goes) empty =
+          committed (committed-of number lines last r text before empty)
+      committed-of _ _ opened _ text (Again number lines line last closed _ r _ before is took again) empty = again.opens.found.2.waits.count
 
       -- a young store goes on
       on-of : (number : ℕ) (lines : List (List ℕ)) (last : StoreView D) (r : Run) (text : List ℕ)
           → HasRunLines medium limits old h number lines last r text → IsYoung old → last.stopped ≡ false
-      on-of _ _ _ _ _ none_run young = young.goes_on
-      on-of _ _ next _ _ (Line number lines line last _ r text cut p before is took settled goes) young = goes young
-      on-of _ _ opened _ text (Again number lines line last closed _ r _ before is took again) young = again.opens.found.2.goes_on
+      on-of _ _ _ _ _ none_run young = young.running
+      on-of _ _ next _ _ (Line number lines line last _ r text cut p before is took committed goes) young = goes young
+      on-of _ _ opened _ text (Again number lines line last closed _ r _ before is took again) young = again.opens.found.2.running
 
       pub keeps-lines : (last next : StoreView D) (before : History) (number : ℕ) (lines : List (List ℕ)) (r : Run) (text : List ℕ)
           (events : List PlainEvent) → Keeps (medium old.disk) old before → old.waiting ≡ 0
           → HasRunLines medium limits old h number lines last r text → IsYoung old → Takes medium last events next
           → KeepsLines medium before last events next
       keeps-lines last next before number lines r text events keeps empty runs young takes =
-          let goes_on = on-of number lines last r text runs young in
+          let running = on-of number lines last r text runs young in
           let here = goes-on before old last keeps (lives-of number lines last r text runs) in
           let was : History = here.after in
-          let none : was.waiting ≡ [] = none-waits last was here.keeps goes_on (settled-of number lines last r text runs empty) in
+          let none : was.waiting ≡ [] = none-waits last was here.keeps running (committed-of number lines last r text runs empty) in
           let all : acknowledged was ≡ accepted before ++ here.more =
           sym (ap (λ (es : List PlainEvent). acknowledged was ++ es) none ∙ append-nil (acknowledged was)) ∙ here.accepts in
           record {

@@ -59,8 +59,8 @@ pub is_known : {A D : Type 0} (hub : StoredHub D) (conn : ℕ) (result : Result 
     → (HasStopped hub → result ≡ Err serve.Stopped)
     → (¬ HasStopped hub → is_connected hub.hub conn ≡ false → result ≡ Err serve.Unknown) → is_connected hub.hub conn ≡ false → ⊥
 is_known hub conn result v is stopped unknown none =
-    let goes_on : ¬ HasStopped hub = λ has. let bad : Ok v ≡ Err serve.Stopped = sym is ∙ stopped has in cc in
-    let bad : Ok v ≡ Err serve.Unknown = sym is ∙ unknown goes_on none in cc
+    let running : ¬ HasStopped hub = λ has. let bad : Ok v ≡ Err serve.Stopped = sym is ∙ stopped has in cc in
+    let bad : Ok v ≡ Err serve.Unknown = sym is ∙ unknown running none in cc
 
 -- a call that was refused and did not fail named none
 pub is_unknown : {D : Type 0} (medium : D → Medium) (counts : D → Counts) (hub next : StoredHub D) (conn : ℕ) (P : Type 0) (e : ServeError) (number : ℕ)

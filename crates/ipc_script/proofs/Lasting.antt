@@ -24,7 +24,7 @@ use Rattle.ipc_script.specs.ByLines.HasRunLines.{None as none_run}
 use Rattle.ipc_script.specs.Line.{lines_of}
 use Rattle.ipc_script.specs.Script.{WritesMore, start_run}
 use Rattle.ipc_script.specs.Stops.LivesOn.{One}
-use Rattle.ipc_script.specs.Relations.Lasts.{Lasts, Settled, Settles, Empties}
+use Rattle.ipc_script.specs.Relations.Lasts.{Lasts, StaysCommitted, CommitsOrFails, Empties}
 use Rattle.ipc_script.proofs.FaultCases.{by_fault}
 
 module _ {D : Type 0} (medium : D → Medium) where
@@ -58,57 +58,57 @@ module _ {D : Type 0} (medium : D → Medium) where
     lasts-refused counts old new conn serve.Stopped refuses = lasts-halted counts old new commit.Stopped refuses
 
 -- nothing waits, whatever waited before
-pub settles-empty : {D : Type 0} (old new : StoreView D) (e : ScriptFault) → ByFault e (new.waiting ≡ 0) ⊤ (new.waiting ≡ 0)
-    → ByFault e (Settled old new) ⊤ (Settled old new)
-settles-empty old new e empty = by_fault _ _ _ _ _ _ e (λ none _. none) (λ t. t) (λ none _. none) empty
+pub commits-empty : {D : Type 0} (old new : StoreView D) (e : ScriptFault) → ByFault e (new.waiting ≡ 0) ⊤ (new.waiting ≡ 0)
+    → ByFault e (StaysCommitted old new) ⊤ (StaysCommitted old new)
+commits-empty old new e empty = by_fault _ _ _ _ _ _ e (λ none _. none) (λ t. t) (λ none _. none) empty
 
-pub settles-all : {A D : Type 0} (old new : StoreView D) (result : Result A ScriptFault) → Empties new result → Settles old new result
-settles-all old new (Ok a) empty = λ _. empty
-settles-all old new (Err e) empty = settles-empty old new e empty
+pub commits-all : {A D : Type 0} (old new : StoreView D) (result : Result A ScriptFault) → Empties new result → CommitsOrFails old new result
+commits-all old new (Ok a) empty = λ _. empty
+commits-all old new (Err e) empty = commits-empty old new e empty
 
 -- it was refused: nothing has changed, or the disk failed
-pub settles-refused : {D : Type 0} (medium : D → Medium) (counts : D → Counts) (old new : StoredHub D) (conn : ℕ) (e : ServeError) (number : ℕ)
+pub commits-refused : {D : Type 0} (medium : D → Medium) (counts : D → Counts) (old new : StoredHub D) (conn : ℕ) (e : ServeError) (number : ℕ)
     → Refuses medium counts old new conn e
-    → ByFault (of_serve_error e number) (Settled old.store new.store) ⊤ (Settled old.store new.store)
-settles-refused {D} medium counts old new conn serve.Unknown number refuses =
+    → ByFault (of_serve_error e number) (StaysCommitted old.store new.store) ⊤ (StaysCommitted old.store new.store)
+commits-refused {D} medium counts old new conn serve.Unknown number refuses =
     λ none. ap (λ (h : StoredHub D). h.store.waiting) refuses.2 ∙ none
-settles-refused medium counts old new conn serve.Device number refuses = tt
-settles-refused medium counts old new conn serve.Stopped number refuses = tt
+commits-refused medium counts old new conn serve.Device number refuses = tt
+commits-refused medium counts old new conn serve.Stopped number refuses = tt
 
 -- one thing after another
-pub settles-after : {D : Type 0} (old mid new : StoreView D) (e : ScriptFault) → Settled old mid
-    → ByFault e (Settled mid new) ⊤ (Settled mid new) → ByFault e (Settled old new) ⊤ (Settled old new)
-settles-after old mid new e first next =
+pub commits-after : {D : Type 0} (old mid new : StoreView D) (e : ScriptFault) → StaysCommitted old mid
+    → ByFault e (StaysCommitted mid new) ⊤ (StaysCommitted mid new) → ByFault e (StaysCommitted old new) ⊤ (StaysCommitted old new)
+commits-after old mid new e first next =
     by_fault _ _ _ _ _ _ e (λ keeps none. keeps (first none)) (λ t. t) (λ keeps none. keeps (first none)) next
 
 -- of a line the same holds unless the disk failed
-pub settled-unless : {D : Type 0} (old new : StoreView D) (e : ScriptFault) → ByFault e (Settled old new) ⊤ (Settled old new)
-    → UnlessDisk e (Settled old new)
-settled-unless old new NoMemory s = s
-settled-unless old new Input s = absurd s
-settled-unless old new Output s = s
-settled-unless old new Device s = tt
-settled-unless old new NotFormatted s = tt
-settled-unless old new (Version found) s = tt
-settled-unless old new (Damaged sector) s = tt
-settled-unless old new TooLong s = s
-settled-unless old new (BadLine number) s = s
-settled-unless old new (InUse number) s = s
-settled-unless old new (Unknown number) s = s
+pub committed-unless : {D : Type 0} (old new : StoreView D) (e : ScriptFault) → ByFault e (StaysCommitted old new) ⊤ (StaysCommitted old new)
+    → UnlessDisk e (StaysCommitted old new)
+committed-unless old new NoMemory s = s
+committed-unless old new Input s = absurd s
+committed-unless old new Output s = s
+committed-unless old new Device s = tt
+committed-unless old new NotFormatted s = tt
+committed-unless old new (Version found) s = tt
+committed-unless old new (Damaged sector) s = tt
+committed-unless old new TooLong s = s
+committed-unless old new (BadLine number) s = s
+committed-unless old new (InUse number) s = s
+committed-unless old new (Unknown number) s = s
 
 -- a script that is not begun
-settled-same : {D : Type 0} (store : StoreView D) (e : ScriptFault) → UnlessDisk e (Settled store store)
-settled-same store NoMemory = λ none. none
-settled-same store Input = λ none. none
-settled-same store Output = λ none. none
-settled-same store Device = tt
-settled-same store NotFormatted = tt
-settled-same store (Version found) = tt
-settled-same store (Damaged sector) = tt
-settled-same store TooLong = λ none. none
-settled-same store (BadLine number) = λ none. none
-settled-same store (InUse number) = λ none. none
-settled-same store (Unknown number) = λ none. none
+committed-same : {D : Type 0} (store : StoreView D) (e : ScriptFault) → UnlessDisk e (StaysCommitted store store)
+committed-same store NoMemory = λ none. none
+committed-same store Input = λ none. none
+committed-same store Output = λ none. none
+committed-same store Device = tt
+committed-same store NotFormatted = tt
+committed-same store (Version found) = tt
+committed-same store (Damaged sector) = tt
+committed-same store TooLong = λ none. none
+committed-same store (BadLine number) = λ none. none
+committed-same store (InUse number) = λ none. none
+committed-same store (Unknown number) = λ none. none
 
 pub leaves-same : {D : Type 0} (medium : D → Medium)
     (law : (d : D) (image : Image) → (medium d).images_since (medium d).moment image → (medium d).images_now image)
@@ -132,6 +132,6 @@ leaves-same medium law limits h script before after store disk e same more =
       };
       handed = inl same;
       one = λ stops. (lasts-none medium law store, same);
-      settled = settled-same store e;
+      committed = committed-same store e;
       state = tt;
     }

@@ -51,7 +51,7 @@ not-the-readers before after (Unknown number) f = tt
 pub spends-both : {D : Type 0} {counts : D → Counts} {n k : ℕ} (all : ℕ) {old mid new : StoreView D} → Spends counts n old mid → Spends counts k mid new
     → n + k ≤ all → Spends counts all old new
 spends-both all first next fits = record {
-  goes_on = next.goes_on;
+  running = next.running;
   failures = next.failures ∙ first.failures;
   numbers = omega (arith, first.numbers, next.numbers, fits);
 }
@@ -59,20 +59,20 @@ spends-both all first next fits = record {
 -- so many more at most
 pub spends-more : {D : Type 0} {counts : D → Counts} {n : ℕ} (all : ℕ) {old new : StoreView D} → Spends counts n old new → n ≤ all
     → Spends counts all old new
-spends-more all spent fits = record { goes_on = spent.goes_on; failures = spent.failures; numbers = omega (arith, spent.numbers, fits) }
+spends-more all spent fits = record { running = spent.running; failures = spent.failures; numbers = omega (arith, spent.numbers, fits) }
 
 -- what is left after a call
 pub left-behind : {D : Type 0} {counts : D → Counts} {n k : ℕ} (rest : ℕ) {old new : StoreView D} → HasNumbers n old → Spends counts k old new
     → k + rest ≤ n → HasNumbers rest new
-left-behind rest has spent fits = record { goes_on = spent.goes_on; left = omega (arith, has.left, spent.numbers, fits) }
+left-behind rest has spent fits = record { running = spent.running; left = omega (arith, has.left, spent.numbers, fits) }
 
 -- nothing was used yet
 pub spends-none : {D : Type 0} {counts : D → Counts} {n k : ℕ} {store : StoreView D} → HasNumbers n store → Spends counts k store store
-spends-none has = record { goes_on = has.goes_on; failures = refl; numbers = omega arith }
+spends-none has = record { running = has.running; failures = refl; numbers = omega arith }
 
 -- a hub over a store that has numbers left goes on
 goes-on : {D : Type 0} (n : ℕ) (v : StoredHub D) → HasNumbers n v.store → ¬ HasStopped v
-goes-on n v has stopped = by_stop v.store.stopped has.goes_on stopped
+goes-on n v has stopped = by_stop v.store.stopped has.running stopped
   where
     by_stop : (b : Bool) → b ≡ false → (if b then 0 else 2 ^ 64 - 1 - (v.store.confirmed + v.store.waiting)) < most_events → ⊥
     by_stop true is few = let never : true ≡ false = is in cc
@@ -100,4 +100,4 @@ failed-behind e after spent failed = subst (λ (before : ℕ). DiskFailed e befo
 -- a young store has numbers enough for a script that is not too long
 pub young-has : {D : Type 0} (store : StoreView D) (script : List ℕ) → IsYoung store → length script ≤ longest_script
     → HasNumbers (8 * length script) store
-young-has store script young short = record { goes_on = young.goes_on; left = omega (arith, young.numbers, short) }
+young-has store script young short = record { running = young.running; left = omega (arith, young.numbers, short) }

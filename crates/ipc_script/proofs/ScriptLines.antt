@@ -20,7 +20,7 @@ use Rattle.ipc_script.specs.declared.report.Opened.{Opened}
 use Rattle.ipc_script.specs.declared.fault.ScriptFault.TheVariants.{NoMemory, Input, Output, Device, NotFormatted, Version, Damaged}
 use Rattle.ipc_script.specs.declared.fault.ScriptFault.TheVariants.{TooLong, BadLine, InUse, Unknown}
 use Rattle.ipc_script.specs.Line.{longest_script, PlainLine, Open, Data, End, Tick, Save, Stop, line_of, lines_of}
-use Rattle.ipc_script.specs.Script.{Run, Cut, Progress, Outcome, start_run, text_done, first_cut, goes_on, run_lines, is_open, opened, report}
+use Rattle.ipc_script.specs.Script.{Run, Cut, Progress, Outcome, start_run, text_done, first_cut, then_next, run_lines, is_open, opened, report}
 use Rattle.ipc_script.specs.Script.{after_line, run_after, script_after}
 use Rattle.ipc_script.specs.Script.{MayStop, HasNoStop, stopped, fed_in_pieces, script_run, lines_run, WritesPart, WritesMore, EndsAs, BreaksOff, Halts, Runs}
 use Rattle.ipc_store.specs.View.{StoreView}
@@ -56,7 +56,7 @@ pub record PartlyRun {D : Type 0} (limits : Limits) (h : Clients) (script : List
 
 -- a beginning of what a line writes begins what it and the next lines write
 goes_part : (a b : Option (List ℕ)) (result : Result Progress ScriptFault) (next : Run → Outcome) → WritesPart a b (text_of result)
-    → WritesPart a b (goes_on result next).text
+    → WritesPart a b (then_next result next).text
 goes_part a b (Err e) next part = part
 goes_part a b (Ok p) next part = part_more a b p.text (next p.run).text part
 
@@ -118,7 +118,7 @@ module _ {D : Type 0} (limits : Limits) (h : Clients) (script : List ℕ) (mediu
               ap (λ (ls : List (List ℕ)). run_lines limits 1 (start_run h) ls ((p.done ++ cut ∷ []) ++ more)) (append_assoc p.first (line ∷ []) others)
               ∙ (ap (run_lines limits 1 (start_run h) (p.first ++ line ∷ others)) (append_assoc p.done (cut ∷ []) more)
               ∙ (p.runs (line ∷ others) (cut ∷ more)
-              ∙ (ap (λ r. later p.text (goes_on r (λ now. run_lines limits (number + 1) now others more))) is
+              ∙ (ap (λ r. later p.text (then_next r (λ now. run_lines limits (number + 1) now others more))) is
               ∙ ap (λ (t : List ℕ). record { text = t; fault = rest_of.fault }) (sym (append_assoc p.text q.text rest_of.text)))));
           comes = λ others more.
               ap (λ (ls : List (List ℕ)). run_after limits 1 (start_run h) ls ((p.done ++ cut ∷ []) ++ more)) (append_assoc p.first (line ∷ []) others)
@@ -179,7 +179,7 @@ module _ {D : Type 0} (limits : Limits) (h : Clients) (script : List ℕ) (mediu
         ap (run_lines limits 1 (start_run h) (lines_of script)) (sym (append-nil p.done))
         ∙ (ran []
         ∙ (ap (λ (ls : List (List ℕ)). later p.text (run_lines limits number p.now ls [])) lines
-        ∙ ap (λ r. later p.text (goes_on r (λ now. run_lines limits (number + 1) now (lines_of behind) []))) (is (first_cut [])))) in (
+        ∙ ap (λ r. later p.text (then_next r (λ now. run_lines limits (number + 1) now (lines_of behind) []))) (is (first_cut [])))) in (
           p.done,
           (
             subst (Appends w0 w2) (sym (ap (λ (o : Outcome). o.text) ends)) (Appends-trans w0 w1 w2 p.text [] p.written wrote),
@@ -194,11 +194,11 @@ module _ {D : Type 0} (limits : Limits) (h : Clients) (script : List ℕ) (mediu
     run_broken line behind lines cut w2 part =
         let next : Run → Outcome = λ now. run_lines limits (number + 1) now (lines_of behind) [] in
         let done : Result Progress ScriptFault = text_done limits number p.now (line_of line) cut in
-        let ends : run_lines limits 1 (start_run h) (lines_of script) (p.done ++ cut ∷ []) ≡ later p.text (goes_on done next) =
+        let ends : run_lines limits 1 (start_run h) (lines_of script) (p.done ++ cut ∷ []) ≡ later p.text (then_next done next) =
         ran (cut ∷ []) ∙ ap (λ (ls : List (List ℕ)). later p.text (run_lines limits number p.now ls (cut ∷ []))) lines in (
           p.done ++ cut ∷ [],
           subst (WritesPart w0 w2) (sym (ap (λ (o : Outcome). o.text) ends))
-              (part_after w0 w1 w2 p.text (goes_on done next).text p.written (goes_part w1 w2 done next part)),
+              (part_after w0 w1 w2 p.text (then_next done next).text p.written (goes_part w1 w2 done next part)),
         )
 
     -- no line more
@@ -285,7 +285,7 @@ never_text limits number r (Some Save) cut is = cc
 never_text limits number r (Some Stop) cut is = cc
 
 never_on : (result : Result Progress ScriptFault) (next : Run → Outcome) → (result ≡ Err TooLong → ⊥)
-    → ((now : Run) → (next now).fault ≡ Some TooLong → ⊥) → (goes_on result next).fault ≡ Some TooLong → ⊥
+    → ((now : Run) → (next now).fault ≡ Some TooLong → ⊥) → (then_next result next).fault ≡ Some TooLong → ⊥
 never_on (Err e) next here later is = let same : e ≡ TooLong = cc in here (ap (λ (f : ScriptFault). Err f) same)
 never_on (Ok p) next here later is = later p.run is
 

@@ -3,7 +3,7 @@ use Rattle.std.proofs.Common.{length, ◌≡◌, ℕ, Bool, true, false, cond, �
 use Rattle.std.specs.Prelude.{nat_eq, option_map, is_some, if◌then◌else◌}
 use Rattle.ipc_base.specs.declared.limits.Limits.{Limits}
 use Rattle.ipc_wire.specs.Request.{PlainRequest}
-use Rattle.ipc_engine.specs.Engine.{takes_memory}
+use Rattle.ipc_engine.specs.Engine.{event_takes_memory}
 use Rattle.ipc_wire.specs.Stream.{Ending, stream_of}
 use Rattle.ipc_wire.specs.Stream.Ending.{Rest, Broken}
 use Rattle.ipc_base.specs.Table.{value_at, with_value, keys_of}
@@ -105,11 +105,11 @@ module _ (limits : Limits) (conn moment : ℕ) where
       by_event : (e : Option PlainEvent)
           → heads (elim e as (λ _. Clients) [
             | None ↦ break_off limits h conn c request.serial moment
-            | Some e' ↦ if refused && takes_memory limits h.state e' then refuse h conn c request.serial else serve limits h conn c e'
+            | Some e' ↦ if refused && event_takes_memory limits h.state e' then refuse h conn c request.serial else serve limits h conn c e'
           ]).clients ≡ heads h.clients
       by_event None = heads_break_off h c at request.serial
       by_event (Some e) =
-          heads_choice h (refuse h conn c request.serial) (serve limits h conn c e) (refused && takes_memory limits h.state e)
+          heads_choice h (refuse h conn c request.serial) (serve limits h conn c e) (refused && event_takes_memory limits h.state e)
           (heads_refuse h c at request.serial) (heads_serve h c at e)
 
   module _ (act : Client → Clients) (h : Clients) (each : (c : Client) → client_at h conn ≡ Some c → heads (act c).clients ≡ heads h.clients) where

@@ -11,7 +11,7 @@ use Rattle.ipc_hub.specs.Clients.{Clients}
 use Rattle.ipc_script.specs.Line.{Stop, line_of, lines_of}
 use Rattle.ipc_script.specs.Script.{Cut, IsYoung, Progress, Run, WritesMore, start_run, stopped, text_done}
 use Rattle.ipc_script.specs.Stops.{IsReopened}
-use Rattle.ipc_script.specs.Relations.Lasts.{Lasts, Settled}
+use Rattle.ipc_script.specs.Relations.Lasts.{Lasts, StaysCommitted}
 
 -- These lines were run, one after another; what comes next has this number. They have written this text. Each takes
 -- events, and if nothing waited before it, nothing waits when it has ended: its events were made last then. If the
@@ -21,7 +21,7 @@ pub data HasRunLines {D : Type 0} (medium : D → Medium) (limits : Limits) (old
   None : HasRunLines medium limits old h 1 [] old (start_run h) []
   Line : (number : ℕ) (lines : List (List ℕ)) (line : List ℕ) (last next : StoreView D) (r : Run) (text : List ℕ)
       (cut : Cut) (p : Progress) → HasRunLines medium limits old h number lines last r text
-      → text_done limits number r (line_of line) cut ≡ Ok p → Lasts medium last next → Settled last next
+      → text_done limits number r (line_of line) cut ≡ Ok p → Lasts medium last next → StaysCommitted last next
       → (IsYoung old → next.stopped ≡ false)
       → HasRunLines medium limits old h (number + 1) (lines ++ line ∷ []) next p.run (text ++ p.text)
   -- a line `stop`, which writes nothing

@@ -12,7 +12,7 @@ use Rattle.ipc_script.specs.declared.fault.ScriptFault.TheVariants.{TooLong, Bad
 use Rattle.ipc_script.specs.ByLines.{EndsAfter}
 use Rattle.ipc_script.specs.Script.{Cut, HasNoStop, IsYoung, script_run, script_after}
 use Rattle.ipc_script.specs.Stops.{IsHanded, LivesOn}
-use Rattle.ipc_script.specs.Relations.Lasts.{Lasts, Settled}
+use Rattle.ipc_script.specs.Relations.Lasts.{Lasts, StaysCommitted}
 
 -- this holds, unless the fault is the disk's
 abbrev pub UnlessDisk : ScriptFault → Type 0 → Type 0
@@ -30,8 +30,8 @@ UnlessDisk (Unknown number) P = P
 
 -- a run, by its answer: if nothing waited, nothing waits, unless the disk failed
 abbrev pub EndsSettled : {D : Type 0} → StoreView D → StoreView D → Result ⊤ ScriptFault → Type 0
-EndsSettled old new (Ok _) = Settled old new
-EndsSettled old new (Err e) = UnlessDisk e (Settled old new)
+EndsSettled old new (Ok _) = StaysCommitted old new
+EndsSettled old new (Err e) = UnlessDisk e (StaysCommitted old new)
 
 -- What a run leaves on the disk that it hands back, which was that of this store: lives of it, one more than there were
 -- lines `stop`. The store that was closed at the end of each has taken some events, those of the lines that were run in
@@ -49,7 +49,7 @@ pub record Leaves {D : Type 0} (medium : D → Medium) (limits : Limits) (h : Cl
   pub by_lines : EndsAfter medium limits h script before after store closed
   pub handed : IsHanded medium closed disk
   pub one : HasNoStop script → Lasts medium store closed × (disk ≡ closed.disk)
-  pub settled : EndsSettled store closed result
+  pub committed : EndsSettled store closed result
   pub state : OnOk result ((cuts : List Cut) × Appends before after (script_run limits h script cuts).text
       × (closed.machine.state ≡ (script_after limits h script cuts).state) × (disk ≡ closed.disk)
       × (IsYoung store → closed.stopped ≡ false))

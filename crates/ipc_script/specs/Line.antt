@@ -40,8 +40,8 @@ decimal_value [] = 0
 decimal_value (d ∷ ds) = (d - 48) * 10 ^ length ds + decimal_value ds
 
 -- the number that a word spells: digits 0 to 9 alone, at least one
-abbrev pub number_of : List ℕ → Option ℕ
-number_of word =
+abbrev pub decimal_number : List ℕ → Option ℕ
+decimal_number word =
     if nat_lt 0 (length word) && all_ascii_digits word then Some (decimal_value word) else None
 
 -- the number, if it is below a limit
@@ -51,11 +51,11 @@ limited limit (Some n) = if nat_lt n limit then Some n else None
 
 -- a moment: a number of 64 bits
 unfoldable pub moment_of : List ℕ → Option ℕ
-moment_of word = limited (2 ^ 64) (number_of word)
+moment_of word = limited (2 ^ 64) (decimal_number word)
 
 -- a connection: a number of 32 bits
 unfoldable pub conn_of : List ℕ → Option ℕ
-conn_of word = limited (2 ^ 32) (number_of word)
+conn_of word = limited (2 ^ 32) (decimal_number word)
 
 -- the bytes of hexadecimal digits: at least one byte, each of two digits of either case, the high
 -- one first

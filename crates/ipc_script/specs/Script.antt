@@ -150,9 +150,9 @@ pub record Outcome : Type 0 where
   pub fault : Option ScriptFault
 
 -- the next lines are run unless this one is refused
-abbrev pub goes_on : Result Progress ScriptFault → (Run → Outcome) → Outcome
-goes_on (Err e) next = record { text = []; fault = Some e }
-goes_on (Ok p) next =
+abbrev pub then_next : Result Progress ScriptFault → (Run → Outcome) → Outcome
+then_next (Err e) next = record { text = []; fault = Some e }
+then_next (Ok p) next =
     let more = next p.run in record { text = p.text ++ more.text; fault = more.fault }
 
 -- the first of the cuts; if there is none, all in one piece and nothing refused
@@ -164,7 +164,7 @@ first_cut (cut ∷ cuts) = cut
 abbrev pub run_lines : Limits → ℕ → Run → List (List ℕ) → List Cut → Outcome
 run_lines limits number r [] cuts = record { text = []; fault = None }
 run_lines limits number r (line ∷ lines) cuts =
-    goes_on (text_done limits number r (line_of line) (first_cut cuts))
+    then_next (text_done limits number r (line_of line) (first_cut cuts))
     (λ now. run_lines limits (number + 1) now lines (drop 1 cuts))
 
 -- a whole script; lines count from 1
@@ -234,7 +234,7 @@ MayStop medium script = HasNoStop script ⊎ IsHonest medium
 
 -- The store goes on, and has used so few of its numbers that no script comes to their end.
 pub record IsYoung {D : Type 0} (store : StoreView D) : Type 0 where
-  pub goes_on : store.stopped ≡ false
+  pub running : store.stopped ≡ false
   pub numbers : numbers_used store < 2 ^ 63
 
 -- A fault of the disk comes of a failure that the disk has counted, and what stands there is no

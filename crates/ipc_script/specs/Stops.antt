@@ -13,7 +13,7 @@ use Rattle.ipc_script.specs.Relations.Lasts.{Lasts}
 -- A store was closed while it went on and nothing waited, and the next one was opened on its honest disk. What a crash
 -- leaves at any moment of it is what a crash within an open leaves.
 pub record IsReopened {D : Type 0} (medium : D → Medium) (closed opened : StoreView D) : Type 0 where
-  pub goes_on : closed.stopped ≡ false
+  pub running : closed.stopped ≡ false
   pub empty : closed.waiting ≡ 0
   pub honest : IsHonest (medium closed.disk)
   pub crash : EachImageSince (medium closed.disk) (medium opened.disk) (OpensTo (medium closed.disk))
@@ -33,7 +33,7 @@ IsHanded medium closed disk =
 
 -- A history goes on: what was accepted is accepted still, and so are some events after it; what was acknowledged stays
 -- so. If the store goes on and nothing waits, its disk stands for the state after all of them.
-pub record GoesOnFrom {D : Type 0} (medium : D → Medium) (before : History) (new : StoreView D) : Type 0 where
+pub record ContinuesFrom {D : Type 0} (medium : D → Medium) (before : History) (new : StoreView D) : Type 0 where
   pub after : History
   pub keeps : Keeps (medium new.disk) new after
   pub more : List PlainEvent

@@ -8,7 +8,7 @@ ghost use Rattle.ipc_store.specs.Histories.{History, Keeps, Takes};
 ghost use Rattle.ipc_store.specs.View.{StoreView};
 ghost use Rattle.ipc_script.specs.ByLines.{HasRunLines, KeepsLines};
 ghost use Rattle.ipc_script.specs.Script.{IsYoung, Run};
-ghost use Rattle.ipc_script.specs.Stops.{GoesOnFrom, LivesOn};
+ghost use Rattle.ipc_script.specs.Stops.{ContinuesFrom, LivesOn};
 
 use ipc_disk::SectorDisk;
 use ipc_store::an_open_finds_what_stands_there;
@@ -19,7 +19,7 @@ use ipc_store::an_open_finds_what_stands_there;
 /// state after that history.
 pub fn a_stop_takes_nothing_back<D: SectorDisk>()
     ensures { (old new : StoreView D) (before : History) → Keeps (D.medium old.disk) old before
-        → LivesOn D.medium old new → GoesOnFrom D.medium before new }
+        → LivesOn D.medium old new → ContinuesFrom D.medium before new }
 {
     an_open_finds_what_stands_there::<D>();
 }

@@ -16,7 +16,7 @@ ghost use Rattle.ipc_script.specs.Line.PlainLine.{Data, Stop};
 ghost use Rattle.ipc_script.specs.Script.{Run, Runs, MayStop, WritesMore, IsYoung};
 ghost use Rattle.ipc_script.specs.Script.{DiskFailed};
 ghost use Rattle.ipc_script.specs.Script.{is_open, line_done, opened as opened_run};
-ghost use Rattle.ipc_script.specs.Relations.Lasts.{Lasts, Settled, Settles};
+ghost use Rattle.ipc_script.specs.Relations.Lasts.{Lasts, StaysCommitted, CommitsOrFails};
 ghost use Rattle.ipc_script.specs.Relations.Lines.{plain_line};
 ghost use Rattle.ipc_script.specs.Relations.Faults.{ByFault, IfRefused, of_serve_error};
 ghost use Rattle.ipc_script.specs.Relations.Matches.{RunMatches, RunMatchesBetween};
@@ -129,7 +129,7 @@ fn run_line<D: SectorDisk, W: Write>(
         hub.new opened.new.items (W.contents writer.old) (W.contents writer.new) result }
     ensures lasts { (limits : Limits) (r : Run) → RunMatchesBetween limits hub.old opened.old.items r →
         Lasts D.medium hub.old.store hub.new.store }
-    ensures settles { Settles hub.old.store hub.new.store result }
+    ensures commits { CommitsOrFails hub.old.store hub.new.store result }
     ensures honest { OnOk result (IsHonest (D.medium hub.old.store.disk)
         → IsHonest (D.medium hub.new.store.disk)) }
     ensures costs { Costs D.counts (line_cost (plain_line line.entry))
@@ -160,7 +160,7 @@ fn serve_line<D: SectorDisk, W: Write>(
         hub.new opened.new.items (W.contents writer.old) (W.contents writer.new) result }
     ensures lasts { (limits : Limits) (r : Run) → RunMatchesBetween limits hub.old opened.old.items r →
         Lasts D.medium hub.old.store hub.new.store }
-    ensures settles { Settles hub.old.store hub.new.store result }
+    ensures commits { CommitsOrFails hub.old.store hub.new.store result }
     ensures honest { IsHonest (D.medium hub.old.store.disk)
         → IsHonest (D.medium hub.new.store.disk) }
     ensures costs { Costs D.counts (line_cost (plain_line line.entry))
@@ -262,8 +262,8 @@ fn close<D: SectorDisk>(
         RunMatchesBetween limits hub.old opened.old.items r → is_open r conn ≡ false)) }
     ensures lasts { (limits : Limits) (r : Run) → RunMatchesBetween limits hub.old opened.old.items r →
         Lasts D.medium hub.old.store hub.new.store }
-    ensures settles { IfErr result (λ e.
-        ByFault e (Settled hub.old.store hub.new.store) ⊤ (Settled hub.old.store hub.new.store)) }
+    ensures commits { IfErr result (λ e.
+        ByFault e (StaysCommitted hub.old.store hub.new.store) ⊤ (StaysCommitted hub.old.store hub.new.store)) }
     ensures honest { IsHonest (D.medium hub.old.store.disk)
         → IsHonest (D.medium hub.new.store.disk) }
     ensures costs { Costs D.counts 3 hub.old.store hub.new.store result }
@@ -310,7 +310,7 @@ fn feed<D: SectorDisk, W: Write>(
         hub.new opened.new (W.contents writer.old) (W.contents writer.new) result }
     ensures lasts { (limits : Limits) (r : Run) → RunMatchesBetween limits hub.old opened.old r →
         Lasts D.medium hub.old.store hub.new.store }
-    ensures settles { Settles hub.old.store hub.new.store result }
+    ensures commits { CommitsOrFails hub.old.store hub.new.store result }
     ensures honest { IsHonest (D.medium hub.old.store.disk)
         → IsHonest (D.medium hub.new.store.disk) }
     ensures costs { Costs D.counts (4 * length bytes.now) hub.old.store hub.new.store result }
@@ -352,7 +352,7 @@ fn feed_some<D: SectorDisk, W: Write>(
         RunMatchesBetween limits hub.old opened.old r → is_open r sender.conn ≡ false)) }
     ensures lasts { (limits : Limits) (r : Run) → RunMatchesBetween limits hub.old opened.old r →
         Lasts D.medium hub.old.store hub.new.store }
-    ensures settles { Settles hub.old.store hub.new.store result }
+    ensures commits { CommitsOrFails hub.old.store hub.new.store result }
     ensures honest { IsHonest (D.medium hub.old.store.disk)
         → IsHonest (D.medium hub.new.store.disk) }
     ensures spends { HasNumbers (3 + length bytes.now) hub.old.store → IfOk result (λ taken.

@@ -130,7 +130,7 @@ impl<S> Client<S> {
 impl<S: Source> Client<S> {
     /// Has the system tell when its socket, which is full, has room again. Only then: else each read
     /// of the client would be told.
-    pub fn ask_for_room(&mut self, registry: &Registry, token: Token)
+    pub fn ask_for_space(&mut self, registry: &Registry, token: Token)
         ensures conn { self.new.conn ≡ self.old.conn }
         ensures piece { self.new.piece ≡ self.old.piece }
         ensures full { self.new.full ≡ self.old.full }

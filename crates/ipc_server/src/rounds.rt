@@ -28,7 +28,7 @@ pub(crate) fn serve_all<D: SectorDisk, S: Read + Write + Drop>(
     moment: Moment,
 ) -> Result<(), CommitError>
     ensures goes { OnOk result (Goes D.medium moment.0 hub.old hub.new) }
-    ensures settled { OnOk result (hub.new.store.waiting ≡ 0) }
+    ensures committed { OnOk result (hub.new.store.waiting ≡ 0) }
     ensures breaks { IfErr result (λ e. Breaks D.medium D.counts moment.0 hub.old hub.new e) }
     ensures serving { IsServing hub.old.hub clients.old → IsServing hub.new.hub clients.new }
     ensures read { IsServing hub.old.hub clients.old
@@ -76,7 +76,7 @@ fn answer_all<D: SectorDisk, S: Write>(
     clients: &mut Slab<Client<S>>,
 ) -> Result<(), CommitError>
     ensures answers { OnOk result (Answers D.medium hub.old hub.new) }
-    ensures settled { OnOk result (hub.new.store.waiting ≡ 0) }
+    ensures committed { OnOk result (hub.new.store.waiting ≡ 0) }
     ensures refused { IfErr result (λ e. Halts D.medium D.counts hub.old hub.new e) }
     ensures numbers { numbers_of hub.new.hub ≡ numbers_of hub.old.hub }
     ensures keeps { KeepsClients clients.old clients.new }
@@ -192,12 +192,12 @@ pub(crate) fn wake<S>(clients: &mut Slab<Client<S>>, key: usize)
 }
 
 /// Has the system tell when the sockets that are full have room again.
-pub(crate) fn ask_for_room<S: Source>(clients: &mut Slab<Client<S>>, registry: &Registry)
+pub(crate) fn ask_for_space<S: Source>(clients: &mut Slab<Client<S>>, registry: &Registry)
     ensures { KeepsClients clients.old clients.new }
 {
     for key in 0..clients.capacity() {
         if let Some(client) = clients.get_mut(key) {
-            client.ask_for_room(registry, Token(key));
+            client.ask_for_space(registry, Token(key));
         }
     }
 }

@@ -14,7 +14,7 @@ ghost use Rattle.ipc_server.specs.View.{client_of, has_failed};
 use crate::client::Client;
 use crate::fault::{ServeFault, ServerError};
 use crate::rest::longest_wait;
-use crate::rounds::{any_has_work, ask_for_room, put_out_all, serve_all, wake};
+use crate::rounds::{any_has_work, ask_for_space, put_out_all, serve_all, wake};
 use ipc_base::Moment;
 use ipc_disk::SectorDisk;
 use ipc_hub::Hub;
@@ -165,7 +165,7 @@ impl<D: SectorDisk> Server<D> {
     pub fn turn(&mut self, moment: Moment) -> Result<(), ServeFault>
         ensures ok { OnOk result (GoesRound D.medium moment.0 self.old.hub self.new.hub) }
         // All of it lasts.
-        ensures settled { OnOk result (self.new.hub.store.waiting ≡ 0) }
+        ensures committed { OnOk result (self.new.hub.store.waiting ≡ 0) }
         // Each client has its connection, and no other connection is there.
         ensures connected { HaveConnections self.new.hub.hub self.new.clients }
         // Of each client nothing may be read, or a piece of it is kept, or its reads are used.
@@ -200,7 +200,7 @@ impl<D: SectorDisk> Server<D> {
     // What a turn does after the wait.
     fn go_round(&mut self, moment: Moment) -> Result<(), CommitError>
         ensures goes { OnOk result (GoesRound D.medium moment.0 self.old.hub self.new.hub) }
-        ensures settled { OnOk result (self.new.hub.store.waiting ≡ 0) }
+        ensures committed { OnOk result (self.new.hub.store.waiting ≡ 0) }
         ensures connected { HaveConnections self.new.hub.hub self.new.clients }
         ensures read { OnOk result (EachClient WasRead self.new.clients) }
         ensures written { OnOk result (EachClient (WasWritten self.new.hub.hub) self.new.clients) }
@@ -231,7 +231,7 @@ impl<D: SectorDisk> Server<D> {
             self.rested = false;
             return self.listen(0);
         }
-        self.ask_for_room();
+        self.ask_for_space();
         let longest = if self.is_busy() { 0 } else { LONGEST_WAIT };
         self.listen(longest)
     }
@@ -241,7 +241,7 @@ impl<D: SectorDisk> Server<D> {
     pub(crate) fn begin_rest(&mut self)
         ensures { self.new.hub ≡ self.old.hub }
     {
-        self.ask_for_room();
+        self.ask_for_space();
         self.rested = true;
     }
 
@@ -272,12 +272,12 @@ impl<D: SectorDisk> Server<D> {
     }
 
     // Has the system tell when the sockets that are full have room again.
-    fn ask_for_room(&mut self)
+    fn ask_for_space(&mut self)
         ensures same { self.new.hub ≡ self.old.hub }
         ensures failed { KeepsFailed self.old.clients self.new.clients }
         ensures connected { HaveConnections self.new.hub.hub self.new.clients }
     {
-        ask_for_room(&mut self.clients, self.poll.registry());
+        ask_for_space(&mut self.clients, self.poll.registry());
     }
 
     // Waits for the sockets, so many milliseconds at most, and notes what they tell.

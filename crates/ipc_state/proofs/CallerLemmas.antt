@@ -23,7 +23,7 @@ use Rattle.ipc_base.specs.declared.identity.Cred.{Cred}
 use Rattle.ipc_base.specs.declared.identity.Moment.{Moment}
 use Rattle.ipc_base.specs.declared.identity.Pid.{Pid}
 use Rattle.ipc_base.specs.declared.limits.Limits.{Limits}
-use Rattle.ipc_wait.specs.Waits.{is_of, is_due, call_of, without}
+use Rattle.ipc_wait.specs.Waits.{is_of, is_due, waiting_call_of, without}
 use Rattle.ipc_wait.proofs.CallerLemmas.{without-distinct, left-distinct, due-or-left, HaveDistinctPids-enter}
 use Rattle.posix_mq.specs.Queue.{Queue as Mq, PlainMessage as MqMessage, empty_queue, is_full as is_full_mq, next_to_receive, received, with_message}
 use Rattle.std.specs.List.{remove}
@@ -34,7 +34,7 @@ use Rattle.ipc_keys.specs.declared.check.NameKind.TheVariants as names
 use Rattle.sysv_msg.specs.Queue.{Queue, new_queue}
 use Rattle.sysv_sem.specs.Set.{Set, new_set, after_exit}
 use Rattle.ipc_wire.specs.Posix as posix
-use Rattle.ipc_wire.specs.Request.{PlainKind, PlainRequest, Interrupt, Calls, Posix}
+use Rattle.ipc_wire.specs.Request.{PlainKind, PlainRequest, Interrupt, Sysv, Posix}
 use Rattle.ipc_wire.specs.Request as requests
 use Rattle.ipc_state.specs.declared.keyed.Entry.{Entry}
 use Rattle.ipc_perm.specs.declared.perm.Perm.{Perm}
@@ -48,16 +48,16 @@ use Rattle.ipc_state.specs.Named.{Named, HaveNames, named, with_object}
 use Rattle.ipc_state.specs.Opening.{NamedObjects, descriptors_of, descriptor_at, has_access, is_by_descriptor, is_registered, is_sound_descriptor, stays}
 use Rattle.ipc_state.specs.Keyed.{Keyed, holding, permitting, keyed, AreKeyed, AreNamed}
 use Rattle.ipc_state.specs.State.{State, start, at_moment, has_all_processes, is_process, with_process, exit, restart}
-use Rattle.ipc_state.specs.State.{is_waiting, with_waiting, without_due, without_waiting, queue_of, with_queue, with_new_queue}
-use Rattle.ipc_state.specs.State.{set_of, with_set, with_new_set, adjusted, undone, undo_of, without_adjustments, with_undo}
+use Rattle.ipc_state.specs.State.{is_waiting, with_waiting, without_due, without_waiting, msg_queue_of, with_msg_queue, with_new_msg_queue}
+use Rattle.ipc_state.specs.State.{semset_of, with_semset, with_new_semset, adjusted, undone, undo_of, without_adjustments, with_undo}
 use Rattle.ipc_state.specs.State.{has_all_descriptors, has_all_mqs, with_descriptor, with_descriptor_flags, closed, with_mq, with_new_mq, unlinked}
-use Rattle.ipc_state.specs.State.{has_all_named_sems, has_all_segments, named_in, unlinked_segment, unlinked_sem, with_named_sem, with_new_named_sem}
-use Rattle.ipc_state.specs.State.{with_new_segment, with_segment}
+use Rattle.ipc_state.specs.State.{has_all_psems, has_all_pshms, named_in, unlinked_pshm, unlinked_psem, with_psem, with_new_psem}
+use Rattle.ipc_state.specs.State.{with_new_pshm, with_pshm}
 use Rattle.shm_segment.specs.Segment.{Segment}
 use Rattle.ipc_state.specs.Sound.{segment_bytes}
 use Rattle.ipc_state.specs.Sound.{IsSoundMq, IsSoundMqMessage}
 use Rattle.posix_sem.specs.Semaphore.{sem_value_max}
-use Rattle.ipc_state.specs.Sound.{HasSoundParts, IsSoundQueue, IsSoundSet, AreSoundSets, AreAt, AreAdjustments, semaphore_count}
+use Rattle.ipc_state.specs.Sound.{HasSoundParts, IsSoundMsgQueue, IsSoundSemset, AreSoundSemsets, AreAt, AreAdjustments, semaphore_count}
 use Rattle.ipc_state.specs.Waiting.{PlainWaiting, AreSoundWaits, IsSoundWaiting, deadline_after, deadline_of, has_deadline}
 use Rattle.ipc_state.specs.declared.parked.Awaited.TheVariants as awaited
 use Rattle.ipc_state.proofs.Numbering.{none_yet-numbered}
@@ -75,8 +75,8 @@ pub use Rattle.ipc_state.proofs.EntryKeys.{All-seen}
 pub use Rattle.ipc_state.proofs.Ending.{HasSameProcesses, IsGood, Ends, same-processes, same-but-table, same-connected, answered}
 pub use Rattle.ipc_state.proofs.Ending.{as_before, by-finish, ended-good, read, refused-good}
 pub use Rattle.ipc_state.proofs.Elsewhere.{before-then, elsewhere-closed, elsewhere-mq, elsewhere-new_mq, elsewhere-table, elsewhere-unlinked}
-pub use Rattle.ipc_state.proofs.Elsewhere.{elsewhere-named_sem, elsewhere-new_named_sem, elsewhere-new_segment, elsewhere-segment}
-pub use Rattle.ipc_state.proofs.Elsewhere.{elsewhere-unlinked_segment, elsewhere-unlinked_sem}
+pub use Rattle.ipc_state.proofs.Elsewhere.{elsewhere-psem, elsewhere-new_psem, elsewhere-new_segment, elsewhere-segment}
+pub use Rattle.ipc_state.proofs.Elsewhere.{elsewhere-unlinked_pshm, elsewhere-unlinked_psem}
 pub use Rattle.ipc_state.proofs.Numbering.{neither}
 pub use Rattle.ipc_state.proofs.Steps.{Passed, Runs, Shows, blocked-seen, blocked-then, is_blocked, ok-same, orstop-passed, passed, shows, stays-stopped}
 pub use Rattle.ipc_state.proofs.Steps.{if_some-runs, orelse-runs, refuse-runs, stop-passed, test-runs, then-runs, waits-blocked}
@@ -94,46 +94,46 @@ owned_by-mode perm uid gid mode = omega (arith, and_le_r mode 511)
 
 module _ (limits : Limits) where
   -- a state with another part that is sound is sound
-  pub set-undo : (s : State) (undo : List (ℕ × Undo)) → HasSoundParts limits s → AreAdjustments (keys_of s.processes.entries) s.sem undo
+  pub set-undo : (s : State) (undo : List (ℕ × Undo)) → HasSoundParts limits s → AreAdjustments (keys_of s.processes.entries) s.semset undo
       → HasSoundParts limits (record s { undo = undo })
-  set-undo s undo h good = record { processes = h.processes; wait = h.wait; undo = good; msg = h.msg; sem = h.sem; mq = h.mq; named_sem = h.named_sem; shm = h.shm }
+  set-undo s undo h good = record { processes = h.processes; wait = h.wait; undo = good; msg = h.msg; semset = h.semset; mq = h.mq; psem = h.psem; pshm = h.pshm }
 
   -- other adjustments of a process, at semaphores that are there
-  pub with_undo-sound : (s : State) (pid : ℕ) (undo : Undo) → HasSoundParts limits s → AreAt s.sem undo → HasSoundParts limits (with_undo s pid undo)
+  pub with_undo-sound : (s : State) (pid : ℕ) (undo : Undo) → HasSoundParts limits s → AreAt s.semset undo → HasSoundParts limits (with_undo s pid undo)
   with_undo-sound s pid undo h good =
       set-undo s _ h (record {
         pids = keys_of-with_value nat_eq s.undo pid undo ∙ h.undo.pids;
-        each = each-with (AreAt s.sem) s.undo pid undo h.undo.each good;
+        each = each-with (AreAt s.semset) s.undo pid undo h.undo.each good;
       })
 
   -- those that a process has are at such
-  pub undo_of-at : (s : State) (pid : ℕ) → HasSoundParts limits s → AreAt s.sem (undo_of s pid)
+  pub undo_of-at : (s : State) (pid : ℕ) → HasSoundParts limits s → AreAt s.semset (undo_of s pid)
   undo_of-at s pid h = by_value (value_at nat_eq s.undo pid) refl
     where
-      by_value : (r : Option Undo) → value_at nat_eq s.undo pid ≡ r → AreAt s.sem (unwrap_or r fin.empty)
-      by_value None is = none-at s.sem
-      by_value (Some u) is = each-at (AreAt s.sem) s.undo pid u h.undo.each is
+      by_value : (r : Option Undo) → value_at nat_eq s.undo pid ≡ r → AreAt s.semset (unwrap_or r fin.empty)
+      by_value None is = none-at s.semset
+      by_value (Some u) is = each-at (AreAt s.semset) s.undo pid u h.undo.each is
 
   pub set-wait : (s : State) (calls : List PlainWaiting) → HasSoundParts limits s → AreSoundWaits limits calls
       → HasSoundParts limits (record s { wait = calls })
-  set-wait s calls h good = record { processes = h.processes; wait = good; undo = h.undo; msg = h.msg; sem = h.sem; mq = h.mq; named_sem = h.named_sem; shm = h.shm }
+  set-wait s calls h good = record { processes = h.processes; wait = good; undo = h.undo; msg = h.msg; semset = h.semset; mq = h.mq; psem = h.psem; pshm = h.pshm }
 
-  pub set-msg : (s : State) (msg : Keyed Queue) → HasSoundParts limits s → AreKeyed limits.msgmni (IsSoundQueue limits) msg
+  pub set-msg : (s : State) (msg : Keyed Queue) → HasSoundParts limits s → AreKeyed limits.msgmni (IsSoundMsgQueue limits) msg
       → HasSoundParts limits (record s { msg = msg })
-  set-msg s msg h good = record { processes = h.processes; wait = h.wait; undo = h.undo; msg = good; sem = h.sem; mq = h.mq; named_sem = h.named_sem; shm = h.shm }
+  set-msg s msg h good = record { processes = h.processes; wait = h.wait; undo = h.undo; msg = good; semset = h.semset; mq = h.mq; psem = h.psem; pshm = h.pshm }
 
-  pub set-sem : (s : State) (sem : Keyed Set) → HasSoundParts limits s → HasAll s.sem sem → AreSoundSets limits sem
-      → HasSoundParts limits (record s { sem = sem })
+  pub set-sem : (s : State) (sem : Keyed Set) → HasSoundParts limits s → HasAll s.semset sem → AreSoundSemsets limits sem
+      → HasSoundParts limits (record s { semset = sem })
   set-sem s sem h all good =
       record {
         processes = h.processes;
         wait = h.wait;
-        undo = moved (keys_of s.processes.entries) s.sem sem s.undo all h.undo;
+        undo = moved (keys_of s.processes.entries) s.semset sem s.undo all h.undo;
         msg = h.msg;
-        sem = good;
+        semset = good;
         mq = h.mq;
-        named_sem = h.named_sem;
-        shm = h.shm;
+        psem = h.psem;
+        pshm = h.pshm;
       }
 
   none-waits : AreSoundWaits limits []
@@ -155,7 +155,7 @@ module _ (limits : Limits) where
   pub with_waiting-sound : (s : State) (w : PlainWaiting) → HasSoundParts limits s → IsSoundWaiting w → is_waiting s w.pid.0 ≡ false
       → All (λ (v : PlainWaiting). is_process s v.pid.0 ≡ true) s.wait → is_process s w.pid.0 ≡ true → HasSoundParts limits (with_waiting s w)
   with_waiting-sound s w h good free connected process =
-      let distinct = HaveDistinctPids-enter s.wait w h.wait.pids (nobody (call_of w.pid s.wait) free) in
+      let distinct = HaveDistinctPids-enter s.wait w h.wait.pids (nobody (waiting_call_of w.pid s.wait) free) in
       let all = All-push (λ (v : PlainWaiting). is_process s v.pid.0 ≡ true) s.wait w connected process in
       set-wait s _ h (record {
         pids = distinct;
@@ -168,14 +168,14 @@ module _ (limits : Limits) where
       → All (λ (v : PlainWaiting). is_process s v.pid.0 ≡ true) s.wait → is_process s pid ≡ true → length s.wait < limits.processes
   room-waiting s pid h free connected process =
       let call : PlainRequest = record { serial = 0; kind = Interrupt } in
-      let w : PlainWaiting = record { pid = record { 0 = pid }; on = awaited.Queue (record { 0 = 0 }); deadline = None; call = call } in
-      let distinct = HaveDistinctPids-enter s.wait w h.wait.pids (nobody (call_of w.pid s.wait) free) in
+      let w : PlainWaiting = record { pid = record { 0 = pid }; on = awaited.MsgQueue (record { 0 = 0 }); deadline = None; call = call } in
+      let distinct = HaveDistinctPids-enter s.wait w h.wait.pids (nobody (waiting_call_of w.pid s.wait) free) in
       let all = All-push (λ (v : PlainWaiting). is_process s v.pid.0 ≡ true) s.wait w connected process in
       omega (arith, few-waiting s.processes.entries (s.wait ++ w ∷ []) distinct all, h.processes.numbered.count, length-append s.wait (w ∷ []))
 
   -- the objects with a name, and the descriptors
   all-held : (s : State) → HasSoundParts limits s → mqs.AreAllHeld limits s.processes (named_in s)
-  all-held s h = record { processes = h.processes; mq = h.mq; named_sem = h.named_sem; shm = h.shm }
+  all-held s h = record { processes = h.processes; mq = h.mq; psem = h.psem; pshm = h.pshm }
 
   pub start-sound : HasSoundParts limits start
   start-sound =
@@ -183,15 +183,15 @@ module _ (limits : Limits) where
         processes = record { numbered = none_yet-numbered limits.processes; descriptors = All-nil _ };
         wait = none-waits;
         undo = record { pids = refl; each = tt };
-        msg = keying.none_yet-keyed limits.msgmni (IsSoundQueue limits);
-        sem = record { keyed = keying.none_yet-keyed limits.semmni (IsSoundSet limits); count = omega arith };
-        mq = record { held = mqs.none-held names.Queue limits.queues (IsSoundMq limits) []; registered = All-nil _ };
-        named_sem = mqs.none-held names.Semaphore limits.named_semaphores (λ value. value ≤ sem_value_max) [];
-        shm = record { held = mqs.none-held names.Segment limits.segments (λ x. ⊤) []; bytes = omega arith };
+        msg = keying.none_yet-keyed limits.msgmni (IsSoundMsgQueue limits);
+        semset = record { keyed = keying.none_yet-keyed limits.semmni (IsSoundSemset limits); count = omega arith };
+        mq = record { held = mqs.none-held names.Mq limits.queues (IsSoundMq limits) []; registered = All-nil _ };
+        psem = mqs.none-held names.Psem limits.named_semaphores (λ value. value ≤ sem_value_max) [];
+        pshm = record { held = mqs.none-held names.Pshm limits.segments (λ x. ⊤) []; bytes = omega arith };
       }
 
-  pub begin-sound : (s : State) (moment : ℕ) → HasSoundParts limits s → HasSoundParts limits (at_moment s moment)
-  begin-sound s moment h = record { processes = h.processes; wait = h.wait; undo = h.undo; msg = h.msg; sem = h.sem; mq = h.mq; named_sem = h.named_sem; shm = h.shm }
+  pub set_moment-sound : (s : State) (moment : ℕ) → HasSoundParts limits s → HasSoundParts limits (at_moment s moment)
+  set_moment-sound s moment h = record { processes = h.processes; wait = h.wait; undo = h.undo; msg = h.msg; semset = h.semset; mq = h.mq; psem = h.psem; pshm = h.pshm }
 
   pub without_due-sound : (s : State) → HasSoundParts limits s → HasSoundParts limits (without_due s)
   without_due-sound s h =
@@ -203,38 +203,38 @@ module _ (limits : Limits) where
       })
 
   -- one adjustment keeps the sets sound
-  adjusted-sound : (pid : ℕ) (o : Keyed Set) (a : Key × ℤ) → AreSoundSets limits o → AreSoundSets limits (adjusted pid o a)
+  adjusted-sound : (pid : ℕ) (o : Keyed Set) (a : Key × ℤ) → AreSoundSemsets limits o → AreSoundSemsets limits (adjusted pid o a)
   adjusted-sound pid o a h =
-      adjusted-by (AreSoundSets limits) pid o a
+      adjusted-by (AreSoundSemsets limits) pid o a
       (λ e is. let x : Set = after_exit e.object a.0.1 a.1 (record { 0 = pid }) in
       let good = sets.after_exit-sound limits e.object a.0.1 a.1 (record { 0 = pid }) (keying.entry-sound limits.semmni
-      (IsSoundSet limits) o a.0.0 e is h.keyed) in
-      let mode = keying.entry-mode limits.semmni (IsSoundSet limits) o a.0.0 e is h.keyed in
+      (IsSoundSemset limits) o a.0.0 e is h.keyed) in
+      let mode = keying.entry-mode limits.semmni (IsSoundSemset limits) o a.0.0 e is h.keyed in
       record {
-        keyed = keying.with_entry-keyed limits.semmni (IsSoundSet limits) o a.0.0 e (holding e x) is refl mode good h.keyed;
+        keyed = keying.with_entry-keyed limits.semmni (IsSoundSemset limits) o a.0.0 e (holding e x) is refl mode good h.keyed;
         count = omega (arith, sets.count-with o a.0.0 e (holding e x) is (exit-length e.object a.0.1 a.1 (record { 0 = pid })), h.count);
       }) h
 
-  pub undone-sound : (o : Keyed Set) (p : ℕ × Undo) → AreSoundSets limits o → AreSoundSets limits (undone o p)
-  undone-sound o p h = undone-keeps (AreSoundSets limits) adjusted-sound o p h
+  pub undone-sound : (o : Keyed Set) (p : ℕ × Undo) → AreSoundSemsets limits o → AreSoundSemsets limits (undone o p)
+  undone-sound o p h = undone-keeps (AreSoundSemsets limits) adjusted-sound o p h
 
   pub exit-sound : (s : State) (pid : ℕ) → HasSoundParts limits s → HasSoundParts limits (exit s pid)
   exit-sound s pid h =
       let p : ℕ × Undo = (pid, undo_of s pid) in
-      let all : HasAll s.sem (undone s.sem p) = undone-keeps (HasAll s.sem) (has-adjusted s.sem) s.sem p (λ k is. is) in
+      let all : HasAll s.semset (undone s.semset p) = undone-keeps (HasAll s.semset) (has-adjusted s.semset) s.semset p (λ k is. is) in
       let left = mqs.exit-held limits s.processes pid (named_in s) (all-held s h) in
       record {
         processes = left.processes;
         wait = without-waits (record { 0 = pid }) s.wait h.wait;
         undo = record {
           pids = without-same s.undo s.processes.entries pid h.undo.pids;
-          each = each-moved s.sem (undone s.sem p) all _ (each-without (AreAt s.sem) s.undo pid h.undo.each);
+          each = each-moved s.semset (undone s.semset p) all _ (each-without (AreAt s.semset) s.undo pid h.undo.each);
         };
         msg = h.msg;
-        sem = undone-sound s.sem p h.sem;
+        semset = undone-sound s.semset p h.semset;
         mq = left.mq;
-        named_sem = left.named_sem;
-        shm = left.shm;
+        psem = left.psem;
+        pshm = left.pshm;
       }
 
   pub restart-sound : (s : State) → HasSoundParts limits s → HasSoundParts limits (restart s)
@@ -245,10 +245,10 @@ module _ (limits : Limits) where
         wait = none-waits;
         undo = record { pids = refl; each = tt };
         msg = h.msg;
-        sem = all-undone-keeps (AreSoundSets limits) adjusted-sound s.sem s.undo h.sem;
+        semset = all-undone-keeps (AreSoundSemsets limits) adjusted-sound s.semset s.undo h.semset;
         mq = left.mq;
-        named_sem = left.named_sem;
-        shm = left.shm;
+        psem = left.psem;
+        pshm = left.pshm;
       }
 
   pub with_process-sound : (s : State) (cred : Cred) → has_all_processes limits s ≡ false → HasSoundParts limits s → HasSoundParts limits (with_process s cred)
@@ -259,122 +259,122 @@ module _ (limits : Limits) where
         wait = h.wait;
         undo = record {
           pids = push-same s.undo s.processes.entries s.processes.next fin.empty (record { cred = cred; descriptors = [] }) h.undo.pids;
-          each = each-pushed (AreAt s.sem) s.undo s.processes.next fin.empty h.undo.each (none-at s.sem);
+          each = each-pushed (AreAt s.semset) s.undo s.processes.next fin.empty h.undo.each (none-at s.semset);
         };
         msg = h.msg;
-        sem = h.sem;
+        semset = h.semset;
         mq = come.mq;
-        named_sem = come.named_sem;
-        shm = come.shm;
+        psem = come.psem;
+        pshm = come.pshm;
       }
 
   -- the identifiers of the sets stay, and the next one
-  pub restart-sets : (s : State) → (keys_of (restart s).sem.entries ≡ keys_of s.sem.entries) × ((restart s).sem.next ≡ s.sem.next)
+  pub restart-sets : (s : State) → (keys_of (restart s).semset.entries ≡ keys_of s.semset.entries) × ((restart s).semset.next ≡ s.semset.next)
   restart-sets s =
-      all-undone-keeps (λ (o : Keyed Set). (keys_of o.entries ≡ keys_of s.sem.entries) × (o.next ≡ s.sem.next))
-      (λ pid o a h. adjusted-by (λ (t : Keyed Set). (keys_of t.entries ≡ keys_of s.sem.entries) × (t.next ≡ s.sem.next)) pid o a
+      all-undone-keeps (λ (o : Keyed Set). (keys_of o.entries ≡ keys_of s.semset.entries) × (o.next ≡ s.semset.next))
+      (λ pid o a h. adjusted-by (λ (t : Keyed Set). (keys_of t.entries ≡ keys_of s.semset.entries) × (t.next ≡ s.semset.next)) pid o a
       (λ e is. (keys_of-with_value nat_eq o.entries a.0.0 (holding e (after_exit e.object a.0.1 a.1 (record { 0 = pid }))) ∙ h.0, h.1)) h)
-      s.sem s.undo (refl, refl)
+      s.semset s.undo (refl, refl)
 
   -- no process has more adjustments than there may be semaphores
   pub few-adjustments : (s : State) → HasSoundParts limits s → EachValue (λ (u : Undo). fin.len u ≤ limits.semmns) s.undo
-  few-adjustments s h = each-fewer limits.semmns (semaphore_count s.sem) h.sem.count s.undo (few-each s.sem s.undo h.undo.each)
+  few-adjustments s h = each-fewer limits.semmns (semaphore_count s.semset) h.semset.count s.undo (few-each s.semset s.undo h.undo.each)
 
   -- no process has an adjustment any more at a semaphore, or at a set
   pub without_adjustments-sound : (s : State) (set : ℕ) (num : Option ℕ) → HasSoundParts limits s → HasSoundParts limits (without_adjustments set num s)
   without_adjustments-sound s set num h =
       set-undo s _ h (record {
         pids = seen-keys (cleared set num) s.undo ∙ h.undo.pids;
-        each = each-cleared s.sem set num s.undo h.undo.each;
+        each = each-cleared s.semset set num s.undo h.undo.each;
       })
 
-  pub with_new_queue-sound : (s : State) (key : ℤ) (perm : Perm) → keyed s.msg key ≡ None → is_full limits.msgmni s.msg ≡ false
-      → perm.mode < 512 → HasSoundParts limits s → HasSoundParts limits (with_new_queue limits s key perm)
-  with_new_queue-sound s key perm unused room mode h =
+  pub with_new_msg_queue-sound : (s : State) (key : ℤ) (perm : Perm) → keyed s.msg key ≡ None → is_full limits.msgmni s.msg ≡ false
+      → perm.mode < 512 → HasSoundParts limits s → HasSoundParts limits (with_new_msg_queue limits s key perm)
+  with_new_msg_queue-sound s key perm unused room mode h =
       let e : Entry Queue = record { key = key; perm = perm; object = new_queue limits.msgmnb s.clock } in
       set-msg s _ h
-      (keying.with_new-keyed limits.msgmni (IsSoundQueue limits) s.msg e unused room mode (queues.new_queue-sound limits s.clock) h.msg)
+      (keying.with_new-keyed limits.msgmni (IsSoundMsgQueue limits) s.msg e unused room mode (queues.new_queue-sound limits s.clock) h.msg)
 
   -- another queue in the place of one that is there, under the same key
-  pub with_queue-sound : (s : State) (id : ℕ) (e : Entry Queue) (q : Queue) → queue_of s id ≡ Some e → IsSoundQueue limits q
-      → HasSoundParts limits s → HasSoundParts limits (with_queue s id (holding e q))
-  with_queue-sound s id e q is good h =
-      let mode = keying.entry-mode limits.msgmni (IsSoundQueue limits) s.msg id e is h.msg in
-      set-msg s _ h (keying.with_entry-keyed limits.msgmni (IsSoundQueue limits) s.msg id e (holding e q) is refl mode good h.msg)
+  pub with_msg_queue-sound : (s : State) (id : ℕ) (e : Entry Queue) (q : Queue) → msg_queue_of s id ≡ Some e → IsSoundMsgQueue limits q
+      → HasSoundParts limits s → HasSoundParts limits (with_msg_queue s id (holding e q))
+  with_msg_queue-sound s id e q is good h =
+      let mode = keying.entry-mode limits.msgmni (IsSoundMsgQueue limits) s.msg id e is h.msg in
+      set-msg s _ h (keying.with_entry-keyed limits.msgmni (IsSoundMsgQueue limits) s.msg id e (holding e q) is refl mode good h.msg)
 
   -- another queue, used by others, under the same key
-  pub permitted-sound : (s : State) (id : ℕ) (e : Entry Queue) (perm : Perm) (q : Queue) → queue_of s id ≡ Some e → perm.mode < 512 → IsSoundQueue limits q
-      → HasSoundParts limits s → HasSoundParts limits (with_queue s id (holding (permitting e perm) q))
+  pub permitted-sound : (s : State) (id : ℕ) (e : Entry Queue) (perm : Perm) (q : Queue) → msg_queue_of s id ≡ Some e → perm.mode < 512 → IsSoundMsgQueue limits q
+      → HasSoundParts limits s → HasSoundParts limits (with_msg_queue s id (holding (permitting e perm) q))
   permitted-sound s id e perm q is mode good h =
-      set-msg s _ h (keying.with_entry-keyed limits.msgmni (IsSoundQueue limits) s.msg id e (holding (permitting e perm) q) is refl mode good h.msg)
+      set-msg s _ h (keying.with_entry-keyed limits.msgmni (IsSoundMsgQueue limits) s.msg id e (holding (permitting e perm) q) is refl mode good h.msg)
 
-  pub without_queue-sound : (s : State) (id : ℕ) → HasSoundParts limits s → HasSoundParts limits (record s { msg = without_entry s.msg id })
-  without_queue-sound s id h = set-msg s _ h (keying.without_entry-keyed limits.msgmni (IsSoundQueue limits) s.msg id h.msg)
+  pub without_msg_queue-sound : (s : State) (id : ℕ) → HasSoundParts limits s → HasSoundParts limits (record s { msg = without_entry s.msg id })
+  without_msg_queue-sound s id h = set-msg s _ h (keying.without_entry-keyed limits.msgmni (IsSoundMsgQueue limits) s.msg id h.msg)
 
-  pub queue-sound : (s : State) (id : ℕ) (e : Entry Queue) → queue_of s id ≡ Some e → HasSoundParts limits s → IsSoundQueue limits e.object
-  queue-sound s id e is h = keying.entry-sound limits.msgmni (IsSoundQueue limits) s.msg id e is h.msg
+  pub queue-sound : (s : State) (id : ℕ) (e : Entry Queue) → msg_queue_of s id ≡ Some e → HasSoundParts limits s → IsSoundMsgQueue limits e.object
+  queue-sound s id e is h = keying.entry-sound limits.msgmni (IsSoundMsgQueue limits) s.msg id e is h.msg
 
-  pub with_new_set-sound : (s : State) (key : ℤ) (perm : Perm) (nsems : ℕ) → keyed s.sem key ≡ None → is_full limits.semmni s.sem ≡ false
-      → perm.mode < 512 → 0 < nsems → nsems ≤ limits.semmsl → semaphore_count s.sem + nsems ≤ limits.semmns
-      → HasSoundParts limits s → HasSoundParts limits (with_new_set s key perm nsems)
-  with_new_set-sound s key perm nsems unused room mode some few all h =
+  pub with_new_semset-sound : (s : State) (key : ℤ) (perm : Perm) (nsems : ℕ) → keyed s.semset key ≡ None → is_full limits.semmni s.semset ≡ false
+      → perm.mode < 512 → 0 < nsems → nsems ≤ limits.semmsl → semaphore_count s.semset + nsems ≤ limits.semmns
+      → HasSoundParts limits s → HasSoundParts limits (with_new_semset s key perm nsems)
+  with_new_semset-sound s key perm nsems unused room mode some few all h =
       let e : Entry Set = record { key = key; perm = perm; object = new_set nsems s.clock } in
       let len = length-replicate nsems (let x : Semaphore = record { value = 0; pid = record { 0 = 0 } } in x) in
-      set-sem s _ h (has-new s.sem e) (record {
-        keyed = keying.with_new-keyed limits.semmni (IsSoundSet limits) s.sem e unused room mode (sets.new_set-sound limits nsems s.clock some few) h.sem.keyed;
-        count = omega (arith, sets.count-new s.sem e, len, all);
+      set-sem s _ h (has-new s.semset e) (record {
+        keyed = keying.with_new-keyed limits.semmni (IsSoundSemset limits) s.semset e unused room mode (sets.new_set-sound limits nsems s.clock some few) h.semset.keyed;
+        count = omega (arith, sets.count-new s.semset e, len, all);
       })
 
   -- another set of as many semaphores in the place of one that is there, used by others
-  pub permitted_set-sound : (s : State) (id : ℕ) (e : Entry Set) (perm : Perm) (x : Set) → set_of s id ≡ Some e → perm.mode < 512 → IsSoundSet limits x
-      → length x.semaphores ≡ length e.object.semaphores → HasSoundParts limits s → HasSoundParts limits (with_set s id (holding (permitting e perm) x))
+  pub permitted_set-sound : (s : State) (id : ℕ) (e : Entry Set) (perm : Perm) (x : Set) → semset_of s id ≡ Some e → perm.mode < 512 → IsSoundSemset limits x
+      → length x.semaphores ≡ length e.object.semaphores → HasSoundParts limits s → HasSoundParts limits (with_semset s id (holding (permitting e perm) x))
   permitted_set-sound s id e perm x is mode good same h =
       let f : Entry Set = holding (permitting e perm) x in
-      set-sem s _ h (λ k was. has-with s.sem id e f is same k ∙ was) (record {
-        keyed = keying.with_entry-keyed limits.semmni (IsSoundSet limits) s.sem id e f is refl mode good h.sem.keyed;
-        count = omega (arith, sets.count-with s.sem id e f is same, h.sem.count);
+      set-sem s _ h (λ k was. has-with s.semset id e f is same k ∙ was) (record {
+        keyed = keying.with_entry-keyed limits.semmni (IsSoundSemset limits) s.semset id e f is refl mode good h.semset.keyed;
+        count = omega (arith, sets.count-with s.semset id e f is same, h.semset.count);
       })
 
-  pub with_set-sound : (s : State) (id : ℕ) (e : Entry Set) (x : Set) → set_of s id ≡ Some e → IsSoundSet limits x
-      → length x.semaphores ≡ length e.object.semaphores → HasSoundParts limits s → HasSoundParts limits (with_set s id (holding e x))
-  with_set-sound s id e x is good same h =
-      permitted_set-sound s id e e.perm x is (keying.entry-mode limits.semmni (IsSoundSet limits) s.sem id e is h.sem.keyed) good same h
+  pub with_semset-sound : (s : State) (id : ℕ) (e : Entry Set) (x : Set) → semset_of s id ≡ Some e → IsSoundSemset limits x
+      → length x.semaphores ≡ length e.object.semaphores → HasSoundParts limits s → HasSoundParts limits (with_semset s id (holding e x))
+  with_semset-sound s id e x is good same h =
+      permitted_set-sound s id e e.perm x is (keying.entry-mode limits.semmni (IsSoundSemset limits) s.semset id e is h.semset.keyed) good same h
 
   -- a set goes, and the adjustments at it
-  pub without_set-sound : (s : State) (id : ℕ) → HasSoundParts limits s
-      → HasSoundParts limits (without_adjustments id None (record s { sem = without_entry s.sem id }))
-  without_set-sound s id h =
+  pub without_semset-sound : (s : State) (id : ℕ) → HasSoundParts limits s
+      → HasSoundParts limits (without_adjustments id None (record s { semset = without_entry s.semset id }))
+  without_semset-sound s id h =
       record {
         processes = h.processes;
         wait = h.wait;
-        undo = record { pids = seen-keys (cleared id None) s.undo ∙ h.undo.pids; each = each-dropped s.sem id s.undo h.undo.each };
+        undo = record { pids = seen-keys (cleared id None) s.undo ∙ h.undo.pids; each = each-dropped s.semset id s.undo h.undo.each };
         msg = h.msg;
-        sem = record {
-          keyed = keying.without_entry-keyed limits.semmni (IsSoundSet limits) s.sem id h.sem.keyed;
-          count = omega (arith, sets.count-without s.sem id, h.sem.count);
+        semset = record {
+          keyed = keying.without_entry-keyed limits.semmni (IsSoundSemset limits) s.semset id h.semset.keyed;
+          count = omega (arith, sets.count-without s.semset id, h.semset.count);
         };
         mq = h.mq;
-        named_sem = h.named_sem;
-        shm = h.shm;
+        psem = h.psem;
+        pshm = h.pshm;
       }
 
-  pub set-sound : (s : State) (id : ℕ) (e : Entry Set) → set_of s id ≡ Some e → HasSoundParts limits s → IsSoundSet limits e.object
-  set-sound s id e is h = keying.entry-sound limits.semmni (IsSoundSet limits) s.sem id e is h.sem.keyed
+  pub set-sound : (s : State) (id : ℕ) (e : Entry Set) → semset_of s id ≡ Some e → HasSoundParts limits s → IsSoundSemset limits e.object
+  set-sound s id e is h = keying.entry-sound limits.semmni (IsSoundSemset limits) s.semset id e is h.semset.keyed
 
   -- ---- objects with a name, and descriptors
 
   set-opened : (s : State) (ps : Numbered Process) (o : NamedObjects) → HasSoundParts limits s → keys_of ps.entries ≡ keys_of s.processes.entries
-      → mqs.AreAllHeld limits ps o → HasSoundParts limits (record s { processes = ps; mq = o.mq; named_sem = o.named_sem; shm = o.shm })
+      → mqs.AreAllHeld limits ps o → HasSoundParts limits (record s { processes = ps; mq = o.mq; psem = o.psem; pshm = o.pshm })
   set-opened s ps o h same parts =
       record {
         processes = parts.processes;
         wait = h.wait;
         undo = record { pids = h.undo.pids ∙ sym same; each = h.undo.each };
         msg = h.msg;
-        sem = h.sem;
+        semset = h.semset;
         mq = parts.mq;
-        named_sem = parts.named_sem;
-        shm = parts.shm;
+        psem = parts.psem;
+        pshm = parts.pshm;
       }
 
   -- a descriptor more of a process, open on what is there
@@ -417,7 +417,7 @@ module _ (limits : Limits) where
 
   -- a new queue of a name that no queue has
   pub with_new_mq-sound : (s : State) (name : List ℕ) (cred : Cred) (mode : ℕ) (q : Mq) → named s.mq name ≡ None → has_all_mqs limits s ≡ false → mode < 512
-      → is_ok (check_name names.Queue name) ≡ true → IsSoundMq limits q → q.registration ≡ None
+      → is_ok (check_name names.Mq name) ≡ true → IsSoundMq limits q → q.registration ≡ None
       → HasSoundParts limits s → HasSoundParts limits (with_new_mq s name cred mode q)
   with_new_mq-sound s name cred mode q unused room few proper good free h =
       set-opened s s.processes _ h refl
@@ -426,69 +426,69 @@ module _ (limits : Limits) where
   pub unlinked-sound : (s : State) (n : ℕ) → HasSoundParts limits s → HasSoundParts limits (unlinked s n)
   unlinked-sound s n h = set-opened s s.processes _ h refl (opening.unlinked-held limits s.processes (named_in s) (all-held s h) n)
 
-  pub unlinked_sem-sound : (s : State) (n : ℕ) → HasSoundParts limits s → HasSoundParts limits (unlinked_sem s n)
-  unlinked_sem-sound s n h = set-opened s s.processes _ h refl (opening.unlinked_sem-held limits s.processes (named_in s) (all-held s h) n)
+  pub unlinked_psem-sound : (s : State) (n : ℕ) → HasSoundParts limits s → HasSoundParts limits (unlinked_psem s n)
+  unlinked_psem-sound s n h = set-opened s s.processes _ h refl (opening.unlinked_psem-held limits s.processes (named_in s) (all-held s h) n)
 
-  pub unlinked_segment-sound : (s : State) (n : ℕ) → HasSoundParts limits s → HasSoundParts limits (unlinked_segment s n)
-  unlinked_segment-sound s n h = set-opened s s.processes _ h refl (opening.unlinked_segment-held limits s.processes (named_in s) (all-held s h) n)
+  pub unlinked_pshm-sound : (s : State) (n : ℕ) → HasSoundParts limits s → HasSoundParts limits (unlinked_pshm s n)
+  unlinked_pshm-sound s n h = set-opened s s.processes _ h refl (opening.unlinked_pshm-held limits s.processes (named_in s) (all-held s h) n)
 
   -- another value of a semaphore that is there, and a new one
-  pub with_named_sem-sound : (s : State) (n : ℕ) (e : NamedEntry ℕ) (value : ℕ) → entry_of s.named_sem n ≡ Some e → value ≤ sem_value_max
-      → HasSoundParts limits s → HasSoundParts limits (with_named_sem s n value)
-  with_named_sem-sound s n e value is good h =
-      let put : Named ℕ = with_entry s.named_sem n (with_object e value) in
-      let same : put ≡ (with_named_sem s n value).named_sem =
-      sym (ap (λ (r : Option (NamedEntry ℕ)). unwrap_or (option_map (λ (f : NamedEntry ℕ). with_entry s.named_sem n (with_object f value)) r) s.named_sem) is) in
-      subst (λ (o : Named ℕ). HasSoundParts limits (record s { named_sem = o })) same
-      (set-opened s s.processes (record (named_in s) { named_sem = put }) h refl
-      (opening.with_named_sem-held limits s.processes (named_in s) (all-held s h) n e value is good))
+  pub with_psem-sound : (s : State) (n : ℕ) (e : NamedEntry ℕ) (value : ℕ) → entry_of s.psem n ≡ Some e → value ≤ sem_value_max
+      → HasSoundParts limits s → HasSoundParts limits (with_psem s n value)
+  with_psem-sound s n e value is good h =
+      let put : Named ℕ = with_entry s.psem n (with_object e value) in
+      let same : put ≡ (with_psem s n value).psem =
+      sym (ap (λ (r : Option (NamedEntry ℕ)). unwrap_or (option_map (λ (f : NamedEntry ℕ). with_entry s.psem n (with_object f value)) r) s.psem) is) in
+      subst (λ (o : Named ℕ). HasSoundParts limits (record s { psem = o })) same
+      (set-opened s s.processes (record (named_in s) { psem = put }) h refl
+      (opening.with_psem-held limits s.processes (named_in s) (all-held s h) n e value is good))
 
-  pub with_new_named_sem-sound : (s : State) (name : List ℕ) (cred : Cred) (mode value : ℕ) → named s.named_sem name ≡ None
-      → has_all_named_sems limits s ≡ false → mode < 512 → is_ok (check_name names.Semaphore name) ≡ true → value ≤ sem_value_max
-      → HasSoundParts limits s → HasSoundParts limits (with_new_named_sem s name cred mode value)
-  with_new_named_sem-sound s name cred mode value unused room few proper good h =
+  pub with_new_psem-sound : (s : State) (name : List ℕ) (cred : Cred) (mode value : ℕ) → named s.psem name ≡ None
+      → has_all_psems limits s ≡ false → mode < 512 → is_ok (check_name names.Psem name) ≡ true → value ≤ sem_value_max
+      → HasSoundParts limits s → HasSoundParts limits (with_new_psem s name cred mode value)
+  with_new_psem-sound s name cred mode value unused room few proper good h =
       set-opened s s.processes _ h refl
-      (opening.with_new_named_sem-held limits s.processes (named_in s) (all-held s h) name cred mode value unused room few proper good)
+      (opening.with_new_psem-held limits s.processes (named_in s) (all-held s h) name cred mode value unused room few proper good)
 
-  pub named_sem-sound : (s : State) (n : ℕ) (e : NamedEntry ℕ) → entry_of s.named_sem n ≡ Some e → HasSoundParts limits s → e.object ≤ sem_value_max
-  named_sem-sound s n e is h = (entry-named limits.named_semaphores (λ value. value ≤ sem_value_max) s.named_sem n e is h.named_sem.named).each
+  pub psem-sound : (s : State) (n : ℕ) (e : NamedEntry ℕ) → entry_of s.psem n ≡ Some e → HasSoundParts limits s → e.object ≤ sem_value_max
+  psem-sound s n e is h = (entry-named limits.named_semaphores (λ value. value ≤ sem_value_max) s.psem n e is h.psem.named).each
 
   -- another segment in the place of one, and a new one
-  pub with_segment-sound : (s : State) (n : ℕ) (e : NamedEntry Segment) (x : Segment) → entry_of s.shm n ≡ Some e
-      → segment_bytes s.shm - length e.object.bytes + length x.bytes ≤ limits.segment_bytes
-      → HasSoundParts limits s → HasSoundParts limits (with_segment s n x)
-  with_segment-sound s n e x is few h =
-      let put : Named Segment = with_entry s.shm n (with_object e x) in
-      let same : put ≡ (with_segment s n x).shm =
-      sym (ap (λ (r : Option (NamedEntry Segment)). unwrap_or (option_map (λ (f : NamedEntry Segment). with_entry s.shm n (with_object f x)) r) s.shm) is) in
-      subst (λ (o : Named Segment). HasSoundParts limits (record s { shm = o })) same
-      (set-opened s s.processes (record (named_in s) { shm = put }) h refl
-      (opening.with_segment-held limits s.processes (named_in s) (all-held s h) n e x is few))
+  pub with_pshm-sound : (s : State) (n : ℕ) (e : NamedEntry Segment) (x : Segment) → entry_of s.pshm n ≡ Some e
+      → segment_bytes s.pshm - length e.object.bytes + length x.bytes ≤ limits.segment_bytes
+      → HasSoundParts limits s → HasSoundParts limits (with_pshm s n x)
+  with_pshm-sound s n e x is few h =
+      let put : Named Segment = with_entry s.pshm n (with_object e x) in
+      let same : put ≡ (with_pshm s n x).pshm =
+      sym (ap (λ (r : Option (NamedEntry Segment)). unwrap_or (option_map (λ (f : NamedEntry Segment). with_entry s.pshm n (with_object f x)) r) s.pshm) is) in
+      subst (λ (o : Named Segment). HasSoundParts limits (record s { pshm = o })) same
+      (set-opened s s.processes (record (named_in s) { pshm = put }) h refl
+      (opening.with_pshm-held limits s.processes (named_in s) (all-held s h) n e x is few))
 
-  pub with_new_segment-sound : (s : State) (name : List ℕ) (cred : Cred) (mode : ℕ) → named s.shm name ≡ None → has_all_segments limits s ≡ false
-      → mode < 512 → is_ok (check_name names.Segment name) ≡ true → HasSoundParts limits s → HasSoundParts limits (with_new_segment s name cred mode)
-  with_new_segment-sound s name cred mode unused room few proper h =
+  pub with_new_pshm-sound : (s : State) (name : List ℕ) (cred : Cred) (mode : ℕ) → named s.pshm name ≡ None → has_all_pshms limits s ≡ false
+      → mode < 512 → is_ok (check_name names.Pshm name) ≡ true → HasSoundParts limits s → HasSoundParts limits (with_new_pshm s name cred mode)
+  with_new_pshm-sound s name cred mode unused room few proper h =
       set-opened s s.processes _ h refl
-      (opening.with_new_segment-held limits s.processes (named_in s) (all-held s h) name cred mode unused room few proper)
+      (opening.with_new_pshm-held limits s.processes (named_in s) (all-held s h) name cred mode unused room few proper)
 
   -- numbers are above 0, and each name names the object that has it
-  pub named_sem-positive : (s : State) → HasSoundParts limits s → ArePositive s.named_sem.entries
-  named_sem-positive s h = named-positive s.named_sem.entries s.named_sem.next h.named_sem.named.numbered.numbers
+  pub psem-positive : (s : State) → HasSoundParts limits s → ArePositive s.psem.entries
+  psem-positive s h = named-positive s.psem.entries s.psem.next h.psem.named.numbered.numbers
 
-  pub named_sem-next : (s : State) → HasSoundParts limits s → 0 < s.named_sem.next
-  named_sem-next s h = omega (arith, rising-bounds 1 (keys_of s.named_sem.entries) s.named_sem.next h.named_sem.named.numbered.numbers)
+  pub psem-next : (s : State) → HasSoundParts limits s → 0 < s.psem.next
+  psem-next s h = omega (arith, rising-bounds 1 (keys_of s.psem.entries) s.psem.next h.psem.named.numbered.numbers)
 
-  pub named_sem-names : (s : State) → HasSoundParts limits s → HaveNames s.named_sem
-  named_sem-names s h = have-names limits.named_semaphores (λ value. value ≤ sem_value_max) s.named_sem h.named_sem.named
+  pub psem-names : (s : State) → HasSoundParts limits s → HaveNames s.psem
+  psem-names s h = have-names limits.named_semaphores (λ value. value ≤ sem_value_max) s.psem h.psem.named
 
-  pub segment-positive : (s : State) → HasSoundParts limits s → ArePositive s.shm.entries
-  segment-positive s h = named-positive s.shm.entries s.shm.next h.shm.held.named.numbered.numbers
+  pub segment-positive : (s : State) → HasSoundParts limits s → ArePositive s.pshm.entries
+  segment-positive s h = named-positive s.pshm.entries s.pshm.next h.pshm.held.named.numbered.numbers
 
-  pub segment-next : (s : State) → HasSoundParts limits s → 0 < s.shm.next
-  segment-next s h = omega (arith, rising-bounds 1 (keys_of s.shm.entries) s.shm.next h.shm.held.named.numbered.numbers)
+  pub segment-next : (s : State) → HasSoundParts limits s → 0 < s.pshm.next
+  segment-next s h = omega (arith, rising-bounds 1 (keys_of s.pshm.entries) s.pshm.next h.pshm.held.named.numbered.numbers)
 
-  pub segment-names : (s : State) → HasSoundParts limits s → HaveNames s.shm
-  segment-names s h = have-names limits.segments (λ x. ⊤) s.shm h.shm.held.named
+  pub segment-names : (s : State) → HasSoundParts limits s → HaveNames s.pshm
+  segment-names s h = have-names limits.segments (λ x. ⊤) s.pshm h.pshm.held.named
 
   -- what holds of a queue that is there
   pub mq-sound : (s : State) (n : ℕ) (e : NamedEntry Mq) → entry_of s.mq n ≡ Some e → HasSoundParts limits s → IsSoundMq limits e.object
@@ -550,11 +550,11 @@ module _ (limits : Limits) where
 -- a restart of what a restart has left leaves it
 pub restart-twice : (s : State) → restart (restart s) ≡ restart s
 restart-twice s =
-    ap (λ (o : NamedObjects). let t : State = record (restart s) { mq = o.mq; named_sem = o.named_sem; shm = o.shm } in t)
+    ap (λ (o : NamedObjects). let t : State = record (restart s) { mq = o.mq; psem = o.psem; pshm = o.pshm } in t)
     (λ i. record {
       mq = mqs.restarted-again s.mq i;
-      named_sem = mqs.kept-again (stays names.Semaphore []) s.named_sem i;
-      shm = mqs.kept-again (stays names.Segment []) s.shm i;
+      psem = mqs.kept-again (stays names.Psem []) s.psem i;
+      pshm = mqs.kept-again (stays names.Pshm []) s.pshm i;
     })
 
 -- ---- deadlines
@@ -570,7 +570,7 @@ after-sound now timeout = by_test (nat_lt (now + timeout) (2 ^ 64 - 1)) refl
 -- the deadline of a call that comes is one that it may have
 pub deadline-sound : (now : ℕ) (kind : PlainKind) → IfSome (deadline_of now kind) (λ d. (has_deadline kind ≡ true) × (d.0 < 2 ^ 64 - 1))
 unfolding deadline_of
-deadline-sound now (Calls (requests.Semop id timeout operations)) = after-sound now timeout
+deadline-sound now (Sysv (requests.Semop id timeout operations)) = after-sound now timeout
 deadline-sound now (Posix (posix.SemWait fd deadline)) = after-sound 0 deadline
 deadline-sound now kind = search (rules, after-sound)
 

@@ -7,7 +7,7 @@ use Rattle.ipc_base.specs.Table.{value_at}
 use Rattle.ipc_base.specs.declared.identity.Pid.{Pid}
 use Rattle.ipc_base.proofs.CallerLemmas.{flipped}
 use Rattle.ipc_wait.specs.declared.list.Waiting.{Waiting}
-use Rattle.ipc_wait.specs.Waits.{is_of, call_of, without, HaveDistinctPids}
+use Rattle.ipc_wait.specs.Waits.{is_of, waiting_call_of, without, HaveDistinctPids}
 use Rattle.ipc_wait.proofs.CallerLemmas.{filter-none, without-distinct}
 
 module _ {O C : Type 0} where
@@ -20,8 +20,8 @@ module _ {O C : Type 0} where
         | false ↦ λ is. let rest = left-with pid calls distinct.1 in omega arith
       ] refl
     where
-      nobody_of : is_of pid w ≡ true → call_of pid calls ≡ None
-      nobody_of is = subst (λ (p : Pid). call_of p calls ≡ None) (ap (λ (n : ℕ). let p : Pid = record { 0 = n } in p) (eqb-true w.pid.0 pid.0 is)) distinct.0
+      nobody_of : is_of pid w ≡ true → waiting_call_of pid calls ≡ None
+      nobody_of is = subst (λ (p : Pid). waiting_call_of p calls ≡ None) (ap (λ (n : ℕ). let p : Pid = record { 0 = n } in p) (eqb-true w.pid.0 pid.0 is)) distinct.0
 
   module _ {X : Type 0} where
     abbrev IsAt : List (ℕ × X) → Waiting O C → Type 0

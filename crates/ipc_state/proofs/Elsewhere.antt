@@ -26,9 +26,9 @@ use Rattle.ipc_state.specs.Numbered.{entry_of, with_entry}
 use Rattle.ipc_state.specs.Opening.{deregistered, descriptors_of, descriptor_at, is_by, is_by_descriptor, is_on, is_open, is_registered}
 use Rattle.ipc_state.specs.Opening.{has_access, is_there_for, opened_as, stays, still_open, unless_so, with_table, without_registrations}
 use Rattle.ipc_state.specs.Sound.{HasSoundParts}
-use Rattle.ipc_state.specs.State.{State, closed, named_in, unlinked, unlinked_segment, unlinked_sem, with_named_sem, with_new_named_sem, with_new_segment, with_segment}
+use Rattle.ipc_state.specs.State.{State, closed, named_in, unlinked, unlinked_pshm, unlinked_psem, with_psem, with_new_psem, with_new_pshm, with_pshm}
 use Rattle.ipc_state.specs.State.{with_descriptors, with_mq, with_new_mq}
-use Rattle.ipc_state.specs.Touching.{object_on, object_of, mq_object, named_sem_value, IsAsBefore}
+use Rattle.ipc_state.specs.Touching.{object_on, object_of, mq_object, psem_value, IsAsBefore}
 use Rattle.shm_segment.specs.Segment.{Segment}
 use Rattle.ipc_state.proofs.SoundMqs.{at-filter, both_true, either, first, none-filter}
 use Rattle.ipc_state.proofs.SoundOpening as opening
@@ -47,8 +47,8 @@ on_of r = option_map (λ (d : Descriptor). object_on d.on) r
 
 -- as before at one change and at the next, as before at both
 pub before-then : (pid : ℕ) (on : Awaited) (s t u : State) → IsAsBefore pid on s t → IsAsBefore pid on t u → IsAsBefore pid on s u
-before-then pid (awaited.Queue id) s t u first second = second ∙ first
-before-then pid (awaited.Set id) s t u first second = (second.0 ∙ first.0, λ p num. second.1 p num ∙ first.1 p num)
+before-then pid (awaited.MsgQueue id) s t u first second = second ∙ first
+before-then pid (awaited.Semset id) s t u first second = (second.0 ∙ first.0, λ p num. second.1 p num ∙ first.1 p num)
 before-then pid (awaited.Descriptor fd) s t u first second = (
   second.0 ∙ first.0,
   λ n is. second.1 n (ap on_of first.0 ∙ is) ∙ first.1 n is,
@@ -56,15 +56,15 @@ before-then pid (awaited.Descriptor fd) s t u first second = (
 )
 
 on_it : (this on : Opened) → object_on on ≡ object_on this → is_on this on ≡ true
-on_it (objects.Queue m) (objects.Queue k) is = let same : k ≡ m = cc in grind (arith, nat_tests)
-on_it (objects.Queue m) (objects.Semaphore k) is = cc
-on_it (objects.Queue m) (objects.Segment k) is = cc
-on_it (objects.Semaphore m) (objects.Queue k) is = cc
-on_it (objects.Semaphore m) (objects.Semaphore k) is = let same : k ≡ m = cc in grind (arith, nat_tests)
-on_it (objects.Semaphore m) (objects.Segment k) is = cc
-on_it (objects.Segment m) (objects.Queue k) is = cc
-on_it (objects.Segment m) (objects.Semaphore k) is = cc
-on_it (objects.Segment m) (objects.Segment k) is = let same : k ≡ m = cc in grind (arith, nat_tests)
+on_it (objects.Mq m) (objects.Mq k) is = let same : k ≡ m = cc in grind (arith, nat_tests)
+on_it (objects.Mq m) (objects.Psem k) is = cc
+on_it (objects.Mq m) (objects.Pshm k) is = cc
+on_it (objects.Psem m) (objects.Mq k) is = cc
+on_it (objects.Psem m) (objects.Psem k) is = let same : k ≡ m = cc in grind (arith, nat_tests)
+on_it (objects.Psem m) (objects.Pshm k) is = cc
+on_it (objects.Pshm m) (objects.Mq k) is = cc
+on_it (objects.Pshm m) (objects.Psem k) is = cc
+on_it (objects.Pshm m) (objects.Pshm k) is = let same : k ≡ m = cc in grind (arith, nat_tests)
 
 module _ (this : Opened) where
   opens-it : (table : Table) (k : ℕ) → on_of (value_at nat_eq table k) ≡ Some (object_on this) → opens this table ≡ true
@@ -113,20 +113,20 @@ same-unnamed {X} o n m = same (entry_of o n) refl
 
 -- what an object is, a descriptor is open on
 same-on : (this on : Opened) → object_on on ≡ object_on this → on ≡ this
-same-on (objects.Queue m) (objects.Queue k) is = let same : k ≡ m = cc in ap (λ (n : ℕ). objects.Queue n) same
-same-on (objects.Queue m) (objects.Semaphore k) is = cc
-same-on (objects.Queue m) (objects.Segment k) is = cc
-same-on (objects.Semaphore m) (objects.Queue k) is = cc
-same-on (objects.Semaphore m) (objects.Semaphore k) is = let same : k ≡ m = cc in ap (λ (n : ℕ). objects.Semaphore n) same
-same-on (objects.Semaphore m) (objects.Segment k) is = cc
-same-on (objects.Segment m) (objects.Queue k) is = cc
-same-on (objects.Segment m) (objects.Semaphore k) is = cc
-same-on (objects.Segment m) (objects.Segment k) is = let same : k ≡ m = cc in ap (λ (n : ℕ). objects.Segment n) same
+same-on (objects.Mq m) (objects.Mq k) is = let same : k ≡ m = cc in ap (λ (n : ℕ). objects.Mq n) same
+same-on (objects.Mq m) (objects.Psem k) is = cc
+same-on (objects.Mq m) (objects.Pshm k) is = cc
+same-on (objects.Psem m) (objects.Mq k) is = cc
+same-on (objects.Psem m) (objects.Psem k) is = let same : k ≡ m = cc in ap (λ (n : ℕ). objects.Psem n) same
+same-on (objects.Psem m) (objects.Pshm k) is = cc
+same-on (objects.Pshm m) (objects.Mq k) is = cc
+same-on (objects.Pshm m) (objects.Psem k) is = cc
+same-on (objects.Pshm m) (objects.Pshm k) is = let same : k ≡ m = cc in ap (λ (n : ℕ). objects.Pshm n) same
 
 -- another queue in the place of one
 pub elsewhere-mq : (s : State) (n : ℕ) (q : Mq) (p : ℕ) (on : Awaited) → Some (object.Mq n) ≢ object_of s p on → IsAsBefore p on s (with_mq s n q)
-elsewhere-mq s n q p (awaited.Queue id) apart = refl
-elsewhere-mq s n q p (awaited.Set id) apart = (refl, λ pid num. refl)
+elsewhere-mq s n q p (awaited.MsgQueue id) apart = refl
+elsewhere-mq s n q p (awaited.Semset id) apart = (refl, λ pid num. refl)
 elsewhere-mq s n q p (awaited.Descriptor fd) apart = (
   refl,
   λ m is. by_entry m (λ same. apart (ap (λ (k : ℕ). Some (object.Mq k)) (sym same) ∙ sym is)) (entry_of s.mq n),
@@ -140,36 +140,36 @@ elsewhere-mq s n q p (awaited.Descriptor fd) apart = (
     by_entry m other (Some e) = ap object_in (other-with s.mq.entries n m (with_object e q) other)
 
 -- another value of a semaphore, another segment in the place of one, and a new segment
-pub elsewhere-named_sem : (s : State) (n value p : ℕ) (on : Awaited) → Some (object.NamedSem n) ≢ object_of s p on
-    → IsAsBefore p on s (with_named_sem s n value)
-elsewhere-named_sem s n value p (awaited.Queue id) apart = refl
-elsewhere-named_sem s n value p (awaited.Set id) apart = (refl, λ pid num. refl)
-elsewhere-named_sem s n value p (awaited.Descriptor fd) apart = (
+pub elsewhere-psem : (s : State) (n value p : ℕ) (on : Awaited) → Some (object.Psem n) ≢ object_of s p on
+    → IsAsBefore p on s (with_psem s n value)
+elsewhere-psem s n value p (awaited.MsgQueue id) apart = refl
+elsewhere-psem s n value p (awaited.Semset id) apart = (refl, λ pid num. refl)
+elsewhere-psem s n value p (awaited.Descriptor fd) apart = (
   refl,
   λ m is. refl,
-  λ m is. by_entry m (λ same. apart (ap (λ (k : ℕ). Some (object.NamedSem k)) (sym same) ∙ sym is)) (entry_of s.named_sem n),
+  λ m is. by_entry m (λ same. apart (ap (λ (k : ℕ). Some (object.Psem k)) (sym same) ∙ sym is)) (entry_of s.psem n),
 )
   where
     by_entry : (m : ℕ) → m ≢ n → (r : Option (NamedEntry ℕ))
         → object_in
-        (entry_of (unwrap_or (option_map (λ (e : NamedEntry ℕ). with_entry s.named_sem n (with_object e value)) r) s.named_sem) m) ≡ named_sem_value s m
+        (entry_of (unwrap_or (option_map (λ (e : NamedEntry ℕ). with_entry s.psem n (with_object e value)) r) s.psem) m) ≡ psem_value s m
     by_entry m other None = refl
-    by_entry m other (Some e) = ap object_in (other-with s.named_sem.entries n m (with_object e value) other)
+    by_entry m other (Some e) = ap object_in (other-with s.psem.entries n m (with_object e value) other)
 
-pub elsewhere-segment : (s : State) (n : ℕ) (x : Segment) (p : ℕ) (on : Awaited) → IsAsBefore p on s (with_segment s n x)
-elsewhere-segment s n x p (awaited.Queue id) = refl
-elsewhere-segment s n x p (awaited.Set id) = (refl, λ pid num. refl)
+pub elsewhere-segment : (s : State) (n : ℕ) (x : Segment) (p : ℕ) (on : Awaited) → IsAsBefore p on s (with_pshm s n x)
+elsewhere-segment s n x p (awaited.MsgQueue id) = refl
+elsewhere-segment s n x p (awaited.Semset id) = (refl, λ pid num. refl)
 elsewhere-segment s n x p (awaited.Descriptor fd) = (refl, λ m is. refl, λ m is. refl)
 
-pub elsewhere-new_segment : (s : State) (name : List ℕ) (cred : Cred) (mode p : ℕ) (on : Awaited) → IsAsBefore p on s (with_new_segment s name cred mode)
-elsewhere-new_segment s name cred mode p (awaited.Queue id) = refl
-elsewhere-new_segment s name cred mode p (awaited.Set id) = (refl, λ pid num. refl)
+pub elsewhere-new_segment : (s : State) (name : List ℕ) (cred : Cred) (mode p : ℕ) (on : Awaited) → IsAsBefore p on s (with_new_pshm s name cred mode)
+elsewhere-new_segment s name cred mode p (awaited.MsgQueue id) = refl
+elsewhere-new_segment s name cred mode p (awaited.Semset id) = (refl, λ pid num. refl)
 elsewhere-new_segment s name cred mode p (awaited.Descriptor fd) = (refl, λ m is. refl, λ m is. refl)
 
 -- other descriptors of another process
 pub elsewhere-table : (s : State) (pid : ℕ) (table : Table) (p : ℕ) (on : Awaited) → p ≢ pid → IsAsBefore p on s (with_descriptors s pid table)
-elsewhere-table s pid table p (awaited.Queue id) other = refl
-elsewhere-table s pid table p (awaited.Set id) other = (refl, λ q num. refl)
+elsewhere-table s pid table p (awaited.MsgQueue id) other = refl
+elsewhere-table s pid table p (awaited.Semset id) other = (refl, λ q num. refl)
 elsewhere-table s pid table p (awaited.Descriptor fd) other = (
   ap (λ (r : Option Process). value_at nat_eq (table_in r) fd) (opening.table-other s.processes pid table p other),
   λ m is. refl,
@@ -194,66 +194,66 @@ module _ (limits : Limits) (s : State) (h : HasSoundParts limits s) where
 
   -- a new queue
   pub elsewhere-new_mq : (name : List ℕ) (cred : Cred) (mode : ℕ) (q : Mq) (p : ℕ) (on : Awaited) → IsAsBefore p on s (with_new_mq s name cred mode q)
-  elsewhere-new_mq name cred mode q p (awaited.Queue id) = refl
-  elsewhere-new_mq name cred mode q p (awaited.Set id) = (refl, λ pid num. refl)
+  elsewhere-new_mq name cred mode q p (awaited.MsgQueue id) = refl
+  elsewhere-new_mq name cred mode q p (awaited.Semset id) = (refl, λ pid num. refl)
   elsewhere-new_mq name cred mode q p (awaited.Descriptor fd) = (
     refl,
-    λ m is. let below = (rising-found 1 s.mq.entries s.mq.next m h.mq.held.named.numbered.numbers (there-for p fd (objects.Queue m) is)).1 in
+    λ m is. let below = (rising-found 1 s.mq.entries s.mq.next m h.mq.held.named.numbered.numbers (there-for p fd (objects.Mq m) is)).1 in
         ap object_in (other-push s.mq.entries s.mq.next m _ (λ same. absurd (omega (arith, same, below)))),
     λ m is. refl,
   )
 
   -- a new semaphore
-  pub elsewhere-new_named_sem : (name : List ℕ) (cred : Cred) (mode value p : ℕ) (on : Awaited)
-      → IsAsBefore p on s (with_new_named_sem s name cred mode value)
-  elsewhere-new_named_sem name cred mode value p (awaited.Queue id) = refl
-  elsewhere-new_named_sem name cred mode value p (awaited.Set id) = (refl, λ pid num. refl)
-  elsewhere-new_named_sem name cred mode value p (awaited.Descriptor fd) = (
+  pub elsewhere-new_psem : (name : List ℕ) (cred : Cred) (mode value p : ℕ) (on : Awaited)
+      → IsAsBefore p on s (with_new_psem s name cred mode value)
+  elsewhere-new_psem name cred mode value p (awaited.MsgQueue id) = refl
+  elsewhere-new_psem name cred mode value p (awaited.Semset id) = (refl, λ pid num. refl)
+  elsewhere-new_psem name cred mode value p (awaited.Descriptor fd) = (
     refl,
     λ m is. refl,
-    λ m is. let below = (rising-found 1 s.named_sem.entries s.named_sem.next m h.named_sem.named.numbered.numbers (there-for p fd (objects.Semaphore m) is)).1 in
-        ap object_in (other-push s.named_sem.entries s.named_sem.next m _ (λ same. absurd (omega (arith, same, below)))),
+    λ m is. let below = (rising-found 1 s.psem.entries s.psem.next m h.psem.named.numbered.numbers (there-for p fd (objects.Psem m) is)).1 in
+        ap object_in (other-push s.psem.entries s.psem.next m _ (λ same. absurd (omega (arith, same, below)))),
   )
 
   -- a name that goes, and the object with it, if it is not open
   pub elsewhere-unlinked : (n p : ℕ) (on : Awaited) → IsAsBefore p on s (unlinked s n)
-  elsewhere-unlinked n p (awaited.Queue id) = refl
-  elsewhere-unlinked n p (awaited.Set id) = (refl, λ pid num. refl)
+  elsewhere-unlinked n p (awaited.MsgQueue id) = refl
+  elsewhere-unlinked n p (awaited.Semset id) = (refl, λ pid num. refl)
   elsewhere-unlinked n p (awaited.Descriptor fd) = (
     refl,
-    λ m is. ap object_in (kept-open names.Queue s.processes.entries (unnamed s.mq n) m (open-by (objects.Queue m) s.processes.entries p fd is))
+    λ m is. ap object_in (kept-open names.Mq s.processes.entries (unnamed s.mq n) m (open-by (objects.Mq m) s.processes.entries p fd is))
         ∙ same-unnamed s.mq n m,
-    λ m is. ap object_in (kept-open names.Semaphore s.processes.entries s.named_sem m (open-by (objects.Semaphore m) s.processes.entries p fd is)),
+    λ m is. ap object_in (kept-open names.Psem s.processes.entries s.psem m (open-by (objects.Psem m) s.processes.entries p fd is)),
   )
 
-  pub elsewhere-unlinked_sem : (n p : ℕ) (on : Awaited) → IsAsBefore p on s (unlinked_sem s n)
-  elsewhere-unlinked_sem n p (awaited.Queue id) = refl
-  elsewhere-unlinked_sem n p (awaited.Set id) = (refl, λ pid num. refl)
-  elsewhere-unlinked_sem n p (awaited.Descriptor fd) = (
+  pub elsewhere-unlinked_psem : (n p : ℕ) (on : Awaited) → IsAsBefore p on s (unlinked_psem s n)
+  elsewhere-unlinked_psem n p (awaited.MsgQueue id) = refl
+  elsewhere-unlinked_psem n p (awaited.Semset id) = (refl, λ pid num. refl)
+  elsewhere-unlinked_psem n p (awaited.Descriptor fd) = (
     refl,
-    λ m is. ap object_in (kept-open names.Queue s.processes.entries s.mq m (open-by (objects.Queue m) s.processes.entries p fd is)),
-    λ m is. ap object_in (kept-open names.Semaphore s.processes.entries (unnamed s.named_sem n) m
-        (open-by (objects.Semaphore m) s.processes.entries p fd is)) ∙ same-unnamed s.named_sem n m,
+    λ m is. ap object_in (kept-open names.Mq s.processes.entries s.mq m (open-by (objects.Mq m) s.processes.entries p fd is)),
+    λ m is. ap object_in (kept-open names.Psem s.processes.entries (unnamed s.psem n) m
+        (open-by (objects.Psem m) s.processes.entries p fd is)) ∙ same-unnamed s.psem n m,
   )
 
-  pub elsewhere-unlinked_segment : (n p : ℕ) (on : Awaited) → IsAsBefore p on s (unlinked_segment s n)
-  elsewhere-unlinked_segment n p (awaited.Queue id) = refl
-  elsewhere-unlinked_segment n p (awaited.Set id) = (refl, λ pid num. refl)
-  elsewhere-unlinked_segment n p (awaited.Descriptor fd) = (
+  pub elsewhere-unlinked_pshm : (n p : ℕ) (on : Awaited) → IsAsBefore p on s (unlinked_pshm s n)
+  elsewhere-unlinked_pshm n p (awaited.MsgQueue id) = refl
+  elsewhere-unlinked_pshm n p (awaited.Semset id) = (refl, λ pid num. refl)
+  elsewhere-unlinked_pshm n p (awaited.Descriptor fd) = (
     refl,
-    λ m is. ap object_in (kept-open names.Queue s.processes.entries s.mq m (open-by (objects.Queue m) s.processes.entries p fd is)),
-    λ m is. ap object_in (kept-open names.Semaphore s.processes.entries s.named_sem m (open-by (objects.Semaphore m) s.processes.entries p fd is)),
+    λ m is. ap object_in (kept-open names.Mq s.processes.entries s.mq m (open-by (objects.Mq m) s.processes.entries p fd is)),
+    λ m is. ap object_in (kept-open names.Psem s.processes.entries s.psem m (open-by (objects.Psem m) s.processes.entries p fd is)),
   )
 
   -- a descriptor that is closed by another process, with the registration by it
   pub elsewhere-closed : (pid fd p : ℕ) (on : Awaited) → p ≢ pid → object_of s pid (awaited.Descriptor fd) ≢ object_of s p on
       → IsAsBefore p on s (closed s pid fd)
-  elsewhere-closed pid fd p (awaited.Queue id) other apart = refl
-  elsewhere-closed pid fd p (awaited.Set id) other apart = (refl, λ q num. refl)
+  elsewhere-closed pid fd p (awaited.MsgQueue id) other apart = refl
+  elsewhere-closed pid fd p (awaited.Semset id) other apart = (refl, λ q num. refl)
   elsewhere-closed pid fd p (awaited.Descriptor k) other apart = (
     same,
     λ m is. by_entry m is (entry_of s.mq m) refl,
-    λ m is. ap object_in (kept-open names.Semaphore left s.named_sem m (open-by (objects.Semaphore m) left p k (ap on_of same ∙ is))),
+    λ m is. ap object_in (kept-open names.Psem left s.psem m (open-by (objects.Psem m) left p k (ap on_of same ∙ is))),
   )
     where
       goes : Registration → Bool
@@ -273,12 +273,12 @@ module _ (limits : Limits) (s : State) (h : HasSoundParts limits s) where
       stays-so m None registered elsewhere = refl
       stays-so m (Some r) registered elsewhere = by_test (goes r) refl
         where
-          by_kind : (on : Opened) → is_on (objects.Queue m) on ≡ true → object_on on ≡ object.Mq m
-          by_kind (objects.Queue j) is = let one : j ≡ m = grind (arith, nat_tests) in ap (λ (i : ℕ). object.Mq i) one
-          by_kind (objects.Semaphore j) is = cc
-          by_kind (objects.Segment j) is = cc
+          by_kind : (on : Opened) → is_on (objects.Mq m) on ≡ true → object_on on ≡ object.Mq m
+          by_kind (objects.Mq j) is = let one : j ≡ m = grind (arith, nat_tests) in ap (λ (i : ℕ). object.Mq i) one
+          by_kind (objects.Psem j) is = cc
+          by_kind (objects.Pshm j) is = cc
 
-          by_value : (v : Option Descriptor) → unwrap_or (option_map (λ (d : Descriptor). is_on (objects.Queue m) d.on) v) false ≡ true → on_of v ≡ Some (object.Mq m)
+          by_value : (v : Option Descriptor) → unwrap_or (option_map (λ (d : Descriptor). is_on (objects.Mq m) d.on) v) false ≡ true → on_of v ≡ Some (object.Mq m)
           by_value None is = cc
           by_value (Some d) is = ap (λ (j : Object). Some j) (by_kind d.on is)
 
@@ -296,12 +296,12 @@ module _ (limits : Limits) (s : State) (h : HasSoundParts limits s) where
       by_entry m is None found =
           let none : value_at nat_eq (without_registrations goes s.mq).entries m ≡ None =
           at-map (deregistered goes) s.mq.entries m ∙ ap (option_map (deregistered goes)) found in
-          ap object_in (none-filter (stays names.Queue left) (without_registrations goes s.mq).entries m none ∙ sym found)
+          ap object_in (none-filter (stays names.Mq left) (without_registrations goes s.mq).entries m none ∙ sym found)
       by_entry m is (Some e) found =
           let there : value_at nat_eq (without_registrations goes s.mq).entries m ≡ Some (deregistered goes e) =
           at-map (deregistered goes) s.mq.entries m ∙ ap (option_map (deregistered goes)) found in
-          let used : is_open left (objects.Queue m) ≡ true = open-by (objects.Queue m) left p k (ap on_of same ∙ is) in
+          let used : is_open left (objects.Mq m) ≡ true = open-by (objects.Mq m) left p k (ap on_of same ∙ is) in
           let registered = All-found (λ (d : ℕ × NamedEntry Mq). is_registered s.processes.entries d ≡ true) s.mq.entries m e h.mq.registered found in
           let kept : unless_so goes e.object.registration ≡ e.object.registration = stays-so m e.object.registration registered (λ at. apart (at ∙ sym is)) in
-          ap object_in (at-filter (stays names.Queue left) (without_registrations goes s.mq).entries m (deregistered goes e) there (either _ _ used))
+          ap object_in (at-filter (stays names.Mq left) (without_registrations goes s.mq).entries m (deregistered goes e) there (either _ _ used))
           ∙ (ap (λ (r : Option Registration). Some (record e.object { registration = r })) kept ∙ sym (ap object_in found))

@@ -23,8 +23,8 @@ use Rattle.ipc_state.proofs.SoundOpening as opening
 use Rattle.ipc_state.proofs.Steps.{AtEnd, at-value}
 
 pub as_before : (pid : ℕ) (on : Awaited) (s : State) → IsAsBefore pid on s s
-as_before pid (awaited.Queue id) s = refl
-as_before pid (awaited.Set id) s = (refl, λ pid num. refl)
+as_before pid (awaited.MsgQueue id) s = refl
+as_before pid (awaited.Semset id) s = (refl, λ pid num. refl)
 as_before pid (awaited.Descriptor fd) s = (refl, λ n is. refl, λ n is. refl)
 
 -- the same keys have values

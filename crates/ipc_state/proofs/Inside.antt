@@ -11,8 +11,8 @@ state_in s =
       wait = s.wait.calls;
       undo = (numbered_of s.undo).entries;
       msg = s.msg.objects;
-      sem = s.sem.objects;
+      semset = s.semset.objects;
       mq = s.mq.objects;
-      named_sem = s.named_sem.objects;
-      shm = s.shm.objects;
+      psem = s.psem.objects;
+      pshm = s.pshm.objects;
     }

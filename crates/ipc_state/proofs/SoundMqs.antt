@@ -32,7 +32,7 @@ use Rattle.ipc_state.specs.Named.{Named, name_row, named, kept_if, AreNamedObjec
 use Rattle.ipc_state.specs.Numbered.{AreNumbered, Numbered, none_yet, entry_of, is_full, with_new, without_entry}
 use Rattle.ipc_state.specs.Opening.{NamedObjects, is_on, is_open, opened_as, stays, still_open, unless_so, deregistered, without_registrations, is_by}
 use Rattle.ipc_state.specs.Opening.{has_name, is_named_so, is_there_for, is_sound_descriptor, is_by_descriptor, is_registered}
-use Rattle.ipc_state.specs.Sound.{AreHeld, AreSoundDescriptors, AreSoundMqs, AreSoundNamedSems, AreSoundProcesses, AreSoundSegments, IsSoundMq}
+use Rattle.ipc_state.specs.Sound.{AreHeld, AreSoundDescriptors, AreSoundMqs, AreSoundPsems, AreSoundProcesses, AreSoundPshms, IsSoundMq}
 use Rattle.ipc_state.specs.Sound.{IsSoundMqMessage, segment_bytes}
 use Rattle.ipc_state.specs.Tests.{is_sound_mq, is_sound_mq_message}
 use Rattle.ipc_state.proofs.EntryKeys.{each-decides}
@@ -116,9 +116,9 @@ is_some-map f (Some x) = refl
 
 -- what is open on an object is on it
 pub is_on-same : (on : Opened) → is_on on on ≡ true
-is_on-same (opened.Queue n) = grind (arith, nat_tests)
-is_on-same (opened.Semaphore n) = grind (arith, nat_tests)
-is_on-same (opened.Segment n) = grind (arith, nat_tests)
+is_on-same (opened.Mq n) = grind (arith, nat_tests)
+is_on-same (opened.Psem n) = grind (arith, nat_tests)
+is_on-same (opened.Pshm n) = grind (arith, nat_tests)
 
 -- the objects on which descriptors of these processes are open are there among others too
 abbrev pub AllThere : NamedObjects → NamedObjects → List (ℕ × Process) → Type 0
@@ -206,16 +206,16 @@ fewer-bytes test o =
 -- what a descriptor of a process, if it is there, says of a registration with a queue
 abbrev pub told : ℕ → Registration → Option Process → Bool
 told n r p =
-    unwrap_or (option_map (λ (d : Descriptor). is_on (opened.Queue n) d.on) (value_at nat_eq (unwrap_or (option_map (λ (q : Process). q.descriptors) p) []) r.descriptor)) false
+    unwrap_or (option_map (λ (d : Descriptor). is_on (opened.Mq n) d.on) (value_at nat_eq (unwrap_or (option_map (λ (q : Process). q.descriptors) p) []) r.descriptor)) false
 
 abbrev pub IsRegistered : List (ℕ × Process) → ℕ × NamedEntry Mq → Type 0
 IsRegistered ps e = is_registered ps e ≡ true
 
 -- after an exit, those of others are by descriptors that are open still
 pub registered-exit : (ps : List (ℕ × Process)) (pid : ℕ) (o : Named Mq) → All (IsRegistered ps) o.entries
-    → All (IsRegistered (without nat_eq ps pid)) (still_open names.Queue (without nat_eq ps pid) (without_registrations (is_by (Some pid) None) o)).entries
+    → All (IsRegistered (without nat_eq ps pid)) (still_open names.Mq (without nat_eq ps pid) (without_registrations (is_by (Some pid) None) o)).entries
 registered-exit ps pid o all =
-    All-filter (stays names.Queue left) (IsRegistered left) _ (All-seen_as (IsRegistered ps) (IsRegistered left) (deregistered (is_by (Some pid) None)) one o.entries all)
+    All-filter (stays names.Mq left) (IsRegistered left) _ (All-seen_as (IsRegistered ps) (IsRegistered left) (deregistered (is_by (Some pid) None)) one o.entries all)
   where
     left : List (ℕ × Process)
     left = without nat_eq ps pid
@@ -234,9 +234,9 @@ registered-exit ps pid o all =
                 ap (told e.0 r) (value_at-without ps pid r.pid.0 other) ∙ h
 
 -- nobody is left registered
-pub registered-none : (ps : List (ℕ × Process)) (o : Named Mq) → All (IsRegistered ps) (still_open names.Queue ps (without_registrations (is_by None None) o)).entries
+pub registered-none : (ps : List (ℕ × Process)) (o : Named Mq) → All (IsRegistered ps) (still_open names.Mq ps (without_registrations (is_by None None) o)).entries
 registered-none ps o =
-    All-filter (stays names.Queue ps) (IsRegistered ps) _
+    All-filter (stays names.Mq ps) (IsRegistered ps) _
     (All-seen_as (λ (e : ℕ × NamedEntry Mq). Unit {0}) (IsRegistered ps) (deregistered (is_by None None)) one o.entries (λ k d i. tt))
   where
     one : (e : ℕ × NamedEntry Mq) → Unit {0} → IsRegistered ps (e.0, deregistered (is_by None None) e.1)
@@ -345,38 +345,38 @@ All-without {X} P (e ∷ es) n all = by_test (nat_eq e.0 n) (All-without P es n 
 pub record AreAllHeld (limits : Limits) (ps : Numbered Process) (o : NamedObjects) : Type 0 where
   pub processes : AreSoundProcesses limits o ps
   pub mq : AreSoundMqs limits ps.entries o.mq
-  pub named_sem : AreSoundNamedSems limits ps.entries o.named_sem
-  pub shm : AreSoundSegments limits ps.entries o.shm
+  pub psem : AreSoundPsems limits ps.entries o.psem
+  pub pshm : AreSoundPshms limits ps.entries o.pshm
 
 -- what processes leave, with their registrations
 abbrev pub left_by : List (ℕ × Process) → (Registration → Bool) → NamedObjects → NamedObjects
 left_by left goes o =
     record {
-      mq = still_open names.Queue left (without_registrations goes o.mq);
-      named_sem = still_open names.Semaphore left o.named_sem;
-      shm = still_open names.Segment left o.shm;
+      mq = still_open names.Mq left (without_registrations goes o.mq);
+      psem = still_open names.Psem left o.psem;
+      pshm = still_open names.Pshm left o.pshm;
     }
 
 module _ (limits : Limits) where
   -- registrations are no matter of names
   deregistered-held : (goes : Registration → Bool) (ps : List (ℕ × Process)) (o : Named Mq)
-      → AreHeld limits.queues (IsSoundMq limits) names.Queue ps o → AreHeld limits.queues (IsSoundMq limits) names.Queue ps (without_registrations goes o)
+      → AreHeld limits.queues (IsSoundMq limits) names.Mq ps o → AreHeld limits.queues (IsSoundMq limits) names.Mq ps (without_registrations goes o)
   deregistered-held goes ps o h =
       record {
         named = deregistered-sound limits goes limits.queues o h.named;
-        forms = All-seen_as (λ (e : ℕ × NamedEntry Mq). is_named_so names.Queue e ≡ true) (λ (e : ℕ × NamedEntry Mq). is_named_so names.Queue e ≡ true)
+        forms = All-seen_as (λ (e : ℕ × NamedEntry Mq). is_named_so names.Mq e ≡ true) (λ (e : ℕ × NamedEntry Mq). is_named_so names.Mq e ≡ true)
             (deregistered goes) (λ e f. f) o.entries h.forms;
-        stay = All-seen_as (λ (e : ℕ × NamedEntry Mq). stays names.Queue ps e ≡ true) (λ (e : ℕ × NamedEntry Mq). stays names.Queue ps e ≡ true)
+        stay = All-seen_as (λ (e : ℕ × NamedEntry Mq). stays names.Mq ps e ≡ true) (λ (e : ℕ × NamedEntry Mq). stays names.Mq ps e ≡ true)
             (deregistered goes) (λ e f. f) o.entries h.stay;
       }
 
   -- what is open stays there
   pub all-there : (left : List (ℕ × Process)) (goes : Registration → Bool) (o : NamedObjects) → AllThere o (left_by left goes o) left
-  all-there left goes o (opened.Queue n) used there =
-      open-stay names.Queue left (without_registrations goes o.mq) n used
+  all-there left goes o (opened.Mq n) used there =
+      open-stay names.Mq left (without_registrations goes o.mq) n used
       (ap is_some (at-map (deregistered goes) o.mq.entries n) ∙ (is_some-map (deregistered goes) (entry_of o.mq n) ∙ there))
-  all-there left goes o (opened.Semaphore n) used there = open-stay names.Semaphore left o.named_sem n used there
-  all-there left goes o (opened.Segment n) used there = open-stay names.Segment left o.shm n used there
+  all-there left goes o (opened.Psem n) used there = open-stay names.Psem left o.psem n used there
+  all-there left goes o (opened.Pshm n) used there = open-stay names.Pshm left o.pshm n used there
 
   -- if some processes are left, with what is open
   pub all-left : (ps left : Numbered Process) (goes : Registration → Bool) (o : NamedObjects) → AreAllHeld limits ps o → AreNumbered limits.processes left
@@ -389,14 +389,14 @@ module _ (limits : Limits) where
           descriptors = each-there limits o (left_by left.entries goes o) left.entries (all-there left.entries goes o) each;
         };
         mq = record {
-          held = held-left names.Queue limits.queues (IsSoundMq limits) ps.entries left.entries (without_registrations goes o.mq)
+          held = held-left names.Mq limits.queues (IsSoundMq limits) ps.entries left.entries (without_registrations goes o.mq)
               (deregistered-held goes ps.entries o.mq h.mq.held);
           registered = registered;
         };
-        named_sem = held-left names.Semaphore limits.named_semaphores (λ value. value ≤ sem_value_max) ps.entries left.entries o.named_sem h.named_sem;
-        shm = record {
-          held = held-left names.Segment limits.segments (λ x. ⊤) ps.entries left.entries o.shm h.shm.held;
-          bytes = omega (arith, fewer-bytes (stays names.Segment left.entries) o.shm, h.shm.bytes);
+        psem = held-left names.Psem limits.named_semaphores (λ value. value ≤ sem_value_max) ps.entries left.entries o.psem h.psem;
+        pshm = record {
+          held = held-left names.Pshm limits.segments (λ x. ⊤) ps.entries left.entries o.pshm h.pshm.held;
+          bytes = omega (arith, fewer-bytes (stays names.Pshm left.entries) o.pshm, h.pshm.bytes);
         };
       }
 
@@ -426,13 +426,13 @@ module _ (limits : Limits) where
           descriptors = All-push (Has limits o) ps.entries (ps.next, p) h.processes.descriptors (record { numbers = omega arith; each = All-nil _ });
         };
         mq = record {
-          held = held-more names.Queue limits.queues (IsSoundMq limits) ps.entries more o.mq h.mq.held;
+          held = held-more names.Mq limits.queues (IsSoundMq limits) ps.entries more o.mq h.mq.held;
           registered = All-weaker (IsRegistered ps.entries) (IsRegistered (ps.entries ++ more)) (registered-more ps.entries more) o.mq.entries h.mq.registered;
         };
-        named_sem = held-more names.Semaphore limits.named_semaphores (λ value. value ≤ sem_value_max) ps.entries more o.named_sem h.named_sem;
-        shm = record {
-          held = held-more names.Segment limits.segments (λ x. ⊤) ps.entries more o.shm h.shm.held;
-          bytes = h.shm.bytes;
+        psem = held-more names.Psem limits.named_semaphores (λ value. value ≤ sem_value_max) ps.entries more o.psem h.psem;
+        pshm = record {
+          held = held-more names.Pshm limits.segments (λ x. ⊤) ps.entries more o.pshm h.pshm.held;
+          bytes = h.pshm.bytes;
         };
       }
 
@@ -497,11 +497,11 @@ none-again e = by_registration e.object.registration
     by_registration (Some r) = refl
 
 pub restarted-again : (o : Named Mq)
-    → still_open names.Queue [] (without_registrations (is_by None None) (still_open names.Queue [] (without_registrations (is_by None None) o)))
-    ≡ still_open names.Queue [] (without_registrations (is_by None None) o)
+    → still_open names.Mq [] (without_registrations (is_by None None) (still_open names.Mq [] (without_registrations (is_by None None) o)))
+    ≡ still_open names.Mq [] (without_registrations (is_by None None) o)
 restarted-again o =
     ap (λ (es : List (ℕ × NamedEntry Mq)). let p : Named Mq = record { next = o.next; entries = es } in p)
-    (left-again (deregistered (is_by None None)) none-again (stays names.Queue []) (λ n e. refl) o.entries)
+    (left-again (deregistered (is_by None None)) none-again (stays names.Mq []) (λ n e. refl) o.entries)
 
 -- what is left when a test was made is left when it is made again
 pub kept-again : {X : Type 0} (test : ℕ × NamedEntry X → Bool) (o : Named X) → kept_if test (kept_if test o) ≡ kept_if test o

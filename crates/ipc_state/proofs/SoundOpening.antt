@@ -30,7 +30,7 @@ use Rattle.ipc_state.specs.Named.{Named, named, with_object, nameless, without_n
 use Rattle.ipc_state.specs.Numbered.{Numbered, entry_of, is_full, with_entry, with_new, AreNumbered}
 use Rattle.ipc_state.specs.Opening.{NamedObjects, descriptors_of, descriptor_at, has_access, has_name, is_by, is_by_descriptor, is_named_so, is_on, is_open, opened_as}
 use Rattle.ipc_state.specs.Opening.{is_sound_descriptor, is_there_for, stays, still_open, unless_so, deregistered, with_table}
-use Rattle.ipc_state.specs.Sound.{AreHeld, AreSoundDescriptors, AreSoundMqs, AreSoundNamedSems, AreSoundProcesses, AreSoundSegments, IsSoundMq}
+use Rattle.ipc_state.specs.Sound.{AreHeld, AreSoundDescriptors, AreSoundMqs, AreSoundPsems, AreSoundProcesses, AreSoundPshms, IsSoundMq}
 use Rattle.ipc_state.specs.Sound.{segment_bytes}
 use Rattle.ipc_state.proofs.Naming.{kept_if-named, unnamed-named, with_new-named, with_object-named}
 use Rattle.ipc_state.proofs.Numbering.{with_entry-numbered}
@@ -73,9 +73,9 @@ All-row {X} P (e ∷ es) n x all new = by_test (nat_lt n e.0) (All-row P es n x 
 -- ---- objects that change
 
 some_name : (kind : NameKind) (name : List ℕ) → is_ok (check_name kind name) ≡ true → not (is_none name) ≡ true
-some_name names.Queue [] proper = cc
-some_name names.Semaphore [] proper = cc
-some_name names.Segment [] proper = cc
+some_name names.Mq [] proper = cc
+some_name names.Psem [] proper = cc
+some_name names.Pshm [] proper = cc
 some_name kind (b ∷ name) proper = refl
 
 module _ {X : Type 0} (kind : NameKind) (most : ℕ) (P : X → Type 0) (ps : List (ℕ × Process)) (o : Named X) (h : AreHeld most P kind ps o) where
@@ -206,32 +206,32 @@ module _ (limits : Limits) (ps : Numbered Process) (o : NamedObjects) (h : AreAl
   -- other queues, sound ones
   mq-all : (m : Named Mq) → ((n : ℕ) → is_some (entry_of o.mq n) ≡ true → is_some (entry_of m n) ≡ true) → AreSoundMqs limits ps.entries m
       → AreAllHeld limits ps (record o { mq = m })
-  mq-all m all good = record { processes = same-there (record o { mq = m }) there; mq = good; named_sem = h.named_sem; shm = h.shm }
+  mq-all m all good = record { processes = same-there (record o { mq = m }) there; mq = good; psem = h.psem; pshm = h.pshm }
     where
       there : AllThere o (record o { mq = m }) ps.entries
-      there (objects.Queue n) used is = all n is
-      there (objects.Semaphore n) used is = is
-      there (objects.Segment n) used is = is
+      there (objects.Mq n) used is = all n is
+      there (objects.Psem n) used is = is
+      there (objects.Pshm n) used is = is
 
   -- other semaphores
-  sem-all : (m : Named ℕ) → ((n : ℕ) → is_some (entry_of o.named_sem n) ≡ true → is_some (entry_of m n) ≡ true) → AreSoundNamedSems limits ps.entries m
-      → AreAllHeld limits ps (record o { named_sem = m })
-  sem-all m all good = record { processes = same-there (record o { named_sem = m }) there; mq = h.mq; named_sem = good; shm = h.shm }
+  sem-all : (m : Named ℕ) → ((n : ℕ) → is_some (entry_of o.psem n) ≡ true → is_some (entry_of m n) ≡ true) → AreSoundPsems limits ps.entries m
+      → AreAllHeld limits ps (record o { psem = m })
+  sem-all m all good = record { processes = same-there (record o { psem = m }) there; mq = h.mq; psem = good; pshm = h.pshm }
     where
-      there : AllThere o (record o { named_sem = m }) ps.entries
-      there (objects.Queue n) used is = is
-      there (objects.Semaphore n) used is = all n is
-      there (objects.Segment n) used is = is
+      there : AllThere o (record o { psem = m }) ps.entries
+      there (objects.Mq n) used is = is
+      there (objects.Psem n) used is = all n is
+      there (objects.Pshm n) used is = is
 
   -- other segments
-  shm-all : (m : Named Segment) → ((n : ℕ) → is_some (entry_of o.shm n) ≡ true → is_some (entry_of m n) ≡ true) → AreSoundSegments limits ps.entries m
-      → AreAllHeld limits ps (record o { shm = m })
-  shm-all m all good = record { processes = same-there (record o { shm = m }) there; mq = h.mq; named_sem = h.named_sem; shm = good }
+  pshm-all : (m : Named Segment) → ((n : ℕ) → is_some (entry_of o.pshm n) ≡ true → is_some (entry_of m n) ≡ true) → AreSoundPshms limits ps.entries m
+      → AreAllHeld limits ps (record o { pshm = m })
+  pshm-all m all good = record { processes = same-there (record o { pshm = m }) there; mq = h.mq; psem = h.psem; pshm = good }
     where
-      there : AllThere o (record o { shm = m }) ps.entries
-      there (objects.Queue n) used is = is
-      there (objects.Semaphore n) used is = is
-      there (objects.Segment n) used is = all n is
+      there : AllThere o (record o { pshm = m }) ps.entries
+      there (objects.Mq n) used is = is
+      there (objects.Psem n) used is = is
+      there (objects.Pshm n) used is = all n is
 
   -- another queue at a number that is there
   pub with_mq-held : (n : ℕ) (e : NamedEntry Mq) (q : Mq) → entry_of o.mq n ≡ Some e → IsSoundMq limits q → is_by_descriptor ps.entries n q.registration ≡ true
@@ -240,19 +240,19 @@ module _ (limits : Limits) (ps : Numbered Process) (o : NamedObjects) (h : AreAl
       let f : NamedEntry Mq = with_object e q in
       mq-all (with_entry o.mq n f) (λ m there. is_some-with_value nat_eq o.mq.entries n m f ∙ there)
       (record {
-        held = put-held names.Queue limits.queues (IsSoundMq limits) ps.entries o.mq h.mq.held n e q is good;
+        held = put-held names.Mq limits.queues (IsSoundMq limits) ps.entries o.mq h.mq.held n e q is good;
         registered = All-put (IsRegistered ps.entries) o.mq.entries n f h.mq.registered registered;
       })
 
   -- a new queue of a name that names none
   pub with_new_mq-held : (name : List ℕ) (cred : Cred) (mode : ℕ) (q : Mq) → named o.mq name ≡ None → is_full limits.queues o.mq ≡ false → mode < 512
-      → is_ok (check_name names.Queue name) ≡ true → IsSoundMq limits q → q.registration ≡ None
+      → is_ok (check_name names.Mq name) ≡ true → IsSoundMq limits q → q.registration ≡ None
       → AreAllHeld limits ps (record o { mq = with_new o.mq (record { name = name; owner = cred; mode = mode; object = q }) })
   with_new_mq-held name cred mode q unnamed room few proper good free =
       let e : NamedEntry Mq = record { name = name; owner = cred; mode = mode; object = q } in
       mq-all (with_new o.mq e) (λ m there. is_some-append nat_eq o.mq.entries ((o.mq.next, e) ∷ []) m there)
       (record {
-        held = new-held names.Queue limits.queues (IsSoundMq limits) ps.entries o.mq h.mq.held name cred mode q unnamed room few proper good;
+        held = new-held names.Mq limits.queues (IsSoundMq limits) ps.entries o.mq h.mq.held name cred mode q unnamed room few proper good;
         registered = All-push (IsRegistered ps.entries) o.mq.entries (o.mq.next, e) h.mq.registered
             (ap (λ (r : Option Registration). is_by_descriptor ps.entries o.mq.next r) free);
       })
@@ -261,27 +261,27 @@ module _ (limits : Limits) (ps : Numbered Process) (o : NamedObjects) (h : AreAl
   abbrev swept_of : NamedObjects → NamedObjects
   swept_of m =
       record {
-        mq = still_open names.Queue ps.entries m.mq;
-        named_sem = still_open names.Semaphore ps.entries m.named_sem;
-        shm = still_open names.Segment ps.entries m.shm;
+        mq = still_open names.Mq ps.entries m.mq;
+        psem = still_open names.Psem ps.entries m.psem;
+        pshm = still_open names.Pshm ps.entries m.pshm;
       }
 
   -- those of each kind
-  swept-mqs : AreSoundMqs limits ps.entries (still_open names.Queue ps.entries o.mq)
+  swept-mqs : AreSoundMqs limits ps.entries (still_open names.Mq ps.entries o.mq)
   swept-mqs =
       record {
-        held = held-left names.Queue limits.queues (IsSoundMq limits) ps.entries ps.entries o.mq h.mq.held;
-        registered = All-filter (stays names.Queue ps.entries) (IsRegistered ps.entries) o.mq.entries h.mq.registered;
+        held = held-left names.Mq limits.queues (IsSoundMq limits) ps.entries ps.entries o.mq h.mq.held;
+        registered = All-filter (stays names.Mq ps.entries) (IsRegistered ps.entries) o.mq.entries h.mq.registered;
       }
 
-  swept-sems : AreSoundNamedSems limits ps.entries (still_open names.Semaphore ps.entries o.named_sem)
-  swept-sems = held-left names.Semaphore limits.named_semaphores (λ value. value ≤ sem_value_max) ps.entries ps.entries o.named_sem h.named_sem
+  swept-sems : AreSoundPsems limits ps.entries (still_open names.Psem ps.entries o.psem)
+  swept-sems = held-left names.Psem limits.named_semaphores (λ value. value ≤ sem_value_max) ps.entries ps.entries o.psem h.psem
 
-  swept-segments : AreSoundSegments limits ps.entries (still_open names.Segment ps.entries o.shm)
+  swept-segments : AreSoundPshms limits ps.entries (still_open names.Pshm ps.entries o.pshm)
   swept-segments =
       record {
-        held = held-left names.Segment limits.segments (λ x. ⊤) ps.entries ps.entries o.shm h.shm.held;
-        bytes = omega (arith, fewer-bytes (stays names.Segment ps.entries) o.shm, h.shm.bytes);
+        held = held-left names.Pshm limits.segments (λ x. ⊤) ps.entries ps.entries o.pshm h.pshm.held;
+        bytes = omega (arith, fewer-bytes (stays names.Pshm ps.entries) o.pshm, h.pshm.bytes);
       }
 
   -- a queue loses its name, and goes if it is not open
@@ -290,90 +290,90 @@ module _ (limits : Limits) (ps : Numbered Process) (o : NamedObjects) (h : AreAl
       record {
         processes = same-there (swept_of (record o { mq = unnamed o.mq n })) there;
         mq = record {
-          held = unnamed-held names.Queue limits.queues (IsSoundMq limits) ps.entries o.mq h.mq.held n;
-          registered = All-filter (stays names.Queue ps.entries) (IsRegistered ps.entries) (unnamed o.mq n).entries
-              (unnamed-all names.Queue limits.queues (IsSoundMq limits) ps.entries o.mq h.mq.held n (IsRegistered ps.entries) (λ e r. r) h.mq.registered);
+          held = unnamed-held names.Mq limits.queues (IsSoundMq limits) ps.entries o.mq h.mq.held n;
+          registered = All-filter (stays names.Mq ps.entries) (IsRegistered ps.entries) (unnamed o.mq n).entries
+              (unnamed-all names.Mq limits.queues (IsSoundMq limits) ps.entries o.mq h.mq.held n (IsRegistered ps.entries) (λ e r. r) h.mq.registered);
         };
-        named_sem = swept-sems;
-        shm = swept-segments;
+        psem = swept-sems;
+        pshm = swept-segments;
       }
     where
       there : AllThere o (swept_of (record o { mq = unnamed o.mq n })) ps.entries
-      there (objects.Queue m) used is = unnamed-there names.Queue limits.queues (IsSoundMq limits) ps.entries o.mq h.mq.held n m used is
-      there (objects.Semaphore m) used is = open-stay names.Semaphore ps.entries o.named_sem m used is
-      there (objects.Segment m) used is = open-stay names.Segment ps.entries o.shm m used is
+      there (objects.Mq m) used is = unnamed-there names.Mq limits.queues (IsSoundMq limits) ps.entries o.mq h.mq.held n m used is
+      there (objects.Psem m) used is = open-stay names.Psem ps.entries o.psem m used is
+      there (objects.Pshm m) used is = open-stay names.Pshm ps.entries o.pshm m used is
 
   -- a semaphore
-  pub unlinked_sem-held : (n : ℕ) → AreAllHeld limits ps (swept_of (record o { named_sem = unnamed o.named_sem n }))
-  unlinked_sem-held n =
+  pub unlinked_psem-held : (n : ℕ) → AreAllHeld limits ps (swept_of (record o { psem = unnamed o.psem n }))
+  unlinked_psem-held n =
       record {
-        processes = same-there (swept_of (record o { named_sem = unnamed o.named_sem n })) there;
+        processes = same-there (swept_of (record o { psem = unnamed o.psem n })) there;
         mq = swept-mqs;
-        named_sem = unnamed-held names.Semaphore limits.named_semaphores (λ value. value ≤ sem_value_max) ps.entries o.named_sem h.named_sem n;
-        shm = swept-segments;
+        psem = unnamed-held names.Psem limits.named_semaphores (λ value. value ≤ sem_value_max) ps.entries o.psem h.psem n;
+        pshm = swept-segments;
       }
     where
-      there : AllThere o (swept_of (record o { named_sem = unnamed o.named_sem n })) ps.entries
-      there (objects.Queue m) used is = open-stay names.Queue ps.entries o.mq m used is
-      there (objects.Semaphore m) used is =
-          unnamed-there names.Semaphore limits.named_semaphores (λ value. value ≤ sem_value_max) ps.entries o.named_sem h.named_sem n m used is
-      there (objects.Segment m) used is = open-stay names.Segment ps.entries o.shm m used is
+      there : AllThere o (swept_of (record o { psem = unnamed o.psem n })) ps.entries
+      there (objects.Mq m) used is = open-stay names.Mq ps.entries o.mq m used is
+      there (objects.Psem m) used is =
+          unnamed-there names.Psem limits.named_semaphores (λ value. value ≤ sem_value_max) ps.entries o.psem h.psem n m used is
+      there (objects.Pshm m) used is = open-stay names.Pshm ps.entries o.pshm m used is
 
   -- a segment
-  pub unlinked_segment-held : (n : ℕ) → AreAllHeld limits ps (swept_of (record o { shm = unnamed o.shm n }))
-  unlinked_segment-held n =
+  pub unlinked_pshm-held : (n : ℕ) → AreAllHeld limits ps (swept_of (record o { pshm = unnamed o.pshm n }))
+  unlinked_pshm-held n =
       record {
-        processes = same-there (swept_of (record o { shm = unnamed o.shm n })) there;
+        processes = same-there (swept_of (record o { pshm = unnamed o.pshm n })) there;
         mq = swept-mqs;
-        named_sem = swept-sems;
-        shm = record {
-          held = unnamed-held names.Segment limits.segments (λ x. ⊤) ps.entries o.shm h.shm.held n;
-          bytes = omega (arith, fewer-bytes (stays names.Segment ps.entries) (unnamed o.shm n), unnamed-bytes o.shm n, h.shm.bytes);
+        psem = swept-sems;
+        pshm = record {
+          held = unnamed-held names.Pshm limits.segments (λ x. ⊤) ps.entries o.pshm h.pshm.held n;
+          bytes = omega (arith, fewer-bytes (stays names.Pshm ps.entries) (unnamed o.pshm n), unnamed-bytes o.pshm n, h.pshm.bytes);
         };
       }
     where
-      there : AllThere o (swept_of (record o { shm = unnamed o.shm n })) ps.entries
-      there (objects.Queue m) used is = open-stay names.Queue ps.entries o.mq m used is
-      there (objects.Semaphore m) used is = open-stay names.Semaphore ps.entries o.named_sem m used is
-      there (objects.Segment m) used is = unnamed-there names.Segment limits.segments (λ x. ⊤) ps.entries o.shm h.shm.held n m used is
+      there : AllThere o (swept_of (record o { pshm = unnamed o.pshm n })) ps.entries
+      there (objects.Mq m) used is = open-stay names.Mq ps.entries o.mq m used is
+      there (objects.Psem m) used is = open-stay names.Psem ps.entries o.psem m used is
+      there (objects.Pshm m) used is = unnamed-there names.Pshm limits.segments (λ x. ⊤) ps.entries o.pshm h.pshm.held n m used is
 
   -- another segment at a number that is there, and a new one
-  pub with_segment-held : (n : ℕ) (e : NamedEntry Segment) (x : Segment) → entry_of o.shm n ≡ Some e
-      → segment_bytes o.shm - length e.object.bytes + length x.bytes ≤ limits.segment_bytes
-      → AreAllHeld limits ps (record o { shm = with_entry o.shm n (with_object e x) })
-  with_segment-held n e x is few =
-      shm-all (with_entry o.shm n (with_object e x)) (λ m there. is_some-with_value nat_eq o.shm.entries n m (with_object e x) ∙ there)
+  pub with_pshm-held : (n : ℕ) (e : NamedEntry Segment) (x : Segment) → entry_of o.pshm n ≡ Some e
+      → segment_bytes o.pshm - length e.object.bytes + length x.bytes ≤ limits.segment_bytes
+      → AreAllHeld limits ps (record o { pshm = with_entry o.pshm n (with_object e x) })
+  with_pshm-held n e x is few =
+      pshm-all (with_entry o.pshm n (with_object e x)) (λ m there. is_some-with_value nat_eq o.pshm.entries n m (with_object e x) ∙ there)
       (record {
-        held = put-held names.Segment limits.segments (λ x. ⊤) ps.entries o.shm h.shm.held n e x is tt;
-        bytes = omega (arith, bytes-with o.shm n e x is, few);
+        held = put-held names.Pshm limits.segments (λ x. ⊤) ps.entries o.pshm h.pshm.held n e x is tt;
+        bytes = omega (arith, bytes-with o.pshm n e x is, few);
       })
 
-  pub with_new_segment-held : (name : List ℕ) (cred : Cred) (mode : ℕ) → named o.shm name ≡ None → is_full limits.segments o.shm ≡ false → mode < 512
-      → is_ok (check_name names.Segment name) ≡ true
-      → AreAllHeld limits ps (record o { shm = with_new o.shm (record { name = name; owner = cred; mode = mode; object = empty_segment }) })
-  with_new_segment-held name cred mode unnamed room few proper =
+  pub with_new_pshm-held : (name : List ℕ) (cred : Cred) (mode : ℕ) → named o.pshm name ≡ None → is_full limits.segments o.pshm ≡ false → mode < 512
+      → is_ok (check_name names.Pshm name) ≡ true
+      → AreAllHeld limits ps (record o { pshm = with_new o.pshm (record { name = name; owner = cred; mode = mode; object = empty_segment }) })
+  with_new_pshm-held name cred mode unnamed room few proper =
       let e : NamedEntry Segment = record { name = name; owner = cred; mode = mode; object = empty_segment } in
-      shm-all (with_new o.shm e) (λ m there. is_some-append nat_eq o.shm.entries ((o.shm.next, e) ∷ []) m there)
+      pshm-all (with_new o.pshm e) (λ m there. is_some-append nat_eq o.pshm.entries ((o.pshm.next, e) ∷ []) m there)
       (record {
-        held = new-held names.Segment limits.segments (λ x. ⊤) ps.entries o.shm h.shm.held name cred mode empty_segment unnamed room few proper tt;
-        bytes = omega (arith, sum_by-append (λ (d : ℕ × NamedEntry Segment). length d.1.object.bytes) o.shm.entries ((o.shm.next, e) ∷ []), h.shm.bytes);
+        held = new-held names.Pshm limits.segments (λ x. ⊤) ps.entries o.pshm h.pshm.held name cred mode empty_segment unnamed room few proper tt;
+        bytes = omega (arith, sum_by-append (λ (d : ℕ × NamedEntry Segment). length d.1.object.bytes) o.pshm.entries ((o.pshm.next, e) ∷ []), h.pshm.bytes);
       })
 
   -- another value at a number that is there, and a new semaphore
-  pub with_named_sem-held : (n : ℕ) (e : NamedEntry ℕ) (value : ℕ) → entry_of o.named_sem n ≡ Some e → value ≤ sem_value_max
-      → AreAllHeld limits ps (record o { named_sem = with_entry o.named_sem n (with_object e value) })
-  with_named_sem-held n e value is good =
-      sem-all (with_entry o.named_sem n (with_object e value))
-      (λ m there. is_some-with_value nat_eq o.named_sem.entries n m (with_object e value) ∙ there)
-      (put-held names.Semaphore limits.named_semaphores (λ value. value ≤ sem_value_max) ps.entries o.named_sem h.named_sem n e value is good)
+  pub with_psem-held : (n : ℕ) (e : NamedEntry ℕ) (value : ℕ) → entry_of o.psem n ≡ Some e → value ≤ sem_value_max
+      → AreAllHeld limits ps (record o { psem = with_entry o.psem n (with_object e value) })
+  with_psem-held n e value is good =
+      sem-all (with_entry o.psem n (with_object e value))
+      (λ m there. is_some-with_value nat_eq o.psem.entries n m (with_object e value) ∙ there)
+      (put-held names.Psem limits.named_semaphores (λ value. value ≤ sem_value_max) ps.entries o.psem h.psem n e value is good)
 
-  pub with_new_named_sem-held : (name : List ℕ) (cred : Cred) (mode value : ℕ) → named o.named_sem name ≡ None
-      → is_full limits.named_semaphores o.named_sem ≡ false → mode < 512 → is_ok (check_name names.Semaphore name) ≡ true → value ≤ sem_value_max
-      → AreAllHeld limits ps (record o { named_sem = with_new o.named_sem (record { name = name; owner = cred; mode = mode; object = value }) })
-  with_new_named_sem-held name cred mode value unnamed room few proper good =
+  pub with_new_psem-held : (name : List ℕ) (cred : Cred) (mode value : ℕ) → named o.psem name ≡ None
+      → is_full limits.named_semaphores o.psem ≡ false → mode < 512 → is_ok (check_name names.Psem name) ≡ true → value ≤ sem_value_max
+      → AreAllHeld limits ps (record o { psem = with_new o.psem (record { name = name; owner = cred; mode = mode; object = value }) })
+  with_new_psem-held name cred mode value unnamed room few proper good =
       let e : NamedEntry ℕ = record { name = name; owner = cred; mode = mode; object = value } in
-      sem-all (with_new o.named_sem e) (λ m there. is_some-append nat_eq o.named_sem.entries ((o.named_sem.next, e) ∷ []) m there)
-      (new-held names.Semaphore limits.named_semaphores (λ value. value ≤ sem_value_max) ps.entries o.named_sem h.named_sem name cred mode value unnamed room few
+      sem-all (with_new o.psem e) (λ m there. is_some-append nat_eq o.psem.entries ((o.psem.next, e) ∷ []) m there)
+      (new-held names.Psem limits.named_semaphores (λ value. value ≤ sem_value_max) ps.entries o.psem h.psem name cred mode value unnamed room few
       proper good)
 
 -- ---- descriptors
@@ -493,14 +493,14 @@ module _ (ps : Numbered Process) (pid : ℕ) (table : Table) where
     registered-table n r h = by_pid (nat_eq r.pid.0 pid) refl
       where
         on_same : (v w : Option Descriptor) → ((d : Descriptor) → v ≡ Some d → option_map (λ (c : Descriptor). c.on) w ≡ Some d.on)
-            → unwrap_or (option_map (λ (d : Descriptor). is_on (objects.Queue n) d.on) v) false ≡ true
-            → unwrap_or (option_map (λ (d : Descriptor). is_on (objects.Queue n) d.on) w) false ≡ true
+            → unwrap_or (option_map (λ (d : Descriptor). is_on (objects.Mq n) d.on) v) false ≡ true
+            → unwrap_or (option_map (λ (d : Descriptor). is_on (objects.Mq n) d.on) w) false ≡ true
         on_same None w same h = cc
         on_same (Some d) None same h = let none = same d refl in cc
         on_same (Some d) (Some c) same h =
             let on : Some c.on ≡ Some d.on = same d refl in
             let one : c.on ≡ d.on = cc in
-            subst (λ (k : Opened). is_on (objects.Queue n) k ≡ true) (sym one) h
+            subst (λ (k : Opened). is_on (objects.Mq n) k ≡ true) (sym one) h
 
         by_process : (q : Option Process) → entry_of ps pid ≡ q → told n r (entry_of ps pid) ≡ true → told n r (entry_of (with_table ps pid table) pid) ≡ true
         by_process None is h = subst (λ (t : Numbered Process). told n r (entry_of t pid) ≡ true) (sym (table-none is)) h
@@ -538,11 +538,11 @@ module _ (ps : Numbered Process) (pid : ℕ) (table : Table) where
             descriptors = table-each limits o h.processes.descriptors good;
           };
           mq = record {
-            held = table-stay names.Queue limits.queues (IsSoundMq limits) o.mq h.mq.held;
+            held = table-stay names.Mq limits.queues (IsSoundMq limits) o.mq h.mq.held;
             registered = All-weaker (IsRegistered ps.entries) (IsRegistered (with_table ps pid table).entries) by_entry o.mq.entries h.mq.registered;
           };
-          named_sem = table-stay names.Semaphore limits.named_semaphores (λ value. value ≤ sem_value_max) o.named_sem h.named_sem;
-          shm = record { held = table-stay names.Segment limits.segments (λ x. ⊤) o.shm h.shm.held; bytes = h.shm.bytes };
+          psem = table-stay names.Psem limits.named_semaphores (λ value. value ≤ sem_value_max) o.psem h.psem;
+          pshm = record { held = table-stay names.Pshm limits.segments (λ x. ⊤) o.pshm h.pshm.held; bytes = h.pshm.bytes };
         }
       where
         by_entry : (e : ℕ × NamedEntry Mq) → IsRegistered ps.entries e → IsRegistered (with_table ps pid table).entries e
@@ -677,7 +677,7 @@ module _ (limits : Limits) (ps : Numbered Process) (pid : ℕ) (o : NamedObjects
         } in
         all-left limits ps shorter goes o h (table-numbered ps pid (without nat_eq own-table fd) limits.processes h.processes.numbered)
         (table-each ps pid (without nat_eq own-table fd) limits o h.processes.descriptors good)
-        (All-filter (stays names.Queue shorter.entries) (IsRegistered shorter.entries) _
+        (All-filter (stays names.Mq shorter.entries) (IsRegistered shorter.entries) _
         (All-seen_as (IsRegistered ps.entries) (IsRegistered shorter.entries) (deregistered goes) by_entry o.mq.entries h.mq.registered))
       where
         -- the other descriptors are as they were
@@ -716,5 +716,5 @@ module _ (limits : Limits) (ps : Numbered Process) (pid : ℕ) (o : NamedObjects
                 by_test : (b : Bool) → goes r ≡ b → is_by_descriptor shorter.entries e.0 (if b then None else Some r) ≡ true
                 by_test true is = refl
                 by_test false is =
-                    ap (λ (v : Option Descriptor). unwrap_or (option_map (λ (d : Descriptor). is_on (objects.Queue e.0) d.on) v) false)
+                    ap (λ (v : Option Descriptor). unwrap_or (option_map (λ (d : Descriptor). is_on (objects.Mq e.0) d.on) v) false)
                     (elsewhere r.pid.0 r.descriptor is) ∙ h

@@ -13,22 +13,22 @@ use Rattle.ipc_base.specs.declared.limits.Limits.{Limits}
 use Rattle.ipc_base.specs.Limits.{ArePassed}
 use Rattle.ipc_base.proofs.CallerLemmas.{passed-bounds}
 use Rattle.sysv_msg.specs.Queue.{Queue, PlainMessage, new_queue, full, byte_count, sent, taken, changed}
-use Rattle.ipc_state.specs.Sound.{IsSoundMessage, IsSoundQueue, HasNumbers}
-use Rattle.ipc_state.specs.Tests.{is_sound_message, is_sound_queue}
+use Rattle.ipc_state.specs.Sound.{IsSoundMessage, IsSoundMsgQueue, HasNumbers}
+use Rattle.ipc_state.specs.Tests.{is_sound_message, is_sound_msg_queue}
 use Rattle.ipc_state.proofs.Numbering.{neither}
 
 module _ (limits : Limits) where
-  pub new_queue-sound : (moment : ℕ) → IsSoundQueue limits (new_queue limits.msgmnb moment)
+  pub new_queue-sound : (moment : ℕ) → IsSoundMsgQueue limits (new_queue limits.msgmnb moment)
   new_queue-sound moment = record { bytes = omega arith; count = omega arith; qbytes = omega arith; messages = All-nil _ }
 
   -- under limits that were checked
-  pub queue-numbers : (q : Queue) → ArePassed limits → IsSoundQueue limits q → HasNumbers q
+  pub queue-numbers : (q : Queue) → ArePassed limits → IsSoundMsgQueue limits q → HasNumbers q
   queue-numbers q passed h =
       let b = passed-bounds limits passed in
       record { bytes = omega (arith, h.bytes, b.msgmnb); count = omega (arith, h.count, b.msgmnb); qbytes = omega (arith, h.qbytes, b.msgmnb) }
 
   pub sent-sound : (q : Queue) (m : PlainMessage) (pid moment : ℕ) → full q (length m.text) ≡ false → IsSoundMessage limits m
-      → IsSoundQueue limits q → IsSoundQueue limits (sent q m pid moment)
+      → IsSoundMsgQueue limits q → IsSoundMsgQueue limits (sent q m pid moment)
   sent-sound q m pid moment fits good h =
       let both = neither (nat_lt q.qbytes (byte_count q.messages + length m.text)) (nat_lt q.qbytes (length q.messages + 1)) fits in
       let bytes : byte_count q.messages + length m.text ≤ q.qbytes = grind (arith, nat_tests) in
@@ -40,7 +40,7 @@ module _ (limits : Limits) where
         messages = All-push (IsSoundMessage limits) q.messages m h.messages good;
       }
 
-  pub taken-sound : (q : Queue) (at pid moment : ℕ) → at < length q.messages → IsSoundQueue limits q → IsSoundQueue limits (taken q at pid moment)
+  pub taken-sound : (q : Queue) (at pid moment : ℕ) → at < length q.messages → IsSoundMsgQueue limits q → IsSoundMsgQueue limits (taken q at pid moment)
   taken-sound q at pid moment inside h =
       let fewer = sum_by-remove (λ (m : PlainMessage). length m.text) q.messages at (record { mtype = pos 0; text = [] }) inside in
       let shorter = length-remove q.messages at inside in
@@ -52,7 +52,7 @@ module _ (limits : Limits) where
         messages = All-append P _ _ (All-take P at q.messages h.messages) (All-drop P (suc at) q.messages h.messages);
       }
 
-  pub changed-sound : (q : Queue) (qbytes moment : ℕ) → qbytes ≤ limits.msgmnb → IsSoundQueue limits q → IsSoundQueue limits (changed q qbytes moment)
+  pub changed-sound : (q : Queue) (qbytes moment : ℕ) → qbytes ≤ limits.msgmnb → IsSoundMsgQueue limits q → IsSoundMsgQueue limits (changed q qbytes moment)
   changed-sound q qbytes moment within h = record { bytes = h.bytes; count = h.count; qbytes = within; messages = h.messages }
 
   -- ---- how it is told
@@ -62,7 +62,7 @@ module _ (limits : Limits) where
       let both = Decides-and (int_lt (pos 0) m.mtype) (nat_le (length m.text) limits.msgmax) (λ yes. yes, λ yes. yes) (leb-true _ _, le-leb _ _) in
       (λ yes. let h = both.0 yes in record { above = h.0; short = h.1 }, λ h. both.1 (h.above, h.short))
 
-  pub queue-decides : (q : Queue) → Decides (is_sound_queue limits q) (IsSoundQueue limits q)
+  pub queue-decides : (q : Queue) → Decides (is_sound_msg_queue limits q) (IsSoundMsgQueue limits q)
   queue-decides q =
       let messages = Decides-by_and (is_sound_message limits) (IsSoundMessage limits) (list_all (is_sound_message limits)) message-decides refl (λ _ _. refl) q.messages in
       let most : (n : ℕ) → Decides (nat_le n limits.msgmnb) (n ≤ limits.msgmnb) = (λ n. (leb-true n limits.msgmnb, le-leb n limits.msgmnb)) in

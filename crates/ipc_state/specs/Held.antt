@@ -33,10 +33,10 @@ pub record Room : Type 0 where
   pub names : FinMap (slice_cmp nat_cmp) ℕ
   pub fresh_mq : Bool
   pub fresh_name : Option (List ℕ)
-  pub named_sem : Bool
-  pub sem_names : FinMap (slice_cmp nat_cmp) ℕ
-  pub shm : Bool
-  pub segment_names : FinMap (slice_cmp nat_cmp) ℕ
+  pub psem : Bool
+  pub psem_names : FinMap (slice_cmp nat_cmp) ℕ
+  pub pshm : Bool
+  pub pshm_names : FinMap (slice_cmp nat_cmp) ℕ
   pub fresh_segment : Option Segment
 
 pub record Held : Type 0 where
@@ -45,7 +45,7 @@ pub record Held : Type 0 where
   pub room : Room
 
 -- there is room for one queue more of this key, and a queue that is ready to be it
-pub record HasQueuePlace (s : State) (room : Room) (key : ℤ) : Type 0 where
+pub record HasMsgQueuePlace (s : State) (room : Room) (key : ℤ) : Type 0 where
   pub queue : room.queue ≡ true
   pub fresh : room.fresh ≡ true
   pub vacant : key ≢ pos 0 → keyed s.msg key ≡ None → is_vacant room.keys key ≡ true
@@ -55,10 +55,10 @@ abbrev pub HasFreshSet : Room → ℕ → Type 0
 HasFreshSet room nsems = (moment : ℕ) × (room.fresh_set ≡ Some (new_set nsems moment))
 
 -- there is room for one set more of this key, and one of so many semaphores that is ready to be it
-pub record HasSetPlace (s : State) (room : Room) (key : ℤ) (nsems : ℕ) : Type 0 where
+pub record HasSemsetPlace (s : State) (room : Room) (key : ℤ) (nsems : ℕ) : Type 0 where
   pub set : room.set ≡ true
   pub fresh : HasFreshSet room nsems
-  pub vacant : key ≢ pos 0 → keyed s.sem key ≡ None → is_vacant room.set_keys key ≡ true
+  pub vacant : key ≢ pos 0 → keyed s.semset key ≡ None → is_vacant room.set_keys key ≡ true
 
 -- there is room for one POSIX queue more of this name, and a queue and a name that are ready to be it
 pub record HasMqPlace (s : State) (room : Room) (name : List ℕ) : Type 0 where
@@ -68,16 +68,16 @@ pub record HasMqPlace (s : State) (room : Room) (name : List ℕ) : Type 0 where
   pub vacant : name ≢ [] → named s.mq name ≡ None → is_vacant room.names name ≡ true
 
 -- there is room for one named semaphore more of this name, and a name that is ready for it
-pub record HasSemPlace (s : State) (room : Room) (name : List ℕ) : Type 0 where
-  pub place : room.named_sem ≡ true
+pub record HasPsemPlace (s : State) (room : Room) (name : List ℕ) : Type 0 where
+  pub place : room.psem ≡ true
   pub called : room.fresh_name ≡ Some name
-  pub vacant : name ≢ [] → named s.named_sem name ≡ None → is_vacant room.sem_names name ≡ true
+  pub vacant : name ≢ [] → named s.psem name ≡ None → is_vacant room.psem_names name ≡ true
 
 -- there is room for one segment more of this name, and a name that is ready for it
-pub record HasSegmentPlace (s : State) (room : Room) (name : List ℕ) : Type 0 where
-  pub place : room.shm ≡ true
+pub record HasPshmPlace (s : State) (room : Room) (name : List ℕ) : Type 0 where
+  pub place : room.pshm ≡ true
   pub called : room.fresh_name ≡ Some name
-  pub vacant : name ≢ [] → named s.shm name ≡ None → is_vacant room.segment_names name ≡ true
+  pub vacant : name ≢ [] → named s.pshm name ≡ None → is_vacant room.pshm_names name ≡ true
 
 -- so many zeros are ready
 abbrev pub HasZeros : Room → ℕ → Type 0

@@ -14,7 +14,7 @@ pub mod Restored
 pub mod Rows
 pub mod Lends
 pub mod LendsMsg
-pub mod LendsSem
+pub mod LendsSemset
 pub mod LendsMq
 pub mod LendsNamed
 pub mod LendsRow

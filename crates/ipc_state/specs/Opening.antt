@@ -23,9 +23,9 @@ use Rattle.ipc_state.specs.Numbered.{Numbered, entry_of, with_entry}
 
 -- whether what it is open on is this
 abbrev pub is_on : Opened → Opened → Bool
-is_on (opened.Queue n) (opened.Queue m) = nat_eq m n
-is_on (opened.Semaphore n) (opened.Semaphore m) = nat_eq m n
-is_on (opened.Segment n) (opened.Segment m) = nat_eq m n
+is_on (opened.Mq n) (opened.Mq m) = nat_eq m n
+is_on (opened.Psem n) (opened.Psem m) = nat_eq m n
+is_on (opened.Pshm n) (opened.Pshm m) = nat_eq m n
 is_on this on = false
 
 -- whether some descriptor of these processes is open on it
@@ -37,9 +37,9 @@ has_name e = not (is_none e.name)
 
 -- an object of a kind, as a descriptor is open on it
 abbrev pub opened_as : NameKind → ℕ → Opened
-opened_as names.Queue n = opened.Queue n
-opened_as names.Semaphore n = opened.Semaphore n
-opened_as names.Segment n = opened.Segment n
+opened_as names.Mq n = opened.Mq n
+opened_as names.Psem n = opened.Psem n
+opened_as names.Pshm n = opened.Pshm n
 
 -- whether an object of the kind has a name, or a descriptor is open on it
 abbrev pub stays : {X : Type 0} → NameKind → List (ℕ × Process) → ℕ × NamedEntry X → Bool
@@ -52,8 +52,8 @@ still_open kind processes o = kept_if (stays kind processes) o
 -- the objects with a name of each kind
 pub record NamedObjects : Type 0 where
   pub mq : Named Mq
-  pub named_sem : Named ℕ
-  pub shm : Named Segment
+  pub psem : Named ℕ
+  pub pshm : Named Segment
 
 -- ---- registrations
 
@@ -97,15 +97,15 @@ with_table processes pid table =
 
 -- what it is open on is there
 abbrev pub is_there_for : NamedObjects → Opened → Bool
-is_there_for o (opened.Queue n) = is_some (entry_of o.mq n)
-is_there_for o (opened.Semaphore n) = is_some (entry_of o.named_sem n)
-is_there_for o (opened.Segment n) = is_some (entry_of o.shm n)
+is_there_for o (opened.Mq n) = is_some (entry_of o.mq n)
+is_there_for o (opened.Psem n) = is_some (entry_of o.psem n)
+is_there_for o (opened.Pshm n) = is_some (entry_of o.pshm n)
 
 -- it may be open with these flags: a queue to read, to write, or both; a segment to read, or both
 abbrev pub has_access : Opened → ℕ → Bool
-has_access (opened.Queue n) flags = not (nat_eq (bit_and flags 3) 3)
-has_access (opened.Semaphore n) flags = true
-has_access (opened.Segment n) flags = nat_eq (bit_and flags 1) 0
+has_access (opened.Mq n) flags = not (nat_eq (bit_and flags 3) 3)
+has_access (opened.Psem n) flags = true
+has_access (opened.Pshm n) flags = nat_eq (bit_and flags 1) 0
 
 -- what a descriptor is open on is there, and it may be open so
 abbrev pub is_sound_descriptor : NamedObjects → Descriptor → Bool
@@ -115,7 +115,7 @@ is_sound_descriptor o d = is_there_for o d.on && has_access d.on d.flags
 abbrev pub is_by_descriptor : List (ℕ × Process) → ℕ → Option Registration → Bool
 is_by_descriptor processes n None = true
 is_by_descriptor processes n (Some r) =
-    unwrap_or (option_map (λ d. is_on (opened.Queue n) d.on) (descriptor_at processes r.pid.0 r.descriptor)) false
+    unwrap_or (option_map (λ d. is_on (opened.Mq n) d.on) (descriptor_at processes r.pid.0 r.descriptor)) false
 
 -- whoever is registered with the queue has it open, by the descriptor of the registration
 abbrev pub is_registered : List (ℕ × Process) → ℕ × NamedEntry Mq → Bool

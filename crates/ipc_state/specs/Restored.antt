@@ -22,11 +22,11 @@ with_numbers s n =
     record s {
       clock = n.clock.0;
       processes = record { next = n.next_pid; entries = s.processes.entries };
-      msg = record { next = n.next_queue; entries = s.msg.entries };
-      sem = record { next = n.next_set; entries = s.sem.entries };
+      msg = record { next = n.next_msg_queue; entries = s.msg.entries };
+      semset = record { next = n.next_semset; entries = s.semset.entries };
       mq = record { next = n.next_mq; entries = s.mq.entries };
-      named_sem = record { next = n.next_named_sem; entries = s.named_sem.entries };
-      shm = record { next = n.next_segment; entries = s.shm.entries };
+      psem = record { next = n.next_psem; entries = s.psem.entries };
+      pshm = record { next = n.next_pshm; entries = s.pshm.entries };
     }
 
 -- with a process at the end
@@ -47,21 +47,21 @@ abbrev pub with_waits : State → List PlainWaiting → State
 with_waits s ws = record s { wait = ws }
 
 -- with a queue at the end
-abbrev pub with_last_queue : State → ℕ → Entry Queue → State
-with_last_queue s id e = record s { msg = with_last s.msg id e }
+abbrev pub with_last_msg_queue : State → ℕ → Entry Queue → State
+with_last_msg_queue s id e = record s { msg = with_last s.msg id e }
 
 -- with a semaphore set at the end
-abbrev pub with_last_set : State → ℕ → Entry Set → State
-with_last_set s id e = record s { sem = with_last s.sem id e }
+abbrev pub with_last_semset : State → ℕ → Entry Set → State
+with_last_semset s id e = record s { semset = with_last s.semset id e }
 
 -- with a POSIX queue at the end
 abbrev pub with_last_mq : State → ℕ → NamedEntry Mq → State
 with_last_mq s n e = record s { mq = with_last s.mq n e }
 
 -- with a named semaphore at the end
-abbrev pub with_last_named_sem : State → ℕ → NamedEntry ℕ → State
-with_last_named_sem s n e = record s { named_sem = with_last s.named_sem n e }
+abbrev pub with_last_psem : State → ℕ → NamedEntry ℕ → State
+with_last_psem s n e = record s { psem = with_last s.psem n e }
 
 -- with a segment at the end
-abbrev pub with_last_segment : State → ℕ → NamedEntry Segment → State
-with_last_segment s n e = record s { shm = with_last s.shm n e }
+abbrev pub with_last_pshm : State → ℕ → NamedEntry Segment → State
+with_last_pshm s n e = record s { pshm = with_last s.pshm n e }

@@ -33,7 +33,7 @@ pub record IsSoundMessage (limits : Limits) (m : PlainMessage) : Type 0 where
   pub short : length m.text ≤ limits.msgmax
 
 -- a queue holds no more bytes and no more messages than msgmnb
-pub record IsSoundQueue (limits : Limits) (q : Queue) : Type 0 where
+pub record IsSoundMsgQueue (limits : Limits) (q : Queue) : Type 0 where
   pub bytes : byte_count q.messages ≤ limits.msgmnb
   pub count : length q.messages ≤ limits.msgmnb
   pub qbytes : q.qbytes ≤ limits.msgmnb
@@ -46,7 +46,7 @@ pub record HasNumbers (q : Queue) : Type 0 where
   pub qbytes : q.qbytes < 2 ^ 32
 
 -- a set has at least one semaphore and at most semmsl, and each a value of at most 32767
-pub record IsSoundSet (limits : Limits) (s : Set) : Type 0 where
+pub record IsSoundSemset (limits : Limits) (s : Set) : Type 0 where
   pub some : 0 < length s.semaphores
   pub few : length s.semaphores ≤ limits.semmsl
   pub values : All (λ x. x.value ≤ most_value) s.semaphores
@@ -56,8 +56,8 @@ abbrev pub semaphore_count : Keyed Set → ℕ
 semaphore_count o = sum_by (λ e. length e.1.object.semaphores) o.entries
 
 -- each set is sound, and together they have at most semmns semaphores
-pub record AreSoundSets (limits : Limits) (o : Keyed Set) : Type 0 where
-  pub keyed : AreKeyed limits.semmni (IsSoundSet limits) o
+pub record AreSoundSemsets (limits : Limits) (o : Keyed Set) : Type 0 where
+  pub keyed : AreKeyed limits.semmni (IsSoundSemset limits) o
   pub count : semaphore_count o ≤ limits.semmns
 
 -- a set has the semaphore
@@ -96,21 +96,21 @@ pub record AreHeld {X : Type 0} (most : ℕ) (IsSoundOne : X → Type 0) (kind :
 
 -- each POSIX queue is, and whoever is registered with it has it open
 pub record AreSoundMqs (limits : Limits) (processes : List (ℕ × Process)) (o : Named Mq) : Type 0 where
-  pub held : AreHeld limits.queues (IsSoundMq limits) names.Queue processes o
+  pub held : AreHeld limits.queues (IsSoundMq limits) names.Mq processes o
   pub registered : All (λ e. is_registered processes e ≡ true) o.entries
 
 -- each named semaphore is; its value is no greater than the greatest
-abbrev pub AreSoundNamedSems : Limits → List (ℕ × Process) → Named ℕ → Type 0
-AreSoundNamedSems limits processes o =
-    AreHeld limits.named_semaphores (λ value. value ≤ sem_value_max) names.Semaphore processes o
+abbrev pub AreSoundPsems : Limits → List (ℕ × Process) → Named ℕ → Type 0
+AreSoundPsems limits processes o =
+    AreHeld limits.named_semaphores (λ value. value ≤ sem_value_max) names.Psem processes o
 
 -- how many bytes the segments have together
 abbrev pub segment_bytes : Named Segment → ℕ
 segment_bytes o = sum_by (λ e. length e.1.object.bytes) o.entries
 
 -- each segment is, and together they have no more bytes than the limit says
-pub record AreSoundSegments (limits : Limits) (processes : List (ℕ × Process)) (o : Named Segment) : Type 0 where
-  pub held : AreHeld limits.segments (λ x. ⊤) names.Segment processes o
+pub record AreSoundPshms (limits : Limits) (processes : List (ℕ × Process)) (o : Named Segment) : Type 0 where
+  pub held : AreHeld limits.segments (λ x. ⊤) names.Pshm processes o
   pub bytes : segment_bytes o ≤ limits.segment_bytes
 
 -- the numbers of a process's descriptors rise, each below the limit; what each is open on is there
@@ -127,12 +127,12 @@ pub record AreSoundProcesses (limits : Limits) (o : NamedObjects) (processes : N
 pub record HasSoundParts (limits : Limits) (s : State) : Type 0 where
   pub processes : AreSoundProcesses limits (named_in s) s.processes
   pub wait : AreSoundWaits limits s.wait
-  pub undo : AreAdjustments (keys_of s.processes.entries) s.sem s.undo
-  pub msg : AreKeyed limits.msgmni (IsSoundQueue limits) s.msg
-  pub sem : AreSoundSets limits s.sem
+  pub undo : AreAdjustments (keys_of s.processes.entries) s.semset s.undo
+  pub msg : AreKeyed limits.msgmni (IsSoundMsgQueue limits) s.msg
+  pub semset : AreSoundSemsets limits s.semset
   pub mq : AreSoundMqs limits s.processes.entries s.mq
-  pub named_sem : AreSoundNamedSems limits s.processes.entries s.named_sem
-  pub shm : AreSoundSegments limits s.processes.entries s.shm
+  pub psem : AreSoundPsems limits s.processes.entries s.psem
+  pub pshm : AreSoundPshms limits s.processes.entries s.pshm
 
 -- the body of a reply is no longer than the longest one
 abbrev pub FitsBody : Limits → PlainBody → Type 0

@@ -23,5 +23,5 @@ room_in (Ok body) = room_of body
 room_in (Err e) = 0
 
 -- the buffer is still there: it was given back, or it stands in the body
-abbrev pub IsKept : Limits → Vec ℕ → Result (Body (Vec ℕ)) Errno → Type 0
-IsKept limits given result = longest_body limits ≤ max (vec_capacity given) (room_in result)
+abbrev pub KeepsBuffer : Limits → Vec ℕ → Result (Body (Vec ℕ)) Errno → Type 0
+KeepsBuffer limits given result = longest_body limits ≤ max (vec_capacity given) (room_in result)

@@ -8,7 +8,7 @@ use Rattle.ipc_base.specs.declared.identity.Cred.{Cred}
 use Rattle.ipc_base.specs.declared.limits.Limits.{Limits}
 use Rattle.ipc_base.specs.Table.{value_at, with_value, seen_as, without as without_value}
 use Rattle.ipc_keys.specs.declared.check.NameKind.TheVariants as names
-use Rattle.ipc_wait.specs.Waits.{call_of, calls_due, calls_left, without}
+use Rattle.ipc_wait.specs.Waits.{waiting_call_of, calls_due, calls_left, without}
 use Rattle.ipc_wire.specs.Posix as posix
 use Rattle.ipc_wire.specs.Request.{PlainKind, Posix}
 use Rattle.posix_mq.specs.Queue.{Queue as Mq}
@@ -40,13 +40,13 @@ pub record State : Type 0 where
   -- the message queues
   pub msg : Keyed Queue
   -- the semaphore sets
-  pub sem : Keyed Set
+  pub semset : Keyed Set
   -- the POSIX message queues
   pub mq : Named Mq
   -- the named semaphores, each with its value
-  pub named_sem : Named ℕ
+  pub psem : Named ℕ
   -- the segments
-  pub shm : Named Segment
+  pub pshm : Named Segment
 
 -- nothing has happened yet
 abbrev pub start : State
@@ -57,10 +57,10 @@ start =
       wait = [];
       undo = [];
       msg = none_yet;
-      sem = none_yet;
+      semset = none_yet;
       mq = none_yet;
-      named_sem = none_yet;
-      shm = none_yet;
+      psem = none_yet;
+      pshm = none_yet;
     }
 
 -- the state as the moment comes
@@ -71,7 +71,7 @@ at_moment s moment = record s { clock = max s.clock moment }
 
 -- whether a call of the process waits
 abbrev pub is_waiting : State → ℕ → Bool
-is_waiting s pid = is_some (call_of (record { 0 = pid }) s.wait)
+is_waiting s pid = is_some (waiting_call_of (record { 0 = pid }) s.wait)
 
 -- with one call more, at the end
 abbrev pub with_waiting : State → PlainWaiting → State
@@ -123,14 +123,14 @@ deregistered_by pid fd s = record s { mq = without_registrations (is_by pid fd) 
 abbrev pub swept : State → State
 swept s =
     record s {
-      mq = still_open names.Queue s.processes.entries s.mq;
-      named_sem = still_open names.Semaphore s.processes.entries s.named_sem;
-      shm = still_open names.Segment s.processes.entries s.shm;
+      mq = still_open names.Mq s.processes.entries s.mq;
+      psem = still_open names.Psem s.processes.entries s.psem;
+      pshm = still_open names.Pshm s.processes.entries s.pshm;
     }
 
 -- those of every kind
 abbrev pub named_in : State → NamedObjects
-named_in s = record { mq = s.mq; named_sem = s.named_sem; shm = s.shm }
+named_in s = record { mq = s.mq; psem = s.psem; pshm = s.pshm }
 
 -- ---- processes
 
@@ -160,7 +160,7 @@ without_process s pid =
     without_waiting (record s {
       processes = without_entry s.processes pid;
       undo = without_value nat_eq s.undo pid;
-      sem = undone s.sem (pid, undo_of s pid);
+      semset = undone s.semset (pid, undo_of s pid);
     }) pid
 
 -- the process leaves, with its descriptors and registrations
@@ -176,7 +176,7 @@ restart s =
       processes = record { next = s.processes.next; entries = [] };
       wait = [];
       undo = [];
-      sem = fold undone s.sem s.undo;
+      semset = fold undone s.semset s.undo;
     }))
 
 -- ---- descriptors
@@ -230,54 +230,54 @@ unlinked s n = swept (record s { mq = unnamed s.mq n })
 -- ---- named semaphores
 
 -- none can be added: there are as many as the limit says, or no number is left
-abbrev pub has_all_named_sems : Limits → State → Bool
-has_all_named_sems limits s = is_full limits.named_semaphores s.named_sem
+abbrev pub has_all_psems : Limits → State → Bool
+has_all_psems limits s = is_full limits.named_semaphores s.psem
 
 -- another value at a number, if it is there, under the same name
-abbrev pub with_named_sem : State → ℕ → ℕ → State
-with_named_sem s n value =
+abbrev pub with_psem : State → ℕ → ℕ → State
+with_psem s n value =
     record s {
-      named_sem = unwrap_or (option_map (λ e. with_entry s.named_sem n (with_object e value)) (entry_of s.named_sem n))
-          s.named_sem;
+      psem = unwrap_or (option_map (λ e. with_entry s.psem n (with_object e value)) (entry_of s.psem n))
+          s.psem;
     }
 
 -- with a new semaphore of this name, owner, mode and value
-abbrev pub with_new_named_sem : State → List ℕ → Cred → ℕ → ℕ → State
-with_new_named_sem s name cred mode value =
+abbrev pub with_new_psem : State → List ℕ → Cred → ℕ → ℕ → State
+with_new_psem s name cred mode value =
     record s {
-      named_sem = with_new s.named_sem (record { name = name; owner = cred; mode = mode; object = value });
+      psem = with_new s.psem (record { name = name; owner = cred; mode = mode; object = value });
     }
 
 -- the name of a semaphore is unlinked, and it goes, if it is not open
-abbrev pub unlinked_sem : State → ℕ → State
-unlinked_sem s n = swept (record s { named_sem = unnamed s.named_sem n })
+abbrev pub unlinked_psem : State → ℕ → State
+unlinked_psem s n = swept (record s { psem = unnamed s.psem n })
 
 -- ---- segments
 
 -- none can be added: there are as many as the limit says, or no number is left
-abbrev pub has_all_segments : Limits → State → Bool
-has_all_segments limits s = is_full limits.segments s.shm
+abbrev pub has_all_pshms : Limits → State → Bool
+has_all_pshms limits s = is_full limits.segments s.pshm
 
 -- another segment at a number, if it is there, under the same name
-abbrev pub with_segment : State → ℕ → Segment → State
-with_segment s n x =
-    record s { shm = unwrap_or (option_map (λ e. with_entry s.shm n (with_object e x)) (entry_of s.shm n)) s.shm }
+abbrev pub with_pshm : State → ℕ → Segment → State
+with_pshm s n x =
+    record s { pshm = unwrap_or (option_map (λ e. with_entry s.pshm n (with_object e x)) (entry_of s.pshm n)) s.pshm }
 
 -- with a new segment of this name, owner and mode, which has no bytes
-abbrev pub with_new_segment : State → List ℕ → Cred → ℕ → State
-with_new_segment s name cred mode =
-    record s { shm = with_new s.shm (record { name = name; owner = cred; mode = mode; object = empty_segment }) }
+abbrev pub with_new_pshm : State → List ℕ → Cred → ℕ → State
+with_new_pshm s name cred mode =
+    record s { pshm = with_new s.pshm (record { name = name; owner = cred; mode = mode; object = empty_segment }) }
 
 -- the name of a segment is unlinked, and it goes, if it is not open
-abbrev pub unlinked_segment : State → ℕ → State
-unlinked_segment s n = swept (record s { shm = unnamed s.shm n })
+abbrev pub unlinked_pshm : State → ℕ → State
+unlinked_pshm s n = swept (record s { pshm = unnamed s.pshm n })
 
 -- ---- calls that wait on POSIX queues
 
 -- what a process asks for is a receive from the queue of this number
 abbrev pub receives_from : State → ℕ → ℕ → PlainKind → Bool
 receives_from s n pid (Posix (posix.MqReceive fd deadline size)) =
-    unwrap_or (option_map (λ d. is_on (opened_as names.Queue n) d.on) (descriptor_at s.processes.entries pid fd)) false
+    unwrap_or (option_map (λ d. is_on (opened_as names.Mq n) d.on) (descriptor_at s.processes.entries pid fd)) false
 receives_from s n pid kind = false
 
 -- a receive from it waits
@@ -287,29 +287,29 @@ receiver_waits s n = list_any (λ (w : PlainWaiting). receives_from s n w.pid.0 
 -- ---- message queues of msgget(2)
 
 -- the queue that an identifier has
-abbrev pub queue_of : State → ℕ → Option (Entry Queue)
-queue_of s id = entry_of s.msg id
+abbrev pub msg_queue_of : State → ℕ → Option (Entry Queue)
+msg_queue_of s id = entry_of s.msg id
 
 -- the state with another queue at an identifier that it has
-abbrev pub with_queue : State → ℕ → Entry Queue → State
-with_queue s id e = record s { msg = with_entry s.msg id e }
+abbrev pub with_msg_queue : State → ℕ → Entry Queue → State
+with_msg_queue s id e = record s { msg = with_entry s.msg id e }
 
 -- the state with a new queue
-abbrev pub with_new_queue : Limits → State → ℤ → Perm → State
-with_new_queue limits s key perm =
+abbrev pub with_new_msg_queue : Limits → State → ℤ → Perm → State
+with_new_msg_queue limits s key perm =
     record s { msg = with_new s.msg (record { key = key; perm = perm; object = new_queue limits.msgmnb s.clock }) }
 
 -- ---- semaphore sets
 
 -- the set that an identifier has
-abbrev pub set_of : State → ℕ → Option (Entry Set)
-set_of s id = entry_of s.sem id
+abbrev pub semset_of : State → ℕ → Option (Entry Set)
+semset_of s id = entry_of s.semset id
 
 -- the state with another set at an identifier that it has
-abbrev pub with_set : State → ℕ → Entry Set → State
-with_set s id e = record s { sem = with_entry s.sem id e }
+abbrev pub with_semset : State → ℕ → Entry Set → State
+with_semset s id e = record s { semset = with_entry s.semset id e }
 
 -- the state with a new set of so many semaphores
-abbrev pub with_new_set : State → ℤ → Perm → ℕ → State
-with_new_set s key perm nsems =
-    record s { sem = with_new s.sem (record { key = key; perm = perm; object = new_set nsems s.clock }) }
+abbrev pub with_new_semset : State → ℤ → Perm → ℕ → State
+with_new_semset s key perm nsems =
+    record s { semset = with_new s.semset (record { key = key; perm = perm; object = new_set nsems s.clock }) }

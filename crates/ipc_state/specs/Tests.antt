@@ -13,8 +13,8 @@ is_named None none number = none
 abbrev pub is_sound_message : Limits → PlainMessage → Bool
 is_sound_message limits m = int_lt (pos 0) m.mtype && nat_le (length m.text) limits.msgmax
 
-abbrev pub is_sound_queue : Limits → Queue → Bool
-is_sound_queue limits q =
+abbrev pub is_sound_msg_queue : Limits → Queue → Bool
+is_sound_msg_queue limits q =
     nat_le (byte_count q.messages) limits.msgmnb && (nat_le (length q.messages) limits.msgmnb
     && (nat_le q.qbytes limits.msgmnb && list_all (is_sound_message limits) q.messages))
 

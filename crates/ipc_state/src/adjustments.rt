@@ -90,30 +90,30 @@ impl State {
     /// The sets after the exit of a process.
     pub(crate) fn add_adjustments_of(&mut self, pid: Pid)
         ensures { self.new ≡ record self.old {
-          state = record self.old.state { sem = undone self.old.state.sem (pid.0, undo_of self.old.state pid.0) };
+          state = record self.old.state { semset = undone self.old.state.semset (pid.0, undo_of self.old.state pid.0) };
         } }
     {
         if let Some(item) = self.undo.get(pid.0) {
-            add_adjustments(&mut self.sem, pid, item.value.rows());
+            add_adjustments(&mut self.semset, pid, item.value.rows());
         }
     }
 
     /// The sets after the exit of all.
     pub(crate) fn add_all_adjustments(&mut self)
         ensures { self.new ≡ record self.old {
-          state = record self.old.state { sem = fold undone self.old.state.sem self.old.state.undo };
+          state = record self.old.state { semset = fold undone self.old.state.semset self.old.state.undo };
         } }
     {
-        add_each(&mut self.sem, self.undo.items());
+        add_each(&mut self.semset, self.undo.items());
     }
 
     /// Whether the adjustments are sound.
     pub(crate) fn are_adjustments_sound(&self) -> bool
         ensures { IsTrue result ↔ AreAdjustments (keys_of self.now.state.processes.entries)
-            self.now.state.sem self.now.state.undo }
+            self.now.state.semset self.now.state.undo }
     {
         have_same_numbers(self.undo.items(), self.processes.items())
-            && are_at_semaphores(&self.sem, self.undo.items())
+            && are_at_semaphores(&self.semset, self.undo.items())
     }
 }
 

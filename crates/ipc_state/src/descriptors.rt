@@ -14,11 +14,11 @@ use std::marker::Model;
 #[derive(Clone, Copy, Debug, PartialEq, Eq)]
 pub enum Opened {
     /// A message queue of mq_overview(7).
-    Queue(u32),
+    Mq(u32),
     /// A semaphore of sem_overview(7).
-    Semaphore(u32),
+    Psem(u32),
     /// A segment of shm_overview(7).
-    Segment(u32),
+    Pshm(u32),
 }
 
 /// What a descriptor is open on, and the flags that still mean something after the open.

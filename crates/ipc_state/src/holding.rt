@@ -27,14 +27,13 @@ impl State {
         ensures limits { self.new.limits ≡ self.old.limits }
         ensures room { self.new.room ≡ record self.old.room {
           mq = self.new.room.mq;
-          named_sem = self.new.room.named_sem;
-          shm = self.new.room.shm;
+          psem = self.new.room.psem;
+          pshm = self.new.room.pshm;
         } }
     {
-        self.mq.sweep(self.processes.items(), NameKind::Queue);
-        self.named_sem
-            .sweep(self.processes.items(), NameKind::Semaphore);
-        self.shm.sweep(self.processes.items(), NameKind::Segment);
+        self.mq.sweep(self.processes.items(), NameKind::Mq);
+        self.psem.sweep(self.processes.items(), NameKind::Psem);
+        self.pshm.sweep(self.processes.items(), NameKind::Pshm);
     }
 
     /// What a descriptor of a process is, if the number is in use.
@@ -93,9 +92,9 @@ impl State {
         ensures { result ≡ is_there_for (named_in self.now.state) on }
     {
         match on {
-            Opened::Queue(number) => self.mq.get(number).is_some(),
-            Opened::Semaphore(number) => self.named_sem.get(number).is_some(),
-            Opened::Segment(number) => self.shm.get(number).is_some(),
+            Opened::Mq(number) => self.mq.get(number).is_some(),
+            Opened::Psem(number) => self.psem.get(number).is_some(),
+            Opened::Pshm(number) => self.pshm.get(number).is_some(),
         }
     }
 }
@@ -181,9 +180,9 @@ fn has_access(on: Opened, flags: u32) -> bool
     ensures { result ≡ has_access on flags }
 {
     match on {
-        Opened::Queue(_) => flags & 3 != 3,
-        Opened::Semaphore(_) => true,
-        Opened::Segment(_) => flags & 1 == 0,
+        Opened::Mq(_) => flags & 3 != 3,
+        Opened::Psem(_) => true,
+        Opened::Pshm(_) => flags & 1 == 0,
     }
 }
 
@@ -192,9 +191,9 @@ fn opened_as(kind: NameKind, number: u32) -> Opened
     ensures { result ≡ opened_as kind number }
 {
     match kind {
-        NameKind::Queue => Opened::Queue(number),
-        NameKind::Semaphore => Opened::Semaphore(number),
-        NameKind::Segment => Opened::Segment(number),
+        NameKind::Mq => Opened::Mq(number),
+        NameKind::Psem => Opened::Psem(number),
+        NameKind::Pshm => Opened::Pshm(number),
     }
 }
 
@@ -228,9 +227,9 @@ pub(crate) fn is_on(this: Opened, on: Opened) -> bool
     ensures { result ≡ is_on this on }
 {
     match (this, on) {
-        (Opened::Queue(number), Opened::Queue(other)) => other == number,
-        (Opened::Semaphore(number), Opened::Semaphore(other)) => other == number,
-        (Opened::Segment(number), Opened::Segment(other)) => other == number,
+        (Opened::Mq(number), Opened::Mq(other)) => other == number,
+        (Opened::Psem(number), Opened::Psem(other)) => other == number,
+        (Opened::Pshm(number), Opened::Pshm(other)) => other == number,
         _ => false,
     }
 }

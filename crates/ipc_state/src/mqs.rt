@@ -97,8 +97,8 @@ impl State {
         ensures waits { self.new.room.waits ≡ self.old.room.waits }
         ensures keys { self.new.room.keys ≡ self.old.room.keys }
         ensures set_keys { self.new.room.set_keys ≡ self.old.room.set_keys }
-        ensures sem_names { self.new.room.sem_names ≡ self.old.room.sem_names }
-        ensures segment_names { self.new.room.segment_names ≡ self.old.room.segment_names }
+        ensures psem_names { self.new.room.psem_names ≡ self.old.room.psem_names }
+        ensures pshm_names { self.new.room.pshm_names ≡ self.old.room.pshm_names }
         ensures ok { OnOk result (ArePositive self.old.state.mq.entries
             → HasMqPlace self.new.state self.new.room name.now) }
         ensures others { (other : List ℕ) → other ≢ name.now
@@ -117,8 +117,8 @@ impl State {
         ensures waits { self.new.room.waits ≡ self.old.room.waits }
         ensures keys { self.new.room.keys ≡ self.old.room.keys }
         ensures set_keys { self.new.room.set_keys ≡ self.old.room.set_keys }
-        ensures sem_names { self.new.room.sem_names ≡ self.old.room.sem_names }
-        ensures segment_names { self.new.room.segment_names ≡ self.old.room.segment_names }
+        ensures psem_names { self.new.room.psem_names ≡ self.old.room.psem_names }
+        ensures pshm_names { self.new.room.pshm_names ≡ self.old.room.pshm_names }
         ensures names { self.new.room.names ≡ self.old.room.names }
         ensures fresh { OnOk result (self.new.room.fresh_mq ≡ true) }
         ensures name { OnOk result (self.new.room.fresh_name ≡ Some name.now) }
@@ -137,8 +137,8 @@ impl State {
         ensures waits { self.new.room.waits ≡ self.old.room.waits }
         ensures keys { self.new.room.keys ≡ self.old.room.keys }
         ensures set_keys { self.new.room.set_keys ≡ self.old.room.set_keys }
-        ensures sem_names { self.new.room.sem_names ≡ self.old.room.sem_names }
-        ensures segment_names { self.new.room.segment_names ≡ self.old.room.segment_names }
+        ensures psem_names { self.new.room.psem_names ≡ self.old.room.psem_names }
+        ensures pshm_names { self.new.room.pshm_names ≡ self.old.room.pshm_names }
         ensures name { is_vacant self.new.room.names name.now ≡ false }
         ensures others { (other : List ℕ) → other ≢ name.now
             → is_vacant self.new.room.names other ≡ is_vacant self.old.room.names other }
@@ -163,8 +163,8 @@ impl State {
         ensures waits { self.new.room.waits ≡ self.old.room.waits }
         ensures keys { self.new.room.keys ≡ self.old.room.keys }
         ensures set_keys { self.new.room.set_keys ≡ self.old.room.set_keys }
-        ensures sem_names { self.new.room.sem_names ≡ self.old.room.sem_names }
-        ensures segment_names { self.new.room.segment_names ≡ self.old.room.segment_names }
+        ensures psem_names { self.new.room.psem_names ≡ self.old.room.psem_names }
+        ensures pshm_names { self.new.room.pshm_names ≡ self.old.room.pshm_names }
         ensures name { (name : List ℕ) → self.old.room.fresh_name ≡ Some name → name ≢ []
             → is_vacant self.new.room.names name ≡ false }
         ensures others { (name : List ℕ) → self.old.room.fresh_name ≡ Some name → (other : List ℕ) → other ≢ name
@@ -190,8 +190,8 @@ impl State {
         ensures waits { self.new.room.waits ≡ self.old.room.waits }
         ensures keys { self.new.room.keys ≡ self.old.room.keys }
         ensures set_keys { self.new.room.set_keys ≡ self.old.room.set_keys }
-        ensures sem_names { self.new.room.sem_names ≡ self.old.room.sem_names }
-        ensures segment_names { self.new.room.segment_names ≡ self.old.room.segment_names }
+        ensures psem_names { self.new.room.psem_names ≡ self.old.room.psem_names }
+        ensures pshm_names { self.new.room.pshm_names ≡ self.old.room.pshm_names }
         ensures names { HasNoSpareName self.old.room.names → HasNoSpareName self.new.room.names }
     {
         self.mq.unname(number);
@@ -217,7 +217,7 @@ impl State {
             return false;
         };
         match self.descriptor(pid, *fd) {
-            Some(descriptor) => is_on(Opened::Queue(number), descriptor.on),
+            Some(descriptor) => is_on(Opened::Mq(number), descriptor.on),
             None => false,
         }
     }
@@ -246,14 +246,14 @@ impl State {
     }
 
     fn are_mqs_held(&self) -> bool
-        ensures { IsTrue result ↔ AreHeld self.now.limits.queues (IsSoundMq self.now.limits) names.Queue
+        ensures { IsTrue result ↔ AreHeld self.now.limits.queues (IsSoundMq self.now.limits) names.Mq
             self.now.state.processes.entries self.now.state.mq }
     {
         self.mq.are_held(
             self.limits.queues,
             &self.limits,
             self.processes.items(),
-            NameKind::Queue,
+            NameKind::Mq,
         )
     }
 
@@ -271,7 +271,7 @@ impl State {
             return true;
         };
         match self.descriptor(registration.pid, registration.descriptor) {
-            Some(descriptor) => is_on(Opened::Queue(item.number), descriptor.on),
+            Some(descriptor) => is_on(Opened::Mq(item.number), descriptor.on),
             None => false,
         }
     }

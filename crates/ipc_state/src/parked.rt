@@ -2,15 +2,15 @@
 
 ghost use Rattle.std.specs.Prelude.{◌≡◌, false, Some, IfOk, IfSome, IfNone, IsOk, None};
 ghost use Rattle.ipc_wire.specs.Posix.{plain_posix};
-ghost use Rattle.ipc_wire.specs.Request.{Calls, Posix, plain_call, plain_kind};
+ghost use Rattle.ipc_wire.specs.Request.{Sysv, Posix, plain_sysv, plain_kind};
 ghost use Rattle.ipc_wire.specs.Spelling.{HasFrame};
 ghost use Rattle.ipc_wire.specs.View.{plain_request};
 ghost use Rattle.ipc_state.specs.Waiting.{deadline_after, awaited_by, deadline_of, has_deadline, expiry, has_text};
-ghost use Rattle.ipc_state.specs.Waiting.{parked_call, parked_kind, parked_posix};
+ghost use Rattle.ipc_state.specs.Waiting.{parked_sysv, parked_kind, parked_posix};
 
 use crate::operations::Operations;
 use ipc_base::{Errno, Id, Moment, MsgFlags};
-use ipc_wire::{Call, PosixCall, Request, RequestKind};
+use ipc_wire::{PosixCall, Request, RequestKind, SysvCall};
 use posix_mq::Message as MqMessage;
 use std::alloc::{AllocError, Global};
 use std::marker::Model;
@@ -20,9 +20,9 @@ use sysv_msg::Message;
 #[derive(Clone, Copy, Debug, PartialEq, Eq)]
 pub enum Awaited {
     /// A message queue of msgget(2).
-    Queue(Id),
+    MsgQueue(Id),
     /// A semaphore set.
-    Set(Id),
+    Semset(Id),
     /// What that descriptor of the process is open on.
     Descriptor(u32),
 }
@@ -31,20 +31,20 @@ pub enum Awaited {
 #[derive(Clone, Copy, Debug, PartialEq, Eq)]
 pub enum Object {
     /// A message queue of msgget(2).
-    Queue(Id),
+    MsgQueue(Id),
     /// A semaphore set.
-    Set(Id),
+    Semset(Id),
     /// A message queue of mq_overview(7), by its number.
     Mq(u32),
     /// A semaphore of sem_overview(7), by its number.
-    NamedSem(u32),
+    Psem(u32),
     /// A segment of shm_overview(7), by its number.
-    Segment(u32),
+    Pshm(u32),
 }
 
 /// A System V call that waits, with its fields. See msgop(2) and semop(2).
 #[derive(Drop)]
-pub enum ParkedCall {
+pub enum ParkedSysv {
     /// A send to a queue that is full for its text. The message is ready to be sent.
     Msgsnd {
         id: Id,
@@ -66,42 +66,42 @@ pub enum ParkedCall {
     },
 }
 
-impl ParkedCall {
+impl ParkedSysv {
     /// A call that may have to wait; none, if it never waits. Refused for want of memory, which only a text or a list
     /// of operations takes.
-    fn new(alloc: Global, call: &Call<'_>) -> Result<Option<ParkedCall>, AllocError>
-        ensures some { IfOk result (λ r. IfSome r (λ kept. parked_call kept ≡ plain_call call.now)) }
-        ensures none { IfOk result (λ r. IfNone r (awaited_by (Calls (plain_call call.now)) ≡ None)) }
-        ensures never { awaited_by (Calls (plain_call call.now)) ≡ None → IfOk result (λ r. r ≡ None) }
-        ensures memory { has_text (Calls (plain_call call.now)) ≡ false → IsOk result }
+    fn new(alloc: Global, call: &SysvCall<'_>) -> Result<Option<ParkedSysv>, AllocError>
+        ensures some { IfOk result (λ r. IfSome r (λ kept. parked_sysv kept ≡ plain_sysv call.now)) }
+        ensures none { IfOk result (λ r. IfNone r (awaited_by (Sysv (plain_sysv call.now)) ≡ None)) }
+        ensures never { awaited_by (Sysv (plain_sysv call.now)) ≡ None → IfOk result (λ r. r ≡ None) }
+        ensures memory { has_text (Sysv (plain_sysv call.now)) ≡ false → IsOk result }
     {
         let kept = match *call {
-            Call::Msgsnd {
+            SysvCall::Msgsnd {
                 id,
                 flags,
                 mtype,
                 text,
-            } => ParkedCall::Msgsnd {
+            } => ParkedSysv::Msgsnd {
                 id,
                 flags,
                 message: Message::new(alloc, mtype, text)?,
             },
-            Call::Msgrcv {
+            SysvCall::Msgrcv {
                 id,
                 flags,
                 size,
                 mtype,
-            } => ParkedCall::Msgrcv {
+            } => ParkedSysv::Msgrcv {
                 id,
                 flags,
                 size,
                 mtype,
             },
-            Call::Semop {
+            SysvCall::Semop {
                 id,
                 timeout,
                 operations,
-            } => ParkedCall::Semop {
+            } => ParkedSysv::Semop {
                 id,
                 timeout,
                 operations: Operations::new(alloc, &operations)?,
@@ -112,32 +112,32 @@ impl ParkedCall {
     }
 
     /// The call.
-    pub fn lend(&self) -> Call<'_>
-        ensures { plain_call result ≡ parked_call self.now }
+    pub fn lend(&self) -> SysvCall<'_>
+        ensures { plain_sysv result ≡ parked_sysv self.now }
     {
         match self {
-            ParkedCall::Msgsnd { id, flags, message } => Call::Msgsnd {
+            ParkedSysv::Msgsnd { id, flags, message } => SysvCall::Msgsnd {
                 id: *id,
                 flags: *flags,
                 mtype: message.mtype,
                 text: &message.text,
             },
-            ParkedCall::Msgrcv {
+            ParkedSysv::Msgrcv {
                 id,
                 flags,
                 size,
                 mtype,
-            } => Call::Msgrcv {
+            } => SysvCall::Msgrcv {
                 id: *id,
                 flags: *flags,
                 size: *size,
                 mtype: *mtype,
             },
-            ParkedCall::Semop {
+            ParkedSysv::Semop {
                 id,
                 timeout,
                 operations,
-            } => Call::Semop {
+            } => SysvCall::Semop {
                 id: *id,
                 timeout: *timeout,
                 operations: operations.lend(),
@@ -228,7 +228,7 @@ impl ParkedPosix {
 #[derive(Drop)]
 pub enum ParkedKind {
     /// A System V call.
-    Call(ParkedCall),
+    Sysv(ParkedSysv),
     /// A POSIX call.
     Posix(ParkedPosix),
 }
@@ -262,7 +262,7 @@ impl Parked {
         ensures memory { has_text (plain_kind request.now.kind) ≡ false → IsOk result }
     {
         let kept = match &request.kind {
-            RequestKind::Call(call) => ParkedCall::new(alloc, call)?.map(ParkedKind::Call),
+            RequestKind::Sysv(call) => ParkedSysv::new(alloc, call)?.map(ParkedKind::Sysv),
             RequestKind::Posix(call) => ParkedPosix::new(alloc, call)?.map(ParkedKind::Posix),
             RequestKind::Hello(_) | RequestKind::Interrupt => None,
         };
@@ -288,7 +288,7 @@ impl Parked {
         ensures { plain_request result ≡ self.now }
     {
         let kind = match &self.kind {
-            ParkedKind::Call(call) => RequestKind::Call(call.lend()),
+            ParkedKind::Sysv(call) => RequestKind::Sysv(call.lend()),
             ParkedKind::Posix(call) => RequestKind::Posix(call.lend()),
         };
         Request {
@@ -311,8 +311,8 @@ impl Parked {
         ensures { result ≡ deadline_of now.0 self.now.kind }
     {
         match &self.kind {
-            ParkedKind::Call(ParkedCall::Msgsnd { .. } | ParkedCall::Msgrcv { .. }) => None,
-            ParkedKind::Call(ParkedCall::Semop { timeout, .. }) => deadline_after(now, *timeout),
+            ParkedKind::Sysv(ParkedSysv::Msgsnd { .. } | ParkedSysv::Msgrcv { .. }) => None,
+            ParkedKind::Sysv(ParkedSysv::Semop { timeout, .. }) => deadline_after(now, *timeout),
             ParkedKind::Posix(
                 ParkedPosix::MqSend { deadline, .. }
                 | ParkedPosix::MqReceive { deadline, .. }
@@ -326,8 +326,8 @@ impl Parked {
         ensures { result ≡ has_deadline self.now.kind }
     {
         match &self.kind {
-            ParkedKind::Call(ParkedCall::Msgsnd { .. } | ParkedCall::Msgrcv { .. }) => false,
-            ParkedKind::Call(ParkedCall::Semop { .. }) | ParkedKind::Posix(_) => true,
+            ParkedKind::Sysv(ParkedSysv::Msgsnd { .. } | ParkedSysv::Msgrcv { .. }) => false,
+            ParkedKind::Sysv(ParkedSysv::Semop { .. }) | ParkedKind::Posix(_) => true,
         }
     }
 
@@ -337,7 +337,7 @@ impl Parked {
         ensures { result ≡ expiry self.now.kind }
     {
         match &self.kind {
-            ParkedKind::Call(_) => Errno::EAGAIN,
+            ParkedKind::Sysv(_) => Errno::EAGAIN,
             ParkedKind::Posix(_) => Errno::ETIMEDOUT,
         }
     }
@@ -363,10 +363,10 @@ impl Parked {
         ensures frame { HasFrame self.now }
     {
         match &self.kind {
-            ParkedKind::Call(ParkedCall::Msgsnd { id, .. } | ParkedCall::Msgrcv { id, .. }) => {
-                Awaited::Queue(*id)
+            ParkedKind::Sysv(ParkedSysv::Msgsnd { id, .. } | ParkedSysv::Msgrcv { id, .. }) => {
+                Awaited::MsgQueue(*id)
             }
-            ParkedKind::Call(ParkedCall::Semop { id, .. }) => Awaited::Set(*id),
+            ParkedKind::Sysv(ParkedSysv::Semop { id, .. }) => Awaited::Semset(*id),
             ParkedKind::Posix(
                 ParkedPosix::MqSend { fd, .. }
                 | ParkedPosix::MqReceive { fd, .. }

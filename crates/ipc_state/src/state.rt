@@ -41,7 +41,7 @@ pub struct State {
     pub(crate) msg: Keyed<MsgQueue>,
     /// A queue that is ready to be added, so that this takes no memory.
     pub(crate) fresh: Option<MsgQueue>,
-    pub(crate) sem: Keyed<SemSet>,
+    pub(crate) semset: Keyed<SemSet>,
     /// A set that is ready to be added.
     pub(crate) fresh_set: Option<SemSet>,
     pub(crate) mq: Named<Mq>,
@@ -49,8 +49,8 @@ pub struct State {
     pub(crate) fresh_mq: Option<Mq>,
     /// The name that is ready for it, or for a new object of the kinds below.
     pub(crate) fresh_name: Option<Name>,
-    pub(crate) named_sem: Named<NamedSem>,
-    pub(crate) shm: Named<Segment>,
+    pub(crate) psem: Named<NamedSem>,
+    pub(crate) pshm: Named<Segment>,
     /// Zeros that are ready to be a longer segment.
     pub(crate) fresh_segment: Option<Segment>,
 }
@@ -68,13 +68,13 @@ impl Drop for State {
             fresh_undo: _,
             msg: _,
             fresh: _,
-            sem: _,
+            semset: _,
             fresh_set: _,
             mq: _,
             fresh_mq: _,
             fresh_name: _,
-            named_sem: _,
-            shm: _,
+            psem: _,
+            pshm: _,
             fresh_segment: _,
         } = self;
     }
@@ -102,10 +102,10 @@ impl Model for State {
         wait = s.wait.calls;
         undo = (numbered_of s.undo).entries;
         msg = s.msg.objects;
-        sem = s.sem.objects;
+        semset = s.semset.objects;
         mq = s.mq.objects;
-        named_sem = s.named_sem.objects;
-        shm = s.shm.objects;
+        psem = s.psem.objects;
+        pshm = s.pshm.objects;
       };
       room = record {
         process = has_place s.processes
@@ -114,17 +114,17 @@ impl Model for State {
         keys = s.msg.keys;
         fresh = is_some s.fresh;
         waits = s.wait.room;
-        set = s.sem.place;
-        set_keys = s.sem.keys;
+        set = s.semset.place;
+        set_keys = s.semset.keys;
         fresh_set = s.fresh_set;
         mq = s.mq.place;
         names = s.mq.names;
         fresh_mq = is_some s.fresh_mq;
         fresh_name = s.fresh_name;
-        named_sem = s.named_sem.place;
-        sem_names = s.named_sem.names;
-        shm = s.shm.place;
-        segment_names = s.shm.names;
+        psem = s.psem.place;
+        psem_names = s.psem.names;
+        pshm = s.pshm.place;
+        pshm_names = s.pshm.names;
         fresh_segment = s.fresh_segment;
       };
     } };
@@ -137,11 +137,11 @@ impl Model for State {
 pub struct Numbers {
     pub clock: Moment,
     pub next_pid: u32,
-    pub next_queue: u32,
-    pub next_set: u32,
+    pub next_msg_queue: u32,
+    pub next_semset: u32,
     pub next_mq: u32,
-    pub next_named_sem: u32,
-    pub next_segment: u32,
+    pub next_psem: u32,
+    pub next_pshm: u32,
 }
 
 impl State {
@@ -162,13 +162,13 @@ impl State {
             fresh_undo: None,
             msg: Keyed::new(alloc),
             fresh: None,
-            sem: Keyed::new(alloc),
+            semset: Keyed::new(alloc),
             fresh_set: None,
             mq: Named::new(alloc),
             fresh_mq: None,
             fresh_name: None,
-            named_sem: Named::new(alloc),
-            shm: Named::new(alloc),
+            psem: Named::new(alloc),
+            pshm: Named::new(alloc),
             fresh_segment: None,
         }
     }
@@ -187,7 +187,7 @@ impl State {
     }
 
     /// A moment comes: the clock is the greatest so far.
-    pub fn begin(&mut self, moment: Moment)
+    pub fn set_moment(&mut self, moment: Moment)
         ensures { self.new ≡ record self.old { state = at_moment self.old.state moment.0 } }
     {
         self.clock = Moment(self.clock.0.max(moment.0));
@@ -207,11 +207,11 @@ impl State {
     {
         self.clock = numbers.clock;
         self.processes.set_next(numbers.next_pid);
-        self.msg.set_next(numbers.next_queue);
-        self.sem.set_next(numbers.next_set);
+        self.msg.set_next(numbers.next_msg_queue);
+        self.semset.set_next(numbers.next_semset);
         self.mq.set_next(numbers.next_mq);
-        self.named_sem.set_next(numbers.next_named_sem);
-        self.shm.set_next(numbers.next_segment);
+        self.psem.set_next(numbers.next_psem);
+        self.pshm.set_next(numbers.next_pshm);
     }
 
     /// Whether each part is sound.
@@ -221,10 +221,10 @@ impl State {
         self.are_processes_sound()
             && self.are_waits_sound()
             && self.are_adjustments_sound()
-            && self.are_queues_sound()
-            && self.are_sets_sound()
+            && self.are_msg_queues_sound()
+            && self.are_semsets_sound()
             && self.are_mqs_sound()
-            && self.are_named_sems_sound()
-            && self.are_segments_sound()
+            && self.are_psems_sound()
+            && self.are_pshms_sound()
     }
 }

@@ -50,8 +50,8 @@ impl State {
         ensures limits { self.new.limits ≡ self.old.limits }
         ensures room { self.new.room ≡ record self.old.room {
           mq = self.new.room.mq;
-          named_sem = self.new.room.named_sem;
-          shm = self.new.room.shm;
+          psem = self.new.room.psem;
+          pshm = self.new.room.pshm;
         } }
     {
         self.processes.close(pid.0, fd);

@@ -6,7 +6,7 @@ ghost use Rattle.ipc_state.specs.Restored.{with_waits};
 ghost use Rattle.ipc_state.specs.State.{at_moment, due_calls, is_waiting, with_waiting, without_due, without_waiting};
 ghost use Rattle.ipc_state.specs.Touching.{object_of, object_on};
 ghost use Rattle.ipc_state.specs.Waiting.{AreSoundWaits, IsSoundWaiting, has_deadline};
-ghost use Rattle.ipc_wait.specs.Waits.{call_of, next_deadline};
+ghost use Rattle.ipc_wait.specs.Waits.{waiting_call_of, next_deadline};
 
 use crate::descriptors::Opened;
 use crate::parked::{Awaited, Object, Parked};
@@ -43,8 +43,8 @@ impl State {
         ensures { result ≡ object_of self.now.state pid.0 awaited }
     {
         match awaited {
-            Awaited::Queue(id) => Some(Object::Queue(id)),
-            Awaited::Set(id) => Some(Object::Set(id)),
+            Awaited::MsgQueue(id) => Some(Object::MsgQueue(id)),
+            Awaited::Semset(id) => Some(Object::Semset(id)),
             Awaited::Descriptor(fd) => match self.descriptor(pid, fd) {
                 Some(descriptor) => Some(object_on(descriptor.on)),
                 None => None,
@@ -87,7 +87,7 @@ impl State {
 
     /// Takes out the call of a process that waits, and gives it. The others stay in order.
     pub fn leave_wait(&mut self, pid: Pid) -> Option<Waiting<Awaited, Parked>>
-        ensures call { result ≡ call_of pid self.old.state.wait }
+        ensures call { result ≡ waiting_call_of pid self.old.state.wait }
         ensures state { self.new.state ≡ without_waiting self.old.state pid.0 }
         ensures limits { self.new.limits ≡ self.old.limits }
         ensures keys { self.new.room.keys ≡ self.old.room.keys }
@@ -102,7 +102,7 @@ impl State {
     pub fn leave_due(&mut self) -> Option<Waiting<Awaited, Parked>>
         ensures none { IfNone result ((due_calls self.old.state ≡ []) × (self.new ≡ self.old)) }
         ensures first { IfSome result (λ w. due_calls self.old.state ≡ w ∷ due_calls self.new.state) }
-        ensures call { IfSome result (λ w. call_of w.pid self.old.state.wait ≡ Some w) }
+        ensures call { IfSome result (λ w. waiting_call_of w.pid self.old.state.wait ≡ Some w) }
         ensures state { IfSome result (λ w. self.new.state ≡ without_waiting self.old.state w.pid.0) }
         ensures limits { self.new.limits ≡ self.old.limits }
         ensures room { self.new.room ≡ self.old.room }
@@ -135,9 +135,9 @@ fn object_on(on: Opened) -> Object
     ensures { result ≡ object_on on }
 {
     match on {
-        Opened::Queue(number) => Object::Mq(number),
-        Opened::Semaphore(number) => Object::NamedSem(number),
-        Opened::Segment(number) => Object::Segment(number),
+        Opened::Mq(number) => Object::Mq(number),
+        Opened::Psem(number) => Object::Psem(number),
+        Opened::Pshm(number) => Object::Pshm(number),
     }
 }
 

@@ -37,7 +37,7 @@ module _ {D : Type 0} (medium : Medium) (store : StoreView D) (base : State) (pe
       let after : machine.state ≡ (run store.machine.limits base (pending ++ e ∷ [])).state =
       state ∙ ap (λ (s : State). (step store.machine.limits s e).state) waits.state ∙ sym (run-parts store.machine.limits base pending (e ∷ [])) in
       record {
-        goes_on = at.goes_on;
+        running = at.running;
         device = subst (λ (l : Limits). DeviceMatches medium l store.checkpoint store.journal base) (sym limits) at.device;
         waits = record {
           records = records-are ∙ ap (λ (x : List ℕ). x ++ record_bytes e) waits.records ∙ sym (records-more pending e);

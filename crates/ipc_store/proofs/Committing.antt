@@ -155,7 +155,7 @@ module _ {D : Type 0} (old new : Medium) (store : StoreView D) (base : State) (p
         → ((batches : List (List ℕ)) → JournalMatches store.journal batches old → JournalMatches journal (batches ++ batch ∷ []) new)
         → StoreMatches new (after store disk store.checkpoint journal confirmed) (run store.machine.limits base pending).state []
     committed disk journal confirmed range epoch acknowledged = record {
-      goes_on = at.goes_on;
+      running = at.running;
       device = record {
         honest = alone.honest;
         range = range ∙ at.device.range;
@@ -236,7 +236,7 @@ module _ {D : Type 0} (old new : Medium) (store : StoreView D) (base : State) (p
         → ((objects : PlainObjects) → CheckpointMatches store.checkpoint objects old → CheckpointMatches checkpoint next new)
         → StoreMatches new (after store disk checkpoint journal confirmed) (run store.machine.limits base pending).state []
     saved disk checkpoint journal confirmed lies is-epoch range journal-epoch used matches = record {
-      goes_on = at.goes_on;
+      running = at.running;
       device = record {
         honest = alone.honest;
         range = range ∙ at.device.range;

@@ -10,7 +10,7 @@ use Rattle.ipc_state.specs.State.{State, start}
 use Rattle.ipc_engine.specs.Event.{PlainEvent}
 use Rattle.ipc_engine.specs.Step.{run}
 use Rattle.ipc_engine.proofs.CallerLemmas.{run-parts}
-use Rattle.ipc_store.specs.Histories.{History, acknowledged, accepted, state_after, StandsForPrefix, GoesOn, Keeps, Follows, Takes}
+use Rattle.ipc_store.specs.Histories.{History, acknowledged, accepted, state_after, StandsForPrefix, IsRunning, Keeps, Follows, Takes}
 use Rattle.ipc_store.specs.Image.{StandsFor}
 use Rattle.ipc_store.specs.View.{StoreView, IsStopped}
 use Rattle.ipc_store.specs.Relations.Matches.{StoreMatches, StandsForEither}
@@ -79,7 +79,7 @@ module _ (limits : Limits) (acked : List PlainEvent) where
   }
 
 -- a store that goes on has not stopped
-going : {D : Type 0} (medium : Medium) (store : StoreView D) (h : History) → Keeps medium store h → store.stopped ≡ false → GoesOn medium store h
+going : {D : Type 0} (medium : Medium) (store : StoreView D) (h : History) → Keeps medium store h → store.stopped ≡ false → IsRunning medium store h
 going medium store h keeps is = ⊎_elim (λ goes. goes) (λ halted. absurd (both store.stopped halted.stopped is)) keeps.stands
   where
     both : (b : Bool) → b ≡ true → b ≡ false → ⊥
@@ -134,7 +134,7 @@ module _ {D : Type 0} (medium : D → Medium) (law : (d : D) (image : Image) →
   module _ (new : StoreView D) (going-on : old.stopped ≡ false) (limits : new.machine.limits ≡ old.machine.limits)
       (moments : (base : State) (pending : List PlainEvent) → StoreMatches (medium old.disk) old base pending
       → EachImageSince (medium old.disk) (medium new.disk) (StandsForEither old.machine.limits base (run old.machine.limits base pending).state)) where
-    since : (before : History) → GoesOn (medium old.disk) old before
+    since : (before : History) → IsRunning (medium old.disk) old before
         → EachImageSince (medium old.disk) (medium new.disk) (StandsForPrefix old.machine.limits (acknowledged before) before.waiting)
     since before goes =
         let base : State = state_after old.machine.limits (acknowledged before) in
@@ -143,7 +143,7 @@ module _ {D : Type 0} (medium : D → Medium) (law : (d : D) (image : Image) →
         (StandsForPrefix old.machine.limits (acknowledged before) before.waiting) (moments base before.waiting goes)
         (keeps-either old.machine.limits (acknowledged before) before.waiting)
 
-    crash-since : (before : History) → GoesOn (medium old.disk) old before
+    crash-since : (before : History) → IsRunning (medium old.disk) old before
         → EachImageSince (medium old.disk) (medium new.disk) (StandsForPrefix old.machine.limits (acknowledged before) (before.waiting ++ []))
     crash-since before goes =
         EachImageSince-weaken (medium old.disk) (medium new.disk) (StandsForPrefix old.machine.limits (acknowledged before) before.waiting)

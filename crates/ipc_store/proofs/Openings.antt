@@ -44,7 +44,7 @@ pub new-matches : {D : Type 0} (medium : Medium) (disk : D) (checkpoint : Checkp
     → DeviceMatches medium machine.limits checkpoint journal machine.state
     → StoreMatches medium (store_over disk checkpoint journal machine) machine.state []
 new-matches medium disk checkpoint journal machine matches = record {
-  goes_on = refl;
+  running = refl;
   device = matches;
   waits = record { records = refl; count = refl; each = All-nil HasRecord; named = tt; state = refl };
 }

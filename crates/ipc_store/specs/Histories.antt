@@ -43,8 +43,8 @@ pub record StandsForPrefix (limits : Limits) (acked others : List PlainEvent) (i
 
 -- the store goes on: its disk stands for the state after the acknowledged events, and its machine
 -- is in the state after the waiting ones too
-abbrev pub GoesOn : {D : Type 0} → Medium → StoreView D → History → Type 0
-GoesOn medium store h = StoreMatches medium store (state_after store.machine.limits (acknowledged h)) h.waiting
+abbrev pub IsRunning : {D : Type 0} → Medium → StoreView D → History → Type 0
+IsRunning medium store h = StoreMatches medium store (state_after store.machine.limits (acknowledged h)) h.waiting
 
 -- the store has stopped: a crash leaves what was acknowledged, and some of what waited
 pub record HasHalted {D : Type 0} (medium : Medium) (store : StoreView D) (h : History) : Type 0 where
@@ -55,7 +55,7 @@ pub record HasHalted {D : Type 0} (medium : Medium) (store : StoreView D) (h : H
 
 -- the store has this history, and counts what it has confirmed
 pub record Keeps {D : Type 0} (medium : Medium) (store : StoreView D) (h : History) : Type 0 where
-  pub stands : GoesOn medium store h ⊎ HasHalted medium store h
+  pub stands : IsRunning medium store h ⊎ HasHalted medium store h
   pub count : store.confirmed ≡ length h.confirmed
 
 -- a history goes on: these events are accepted, and some of all may be confirmed

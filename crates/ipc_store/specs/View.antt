@@ -68,7 +68,7 @@ numbers_used store = epoch_of store.checkpoint + (store.confirmed + store.waitin
 -- A call went well: the store has not stopped, the disk has counted no failure, and so many numbers more are used at
 -- most.
 pub record Spends {D : Type 0} (counts : D → Counts) (n : ℕ) (old new : StoreView D) : Type 0 where
-  pub goes_on : new.stopped ≡ false
+  pub running : new.stopped ≡ false
   pub failures : (counts new.disk).failures ≡ (counts old.disk).failures
   pub numbers : numbers_used new ≤ numbers_used old + n
 

@@ -18,7 +18,7 @@ use crate::places::{FIRST_EPOCH, JOURNAL_RANGE, layout_of};
 use crate::store::Store;
 use ipc_base::Limits;
 use ipc_checkpoint::Checkpoint;
-use ipc_disk::{DiskFault, SectorDisk, settle_sector};
+use ipc_disk::{DiskFault, SectorDisk, write_durably};
 use ipc_image::{SUPERBLOCK, need, start_objects, superblock_is_read, write_superblock};
 use ipc_journal::Journal;
 
@@ -98,7 +98,7 @@ fn erase<D: SectorDisk>(disk: &mut D) -> Result<(), DiskFault>
         ≡ counted (D.counts disk.old).failures 1) }
     ensures no_failure { OnOk result ((D.counts disk.new).failures ≡ (D.counts disk.old).failures) }
 {
-    settle(disk, SUPERBLOCK, &[0; 512])
+    put_durably(disk, SUPERBLOCK, &[0; 512])
 }
 
 // Puts an empty journal and the objects of the first state where a device has them. The disk stays no device.
@@ -138,7 +138,7 @@ fn put_superblock<D: SectorDisk>(disk: &mut D, limits: &Limits) -> Result<(), Di
     ensures no_failure { OnOk result ((D.counts disk.new).failures ≡ (D.counts disk.old).failures) }
 {
     let sector = superblock_of(disk.sectors(), limits);
-    settle(disk, SUPERBLOCK, &sector)
+    put_durably(disk, SUPERBLOCK, &sector)
 }
 
 // The superblock of a device of so many sectors.
@@ -154,7 +154,7 @@ fn superblock_of(sectors: u32, limits: &Limits) -> [u8; 512]
 }
 
 // Writes one sector and makes it last.
-fn settle<D: SectorDisk>(disk: &mut D, at: u32, sector: &[u8; 512]) -> Result<(), DiskFault>
+fn put_durably<D: SectorDisk>(disk: &mut D, at: u32, sector: &[u8; 512]) -> Result<(), DiskFault>
     requires { at < D.size disk.old }
     ensures written { OnOk result (IsHonest (D.medium disk.old) → EachNow (D.medium disk.new)
         (λ image. image ≡ slice_set (D.medium disk.old).contents at sector.now)) }
@@ -168,5 +168,5 @@ fn settle<D: SectorDisk>(disk: &mut D, at: u32, sector: &[u8; 512]) -> Result<()
         ≡ counted (D.counts disk.old).failures 1) }
     ensures no_failure { OnOk result ((D.counts disk.new).failures ≡ (D.counts disk.old).failures) }
 {
-    settle_sector(disk, at, sector)
+    write_durably(disk, at, sector)
 }

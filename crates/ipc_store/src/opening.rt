@@ -104,7 +104,7 @@ impl<D: SectorDisk> Store<D> {
 
     // Takes a restart as its first event, and makes it last.
     fn restart(&mut self) -> Result<(), OpenError>
-        requires goes_on { self.old.stopped ≡ false }
+        requires running { self.old.stopped ≡ false }
         requires first { self.old.confirmed ≡ 0 }
         requires none { self.old.waiting ≡ 0 }
         requires empty { self.old.records ≡ [] }

@@ -9,7 +9,7 @@ ghost use Rattle.ipc_disk.specs.Standing.{sectors_for};
 ghost use Rattle.ipc_base.specs.Limits.{ArePassed};
 ghost use Rattle.ipc_engine.specs.Sound.{IsSound};
 ghost use Rattle.ipc_state.specs.State.{State};
-ghost use Rattle.ipc_engine.specs.Engine.{IsForProcess, takes_memory};
+ghost use Rattle.ipc_engine.specs.Engine.{IsForProcess, event_takes_memory};
 ghost use Rattle.ipc_engine.specs.Event.{PlainEvent};
 ghost use Rattle.ipc_engine.specs.Step.{step as step_on, run};
 ghost use Rattle.ipc_engine.specs.View.{plain_event};
@@ -152,12 +152,12 @@ impl<D: SectorDisk> Store<D> {
         ensures checkpoint { self.new.checkpoint ≡ self.old.checkpoint }
         ensures journal { self.new.journal ≡ self.old.journal }
         ensures confirmed { self.new.confirmed ≡ self.old.confirmed }
-        ensures goes_on { self.new.stopped ≡ self.old.stopped }
+        ensures running { self.new.stopped ≡ self.old.stopped }
         // Refusals.
         ensures err { OnErr result (self.new ≡ self.old) }
         ensures stopped { (result ≡ Err StepError.Stopped)
             ↔ (IsStopped self.old ⊎ (self.old.confirmed + self.old.waiting ≡ 2 ^ 64 - 1)) }
-        ensures memory { takes_memory self.old.machine.limits self.old.machine.state (plain_event event.entry) ≡ false
+        ensures memory { event_takes_memory self.old.machine.limits self.old.machine.state (plain_event event.entry) ≡ false
             → (IsOk result) ⊎ (result ≡ Err StepError.Stopped) }
     {
         if self.stopped || self.confirmed + self.batch.count() == u64::MAX {
@@ -198,7 +198,7 @@ impl<D: SectorDisk> Store<D> {
         ensures stops { OnErr result (IsStopped self.new) }
         ensures still_waits { OnErr result (self.new.waiting ≡ self.old.waiting) }
         ensures unconfirmed { OnErr result (self.new.confirmed ≡ self.old.confirmed) }
-        ensures goes_on { OnOk result (self.new.stopped ≡ false) }
+        ensures running { OnOk result (self.new.stopped ≡ false) }
         ensures stopped { (result ≡ Err CommitError.Stopped) ↔ (IsStopped self.old
             ⊎ (IsAtLastEpoch self.old × (0 < self.old.waiting) × ¬ HasPlace self.old)) }
         ensures kept { IsStopped self.old → self.new ≡ self.old }
@@ -257,7 +257,7 @@ impl<D: SectorDisk> Store<D> {
         ensures stops { OnErr result (IsStopped self.new) }
         ensures still_waits { OnErr result (self.new.waiting ≡ self.old.waiting) }
         ensures unconfirmed { OnErr result (self.new.confirmed ≡ self.old.confirmed) }
-        ensures goes_on { OnOk result (self.new.stopped ≡ false) }
+        ensures running { OnOk result (self.new.stopped ≡ false) }
         ensures stopped { (result ≡ Err CommitError.Stopped) ↔ (IsStopped self.old ⊎ IsAtLastEpoch self.old) }
         ensures kept { IsStopped self.old → self.new ≡ self.old }
         ensures unwritten { result ≡ Err CommitError.Stopped → self.new.disk ≡ self.old.disk }
@@ -277,7 +277,7 @@ impl<D: SectorDisk> Store<D> {
 
     // Appends what waits to the journal.
     fn append(&mut self) -> Result<(), CommitError>
-        requires goes_on { self.old.stopped ≡ false }
+        requires running { self.old.stopped ≡ false }
         requires place { HasPlace self.old }
         ensures matches { OnOk result ((base : State) (pending : List PlainEvent)
             → StoreMatches (D.medium self.old.disk) self.old base pending
@@ -294,7 +294,7 @@ impl<D: SectorDisk> Store<D> {
         ensures stops { OnErr result (IsStopped self.new) }
         ensures still_waits { OnErr result (self.new.waiting ≡ self.old.waiting) }
         ensures unconfirmed { OnErr result (self.new.confirmed ≡ self.old.confirmed) }
-        ensures goes_on { OnOk result (self.new.stopped ≡ false) }
+        ensures running { OnOk result (self.new.stopped ≡ false) }
         ensures epoch { self.new.checkpoint ≡ self.old.checkpoint }
         ensures stopped { result ≢ Err CommitError.Stopped }
         ensures failure { result ≡ Err CommitError.Device → (D.counts self.new.disk).failures
@@ -315,7 +315,7 @@ impl<D: SectorDisk> Store<D> {
 
     // Saves the state, and empties the journal: at the next epoch what stands there counts no more.
     fn save_state(&mut self) -> Result<(), CommitError>
-        requires goes_on { self.old.stopped ≡ false }
+        requires running { self.old.stopped ≡ false }
         ensures matches { OnOk result ((base : State) (pending : List PlainEvent)
             → StoreMatches (D.medium self.old.disk) self.old base pending
             → StoreMatches (D.medium self.new.disk) self.new
@@ -331,7 +331,7 @@ impl<D: SectorDisk> Store<D> {
         ensures stops { OnErr result (IsStopped self.new) }
         ensures still_waits { OnErr result (self.new.waiting ≡ self.old.waiting) }
         ensures unconfirmed { OnErr result (self.new.confirmed ≡ self.old.confirmed) }
-        ensures goes_on { OnOk result (self.new.stopped ≡ false) }
+        ensures running { OnOk result (self.new.stopped ≡ false) }
         ensures stopped { (result ≡ Err CommitError.Stopped) ↔ IsAtLastEpoch self.old }
         ensures unwritten { result ≡ Err CommitError.Stopped → self.new.disk ≡ self.old.disk }
         ensures failure { result ≡ Err CommitError.Device → (D.counts self.new.disk).failures

@@ -10,9 +10,9 @@ use Rattle.ipc_base.proofs.CallerLemmas.{nobody}
 use Rattle.ipc_base.specs.declared.identity.Pid.{Pid}
 use Rattle.ipc_base.specs.declared.identity.Moment.{Moment}
 use Rattle.ipc_wait.specs.declared.list.Waiting.{Waiting}
-use Rattle.ipc_wait.specs.Waits.{call_of, without, HaveDistinctPids, is_of, has_come, is_due, calls_due, calls_left, next_deadline}
+use Rattle.ipc_wait.specs.Waits.{waiting_call_of, without, HaveDistinctPids, is_of, has_come, is_due, calls_due, calls_left, next_deadline}
 use Rattle.ipc_wait.proofs.Lists.{HaveDistinctPids-filter, filter-filter, none_later, same_process, same_number, turned}
-use Rattle.ipc_wait.proofs.Lists.{call_of-past, find-filter_none, find-parts, one_due}
+use Rattle.ipc_wait.proofs.Lists.{waiting_call_of-past, find-filter_none, find-parts, one_due}
 pub use Rattle.ipc_wait.proofs.Lists.{HaveDistinctPids-enter, filter-none}
 
 -- a deadline that has come stays so
@@ -34,21 +34,21 @@ module _ {O C : Type 0} where
       ]
 
   -- after a call has left, its process has none
-  pub call_of-without_same : (pid : Pid) (calls : List (Waiting O C)) → call_of pid (without pid calls) ≡ None
-  call_of-without_same pid [] = refl
-  call_of-without_same pid (w ∷ calls) =
-      elim (is_of pid w) as (λ b. is_of pid w ≡ b → call_of pid (cond (not b) (w ∷ without pid calls) (without pid calls)) ≡ None) [
-        | true ↦ λ e. call_of-without_same pid calls
-        | false ↦ λ e. (λ i. cond (e i) (Some w) (call_of-without_same pid calls i))
+  pub waiting_call_of-without_same : (pid : Pid) (calls : List (Waiting O C)) → waiting_call_of pid (without pid calls) ≡ None
+  waiting_call_of-without_same pid [] = refl
+  waiting_call_of-without_same pid (w ∷ calls) =
+      elim (is_of pid w) as (λ b. is_of pid w ≡ b → waiting_call_of pid (cond (not b) (w ∷ without pid calls) (without pid calls)) ≡ None) [
+        | true ↦ λ e. waiting_call_of-without_same pid calls
+        | false ↦ λ e. (λ i. cond (e i) (Some w) (waiting_call_of-without_same pid calls i))
       ] refl
 
   -- and each other process has what it had
-  pub call_of-without_other : (pid q : Pid) (calls : List (Waiting O C)) → q ≢ pid → call_of q (without pid calls) ≡ call_of q calls
-  call_of-without_other pid q [] ne = refl
-  call_of-without_other pid q (w ∷ calls) ne =
-      elim (is_of pid w) as (λ b. is_of pid w ≡ b → call_of q (cond (not b) (w ∷ without pid calls) (without pid calls)) ≡ call_of q (w ∷ calls)) [
-        | true ↦ λ e. call_of-without_other pid q calls ne ∙ (λ i. cond (sym (apart e) i) (Some w) (call_of q calls))
-        | false ↦ λ e. ap (cond (is_of q w) (Some w)) (call_of-without_other pid q calls ne)
+  pub waiting_call_of-without_other : (pid q : Pid) (calls : List (Waiting O C)) → q ≢ pid → waiting_call_of q (without pid calls) ≡ waiting_call_of q calls
+  waiting_call_of-without_other pid q [] ne = refl
+  waiting_call_of-without_other pid q (w ∷ calls) ne =
+      elim (is_of pid w) as (λ b. is_of pid w ≡ b → waiting_call_of q (cond (not b) (w ∷ without pid calls) (without pid calls)) ≡ waiting_call_of q (w ∷ calls)) [
+        | true ↦ λ e. waiting_call_of-without_other pid q calls ne ∙ (λ i. cond (sym (apart e) i) (Some w) (waiting_call_of q calls))
+        | false ↦ λ e. ap (cond (is_of q w) (Some w)) (waiting_call_of-without_other pid q calls ne)
       ] refl
     where
       apart : is_of pid w ≡ true → is_of q w ≡ false
@@ -68,17 +68,17 @@ module _ {O C : Type 0} where
 
   -- of a list that holds a call, what its process has there, and the rest
   module _ (w : Waiting O C) (after : List (Waiting O C)) where
-    not_before : (v : Waiting O C) (before : List (Waiting O C)) → call_of v.pid (before ++ w ∷ after) ≡ None → is_of w.pid v ≡ false
+    not_before : (v : Waiting O C) (before : List (Waiting O C)) → waiting_call_of v.pid (before ++ w ∷ after) ≡ None → is_of w.pid v ≡ false
     not_before v [] none = turned v.pid.0 w.pid.0 ∙ (none_later (is_of v.pid) w after none).0
     not_before v (u ∷ before) none = not_before v before (none_later (is_of v.pid) u (before ++ w ∷ after) none).1
 
-    pub none_before : (before : List (Waiting O C)) → HaveDistinctPids (before ++ w ∷ after) → call_of w.pid before ≡ None
+    pub none_before : (before : List (Waiting O C)) → HaveDistinctPids (before ++ w ∷ after) → waiting_call_of w.pid before ≡ None
     none_before [] distinct = refl
     none_before (v ∷ before) distinct = (λ i. cond (not_before v before distinct.0 i) (Some v) (none_before before distinct.1 i))
 
-    pub call_of-here : (before : List (Waiting O C)) → HaveDistinctPids (before ++ w ∷ after) → call_of w.pid (before ++ w ∷ after) ≡ Some w
-    call_of-here [] distinct = ap (λ b. cond b (Some w) (call_of w.pid after)) (same_number w.pid.0)
-    call_of-here (v ∷ before) distinct = (λ i. cond (not_before v before distinct.0 i) (Some v) (call_of-here before distinct.1 i))
+    pub waiting_call_of-here : (before : List (Waiting O C)) → HaveDistinctPids (before ++ w ∷ after) → waiting_call_of w.pid (before ++ w ∷ after) ≡ Some w
+    waiting_call_of-here [] distinct = ap (λ b. cond b (Some w) (waiting_call_of w.pid after)) (same_number w.pid.0)
+    waiting_call_of-here (v ∷ before) distinct = (λ i. cond (not_before v before distinct.0 i) (Some v) (waiting_call_of-here before distinct.1 i))
 
     pub without-here : (before : List (Waiting O C)) → HaveDistinctPids (before ++ w ∷ after) → without w.pid (before ++ w ∷ after) ≡ before ++ after
     without-here [] distinct =
@@ -87,24 +87,24 @@ module _ {O C : Type 0} where
         (λ i. cond (not (not_before v before distinct.0 i)) (v ∷ without-here before distinct.1 i) (without w.pid (before ++ w ∷ after)))
 
   -- what a process has among those that pass a test it has in the list
-  pub call_of-filter : (test : Waiting O C → Bool) (q : Pid) (w : Waiting O C) (calls : List (Waiting O C)) → HaveDistinctPids calls
-      → call_of q (filter test calls) ≡ Some w → call_of q calls ≡ Some w
-  call_of-filter test q w [] distinct h = h
-  call_of-filter test q w (v ∷ calls) distinct h =
-      elim (test v) as (λ b. call_of q (cond b (v ∷ filter test calls) (filter test calls)) ≡ Some w → call_of q (v ∷ calls) ≡ Some w) [
-        | true ↦ elim (is_of q v) as (λ b. cond b (Some v) (call_of q (filter test calls)) ≡ Some w → cond b (Some v) (call_of q calls) ≡ Some w) [
+  pub waiting_call_of-filter : (test : Waiting O C → Bool) (q : Pid) (w : Waiting O C) (calls : List (Waiting O C)) → HaveDistinctPids calls
+      → waiting_call_of q (filter test calls) ≡ Some w → waiting_call_of q calls ≡ Some w
+  waiting_call_of-filter test q w [] distinct h = h
+  waiting_call_of-filter test q w (v ∷ calls) distinct h =
+      elim (test v) as (λ b. waiting_call_of q (cond b (v ∷ filter test calls) (filter test calls)) ≡ Some w → waiting_call_of q (v ∷ calls) ≡ Some w) [
+        | true ↦ elim (is_of q v) as (λ b. cond b (Some v) (waiting_call_of q (filter test calls)) ≡ Some w → cond b (Some v) (waiting_call_of q calls) ≡ Some w) [
           | true ↦ λ h. h
-          | false ↦ call_of-filter test q w calls distinct.1
+          | false ↦ waiting_call_of-filter test q w calls distinct.1
         ]
-        | false ↦ λ h. call_of-past v calls q w distinct.0 (call_of-filter test q w calls distinct.1 h)
+        | false ↦ λ h. waiting_call_of-past v calls q w distinct.0 (waiting_call_of-filter test q w calls distinct.1 h)
       ] h
 
   -- a call that passes a test is its process's, and when it leaves the others that pass stay
-  pub call_of-passing : (test : Waiting O C → Bool) (calls before after : List (Waiting O C)) (w : Waiting O C) → HaveDistinctPids calls
-      → filter test calls ≡ before ++ w ∷ after → call_of w.pid calls ≡ Some w
-  call_of-passing test calls before after w distinct is =
+  pub waiting_call_of-passing : (test : Waiting O C → Bool) (calls before after : List (Waiting O C)) (w : Waiting O C) → HaveDistinctPids calls
+      → filter test calls ≡ before ++ w ∷ after → waiting_call_of w.pid calls ≡ Some w
+  waiting_call_of-passing test calls before after w distinct is =
       let each = subst HaveDistinctPids is (HaveDistinctPids-filter test calls distinct) in
-      call_of-filter test w.pid w calls distinct (ap (call_of w.pid) is ∙ call_of-here w after before each)
+      waiting_call_of-filter test w.pid w calls distinct (ap (waiting_call_of w.pid) is ∙ waiting_call_of-here w after before each)
 
   pub filter-without_passing : (test : Waiting O C → Bool) (calls before after : List (Waiting O C)) (w : Waiting O C) → HaveDistinctPids calls
       → filter test calls ≡ before ++ w ∷ after → filter test (without w.pid calls) ≡ before ++ after
@@ -113,42 +113,42 @@ module _ {O C : Type 0} where
       filter-without test w.pid calls ∙ ap (without w.pid) is ∙ without-here w after before each
 
   -- what a search finds among those that pass a test is its process's
-  pub call_of-found : (test found : Waiting O C → Bool) (calls : List (Waiting O C)) (w : Waiting O C) → HaveDistinctPids calls
-      → find found (filter test calls) ≡ Some w → call_of w.pid calls ≡ Some w
-  call_of-found test found calls w distinct is =
+  pub waiting_call_of-found : (test found : Waiting O C → Bool) (calls : List (Waiting O C)) (w : Waiting O C) → HaveDistinctPids calls
+      → find found (filter test calls) ≡ Some w → waiting_call_of w.pid calls ≡ Some w
+  waiting_call_of-found test found calls w distinct is =
       let parts = find-parts found (filter test calls) w is in
-      call_of-passing test calls parts.0 parts.1 w distinct parts.2
+      waiting_call_of-passing test calls parts.0 parts.1 w distinct parts.2
 
   -- what a process has among those that pass a test: its call, if that passes
-  pub call_of-passes : (test : Waiting O C → Bool) (q : Pid) (calls : List (Waiting O C)) (w : Waiting O C) → HaveDistinctPids calls
-      → call_of q calls ≡ Some w → is_some (call_of q (filter test calls)) ≡ test w
-  call_of-passes test q [] w distinct h = cc
-  call_of-passes test q (v ∷ calls) w distinct h =
-      elim (is_of q v) as (λ b. is_of q v ≡ b → cond b (Some v) (call_of q calls) ≡ Some w → is_some (call_of q (filter test (v ∷ calls))) ≡ test w) [
+  pub waiting_call_of-passes : (test : Waiting O C → Bool) (q : Pid) (calls : List (Waiting O C)) (w : Waiting O C) → HaveDistinctPids calls
+      → waiting_call_of q calls ≡ Some w → is_some (waiting_call_of q (filter test calls)) ≡ test w
+  waiting_call_of-passes test q [] w distinct h = cc
+  waiting_call_of-passes test q (v ∷ calls) w distinct h =
+      elim (is_of q v) as (λ b. is_of q v ≡ b → cond b (Some v) (waiting_call_of q calls) ≡ Some w → is_some (waiting_call_of q (filter test (v ∷ calls))) ≡ test w) [
         | true ↦ λ e h.
-            elim (test v) as (λ b. test v ≡ b → is_some (call_of q (cond b (v ∷ filter test calls) (filter test calls))) ≡ b) [
-              | true ↦ λ _. (λ i. is_some (cond (e i) (Some v) (call_of q (filter test calls))))
-              | false ↦ λ _. ap is_some (find-filter_none (is_of q) test calls (subst (λ p. call_of p calls ≡ None) (same_process v.pid q e) distinct.0))
+            elim (test v) as (λ b. test v ≡ b → is_some (waiting_call_of q (cond b (v ∷ filter test calls) (filter test calls))) ≡ b) [
+              | true ↦ λ _. (λ i. is_some (cond (e i) (Some v) (waiting_call_of q (filter test calls))))
+              | false ↦ λ _. ap is_some (find-filter_none (is_of q) test calls (subst (λ p. waiting_call_of p calls ≡ None) (same_process v.pid q e) distinct.0))
             ] refl ∙ ap test (same_Some v w h)
         | false ↦ λ e h.
-            elim (test v) as (λ b. is_some (call_of q (cond b (v ∷ filter test calls) (filter test calls))) ≡ test w) [
-              | true ↦ (λ i. is_some (cond (e i) (Some v) (call_of q (filter test calls)))) ∙ call_of-passes test q calls w distinct.1 h
-              | false ↦ call_of-passes test q calls w distinct.1 h
+            elim (test v) as (λ b. is_some (waiting_call_of q (cond b (v ∷ filter test calls) (filter test calls))) ≡ test w) [
+              | true ↦ (λ i. is_some (cond (e i) (Some v) (waiting_call_of q (filter test calls)))) ∙ waiting_call_of-passes test q calls w distinct.1 h
+              | false ↦ waiting_call_of-passes test q calls w distinct.1 h
             ]
       ] refl h
 
   -- a process that has no call has none among those that pass a test
-  pub call_of-none : (test : Waiting O C → Bool) (q : Pid) (calls : List (Waiting O C)) → call_of q calls ≡ None → call_of q (filter test calls) ≡ None
-  call_of-none test q calls none = find-filter_none (is_of q) test calls none
+  pub waiting_call_of-none : (test : Waiting O C → Bool) (q : Pid) (calls : List (Waiting O C)) → waiting_call_of q calls ≡ None → waiting_call_of q (filter test calls) ≡ None
+  waiting_call_of-none test q calls none = find-filter_none (is_of q) test calls none
 
   -- if a call leaves that is due, those that are not stay as they are
-  pub due-leaves : (now : Moment) (calls : List (Waiting O C)) (w : Waiting O C) → HaveDistinctPids calls → call_of w.pid calls ≡ Some w
+  pub due-leaves : (now : Moment) (calls : List (Waiting O C)) (w : Waiting O C) → HaveDistinctPids calls → waiting_call_of w.pid calls ≡ Some w
       → is_due now w ≡ true → calls_left now (without w.pid calls) ≡ calls_left now calls
   due-leaves now calls w distinct here due =
-      let gone : is_some (call_of w.pid (calls_left now calls)) ≡ false =
-      call_of-passes (λ v. not (is_due now v)) w.pid calls w distinct here ∙ ap not due in
+      let gone : is_some (waiting_call_of w.pid (calls_left now calls)) ≡ false =
+      waiting_call_of-passes (λ v. not (is_due now v)) w.pid calls w distinct here ∙ ap not due in
       filter-without (λ v. not (is_due now v)) w.pid calls
-      ∙ filter-none (is_of w.pid) (calls_left now calls) (nobody (call_of w.pid (calls_left now calls)) gone)
+      ∙ filter-none (is_of w.pid) (calls_left now calls) (nobody (waiting_call_of w.pid (calls_left now calls)) gone)
 
   -- after those that are due have left, no process has two calls
   pub left-distinct : (now : Moment) (calls : List (Waiting O C)) → HaveDistinctPids calls → HaveDistinctPids (calls_left now calls)
@@ -174,7 +174,7 @@ module _ {O C : Type 0} where
 
   -- a call that is in the list: its process has it, and when it leaves there is one less
   pub record IsIn (calls : List (Waiting O C)) (w : Waiting O C) : Type 0 where
-    pub here : call_of w.pid calls ≡ Some w
+    pub here : waiting_call_of w.pid calls ≡ Some w
     pub fewer : length calls ≡ length (without w.pid calls) + 1
 
   -- what a search finds is in the list
@@ -185,7 +185,7 @@ module _ {O C : Type 0} where
       let after = parts.1 in
       let each = subst HaveDistinctPids parts.2 distinct in
       record {
-        here = ap (call_of w.pid) parts.2 ∙ call_of-here w after before each;
+        here = ap (waiting_call_of w.pid) parts.2 ∙ waiting_call_of-here w after before each;
         fewer =
             let left : without w.pid calls ≡ before ++ after = ap (without w.pid) parts.2 ∙ without-here w after before each in
             omega (arith, ap length parts.2, ap length left, length-append before (w ∷ after), length-append before after);

@@ -11,7 +11,7 @@ use Rattle.std.specs.Option.{option_or}
 use Rattle.ipc_base.specs.declared.identity.Pid.{Pid}
 use Rattle.ipc_base.specs.declared.identity.Moment.{Moment}
 use Rattle.ipc_wait.specs.declared.list.Waiting.{Waiting}
-use Rattle.ipc_wait.specs.Waits.{call_of, without, HaveDistinctPids, is_of, earlier, has_come, is_due, next_deadline}
+use Rattle.ipc_wait.specs.Waits.{waiting_call_of, without, HaveDistinctPids, is_of, earlier, has_come, is_due, next_deadline}
 
 module _ {X : Type 0} (test : X → Bool) where
   -- nothing passes in the rest
@@ -120,7 +120,7 @@ has_come-earlier now (Some a) (Some b) =
 
 module _ {O C : Type 0} where
   -- a call more, of a process that has none
-  pub HaveDistinctPids-enter : (calls : List (Waiting O C)) (w : Waiting O C) → HaveDistinctPids calls → call_of w.pid calls ≡ None
+  pub HaveDistinctPids-enter : (calls : List (Waiting O C)) (w : Waiting O C) → HaveDistinctPids calls → waiting_call_of w.pid calls ≡ None
       → HaveDistinctPids (calls ++ w ∷ [])
   HaveDistinctPids-enter [] w distinct free = (refl, tt)
   HaveDistinctPids-enter (v ∷ calls) w distinct free =
@@ -144,13 +144,13 @@ module _ {O C : Type 0} where
   without-place pid (w ∷ calls) distinct =
       elim (is_of pid w) as (λ b. is_of pid w ≡ b → cond (not b) (w ∷ without pid calls) (without pid calls)
       ≡ remove (w ∷ calls) (cond (not b) (1 + position_or_len (is_of pid) calls) 0)) [
-        | true ↦ λ e. filter-none (is_of pid) calls (subst (λ p. call_of p calls ≡ None) (same_process w.pid pid e) distinct.0)
+        | true ↦ λ e. filter-none (is_of pid) calls (subst (λ p. waiting_call_of p calls ≡ None) (same_process w.pid pid e) distinct.0)
         | false ↦ λ e. ap (λ ys. w ∷ ys) (without-place pid calls distinct.1) ∙ ap (remove (w ∷ calls)) (next (position_or_len (is_of pid) calls))
       ] refl
 
   -- what leaves, and what is left
   pub record Leaves (pid : Pid) (calls : List (Waiting O C)) (left : Waiting O C) (others : List (Waiting O C)) : Type 0 where
-    pub call : Some left ≡ call_of pid calls
+    pub call : Some left ≡ waiting_call_of pid calls
     pub rest : others ≡ without pid calls
     pub distinct : HaveDistinctPids others
 
@@ -167,21 +167,21 @@ module _ {O C : Type 0} where
       }
 
   -- a call before it is of another process
-  pub call_of-past : (v : Waiting O C) (calls : List (Waiting O C)) (q : Pid) (w : Waiting O C) → call_of v.pid calls ≡ None → call_of q calls ≡ Some w
-      → call_of q (v ∷ calls) ≡ Some w
-  call_of-past v calls q w none found =
-      elim (is_of q v) as (λ b. is_of q v ≡ b → cond b (Some v) (call_of q calls) ≡ Some w) [
-        | true ↦ λ e. absurd (none-some w (sym none ∙ ap (λ p. call_of p calls) (same_process v.pid q e) ∙ found))
+  pub waiting_call_of-past : (v : Waiting O C) (calls : List (Waiting O C)) (q : Pid) (w : Waiting O C) → waiting_call_of v.pid calls ≡ None → waiting_call_of q calls ≡ Some w
+      → waiting_call_of q (v ∷ calls) ≡ Some w
+  waiting_call_of-past v calls q w none found =
+      elim (is_of q v) as (λ b. is_of q v ≡ b → cond b (Some v) (waiting_call_of q calls) ≡ Some w) [
+        | true ↦ λ e. absurd (none-some w (sym none ∙ ap (λ p. waiting_call_of p calls) (same_process v.pid q e) ∙ found))
         | false ↦ λ e. found
       ] refl
 
   -- a call at its place is its process's
-  pub call_of-at : (calls : List (Waiting O C)) (k : ℕ) (w : Waiting O C) → HaveDistinctPids calls → slice_get calls k ≡ Some w → call_of w.pid calls ≡ Some w
-  call_of-at [] k w distinct at = absurd (none-some w at)
-  call_of-at (v ∷ calls) zero w distinct at =
+  pub waiting_call_of-at : (calls : List (Waiting O C)) (k : ℕ) (w : Waiting O C) → HaveDistinctPids calls → slice_get calls k ≡ Some w → waiting_call_of w.pid calls ≡ Some w
+  waiting_call_of-at [] k w distinct at = absurd (none-some w at)
+  waiting_call_of-at (v ∷ calls) zero w distinct at =
       let same = ap (λ (u : Waiting O C). nat_eq v.pid.0 u.pid.0) (sym (same_Some v w at)) ∙ same_number v.pid.0 in
-      ap (λ b. cond b (Some v) (call_of w.pid calls)) same ∙ at
-  call_of-at (v ∷ calls) (suc k) w distinct at = call_of-past v calls w.pid w distinct.0 (call_of-at calls k w distinct.1 at)
+      ap (λ b. cond b (Some v) (waiting_call_of w.pid calls)) same ∙ at
+  waiting_call_of-at (v ∷ calls) (suc k) w distinct at = waiting_call_of-past v calls w.pid w distinct.0 (waiting_call_of-at calls k w distinct.1 at)
 
   -- one of some deadlines or of the calls has come if the earliest has
   pub one_due : (now : Moment) (calls : List (Waiting O C)) (soonest : Option Moment)

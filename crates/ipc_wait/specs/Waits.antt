@@ -24,8 +24,8 @@ module _ {O C : Type 0} where
   is_of pid w = w.pid.0 == pid.0
 
   -- the call of the process
-  abbrev pub call_of : Pid → List (Waiting O C) → Option (Waiting O C)
-  call_of pid calls = find (is_of pid) calls
+  abbrev pub waiting_call_of : Pid → List (Waiting O C) → Option (Waiting O C)
+  waiting_call_of pid calls = find (is_of pid) calls
 
   -- the calls of the other processes, in order
   abbrev pub without : Pid → List (Waiting O C) → List (Waiting O C)
@@ -34,7 +34,7 @@ module _ {O C : Type 0} where
   -- no process has two
   abbrev pub HaveDistinctPids : List (Waiting O C) → Type 0
   HaveDistinctPids [] = Unit {0}
-  HaveDistinctPids (w ∷ calls) = (call_of w.pid calls ≡ None) × HaveDistinctPids calls
+  HaveDistinctPids (w ∷ calls) = (waiting_call_of w.pid calls ≡ None) × HaveDistinctPids calls
 
   -- the calls on an object, in order
   abbrev pub calls_on : (O → O → Bool) → O → List (Waiting O C) → List (Waiting O C)

@@ -4,7 +4,7 @@ ghost use Rattle.std.specs.Prelude.{◌≡◌, ◌≢◌, ◌≤◌, ◌++◌, �
 ghost use Rattle.std.specs.Prelude.{Some, None, find, is_some};
 ghost use Rattle.ipc_base.specs.declared.identity.Moment.{Moment};
 ghost use Rattle.ipc_base.specs.declared.identity.Pid.{Pid};
-ghost use Rattle.ipc_wait.specs.Waits.{HaveDistinctPids, call_of, without, calls_on, is_due};
+ghost use Rattle.ipc_wait.specs.Waits.{HaveDistinctPids, waiting_call_of, without, calls_on, is_due};
 ghost use Rattle.ipc_wait.specs.Waits.{calls_due, has_come, next_deadline};
 ghost use Rattle.ipc_wait.specs.declared.list.Waiting.{Waiting};
 
@@ -23,9 +23,9 @@ pub fn entered_is_last<O, C>()
 /// calls stay in order, on each object and among those that are due.
 pub fn others_stay<O, C>()
     ensures left { (pid : Pid) (calls : List (Waiting O C))
-        → call_of pid (without pid calls) ≡ None }
+        → waiting_call_of pid (without pid calls) ≡ None }
     ensures others { (pid other : Pid) (calls : List (Waiting O C)) → other ≢ pid
-        → call_of other (without pid calls) ≡ call_of other calls }
+        → waiting_call_of other (without pid calls) ≡ waiting_call_of other calls }
     ensures on { (eq : O → O → Bool) (on : O) (pid : Pid) (calls : List (Waiting O C))
         → calls_on eq on (without pid calls) ≡ without pid (calls_on eq on calls) }
     ensures due { (now : Moment) (pid : Pid) (calls : List (Waiting O C))
@@ -37,7 +37,7 @@ pub fn others_stay<O, C>()
 pub fn others_on_its_object_stay<O, C>()
     ensures found { (eq : O → O → Bool) (on : O) (calls before after : List (Waiting O C))
         (w : Waiting O C) → HaveDistinctPids calls → calls_on eq on calls ≡ before ++ w ∷ after
-        → call_of w.pid calls ≡ Some w }
+        → waiting_call_of w.pid calls ≡ Some w }
     ensures left { (eq : O → O → Bool) (on : O) (calls before after : List (Waiting O C))
         (w : Waiting O C) → HaveDistinctPids calls → calls_on eq on calls ≡ before ++ w ∷ after
         → calls_on eq on (without w.pid calls) ≡ before ++ after }

@@ -3,7 +3,7 @@
 ghost use Rattle.std.specs.Prelude.{◌≡◌, ◌<◌, ◌≤◌, ◌↔◌, ◌++◌, ◌∷◌, [], Some, None, is_some, IsTrue};
 ghost use Rattle.std.specs.Prelude.{IsOk, OnOk, IfOk, IfSome, IfNone, length, slice_get, find, position};
 ghost use Rattle.std.specs.Option.{option_copied};
-ghost use Rattle.ipc_wait.specs.Waits.{HaveDistinctPids, is_of, call_of, without, calls_on, is_due};
+ghost use Rattle.ipc_wait.specs.Waits.{HaveDistinctPids, is_of, waiting_call_of, without, calls_on, is_due};
 ghost use Rattle.ipc_wait.specs.Waits.{calls_due, calls_left, has_come, earlier, next_deadline};
 
 use crate::of::Of;
@@ -128,7 +128,7 @@ impl<O: Copy + Eq, C: Drop> WaitList<O, C> {
     /// Puts a call at the end; its process has none. It takes no memory: there is room.
     pub fn enter(&mut self, waiting: Waiting<O, C>)
         requires room { length self.old.calls < self.old.room }
-        requires free { call_of waiting.pid self.old.calls ≡ None }
+        requires free { waiting_call_of waiting.pid self.old.calls ≡ None }
         ensures calls { self.new.calls ≡ self.old.calls ++ waiting ∷ [] }
         ensures room { self.new.room ≡ self.old.room }
     {
@@ -148,14 +148,14 @@ impl<O: Copy + Eq, C: Drop> WaitList<O, C> {
     pub fn at(&self, place: usize) -> &Waiting<O, C>
         requires { place < length self.now.calls }
         ensures at { slice_get self.now.calls place ≡ Some result.now }
-        ensures found { call_of result.now.pid self.now.calls ≡ Some result.now }
+        ensures found { waiting_call_of result.now.pid self.now.calls ≡ Some result.now }
     {
         &self.calls[place]
     }
 
     /// The call of a process.
     pub fn get(&self, pid: Pid) -> Option<&Waiting<O, C>>
-        ensures { option_copied result ≡ call_of pid self.now.calls }
+        ensures { option_copied result ≡ waiting_call_of pid self.now.calls }
     {
         if !self.is_waiting(pid) {
             return None;
@@ -165,14 +165,14 @@ impl<O: Copy + Eq, C: Drop> WaitList<O, C> {
 
     /// Whether a call of the process waits.
     pub fn is_waiting(&self, pid: Pid) -> bool
-        ensures { result ≡ is_some (call_of pid self.now.calls) }
+        ensures { result ≡ is_some (waiting_call_of pid self.now.calls) }
     {
         place_in(&self.pids, pid).is_some()
     }
 
     /// Whether a call of the process waits on when this moment comes: its deadline is later, or none.
     pub fn waits_past(&self, pid: Pid, now: Moment) -> bool
-        ensures { result ≡ is_some (call_of pid (calls_left now self.now.calls)) }
+        ensures { result ≡ is_some (waiting_call_of pid (calls_left now self.now.calls)) }
     {
         let Some(_) = place_in(&self.pids, pid) else {
             return false;
@@ -198,7 +198,7 @@ impl<O: Copy + Eq, C: Drop> WaitList<O, C> {
         ensures none { IfNone result (calls_due now self.now.calls ≡ []) }
         ensures first { IfSome result (λ w. calls_due now self.now.calls
             ≡ w.now ∷ calls_due now (without w.now.pid self.now.calls)) }
-        ensures found { IfSome result (λ w. call_of w.now.pid self.now.calls ≡ Some w.now) }
+        ensures found { IfSome result (λ w. waiting_call_of w.now.pid self.now.calls ≡ Some w.now) }
     {
         if !has_come(now, self.earliest) {
             return None;
@@ -208,7 +208,7 @@ impl<O: Copy + Eq, C: Drop> WaitList<O, C> {
 
     /// Removes the call of a process, and gives it. The others stay in order.
     pub fn leave(&mut self, pid: Pid) -> Option<Waiting<O, C>>
-        ensures call { result ≡ call_of pid self.old.calls }
+        ensures call { result ≡ waiting_call_of pid self.old.calls }
         ensures others { self.new.calls ≡ without pid self.old.calls }
         ensures room { self.new.room ≡ self.old.room }
     {
@@ -254,7 +254,7 @@ fn has_come(now: Moment, deadline: Option<Moment>) -> bool
 
 /// The call of a process among these.
 fn call_among<O, C>(calls: &[Waiting<O, C>], pid: Pid) -> Option<&Waiting<O, C>>
-    ensures { option_copied result ≡ call_of pid calls.now }
+    ensures { option_copied result ≡ waiting_call_of pid calls.now }
 {
     calls.iter().find(|w| w.pid == pid)
 }

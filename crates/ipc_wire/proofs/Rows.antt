@@ -8,7 +8,7 @@ use Rattle.std.proofs.lemmas.List.{length-append, length-drop, drop_at}
 use Rattle.ipc_base.specs.Numbers.{Values, total, values_of, values_bytes, AreInRange}
 use Rattle.ipc_wire.specs.Fields.{Rest, Nothing, Bytes, Units, MayHave, fits}
 use Rattle.ipc_wire.specs.Posix as posix
-use Rattle.ipc_wire.specs.Request.{PlainKind, Calls, Posix}
+use Rattle.ipc_wire.specs.Request.{PlainKind, Sysv, Posix}
 use Rattle.ipc_wire.specs.Request as requests
 use Rattle.ipc_wire.specs.Spelling.{opcode_of, fields_of}
 use Rattle.ipc_wire.specs.Stream.{fits_row, made_by, made_by_some, kind_of}
@@ -29,7 +29,7 @@ record HasRow (kind : PlainKind) : Type 0 where
   made : (parts_of kind).row.make (parts_of kind).values (parts_of kind).rest ≡ kind
 
 has_row : (kind : PlainKind) → HasRow kind
-has_row (Calls (requests.SemctlRmid id)) = record { row = refl; made = refl }
+has_row (Sysv (requests.SemctlRmid id)) = record { row = refl; made = refl }
 has_row (Posix (posix.ShmStat fd)) = record { row = refl; made = refl }
 has_row kind = record { row = refl; made = refl }
 

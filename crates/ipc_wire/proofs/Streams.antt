@@ -35,8 +35,8 @@ stream_step bytes =
 begun : (bytes : List ℕ) (f : PlainFrame) → first bytes ≡ f → stream_of bytes ≡ begins_with f bytes (λ used. stream_of (drop used bytes))
 begun bytes f e = stream_step bytes ∙ ap (λ (g : PlainFrame). begins_with g bytes (λ used. stream_of (drop used bytes))) e
 
-abbrev goes_on : Stream → List ℕ → Stream
-goes_on s more = continued s.requests s.ending more
+abbrev continued_by : Stream → List ℕ → Stream
+continued_by s more = continued s.requests s.ending more
 
 abbrev in_front : PlainRequest → Stream → Stream
 in_front r s = record { requests = r ∷ s.requests; ending = s.ending }
@@ -46,10 +46,10 @@ continued_front : (r : PlainRequest) (requests : List PlainRequest) (ending : En
 continued_front r requests (Rest bytes) more = refl
 continued_front r requests (Broken serial) more = refl
 
-pieces_by : (n : ℕ) (bytes more : List ℕ) (f : PlainFrame) → length bytes ≤ n → first bytes ≡ f → stream_of (bytes ++ more) ≡ goes_on (stream_of bytes) more
-pieces_by n bytes more More le e = sym (ap (λ (s : Stream). goes_on s more) (begun bytes More e))
+pieces_by : (n : ℕ) (bytes more : List ℕ) (f : PlainFrame) → length bytes ≤ n → first bytes ≡ f → stream_of (bytes ++ more) ≡ continued_by (stream_of bytes) more
+pieces_by n bytes more More le e = sym (ap (λ (s : Stream). continued_by s more) (begun bytes More e))
 pieces_by n bytes more (Fault serial) le e =
-    begun (bytes ++ more) (Fault serial) (fault_stays bytes more serial e) ∙ sym (ap (λ (s : Stream). goes_on s more) (begun bytes (Fault serial) e))
+    begun (bytes ++ more) (Fault serial) (fault_stays bytes more serial e) ∙ sym (ap (λ (s : Stream). continued_by s more) (begun bytes (Fault serial) e))
 pieces_by zero bytes more (Whole used request) le e =
     let takes : TakesBytes (Whole used request) (length bytes) = rw e at (first_takes bytes) in
     absurd (omega (arith, takes.0, takes.1))
@@ -60,7 +60,7 @@ pieces_by (suc n) bytes more (Whole used request) le e =
     ∙ ap (λ (x : List ℕ). in_front request (stream_of x)) (drop-append-le used bytes more takes.1)
     ∙ ap (in_front request) behind
     ∙ sym (continued_front request (stream_of (drop used bytes)).requests (stream_of (drop used bytes)).ending more)
-    ∙ sym (ap (λ (s : Stream). goes_on s more) (begun bytes (Whole used request) e))
+    ∙ sym (ap (λ (s : Stream). continued_by s more) (begun bytes (Whole used request) e))
 
 pub pieces : (bytes more : List ℕ) → stream_of (bytes ++ more) ≡ continued (stream_of bytes).requests (stream_of bytes).ending more
 pieces bytes more = pieces_by (length bytes) bytes more (first bytes) (omega arith) refl

@@ -3,7 +3,7 @@ use Rattle.std.specs.Prelude.{ℕ, List, [], ◌∷◌, ◌==◌, if◌then◌el
 use Rattle.ipc_base.specs.Numbers.{Kind, U8, U32, U64, I32, I64, Values}
 use Rattle.ipc_wire.specs.Fields.{Rest, Nothing, Bytes, Units}
 use Rattle.ipc_wire.specs.Posix as posix
-use Rattle.ipc_wire.specs.Request.{PlainKind, Hello, Interrupt, Calls, Posix}
+use Rattle.ipc_wire.specs.Request.{PlainKind, Hello, Interrupt, Sysv, Posix}
 use Rattle.ipc_wire.specs.Request as requests
 
 -- a row: the opcode, the fields, what the rest of the frame after them is, and the request
@@ -44,7 +44,7 @@ msgget =
       opcode = 0x0a;
       fields = I32 ∷ U32 ∷ [];
       rest = Nothing;
-      make = λ v rest. Calls (requests.Msgget v.0 v.1.0);
+      make = λ v rest. Sysv (requests.Msgget v.0 v.1.0);
     }
 
 -- id, flags, type; the rest is the text
@@ -54,7 +54,7 @@ msgsnd =
       opcode = 0x0b;
       fields = U32 ∷ U32 ∷ I64 ∷ [];
       rest = Bytes;
-      make = λ v rest. Calls (requests.Msgsnd v.0 v.1.0 v.1.1.0 rest);
+      make = λ v rest. Sysv (requests.Msgsnd v.0 v.1.0 v.1.1.0 rest);
     }
 
 -- id, flags, size, type
@@ -64,7 +64,7 @@ msgrcv =
       opcode = 0x0c;
       fields = U32 ∷ U32 ∷ U32 ∷ I64 ∷ [];
       rest = Nothing;
-      make = λ v rest. Calls (requests.Msgrcv v.0 v.1.0 v.1.1.0 v.1.1.1.0);
+      make = λ v rest. Sysv (requests.Msgrcv v.0 v.1.0 v.1.1.0 v.1.1.1.0);
     }
 
 -- id
@@ -74,7 +74,7 @@ msgctl_stat =
       opcode = 0x0d;
       fields = U32 ∷ [];
       rest = Nothing;
-      make = λ v rest. Calls (requests.MsgctlStat v.0);
+      make = λ v rest. Sysv (requests.MsgctlStat v.0);
     }
 
 -- id, uid, gid, mode, qbytes
@@ -84,7 +84,7 @@ msgctl_set =
       opcode = 0x0e;
       fields = U32 ∷ U32 ∷ U32 ∷ U32 ∷ U32 ∷ [];
       rest = Nothing;
-      make = λ v rest. Calls (requests.MsgctlSet v.0 v.1.0 v.1.1.0 v.1.1.1.0 v.1.1.1.1.0);
+      make = λ v rest. Sysv (requests.MsgctlSet v.0 v.1.0 v.1.1.0 v.1.1.1.0 v.1.1.1.1.0);
     }
 
 -- id
@@ -94,7 +94,7 @@ msgctl_rmid =
       opcode = 0x0f;
       fields = U32 ∷ [];
       rest = Nothing;
-      make = λ v rest. Calls (requests.MsgctlRmid v.0);
+      make = λ v rest. Sysv (requests.MsgctlRmid v.0);
     }
 
 -- key, nsems, flags
@@ -104,7 +104,7 @@ semget =
       opcode = 0x14;
       fields = I32 ∷ I32 ∷ U32 ∷ [];
       rest = Nothing;
-      make = λ v rest. Calls (requests.Semget v.0 v.1.0 v.1.1.0);
+      make = λ v rest. Sysv (requests.Semget v.0 v.1.0 v.1.1.0);
     }
 
 -- id, timeout; the rest is the operations, each of six bytes
@@ -114,7 +114,7 @@ semop =
       opcode = 0x15;
       fields = U32 ∷ U64 ∷ [];
       rest = Units 6;
-      make = λ v rest. Calls (requests.Semop v.0 v.1.0 rest);
+      make = λ v rest. Sysv (requests.Semop v.0 v.1.0 rest);
     }
 
 -- id, num
@@ -124,7 +124,7 @@ semctl_get_val =
       opcode = 0x16;
       fields = U32 ∷ U32 ∷ [];
       rest = Nothing;
-      make = λ v rest. Calls (requests.SemctlGetVal v.0 v.1.0);
+      make = λ v rest. Sysv (requests.SemctlGetVal v.0 v.1.0);
     }
 
 -- id, num
@@ -134,7 +134,7 @@ semctl_get_pid =
       opcode = 0x17;
       fields = U32 ∷ U32 ∷ [];
       rest = Nothing;
-      make = λ v rest. Calls (requests.SemctlGetPid v.0 v.1.0);
+      make = λ v rest. Sysv (requests.SemctlGetPid v.0 v.1.0);
     }
 
 -- id, num
@@ -144,7 +144,7 @@ semctl_get_ncnt =
       opcode = 0x18;
       fields = U32 ∷ U32 ∷ [];
       rest = Nothing;
-      make = λ v rest. Calls (requests.SemctlGetNcnt v.0 v.1.0);
+      make = λ v rest. Sysv (requests.SemctlGetNcnt v.0 v.1.0);
     }
 
 -- id, num
@@ -154,7 +154,7 @@ semctl_get_zcnt =
       opcode = 0x19;
       fields = U32 ∷ U32 ∷ [];
       rest = Nothing;
-      make = λ v rest. Calls (requests.SemctlGetZcnt v.0 v.1.0);
+      make = λ v rest. Sysv (requests.SemctlGetZcnt v.0 v.1.0);
     }
 
 -- id, num, value
@@ -164,7 +164,7 @@ semctl_set_val =
       opcode = 0x1a;
       fields = U32 ∷ U32 ∷ I32 ∷ [];
       rest = Nothing;
-      make = λ v rest. Calls (requests.SemctlSetVal v.0 v.1.0 v.1.1.0);
+      make = λ v rest. Sysv (requests.SemctlSetVal v.0 v.1.0 v.1.1.0);
     }
 
 -- id
@@ -174,7 +174,7 @@ semctl_get_all =
       opcode = 0x1b;
       fields = U32 ∷ [];
       rest = Nothing;
-      make = λ v rest. Calls (requests.SemctlGetAll v.0);
+      make = λ v rest. Sysv (requests.SemctlGetAll v.0);
     }
 
 -- id; the rest is the values, each of two bytes
@@ -184,7 +184,7 @@ semctl_set_all =
       opcode = 0x1c;
       fields = U32 ∷ [];
       rest = Units 2;
-      make = λ v rest. Calls (requests.SemctlSetAll v.0 rest);
+      make = λ v rest. Sysv (requests.SemctlSetAll v.0 rest);
     }
 
 -- id
@@ -194,7 +194,7 @@ semctl_stat =
       opcode = 0x1d;
       fields = U32 ∷ [];
       rest = Nothing;
-      make = λ v rest. Calls (requests.SemctlStat v.0);
+      make = λ v rest. Sysv (requests.SemctlStat v.0);
     }
 
 -- id, uid, gid, mode
@@ -204,7 +204,7 @@ semctl_set =
       opcode = 0x1e;
       fields = U32 ∷ U32 ∷ U32 ∷ U32 ∷ [];
       rest = Nothing;
-      make = λ v rest. Calls (requests.SemctlSet v.0 v.1.0 v.1.1.0 v.1.1.1.0);
+      make = λ v rest. Sysv (requests.SemctlSet v.0 v.1.0 v.1.1.0 v.1.1.1.0);
     }
 
 -- id
@@ -214,7 +214,7 @@ semctl_rmid =
       opcode = 0x1f;
       fields = U32 ∷ [];
       rest = Nothing;
-      make = λ v rest. Calls (requests.SemctlRmid v.0);
+      make = λ v rest. Sysv (requests.SemctlRmid v.0);
     }
 
 -- flags, mode, attr, maxmsg, msgsize; the rest is the name
@@ -418,34 +418,34 @@ abbrev pub parts_of : PlainKind → Parts
 parts_of (Hello cred) = record { row = hello; values = (cred.uid, (cred.gid, tt)); rest = [] }
 parts_of Interrupt = record { row = interrupt; values = tt; rest = [] }
 parts_of (Posix (posix.Close fd)) = record { row = close; values = (fd, tt); rest = [] }
-parts_of (Calls (requests.Msgget key flags)) = record { row = msgget; values = (key, (flags, tt)); rest = [] }
-parts_of (Calls (requests.Msgsnd id flags mtype text)) =
+parts_of (Sysv (requests.Msgget key flags)) = record { row = msgget; values = (key, (flags, tt)); rest = [] }
+parts_of (Sysv (requests.Msgsnd id flags mtype text)) =
     record { row = msgsnd; values = (id, (flags, (mtype, tt))); rest = text }
-parts_of (Calls (requests.Msgrcv id flags size mtype)) =
+parts_of (Sysv (requests.Msgrcv id flags size mtype)) =
     record { row = msgrcv; values = (id, (flags, (size, (mtype, tt)))); rest = [] }
-parts_of (Calls (requests.MsgctlStat id)) = record { row = msgctl_stat; values = (id, tt); rest = [] }
-parts_of (Calls (requests.MsgctlSet id uid gid mode qbytes)) =
+parts_of (Sysv (requests.MsgctlStat id)) = record { row = msgctl_stat; values = (id, tt); rest = [] }
+parts_of (Sysv (requests.MsgctlSet id uid gid mode qbytes)) =
     record { row = msgctl_set; values = (id, (uid, (gid, (mode, (qbytes, tt))))); rest = [] }
-parts_of (Calls (requests.MsgctlRmid id)) = record { row = msgctl_rmid; values = (id, tt); rest = [] }
-parts_of (Calls (requests.Semget key nsems flags)) =
+parts_of (Sysv (requests.MsgctlRmid id)) = record { row = msgctl_rmid; values = (id, tt); rest = [] }
+parts_of (Sysv (requests.Semget key nsems flags)) =
     record { row = semget; values = (key, (nsems, (flags, tt))); rest = [] }
-parts_of (Calls (requests.Semop id timeout operations)) =
+parts_of (Sysv (requests.Semop id timeout operations)) =
     record { row = semop; values = (id, (timeout, tt)); rest = operations }
-parts_of (Calls (requests.SemctlGetVal id num)) = record { row = semctl_get_val; values = (id, (num, tt)); rest = [] }
-parts_of (Calls (requests.SemctlGetPid id num)) = record { row = semctl_get_pid; values = (id, (num, tt)); rest = [] }
-parts_of (Calls (requests.SemctlGetNcnt id num)) =
+parts_of (Sysv (requests.SemctlGetVal id num)) = record { row = semctl_get_val; values = (id, (num, tt)); rest = [] }
+parts_of (Sysv (requests.SemctlGetPid id num)) = record { row = semctl_get_pid; values = (id, (num, tt)); rest = [] }
+parts_of (Sysv (requests.SemctlGetNcnt id num)) =
     record { row = semctl_get_ncnt; values = (id, (num, tt)); rest = [] }
-parts_of (Calls (requests.SemctlGetZcnt id num)) =
+parts_of (Sysv (requests.SemctlGetZcnt id num)) =
     record { row = semctl_get_zcnt; values = (id, (num, tt)); rest = [] }
-parts_of (Calls (requests.SemctlSetVal id num value)) =
+parts_of (Sysv (requests.SemctlSetVal id num value)) =
     record { row = semctl_set_val; values = (id, (num, (value, tt))); rest = [] }
-parts_of (Calls (requests.SemctlGetAll id)) = record { row = semctl_get_all; values = (id, tt); rest = [] }
-parts_of (Calls (requests.SemctlSetAll id values)) =
+parts_of (Sysv (requests.SemctlGetAll id)) = record { row = semctl_get_all; values = (id, tt); rest = [] }
+parts_of (Sysv (requests.SemctlSetAll id values)) =
     record { row = semctl_set_all; values = (id, tt); rest = values }
-parts_of (Calls (requests.SemctlStat id)) = record { row = semctl_stat; values = (id, tt); rest = [] }
-parts_of (Calls (requests.SemctlSet id uid gid mode)) =
+parts_of (Sysv (requests.SemctlStat id)) = record { row = semctl_stat; values = (id, tt); rest = [] }
+parts_of (Sysv (requests.SemctlSet id uid gid mode)) =
     record { row = semctl_set; values = (id, (uid, (gid, (mode, tt)))); rest = [] }
-parts_of (Calls (requests.SemctlRmid id)) = record { row = semctl_rmid; values = (id, tt); rest = [] }
+parts_of (Sysv (requests.SemctlRmid id)) = record { row = semctl_rmid; values = (id, tt); rest = [] }
 parts_of (Posix (posix.MqOpen flags mode attr maxmsg msgsize name)) =
     record { row = mq_open; values = (flags, (mode, (attr, (maxmsg, (msgsize, tt))))); rest = name }
 parts_of (Posix (posix.MqUnlink name)) = record { row = mq_unlink; values = tt; rest = name }

@@ -1,14 +1,14 @@
 //! What each request asks, read from its fields.
 
 ghost use Rattle.std.specs.Prelude.{◌≡◌, ◌==◌, if◌then◌else◌, length, drop, option_map, Some, None};
-ghost use Rattle.ipc_base.specs.Numbers.{U32, number_of};
+ghost use Rattle.ipc_base.specs.Numbers.{U32, number_in};
 ghost use Rattle.ipc_wire.specs.Request.{plain_kind};
 ghost use Rattle.ipc_wire.specs.Stream.{kind_of, made_by};
 ghost use Rattle.ipc_wire.specs.Table as table;
 
 use crate::pairs::Pairs;
 use crate::posix::PosixCall;
-use crate::request::{Call, RequestKind};
+use crate::request::{RequestKind, SysvCall};
 use crate::sixes::Sixes;
 use crate::spelling::{
     CLOSE, FTRUNCATE, HELLO, INTERRUPT, MQ_GETATTR, MQ_NOTIFY, MQ_OPEN, MQ_RECEIVE, MQ_SEND,
@@ -70,7 +70,7 @@ pub(crate) fn read_kind(opcode: u8, fields: &[u8]) -> Option<RequestKind<'_>>
     }
 }
 
-#[tactic(auto, unfolding(ipc_base::specs::Numbers::number_of))]
+#[tactic(auto, unfolding(ipc_base::specs::Numbers::number_in))]
 fn read_hello(fields: &[u8]) -> Option<RequestKind<'_>>
     ensures { option_map plain_kind result ≡ made_by table.hello fields.now }
 {
@@ -99,7 +99,7 @@ fn read_close(fields: &[u8]) -> Option<RequestKind<'_>>
     Some(RequestKind::Posix(PosixCall::Close { fd }))
 }
 
-#[tactic(auto, unfolding(ipc_base::specs::Numbers::number_of))]
+#[tactic(auto, unfolding(ipc_base::specs::Numbers::number_in))]
 fn read_msgget(fields: &[u8]) -> Option<RequestKind<'_>>
     ensures { option_map plain_kind result ≡ made_by table.msgget fields.now }
 {
@@ -109,10 +109,10 @@ fn read_msgget(fields: &[u8]) -> Option<RequestKind<'_>>
     if !cursor.is_empty() {
         return None;
     }
-    Some(RequestKind::Call(Call::Msgget { key, flags }))
+    Some(RequestKind::Sysv(SysvCall::Msgget { key, flags }))
 }
 
-#[tactic(auto, unfolding(ipc_base::specs::Numbers::number_of))]
+#[tactic(auto, unfolding(ipc_base::specs::Numbers::number_in))]
 fn read_msgsnd(fields: &[u8]) -> Option<RequestKind<'_>>
     ensures { option_map plain_kind result ≡ made_by table.msgsnd fields.now }
 {
@@ -121,7 +121,7 @@ fn read_msgsnd(fields: &[u8]) -> Option<RequestKind<'_>>
     let flags = MsgFlags(cursor.u32()?);
     let mtype = cursor.i64()?;
     let text = cursor.rest();
-    Some(RequestKind::Call(Call::Msgsnd {
+    Some(RequestKind::Sysv(SysvCall::Msgsnd {
         id,
         flags,
         mtype,
@@ -129,7 +129,7 @@ fn read_msgsnd(fields: &[u8]) -> Option<RequestKind<'_>>
     }))
 }
 
-#[tactic(auto, unfolding(ipc_base::specs::Numbers::number_of))]
+#[tactic(auto, unfolding(ipc_base::specs::Numbers::number_in))]
 fn read_msgrcv(fields: &[u8]) -> Option<RequestKind<'_>>
     ensures { option_map plain_kind result ≡ made_by table.msgrcv fields.now }
 {
@@ -141,7 +141,7 @@ fn read_msgrcv(fields: &[u8]) -> Option<RequestKind<'_>>
     if !cursor.is_empty() {
         return None;
     }
-    Some(RequestKind::Call(Call::Msgrcv {
+    Some(RequestKind::Sysv(SysvCall::Msgrcv {
         id,
         flags,
         size,
@@ -153,10 +153,10 @@ fn read_msgctl_stat(fields: &[u8]) -> Option<RequestKind<'_>>
     ensures { option_map plain_kind result ≡ made_by table.msgctl_stat fields.now }
 {
     let id = Id(read_number(fields)?);
-    Some(RequestKind::Call(Call::MsgctlStat { id }))
+    Some(RequestKind::Sysv(SysvCall::MsgctlStat { id }))
 }
 
-#[tactic(auto, unfolding(ipc_base::specs::Numbers::number_of))]
+#[tactic(auto, unfolding(ipc_base::specs::Numbers::number_in))]
 fn read_msgctl_set(fields: &[u8]) -> Option<RequestKind<'_>>
     ensures { option_map plain_kind result ≡ made_by table.msgctl_set fields.now }
 {
@@ -169,7 +169,7 @@ fn read_msgctl_set(fields: &[u8]) -> Option<RequestKind<'_>>
     if !cursor.is_empty() {
         return None;
     }
-    Some(RequestKind::Call(Call::MsgctlSet {
+    Some(RequestKind::Sysv(SysvCall::MsgctlSet {
         id,
         uid,
         gid,
@@ -182,10 +182,10 @@ fn read_msgctl_rmid(fields: &[u8]) -> Option<RequestKind<'_>>
     ensures { option_map plain_kind result ≡ made_by table.msgctl_rmid fields.now }
 {
     let id = Id(read_number(fields)?);
-    Some(RequestKind::Call(Call::MsgctlRmid { id }))
+    Some(RequestKind::Sysv(SysvCall::MsgctlRmid { id }))
 }
 
-#[tactic(auto, unfolding(ipc_base::specs::Numbers::number_of))]
+#[tactic(auto, unfolding(ipc_base::specs::Numbers::number_in))]
 fn read_semget(fields: &[u8]) -> Option<RequestKind<'_>>
     ensures { option_map plain_kind result ≡ made_by table.semget fields.now }
 {
@@ -196,10 +196,10 @@ fn read_semget(fields: &[u8]) -> Option<RequestKind<'_>>
     if !cursor.is_empty() {
         return None;
     }
-    Some(RequestKind::Call(Call::Semget { key, nsems, flags }))
+    Some(RequestKind::Sysv(SysvCall::Semget { key, nsems, flags }))
 }
 
-#[tactic(auto, unfolding(ipc_base::specs::Numbers::number_of))]
+#[tactic(auto, unfolding(ipc_base::specs::Numbers::number_in))]
 fn read_semop(fields: &[u8]) -> Option<RequestKind<'_>>
     ensures { option_map plain_kind result ≡ made_by table.semop fields.now }
 {
@@ -207,7 +207,7 @@ fn read_semop(fields: &[u8]) -> Option<RequestKind<'_>>
     let id = Id(cursor.u32()?);
     let timeout = cursor.u64()?;
     let operations = Sixes::new(cursor.rest())?;
-    Some(RequestKind::Call(Call::Semop {
+    Some(RequestKind::Sysv(SysvCall::Semop {
         id,
         timeout,
         operations,
@@ -219,7 +219,7 @@ fn read_semctl_get_val(fields: &[u8]) -> Option<RequestKind<'_>>
 {
     let (id, num) = read_two_numbers(fields)?;
     let id = Id(id);
-    Some(RequestKind::Call(Call::SemctlGetVal { id, num }))
+    Some(RequestKind::Sysv(SysvCall::SemctlGetVal { id, num }))
 }
 
 fn read_semctl_get_pid(fields: &[u8]) -> Option<RequestKind<'_>>
@@ -227,7 +227,7 @@ fn read_semctl_get_pid(fields: &[u8]) -> Option<RequestKind<'_>>
 {
     let (id, num) = read_two_numbers(fields)?;
     let id = Id(id);
-    Some(RequestKind::Call(Call::SemctlGetPid { id, num }))
+    Some(RequestKind::Sysv(SysvCall::SemctlGetPid { id, num }))
 }
 
 fn read_semctl_get_ncnt(fields: &[u8]) -> Option<RequestKind<'_>>
@@ -235,7 +235,7 @@ fn read_semctl_get_ncnt(fields: &[u8]) -> Option<RequestKind<'_>>
 {
     let (id, num) = read_two_numbers(fields)?;
     let id = Id(id);
-    Some(RequestKind::Call(Call::SemctlGetNcnt { id, num }))
+    Some(RequestKind::Sysv(SysvCall::SemctlGetNcnt { id, num }))
 }
 
 fn read_semctl_get_zcnt(fields: &[u8]) -> Option<RequestKind<'_>>
@@ -243,10 +243,10 @@ fn read_semctl_get_zcnt(fields: &[u8]) -> Option<RequestKind<'_>>
 {
     let (id, num) = read_two_numbers(fields)?;
     let id = Id(id);
-    Some(RequestKind::Call(Call::SemctlGetZcnt { id, num }))
+    Some(RequestKind::Sysv(SysvCall::SemctlGetZcnt { id, num }))
 }
 
-#[tactic(auto, unfolding(ipc_base::specs::Numbers::number_of))]
+#[tactic(auto, unfolding(ipc_base::specs::Numbers::number_in))]
 fn read_semctl_set_val(fields: &[u8]) -> Option<RequestKind<'_>>
     ensures { option_map plain_kind result ≡ made_by table.semctl_set_val fields.now }
 {
@@ -257,34 +257,34 @@ fn read_semctl_set_val(fields: &[u8]) -> Option<RequestKind<'_>>
     if !cursor.is_empty() {
         return None;
     }
-    Some(RequestKind::Call(Call::SemctlSetVal { id, num, value }))
+    Some(RequestKind::Sysv(SysvCall::SemctlSetVal { id, num, value }))
 }
 
 fn read_semctl_get_all(fields: &[u8]) -> Option<RequestKind<'_>>
     ensures { option_map plain_kind result ≡ made_by table.semctl_get_all fields.now }
 {
     let id = Id(read_number(fields)?);
-    Some(RequestKind::Call(Call::SemctlGetAll { id }))
+    Some(RequestKind::Sysv(SysvCall::SemctlGetAll { id }))
 }
 
-#[tactic(auto, unfolding(ipc_base::specs::Numbers::number_of))]
+#[tactic(auto, unfolding(ipc_base::specs::Numbers::number_in))]
 fn read_semctl_set_all(fields: &[u8]) -> Option<RequestKind<'_>>
     ensures { option_map plain_kind result ≡ made_by table.semctl_set_all fields.now }
 {
     let mut cursor = Cursor::new(fields);
     let id = Id(cursor.u32()?);
     let values = Pairs::new(cursor.rest())?;
-    Some(RequestKind::Call(Call::SemctlSetAll { id, values }))
+    Some(RequestKind::Sysv(SysvCall::SemctlSetAll { id, values }))
 }
 
 fn read_semctl_stat(fields: &[u8]) -> Option<RequestKind<'_>>
     ensures { option_map plain_kind result ≡ made_by table.semctl_stat fields.now }
 {
     let id = Id(read_number(fields)?);
-    Some(RequestKind::Call(Call::SemctlStat { id }))
+    Some(RequestKind::Sysv(SysvCall::SemctlStat { id }))
 }
 
-#[tactic(auto, unfolding(ipc_base::specs::Numbers::number_of))]
+#[tactic(auto, unfolding(ipc_base::specs::Numbers::number_in))]
 fn read_semctl_set(fields: &[u8]) -> Option<RequestKind<'_>>
     ensures { option_map plain_kind result ≡ made_by table.semctl_set fields.now }
 {
@@ -296,17 +296,17 @@ fn read_semctl_set(fields: &[u8]) -> Option<RequestKind<'_>>
     if !cursor.is_empty() {
         return None;
     }
-    Some(RequestKind::Call(Call::SemctlSet { id, uid, gid, mode }))
+    Some(RequestKind::Sysv(SysvCall::SemctlSet { id, uid, gid, mode }))
 }
 
 fn read_semctl_rmid(fields: &[u8]) -> Option<RequestKind<'_>>
     ensures { option_map plain_kind result ≡ made_by table.semctl_rmid fields.now }
 {
     let id = Id(read_number(fields)?);
-    Some(RequestKind::Call(Call::SemctlRmid { id }))
+    Some(RequestKind::Sysv(SysvCall::SemctlRmid { id }))
 }
 
-#[tactic(auto, unfolding(ipc_base::specs::Numbers::number_of))]
+#[tactic(auto, unfolding(ipc_base::specs::Numbers::number_in))]
 fn read_mq_open(fields: &[u8]) -> Option<RequestKind<'_>>
     ensures { option_map plain_kind result ≡ made_by table.mq_open fields.now }
 {
@@ -333,7 +333,7 @@ fn read_mq_unlink(fields: &[u8]) -> Option<RequestKind<'_>>
     Some(RequestKind::Posix(PosixCall::MqUnlink { name: fields }))
 }
 
-#[tactic(auto, unfolding(ipc_base::specs::Numbers::number_of))]
+#[tactic(auto, unfolding(ipc_base::specs::Numbers::number_in))]
 fn read_mq_send(fields: &[u8]) -> Option<RequestKind<'_>>
     ensures { option_map plain_kind result ≡ made_by table.mq_send fields.now }
 {
@@ -350,7 +350,7 @@ fn read_mq_send(fields: &[u8]) -> Option<RequestKind<'_>>
     }))
 }
 
-#[tactic(auto, unfolding(ipc_base::specs::Numbers::number_of))]
+#[tactic(auto, unfolding(ipc_base::specs::Numbers::number_in))]
 fn read_mq_receive(fields: &[u8]) -> Option<RequestKind<'_>>
     ensures { option_map plain_kind result ≡ made_by table.mq_receive fields.now }
 {
@@ -364,7 +364,7 @@ fn read_mq_receive(fields: &[u8]) -> Option<RequestKind<'_>>
     Some(RequestKind::Posix(PosixCall::MqReceive { fd, deadline, size }))
 }
 
-#[tactic(auto, unfolding(ipc_base::specs::Numbers::number_of))]
+#[tactic(auto, unfolding(ipc_base::specs::Numbers::number_in))]
 fn read_mq_notify(fields: &[u8]) -> Option<RequestKind<'_>>
     ensures { option_map plain_kind result ≡ made_by table.mq_notify fields.now }
 {
@@ -393,7 +393,7 @@ fn read_mq_setattr(fields: &[u8]) -> Option<RequestKind<'_>>
     Some(RequestKind::Posix(PosixCall::MqSetattr { fd, flags }))
 }
 
-#[tactic(auto, unfolding(ipc_base::specs::Numbers::number_of))]
+#[tactic(auto, unfolding(ipc_base::specs::Numbers::number_in))]
 fn read_sem_open(fields: &[u8]) -> Option<RequestKind<'_>>
     ensures { option_map plain_kind result ≡ made_by table.sem_open fields.now }
 {
@@ -423,7 +423,7 @@ fn read_sem_post(fields: &[u8]) -> Option<RequestKind<'_>>
     Some(RequestKind::Posix(PosixCall::SemPost { fd }))
 }
 
-#[tactic(auto, unfolding(ipc_base::specs::Numbers::number_of))]
+#[tactic(auto, unfolding(ipc_base::specs::Numbers::number_in))]
 fn read_sem_wait(fields: &[u8]) -> Option<RequestKind<'_>>
     ensures { option_map plain_kind result ≡ made_by table.sem_wait fields.now }
 {
@@ -450,7 +450,7 @@ fn read_sem_getvalue(fields: &[u8]) -> Option<RequestKind<'_>>
     Some(RequestKind::Posix(PosixCall::SemGetvalue { fd }))
 }
 
-#[tactic(auto, unfolding(ipc_base::specs::Numbers::number_of))]
+#[tactic(auto, unfolding(ipc_base::specs::Numbers::number_in))]
 fn read_shm_open(fields: &[u8]) -> Option<RequestKind<'_>>
     ensures { option_map plain_kind result ≡ made_by table.shm_open fields.now }
 {
@@ -467,7 +467,7 @@ fn read_shm_unlink(fields: &[u8]) -> Option<RequestKind<'_>>
     Some(RequestKind::Posix(PosixCall::ShmUnlink { name: fields }))
 }
 
-#[tactic(auto, unfolding(ipc_base::specs::Numbers::number_of))]
+#[tactic(auto, unfolding(ipc_base::specs::Numbers::number_in))]
 fn read_ftruncate(fields: &[u8]) -> Option<RequestKind<'_>>
     ensures { option_map plain_kind result ≡ made_by table.ftruncate fields.now }
 {
@@ -480,7 +480,7 @@ fn read_ftruncate(fields: &[u8]) -> Option<RequestKind<'_>>
     Some(RequestKind::Posix(PosixCall::Ftruncate { fd, length }))
 }
 
-#[tactic(auto, unfolding(ipc_base::specs::Numbers::number_of))]
+#[tactic(auto, unfolding(ipc_base::specs::Numbers::number_in))]
 fn read_shm_read(fields: &[u8]) -> Option<RequestKind<'_>>
     ensures { option_map plain_kind result ≡ made_by table.shm_read fields.now }
 {
@@ -494,7 +494,7 @@ fn read_shm_read(fields: &[u8]) -> Option<RequestKind<'_>>
     Some(RequestKind::Posix(PosixCall::ShmRead { fd, offset, length }))
 }
 
-#[tactic(auto, unfolding(ipc_base::specs::Numbers::number_of))]
+#[tactic(auto, unfolding(ipc_base::specs::Numbers::number_in))]
 fn read_shm_write(fields: &[u8]) -> Option<RequestKind<'_>>
     ensures { option_map plain_kind result ≡ made_by table.shm_write fields.now }
 {
@@ -513,9 +513,9 @@ fn read_shm_stat(fields: &[u8]) -> Option<RequestKind<'_>>
 }
 
 /// The number of four bytes that is all of these fields, or `None` if they have another size.
-#[tactic(auto, unfolding(ipc_base::specs::Numbers::number_of))]
+#[tactic(auto, unfolding(ipc_base::specs::Numbers::number_in))]
 fn read_number(fields: &[u8]) -> Option<u32>
-    ensures { result ≡ if length fields.now == 4 then Some (number_of U32 fields.now) else None }
+    ensures { result ≡ if length fields.now == 4 then Some (number_in U32 fields.now) else None }
 {
     let mut cursor = Cursor::new(fields);
     let number = cursor.u32()?;
@@ -526,10 +526,10 @@ fn read_number(fields: &[u8]) -> Option<u32>
 }
 
 /// The two numbers of four bytes that are all of these fields, or `None` if they have another size.
-#[tactic(auto, unfolding(ipc_base::specs::Numbers::number_of))]
+#[tactic(auto, unfolding(ipc_base::specs::Numbers::number_in))]
 fn read_two_numbers(fields: &[u8]) -> Option<(u32, u32)>
     ensures { result ≡ if length fields.now == 8
-        then Some (number_of U32 fields.now, number_of U32 (drop 4 fields.now)) else None }
+        then Some (number_in U32 fields.now, number_in U32 (drop 4 fields.now)) else None }
 {
     let mut cursor = Cursor::new(fields);
     let first = cursor.u32()?;

@@ -24,7 +24,7 @@ pub use reading::{
 };
 pub use record::{Record, push_fields};
 pub use reply::{Body, Reply};
-pub use request::{Call, Frame, Request, RequestKind};
+pub use request::{Frame, Request, RequestKind, SysvCall};
 pub use sixes::{SemBuf, Sixes};
 pub use spelling::{RequestParts, put_request, request_len, request_parts, write_request};
 pub use writing::{reply_len, write_reply};

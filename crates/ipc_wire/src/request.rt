@@ -48,14 +48,14 @@ pub enum RequestKind<'a> {
     /// INTERRUPT: the process waits no longer.
     Interrupt,
     /// A System V call of the process.
-    Call(Call<'a>),
+    Sysv(SysvCall<'a>),
     /// A POSIX call of the process.
     Posix(PosixCall<'a>),
 }
 
 /// A System V call with its fields, as they stand in the frame: no value is tested.
 #[derive(Clone, Copy)]
-pub enum Call<'a> {
+pub enum SysvCall<'a> {
     /// msgget(2).
     Msgget {
         key: i32,

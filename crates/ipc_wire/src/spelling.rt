@@ -18,14 +18,14 @@ ghost use Rattle.ipc_base.specs.Fields.{Puts};
 ghost use Rattle.ipc_base.specs.Numbers.{AreInRange, record_bytes};
 ghost use Rattle.ipc_wire.specs.Fields.{MayHave};
 ghost use Rattle.ipc_wire.specs.Posix.{plain_posix};
-ghost use Rattle.ipc_wire.specs.Request.{Calls, Posix, plain_call, plain_kind};
+ghost use Rattle.ipc_wire.specs.Request.{Sysv, Posix, plain_sysv, plain_kind};
 ghost use Rattle.ipc_wire.specs.Spelling.{opcode_of, fields_of, request_bytes, frame};
 ghost use Rattle.ipc_wire.specs.Table.{parts_of};
 ghost use Rattle.ipc_wire.specs.View.{plain_request};
 
 use crate::posix::PosixCall;
 use crate::record::Record;
-use crate::request::{Call, Request, RequestKind};
+use crate::request::{Request, RequestKind, SysvCall};
 use crate::writing::text_len;
 use ipc_base::Field::{I32, I64, U8, U32, U64};
 use ipc_base::{Field, Put};
@@ -212,28 +212,28 @@ pub fn request_parts(kind: RequestKind<'_>) -> RequestParts<'_>
     match kind {
         RequestKind::Hello(cred) => spelled(HELLO, &[U32(cred.uid), U32(cred.gid)], &[]),
         RequestKind::Interrupt => spelled(INTERRUPT, &[], &[]),
-        RequestKind::Call(call) => call_parts(call),
+        RequestKind::Sysv(call) => call_parts(call),
         RequestKind::Posix(call) => posix_parts(call),
     }
 }
 
-fn call_parts(call: Call<'_>) -> RequestParts<'_>
-    ensures opcode { result.opcode ≡ opcode_of (Calls (plain_call call.entry)) }
-    ensures fields { result.fields ++ result.rest.now ≡ fields_of (Calls (plain_call call.entry)) }
-    ensures numbers { AreInRange (parts_of (Calls (plain_call call.entry))).row.fields
-        (parts_of (Calls (plain_call call.entry))).values }
-    ensures rest { MayHave (parts_of (Calls (plain_call call.entry))).row.rest
-        (length (parts_of (Calls (plain_call call.entry))).rest) }
+fn call_parts(call: SysvCall<'_>) -> RequestParts<'_>
+    ensures opcode { result.opcode ≡ opcode_of (Sysv (plain_sysv call.entry)) }
+    ensures fields { result.fields ++ result.rest.now ≡ fields_of (Sysv (plain_sysv call.entry)) }
+    ensures numbers { AreInRange (parts_of (Sysv (plain_sysv call.entry))).row.fields
+        (parts_of (Sysv (plain_sysv call.entry))).values }
+    ensures rest { MayHave (parts_of (Sysv (plain_sysv call.entry))).row.rest
+        (length (parts_of (Sysv (plain_sysv call.entry))).rest) }
 {
     match call {
-        Call::Msgget { key, flags } => spelled(MSGGET, &[I32(key), U32(flags.0)], &[]),
-        Call::Msgsnd {
+        SysvCall::Msgget { key, flags } => spelled(MSGGET, &[I32(key), U32(flags.0)], &[]),
+        SysvCall::Msgsnd {
             id,
             flags,
             mtype,
             text,
         } => spelled(MSGSND, &[U32(id.0), U32(flags.0), I64(mtype)], text),
-        Call::Msgrcv {
+        SysvCall::Msgrcv {
             id,
             flags,
             size,
@@ -243,8 +243,8 @@ fn call_parts(call: Call<'_>) -> RequestParts<'_>
             &[U32(id.0), U32(flags.0), U32(size), I64(mtype)],
             &[],
         ),
-        Call::MsgctlStat { id } => spelled(MSGCTL_STAT, &[U32(id.0)], &[]),
-        Call::MsgctlSet {
+        SysvCall::MsgctlStat { id } => spelled(MSGCTL_STAT, &[U32(id.0)], &[]),
+        SysvCall::MsgctlSet {
             id,
             uid,
             gid,
@@ -255,35 +255,47 @@ fn call_parts(call: Call<'_>) -> RequestParts<'_>
             &[U32(id.0), U32(uid), U32(gid), U32(mode), U32(qbytes)],
             &[],
         ),
-        Call::MsgctlRmid { id } => spelled(MSGCTL_RMID, &[U32(id.0)], &[]),
-        Call::Semget { key, nsems, flags } => spelled(
+        SysvCall::MsgctlRmid { id } => spelled(MSGCTL_RMID, &[U32(id.0)], &[]),
+        SysvCall::Semget { key, nsems, flags } => spelled(
             SEMGET,
             &[I32(key), I32(nsems), U32(flags.0)],
             &[],
         ),
-        Call::Semop {
+        SysvCall::Semop {
             id,
             timeout,
             operations,
         } => spelled(SEMOP, &[U32(id.0), U64(timeout)], operations.bytes()),
-        Call::SemctlGetVal { id, num } => spelled(SEMCTL_GET_VAL, &[U32(id.0), U32(num)], &[]),
-        Call::SemctlGetPid { id, num } => spelled(SEMCTL_GET_PID, &[U32(id.0), U32(num)], &[]),
-        Call::SemctlGetNcnt { id, num } => spelled(SEMCTL_GET_NCNT, &[U32(id.0), U32(num)], &[]),
-        Call::SemctlGetZcnt { id, num } => spelled(SEMCTL_GET_ZCNT, &[U32(id.0), U32(num)], &[]),
-        Call::SemctlSetVal { id, num, value } => spelled(
+        SysvCall::SemctlGetVal { id, num } => spelled(SEMCTL_GET_VAL, &[U32(id.0), U32(num)], &[]),
+        SysvCall::SemctlGetPid { id, num } => spelled(SEMCTL_GET_PID, &[U32(id.0), U32(num)], &[]),
+        SysvCall::SemctlGetNcnt { id, num } => spelled(
+            SEMCTL_GET_NCNT,
+            &[U32(id.0), U32(num)],
+            &[],
+        ),
+        SysvCall::SemctlGetZcnt { id, num } => spelled(
+            SEMCTL_GET_ZCNT,
+            &[U32(id.0), U32(num)],
+            &[],
+        ),
+        SysvCall::SemctlSetVal { id, num, value } => spelled(
             SEMCTL_SET_VAL,
             &[U32(id.0), U32(num), I32(value)],
             &[],
         ),
-        Call::SemctlGetAll { id } => spelled(SEMCTL_GET_ALL, &[U32(id.0)], &[]),
-        Call::SemctlSetAll { id, values } => spelled(SEMCTL_SET_ALL, &[U32(id.0)], values.bytes()),
-        Call::SemctlStat { id } => spelled(SEMCTL_STAT, &[U32(id.0)], &[]),
-        Call::SemctlSet { id, uid, gid, mode } => spelled(
+        SysvCall::SemctlGetAll { id } => spelled(SEMCTL_GET_ALL, &[U32(id.0)], &[]),
+        SysvCall::SemctlSetAll { id, values } => spelled(
+            SEMCTL_SET_ALL,
+            &[U32(id.0)],
+            values.bytes(),
+        ),
+        SysvCall::SemctlStat { id } => spelled(SEMCTL_STAT, &[U32(id.0)], &[]),
+        SysvCall::SemctlSet { id, uid, gid, mode } => spelled(
             SEMCTL_SET,
             &[U32(id.0), U32(uid), U32(gid), U32(mode)],
             &[],
         ),
-        Call::SemctlRmid { id } => spelled(SEMCTL_RMID, &[U32(id.0)], &[]),
+        SysvCall::SemctlRmid { id } => spelled(SEMCTL_RMID, &[U32(id.0)], &[]),
     }
 }
 

@@ -75,7 +75,7 @@ fn serve_store<D: SectorDisk + Drop>(
     let limits = limits_name(store.engine().limits());
     let server = start(rt, store, socket)?;
     say_serving(rt, device, sectors, socket, limits)?;
-    go_on(rt, server, turns)
+    serve_turns(rt, server, turns)
 }
 
 // A server of a store, on a socket that is bound now.
@@ -101,7 +101,7 @@ fn server_of<D: SectorDisk + Drop>(
 }
 
 // Serves for so many turns, or on demand if none are given.
-fn go_on<D: SectorDisk + Drop>(
+fn serve_turns<D: SectorDisk + Drop>(
     clock: &impl Clock,
     server: Server<D>,
     turns: Option<u32>,

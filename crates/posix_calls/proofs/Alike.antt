@@ -16,14 +16,14 @@ use Rattle.ipc_state.specs.declared.parked.Awaited.TheVariants as awaited
 use Rattle.ipc_state.specs.Finish.{Attempt, Blocks, Fails, has_to_wait, refuse, stop, ◌orelse◌, ◌orstop◌, ◌>>◌, ◌>>=◌}
 use Rattle.ipc_state.specs.Opening.{descriptor_at}
 use Rattle.ipc_state.specs.State.{State}
-use Rattle.ipc_state.specs.Touching.{named_sem_value, object_on, mq_object, is_there, IsAsBefore}
+use Rattle.ipc_state.specs.Touching.{psem_value, object_on, mq_object, is_there, IsAsBefore}
 use Rattle.ipc_state.specs.Waiting.{awaited_by}
 use Rattle.ipc_state.proofs.CallerLemmas.{blocked-then, is_blocked, waits-blocked}
-use Rattle.posix_calls.specs.Calls.{attempt, call_of}
-use Rattle.posix_calls.specs.Mq.{Found, open_queue, queue_number, receivable, sendable, waits_or_fails}
-use Rattle.posix_calls.specs.declared.sem.FoundSem.{FoundSem}
+use Rattle.posix_calls.specs.Calls.{attempt, definition_of}
+use Rattle.posix_calls.specs.Mq.{Found, open_mq, mq_number, receivable, sendable, waits_or_fails}
+use Rattle.posix_calls.specs.declared.psem.FoundPsem.{FoundPsem}
 use Rattle.posix_calls.specs.Open.{reads, writes}
-use Rattle.posix_calls.specs.Sem.{lowerable, open_semaphore, semaphore_number}
+use Rattle.posix_calls.specs.Psem.{lowerable, open_semaphore, semaphore_number}
 
 some-none : {X : Type 0} {x : X} → None ≡ Some x → ⊥
 some-none is = cc
@@ -31,9 +31,9 @@ some-none is = cc
 -- what a descriptor finds, by what it is and by the objects
 abbrev found_by : (ℕ → Option Mq) → Option Descriptor → Attempt Found
 found_by queues r =
-    r orelse EBADF >>= (λ d. queue_number d.on orelse EBADF >>= (λ n. queues n orelse EBADF >>= (λ q. Ok (record { number = n; queue = q; flags = d.flags }))))
+    r orelse EBADF >>= (λ d. mq_number d.on orelse EBADF >>= (λ n. queues n orelse EBADF >>= (λ q. Ok (record { number = n; queue = q; flags = d.flags }))))
 
-abbrev sem_by : (ℕ → Option ℕ) → Option Descriptor → Attempt FoundSem
+abbrev sem_by : (ℕ → Option ℕ) → Option Descriptor → Attempt FoundPsem
 sem_by values r =
     r orelse EINVAL >>= (λ d. semaphore_number d.on orelse EINVAL >>= (λ n. values n orelse EINVAL >>= (λ v. Ok (record { number = n; value = v }))))
 
@@ -45,37 +45,37 @@ module _ (s t : State) (pid fd : ℕ) (alike : IsAsBefore pid (awaited.Descripto
       → option_map (λ (e : Descriptor). object_on e.on) (descriptor_at s.processes.entries pid fd) ≡ Some (object_on d.on)
   on-it d is = ap (option_map (λ (e : Descriptor). object_on e.on)) is
 
-  open-alike : open_queue t pid fd ≡ open_queue s pid fd
+  open-alike : open_mq t pid fd ≡ open_mq s pid fd
   open-alike = ap (found_by (mq_object t)) alike.0 ∙ by_value (descriptor_at s.processes.entries pid fd) refl
     where
       by_on : (d : Descriptor) (on : Opened) → descriptor_at s.processes.entries pid fd ≡ Some d → d.on ≡ on
-          → (queue_number on orelse EBADF >>= (λ n. mq_object t n orelse EBADF
+          → (mq_number on orelse EBADF >>= (λ n. mq_object t n orelse EBADF
           >>= (λ q. let f : Found = record { number = n; queue = q; flags = d.flags } in Ok f)))
-          ≡ (queue_number on orelse EBADF >>= (λ n. mq_object s n orelse EBADF >>= (λ q. Ok (record { number = n; queue = q; flags = d.flags }))))
-      by_on d (opened.Queue n) is on =
+          ≡ (mq_number on orelse EBADF >>= (λ n. mq_object s n orelse EBADF >>= (λ q. Ok (record { number = n; queue = q; flags = d.flags }))))
+      by_on d (opened.Mq n) is on =
           ap (λ (o : Option Mq). o orelse EBADF >>= (λ q. let f : Found = record { number = n; queue = q; flags = d.flags } in Ok f))
           (alike.1 n (on-it d is ∙ ap (λ (o : Opened). Some (object_on o)) on))
-      by_on d (opened.Semaphore n) is on = refl
-      by_on d (opened.Segment n) is on = refl
+      by_on d (opened.Psem n) is on = refl
+      by_on d (opened.Pshm n) is on = refl
 
       by_value : (r : Option Descriptor) → descriptor_at s.processes.entries pid fd ≡ r → found_by (mq_object t) r ≡ found_by (mq_object s) r
       by_value None is = refl
       by_value (Some d) is = by_on d d.on is refl
 
   sem-alike : open_semaphore t pid fd ≡ open_semaphore s pid fd
-  sem-alike = ap (sem_by (named_sem_value t)) alike.0 ∙ by_value (descriptor_at s.processes.entries pid fd) refl
+  sem-alike = ap (sem_by (psem_value t)) alike.0 ∙ by_value (descriptor_at s.processes.entries pid fd) refl
     where
       by_on : (d : Descriptor) (on : Opened) → descriptor_at s.processes.entries pid fd ≡ Some d → d.on ≡ on
-          → (semaphore_number on orelse EINVAL >>= (λ n. named_sem_value t n orelse EINVAL
-          >>= (λ v. let f : FoundSem = record { number = n; value = v } in Ok f)))
-          ≡ (semaphore_number on orelse EINVAL >>= (λ n. named_sem_value s n orelse EINVAL >>= (λ v. Ok (record { number = n; value = v }))))
-      by_on d (opened.Queue n) is on = refl
-      by_on d (opened.Semaphore n) is on =
-          ap (λ (o : Option ℕ). o orelse EINVAL >>= (λ v. let f : FoundSem = record { number = n; value = v } in Ok f))
+          → (semaphore_number on orelse EINVAL >>= (λ n. psem_value t n orelse EINVAL
+          >>= (λ v. let f : FoundPsem = record { number = n; value = v } in Ok f)))
+          ≡ (semaphore_number on orelse EINVAL >>= (λ n. psem_value s n orelse EINVAL >>= (λ v. Ok (record { number = n; value = v }))))
+      by_on d (opened.Mq n) is on = refl
+      by_on d (opened.Psem n) is on =
+          ap (λ (o : Option ℕ). o orelse EINVAL >>= (λ v. let f : FoundPsem = record { number = n; value = v } in Ok f))
           (alike.2 n (on-it d is ∙ ap (λ (o : Opened). Some (object_on o)) on))
-      by_on d (opened.Segment n) is on = refl
+      by_on d (opened.Pshm n) is on = refl
 
-      by_value : (r : Option Descriptor) → descriptor_at s.processes.entries pid fd ≡ r → sem_by (named_sem_value t) r ≡ sem_by (named_sem_value s) r
+      by_value : (r : Option Descriptor) → descriptor_at s.processes.entries pid fd ≡ r → sem_by (psem_value t) r ≡ sem_by (psem_value s) r
       by_value None is = refl
       by_value (Some d) is = by_on d d.on is refl
 
@@ -103,15 +103,15 @@ module _ (limits : Limits) (pid : ℕ) (call : PlainPosix) (fd : ℕ) where
       by_value s is (Some d) found = refl
       by_value s is None found = let both : true ≡ false = sym is ∙ (waits s ∙ (ap steps (none s found) ∙ never)) in cc
 
-  by-queue : (steps : Attempt Found → Bool) → ((s : State) → has_to_wait (attempt limits s pid call) ≡ steps (open_queue s pid fd))
+  by-queue : (steps : Attempt Found → Bool) → ((s : State) → has_to_wait (attempt limits s pid call) ≡ steps (open_mq s pid fd))
       → steps (Err (Fails EBADF)) ≡ false → WaitsOn limits pid call fd
   by-queue steps waits never =
-      by-finding (λ s. open_queue s pid fd) steps EBADF (λ s t before. open-alike s t pid fd before) (λ s none. ap (found_by (mq_object s)) none) waits never
+      by-finding (λ s. open_mq s pid fd) steps EBADF (λ s t before. open-alike s t pid fd before) (λ s none. ap (found_by (mq_object s)) none) waits never
 
-  by-semaphore : (steps : Attempt FoundSem → Bool) → ((s : State) → has_to_wait (attempt limits s pid call) ≡ steps (open_semaphore s pid fd))
+  by-semaphore : (steps : Attempt FoundPsem → Bool) → ((s : State) → has_to_wait (attempt limits s pid call) ≡ steps (open_semaphore s pid fd))
       → steps (Err (Fails EINVAL)) ≡ false → WaitsOn limits pid call fd
   by-semaphore steps waits never =
-      by-finding (λ s. open_semaphore s pid fd) steps EINVAL (λ s t before. sem-alike s t pid fd before) (λ s none. ap (sem_by (named_sem_value s)) none) waits
+      by-finding (λ s. open_semaphore s pid fd) steps EINVAL (λ s t before. sem-alike s t pid fd before) (λ s none. ap (sem_by (psem_value s)) none) waits
       never
 
 -- ---- each call that may wait, by its tests
@@ -126,14 +126,14 @@ receive_steps size a =
     is_blocked {X = Found × PlainMessage} ((a >>= (λ f. refuse EBADF (not (reads f.flags)) >> Ok f))
     >>= (λ f. refuse EMSGSIZE (nat_lt size f.queue.msgsize) >> (received_message f.queue orstop waits_or_fails f.flags >>= (λ m. Ok (f, m)))))
 
-abbrev wait_steps : Attempt FoundSem → Bool
+abbrev wait_steps : Attempt FoundPsem → Bool
 wait_steps a = is_blocked (a >>= (λ f. stop Blocks (f.value == 0) >> Ok f))
 
 module _ (limits : Limits) (pid : ℕ) where
   send-waits : (fd deadline priority : ℕ) (text : List ℕ) → WaitsOn limits pid (requests.MqSend fd deadline priority text) fd
   send-waits fd deadline priority text =
       by-queue limits pid (requests.MqSend fd deadline priority text) fd (send_steps priority text)
-      (λ s. waits-blocked s (call_of limits s pid (requests.MqSend fd deadline priority text)) ∙ blocked-then (sendable s pid fd priority text) _)
+      (λ s. waits-blocked s (definition_of limits s pid (requests.MqSend fd deadline priority text)) ∙ blocked-then (sendable s pid fd priority text) _)
       (by_test (nat_lt 32767 priority))
     where
       by_test : (b : Bool) → is_blocked (refuse EINVAL b >> (let a : Attempt Found = Err (Fails EBADF) in a)) ≡ false
@@ -143,12 +143,12 @@ module _ (limits : Limits) (pid : ℕ) where
   receive-waits : (fd deadline size : ℕ) → WaitsOn limits pid (requests.MqReceive fd deadline size) fd
   receive-waits fd deadline size =
       by-queue limits pid (requests.MqReceive fd deadline size) fd (receive_steps size)
-      (λ s. waits-blocked s (call_of limits s pid (requests.MqReceive fd deadline size)) ∙ blocked-then (receivable s pid fd size) _) refl
+      (λ s. waits-blocked s (definition_of limits s pid (requests.MqReceive fd deadline size)) ∙ blocked-then (receivable s pid fd size) _) refl
 
   wait-waits : (fd deadline : ℕ) → WaitsOn limits pid (requests.SemWait fd deadline) fd
   wait-waits fd deadline =
       by-semaphore limits pid (requests.SemWait fd deadline) fd wait_steps
-      (λ s. waits-blocked s (call_of limits s pid (requests.SemWait fd deadline)) ∙ blocked-then (lowerable s pid fd) _) refl
+      (λ s. waits-blocked s (definition_of limits s pid (requests.SemWait fd deadline)) ∙ blocked-then (lowerable s pid fd) _) refl
 
   -- what a call waits on is a descriptor
   record IsOn (call : PlainPosix) (on : Awaited) : Type 0 where

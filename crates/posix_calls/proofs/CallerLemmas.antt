@@ -11,8 +11,8 @@ use Rattle.ipc_state.specs.State.{State, is_waiting}
 use Rattle.ipc_state.specs.Touching.{object_of}
 use Rattle.ipc_state.specs.Waiting.{awaited_by, may_wait}
 use Rattle.ipc_state.proofs.CallerLemmas.{IsGood, by-finish, refused-good, waits-blocked}
-use Rattle.posix_calls.specs.Calls.{attempt, call_of, touched}
-use Rattle.posix_calls.specs.Needs.{IsReserved, is_kept}
+use Rattle.posix_calls.specs.Calls.{attempt, definition_of, touched}
+use Rattle.posix_calls.specs.Needs.{IsReserved, keeps_request}
 use Rattle.posix_calls.specs.Registrations.{may_make, own, registrations}
 use Rattle.posix_calls.proofs.Ending.{call-ends}
 pub use Rattle.posix_calls.proofs.Alike.{waits-alike, waits-there}
@@ -23,7 +23,7 @@ pub use Rattle.posix_calls.proofs.Debts.{registrations-exited, registrations-few
 pub attempt-good : (limits : Limits) (s : State) (pid : ℕ) (call : PlainPosix) → is_waiting s pid ≡ false
     → IfFinishes (IsGood limits s (touched s pid call)) (attempt limits s pid call)
 attempt-good limits s pid call free =
-    by-finish (IsGood limits s (touched s pid call)) s (call_of limits s pid call) (λ d is. ((call-ends limits s pid call).holds d is).good free)
+    by-finish (IsGood limits s (touched s pid call)) s (definition_of limits s pid call) (λ d is. ((call-ends limits s pid call).holds d is).good free)
     (refused-good limits s (touched s pid call))
 
 -- What a call of a process leaves of this one: it has no more registrations than before, with those that were fired, but
@@ -34,7 +34,7 @@ pub record LeavesOf (s : State) (pid p : ℕ) (f : Finish) : Type 0 where
 
 pub call-leaves : (limits : Limits) (s : State) (pid : ℕ) (call : PlainPosix) (p : ℕ) → IfFinishes (LeavesOf s pid p) (attempt limits s pid call)
 call-leaves limits s pid call p =
-    by-finish (LeavesOf s pid p) s (call_of limits s pid call)
+    by-finish (LeavesOf s pid p) s (definition_of limits s pid call)
     (λ d is. let left = (call-ends limits s pid call).holds d is in record { owed = left.owes p; objects = left.objects p })
     (λ e. record { owed = omega arith; objects = λ other on. refl })
 
@@ -42,14 +42,14 @@ call-leaves limits s pid call p =
 pub never-waits : (limits : Limits) (s : State) (pid : ℕ) (call : PlainPosix) → awaited_by (Posix call) ≡ None
     → has_to_wait (attempt limits s pid call) ≡ false
 never-waits limits s pid call is =
-    waits-blocked s (call_of limits s pid call) ∙ (call-ends limits s pid call).runs (ap (λ (o : Option Awaited). not (is_some o)) is)
+    waits-blocked s (definition_of limits s pid call) ∙ (call-ends limits s pid call).runs (ap (λ (o : Option Awaited). not (is_some o)) is)
 
 -- ---- what is reserved
 
 module _ (s : State) (room : Room) (request : PlainRequest) where
   -- a POSIX call of which nothing was kept never waits
   pub never-kept : (call : PlainPosix) → request.kind ≡ Posix call → IsReserved s room request None → may_wait (Posix call) ≡ false
-  never-kept call kind has = by_test (may_wait (Posix call)) (subst (λ (k : PlainKind). None ≡ (if is_kept k then Some request else None)) kind has.call)
+  never-kept call kind has = by_test (may_wait (Posix call)) (subst (λ (k : PlainKind). None ≡ (if keeps_request k then Some request else None)) kind has.call)
     where
       by_test : (b : Bool) → None ≡ (if b then Some request else None) → b ≡ false
       by_test true is = cc
@@ -57,7 +57,7 @@ module _ (s : State) (room : Room) (request : PlainRequest) where
 
   -- what was kept is the request
   pub kept-is : (kept : PlainRequest) → IsReserved s room request (Some kept) → kept ≡ request
-  kept-is kept has = by_test (is_kept request.kind) has.call
+  kept-is kept has = by_test (keeps_request request.kind) has.call
     where
       by_test : (b : Bool) → Some kept ≡ (if b then Some request else None) → kept ≡ request
       by_test true is = cc

@@ -89,8 +89,8 @@ module _ (p : ℕ) where
 
   -- registrations go, and queues that are no longer open
   fewer-swept : (left : List (ℕ × Process)) (goes : Registration → Bool) (es : List (ℕ × NamedEntry Mq))
-      → sum_by of-entry (filter (stays names.Queue left) (seen_as (deregistered goes) es)) ≤ sum_by of-entry es
-  fewer-swept left goes es = omega (arith, fewer-kept (stays names.Queue left) (seen_as (deregistered goes) es), fewer-seen goes es)
+      → sum_by of-entry (filter (stays names.Mq left) (seen_as (deregistered goes) es)) ≤ sum_by of-entry es
+  fewer-swept left goes es = omega (arith, fewer-kept (stays names.Mq left) (seen_as (deregistered goes) es), fewer-seen goes es)
 
   pub fewer-closed : (s : State) (pid fd : ℕ) → registrations (closed s pid fd) p ≤ registrations s p
   fewer-closed s pid fd = fewer-swept (without_descriptor s pid fd).processes.entries (is_by (Some pid) (Some fd)) s.mq.entries
@@ -122,7 +122,7 @@ module _ (p : ℕ) where
       )
     where
       no-descriptor : (r : Option Process) → is_some r ≡ false → (fd : ℕ)
-          → unwrap_or (option_map (λ (d : Descriptor). is_on (objects.Queue e.0) d.on)
+          → unwrap_or (option_map (λ (d : Descriptor). is_on (objects.Mq e.0) d.on)
           (value_at nat_eq (unwrap_or (option_map (λ (q : Process). q.descriptors) r) []) fd)) false ≡ false
       no-descriptor None is fd = refl
       no-descriptor (Some q) is fd = cc
@@ -139,7 +139,7 @@ module _ (p : ℕ) where
               absurd (let both : true ≡ false = sym is ∙ none in cc)
 
   pub fewer-unlinked : (s : State) (n : ℕ) → registrations (unlinked s n) p ≤ registrations s p
-  fewer-unlinked s n = omega (arith, fewer-kept (stays names.Queue s.processes.entries) (unnamed s.mq n).entries, by_entry (entry_of s.mq n) refl)
+  fewer-unlinked s n = omega (arith, fewer-kept (stays names.Mq s.processes.entries) (unnamed s.mq n).entries, by_entry (entry_of s.mq n) refl)
     where
       by_entry : (r : Option (NamedEntry Mq)) → entry_of s.mq n ≡ r → sum_by of-entry (without_name s.mq n r).entries ≤ registrations s p
       by_entry None is = omega arith
@@ -147,19 +147,19 @@ module _ (p : ℕ) where
 
   -- those that are open, or have a name, are left
   pub fewer-swept_all : (s : State) → registrations (swept s) p ≤ registrations s p
-  fewer-swept_all s = fewer-kept (stays names.Queue s.processes.entries) s.mq.entries
+  fewer-swept_all s = fewer-kept (stays names.Mq s.processes.entries) s.mq.entries
 
   -- what is sent is no more than was registered
-  fewer-told : (r : Option Registration) → own p (notified r) ≤ own p r
-  fewer-told None = omega arith
-  fewer-told (Some r) = by_test r.sends
+  fewer-notifies : (r : Option Registration) → own p (notified r) ≤ own p r
+  fewer-notifies None = omega arith
+  fewer-notifies (Some r) = by_test r.sends
     where
       by_test : (b : Bool) → own p (if b then Some r else None) ≤ own p (Some r)
       by_test true = omega arith
       by_test false = omega arith
 
-  pub fewer-arrived : (told : Bool) (q : Mq) (m : PlainMessage) → own p (firing told q) + own p (arrived told q m).registration ≤ own p q.registration
-  fewer-arrived true q m = omega (arith, fewer-told q.registration)
+  pub fewer-arrived : (notifies : Bool) (q : Mq) (m : PlainMessage) → own p (firing notifies q) + own p (arrived notifies q m).registration ≤ own p q.registration
+  fewer-arrived true q m = omega (arith, fewer-notifies q.registration)
   fewer-arrived false q m = omega arith
 
   pub fewer-given_up : (own-one : Bool) (q : Mq) → own p (if own-one then without_registration q else q).registration ≤ own p q.registration
@@ -173,15 +173,15 @@ module _ (p : ℕ) where
   -- ---- objects of one process
 
   pub same-objects : (s t : State) → t.processes ≡ s.processes → (on : Awaited) → object_of t p on ≡ object_of s p on
-  same-objects s t same (awaited.Queue id) = refl
-  same-objects s t same (awaited.Set id) = refl
+  same-objects s t same (awaited.MsgQueue id) = refl
+  same-objects s t same (awaited.Semset id) = refl
   same-objects s t same (awaited.Descriptor fd) =
       ap (λ (ps : Numbered Process). option_map (λ (d : Descriptor). object_on d.on) (descriptor_at ps.entries p fd)) same
 
   -- other descriptors of another process
   pub table-objects : (s : State) (pid : ℕ) (table : Table) → p ≢ pid → (on : Awaited) → object_of (with_descriptors s pid table) p on ≡ object_of s p on
-  table-objects s pid table other (awaited.Queue id) = refl
-  table-objects s pid table other (awaited.Set id) = refl
+  table-objects s pid table other (awaited.MsgQueue id) = refl
+  table-objects s pid table other (awaited.Semset id) = refl
   table-objects s pid table other (awaited.Descriptor fd) =
       ap (option_map (λ (d : Descriptor). object_on d.on)) (elsewhere-table s pid table p (awaited.Descriptor fd) other).0
 

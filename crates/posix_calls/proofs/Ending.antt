@@ -54,33 +54,33 @@ use Rattle.ipc_state.specs.declared.processes.Process.{Process}
 use Rattle.posix_sem.specs.Semaphore.{post_answer, posted, sem_value_max, wait_answer, waited}
 use Rattle.shm_segment.specs.Segment.{Segment, empty_segment, is_within, part, truncated, written}
 use Rattle.ipc_state.specs.Sound.{segment_bytes}
-use Rattle.ipc_state.specs.State.{named_in, unlinked_segment, unlinked_sem, with_named_sem, with_new_named_sem, with_new_segment, with_segment}
+use Rattle.ipc_state.specs.State.{named_in, unlinked_pshm, unlinked_psem, with_psem, with_new_psem, with_new_pshm, with_pshm}
 use Rattle.ipc_state.specs.Touching.{IsAsBefore, object_of, object_on}
 use Rattle.ipc_state.specs.Waiting.{may_wait}
 use Rattle.ipc_state.proofs.CallerLemmas.{IsGood, same-processes, same-but-table, as_before}
 use Rattle.ipc_state.proofs.CallerLemmas.{AtEnd, after, after-refuse, after-then, at-some, at-value, by-if_some, by-test}
 use Rattle.ipc_state.proofs.CallerLemmas.{closed-sound, unlinked-sound, with_descriptor-sound, with_descriptor_flags-sound, with_mq-sound, with_new_mq-sound}
 use Rattle.ipc_state.proofs.CallerLemmas.{descriptor-sound, mq-registered, received_mq-sound, sent_mq-sound}
-use Rattle.ipc_state.proofs.CallerLemmas.{elsewhere-named_sem, elsewhere-new_named_sem, elsewhere-new_segment, elsewhere-segment}
-use Rattle.ipc_state.proofs.CallerLemmas.{elsewhere-unlinked_segment, elsewhere-unlinked_sem, named_sem-sound, unlinked_segment-sound, unlinked_sem-sound}
-use Rattle.ipc_state.proofs.CallerLemmas.{with_named_sem-sound, with_new_named_sem-sound, with_new_segment-sound, with_segment-sound}
+use Rattle.ipc_state.proofs.CallerLemmas.{elsewhere-psem, elsewhere-new_psem, elsewhere-new_segment, elsewhere-segment}
+use Rattle.ipc_state.proofs.CallerLemmas.{elsewhere-unlinked_pshm, elsewhere-unlinked_psem, psem-sound, unlinked_pshm-sound, unlinked_psem-sound}
+use Rattle.ipc_state.proofs.CallerLemmas.{with_psem-sound, with_new_psem-sound, with_new_pshm-sound, with_pshm-sound}
 use Rattle.ipc_state.proofs.CallerLemmas.{before-then, elsewhere-closed, elsewhere-mq, elsewhere-new_mq, elsewhere-table, elsewhere-unlinked}
-use Rattle.posix_calls.specs.Calls.{call_of, on_descriptor, touched}
-use Rattle.posix_calls.specs.Mq.{Found, arrived, attr_fields, close, firing, given_up, is_own, is_told, kept_flags, made_queue}
-use Rattle.posix_calls.specs.Mq.{message_body, mq_getattr, mq_notify, mq_open, mq_receive, mq_send, mq_setattr, mq_unlink, opened_queue}
+use Rattle.posix_calls.specs.Calls.{definition_of, on_descriptor, touched}
+use Rattle.posix_calls.specs.Mq.{Found, arrived, attr_fields, close, firing, given_up, is_own, is_to_notify, kept_flags, made_mq}
+use Rattle.posix_calls.specs.Mq.{message_body, mq_getattr, mq_notify, mq_open, mq_receive, mq_send, mq_setattr, mq_unlink, opened_mq}
 use Rattle.posix_calls.specs.Mq.{registering, registration}
-use Rattle.posix_calls.specs.declared.sem.FoundSem.{FoundSem}
+use Rattle.posix_calls.specs.declared.psem.FoundPsem.{FoundPsem}
 use Rattle.posix_calls.specs.Open.{access_of, asked_by, has, nonblock, opens}
-use Rattle.posix_calls.specs.Sem.{sem_getvalue, sem_open, sem_post, sem_trywait, sem_unlink, sem_wait}
-use Rattle.posix_calls.specs.Shm.{FoundSegment, asked_of_segment, cut_as, ftruncate, opened_segment, segment_fields, shm_open, shm_read, shm_stat, shm_unlink}
-use Rattle.posix_calls.specs.Shm.{shm_write, trunc}
+use Rattle.posix_calls.specs.Psem.{sem_getvalue, sem_open, sem_post, sem_trywait, sem_unlink, sem_wait}
+use Rattle.posix_calls.specs.Pshm.{FoundPshm, asked_of_pshm, cut_as, ftruncate, opened_pshm, segment_fields, shm_open, shm_read, shm_stat, shm_unlink}
+use Rattle.posix_calls.specs.Pshm.{shm_write, trunc}
 use Rattle.posix_calls.specs.Registrations.{may_make, own, registrations}
 use Rattle.posix_calls.proofs.Debts.{fewer-arrived, fewer-closed, fewer-given_up, fewer-unlinked, made-one, none-own, of-entry, put-mq, same-objects}
 use Rattle.posix_calls.proofs.Debts.{table-objects}
 use Rattle.posix_calls.proofs.Reaching.{IsOpen, attributes-ends, has-entry, open-ends, proper-ends, queue-sound, receives, sends, sought-ends}
 use Rattle.posix_calls.proofs.Reaching.{unlinkable-ends, usable-ends}
 use Rattle.posix_calls.proofs.Debts.{fewer-swept_all}
-use Rattle.posix_calls.proofs.Reaching.{IsOpenSegment, IsOpenSem, has-sem_entry, lowers, open_segment-ends, open_sem-ends, passed-ends, writable-ends}
+use Rattle.posix_calls.proofs.Reaching.{IsOpenPshm, IsOpenPsem, has-sem_entry, lowers, open_pshm-ends, open_psem-ends, passed-ends, writable-ends}
 
 same-some : {X : Type 0} {x y : X} → Some x ≡ Some y → x ≡ y
 same-some is = cc
@@ -179,20 +179,20 @@ put-there {X} o n e x is =
 
 module _ (flags : ℕ) (s : State) (n : ℕ) (e : NamedEntry Segment) where
   abbrev cut_if : Bool → State
-  cut_if b = if b then with_segment s n (truncated 0 e.object) else s
+  cut_if b = if b then with_pshm s n (truncated 0 e.object) else s
 
-  pub cut-sound : (limits : Limits) → entry_of s.shm n ≡ Some e → HasSoundParts limits s → HasSoundParts limits (cut_as flags s n e)
+  pub cut-sound : (limits : Limits) → entry_of s.pshm n ≡ Some e → HasSoundParts limits s → HasSoundParts limits (cut_as flags s n e)
   cut-sound limits there h = by_test (has flags trunc)
     where
       by_test : (b : Bool) → HasSoundParts limits (cut_if b)
-      by_test true = with_segment-sound limits s n e (truncated 0 e.object) there (omega (arith, h.shm.bytes, truncated-length e.object 0)) h
+      by_test true = with_pshm-sound limits s n e (truncated 0 e.object) there (omega (arith, h.pshm.bytes, truncated-length e.object 0)) h
       by_test false = h
 
-  cut-there : entry_of s.shm n ≡ Some e → is_some (entry_of (cut_as flags s n e).shm n) ≡ true
+  cut-there : entry_of s.pshm n ≡ Some e → is_some (entry_of (cut_as flags s n e).pshm n) ≡ true
   cut-there there = by_test (has flags trunc)
     where
-      by_test : (b : Bool) → is_some (entry_of (cut_if b).shm n) ≡ true
-      by_test true = put-there s.shm n e (truncated 0 e.object) there
+      by_test : (b : Bool) → is_some (entry_of (cut_if b).pshm n) ≡ true
+      by_test true = put-there s.pshm n e (truncated 0 e.object) there
       by_test false = ap is_some there
 
   cut-elsewhere : (p : ℕ) (on : Awaited) → IsAsBefore p on s (cut_as flags s n e)
@@ -203,11 +203,11 @@ module _ (flags : ℕ) (s : State) (n : ℕ) (e : NamedEntry Segment) where
       by_test false = as_before p on s
 
 -- all but the segments is as it was
-pub cut-same : {X : Type 0} (f : State → X) → ((x : Segment) → (s : State) (n : ℕ) → f (with_segment s n x) ≡ f s) → (flags : ℕ) (s : State) (n : ℕ)
+pub cut-same : {X : Type 0} (f : State → X) → ((x : Segment) → (s : State) (n : ℕ) → f (with_pshm s n x) ≡ f s) → (flags : ℕ) (s : State) (n : ℕ)
     (e : NamedEntry Segment) → f (cut_as flags s n e) ≡ f s
 cut-same f same flags s n e = by_test (has flags trunc)
   where
-    by_test : (b : Bool) → f (if b then with_segment s n (truncated 0 e.object) else s) ≡ f s
+    by_test : (b : Bool) → f (if b then with_pshm s n (truncated 0 e.object) else s) ≡ f s
     by_test true = same (truncated 0 e.object) s n
     by_test false = refl
 
@@ -221,13 +221,13 @@ number-same n = grind (arith, nat_tests)
 
 -- a registration by that descriptor
 registers-by : (s : State) (pid fd : ℕ) (f : Found) → IsOpen s pid fd f
-    → unwrap_or (option_map (λ (d : Descriptor). is_on (opened.Queue f.number) d.on) (descriptor_at s.processes.entries pid fd)) false ≡ true
+    → unwrap_or (option_map (λ (d : Descriptor). is_on (opened.Mq f.number) d.on) (descriptor_at s.processes.entries pid fd)) false ≡ true
 registers-by s pid fd f o =
-    ap (λ (r : Option Descriptor). unwrap_or (option_map (λ (d : Descriptor). is_on (opened.Queue f.number) d.on) r) false) o.at
-    ∙ (ap (is_on (opened.Queue f.number)) o.on ∙ number-same f.number)
+    ap (λ (r : Option Descriptor). unwrap_or (option_map (λ (d : Descriptor). is_on (opened.Mq f.number) d.on) r) false) o.at
+    ∙ (ap (is_on (opened.Mq f.number)) o.on ∙ number-same f.number)
 
 module _ (limits : Limits) where
-  arrived-sound : (told : Bool) (q : Mq) (m : PlainMessage) → IsSoundMq limits (with_message q m) → IsSoundMq limits (arrived told q m)
+  arrived-sound : (notifies : Bool) (q : Mq) (m : PlainMessage) → IsSoundMq limits (with_message q m) → IsSoundMq limits (arrived notifies q m)
   arrived-sound true q m good = record { maxmsg = good.maxmsg; msgsize = good.msgsize; count = good.count; messages = good.messages }
   arrived-sound false q m good = good
 
@@ -249,8 +249,8 @@ module _ (limits : Limits) where
       by_place (Some at) is = at_place at is
 
   module _ (s : State) (pid : ℕ) where
-    arrived-registered : (told : Bool) (q : Mq) (m : PlainMessage) (n : ℕ) → is_by_descriptor s.processes.entries n q.registration ≡ true
-        → is_by_descriptor s.processes.entries n (arrived told q m).registration ≡ true
+    arrived-registered : (notifies : Bool) (q : Mq) (m : PlainMessage) (n : ℕ) → is_by_descriptor s.processes.entries n q.registration ≡ true
+        → is_by_descriptor s.processes.entries n (arrived notifies q m).registration ≡ true
     arrived-registered true q m n is = refl
     arrived-registered false q m n is = is
 
@@ -317,7 +317,7 @@ module _ (limits : Limits) where
     keeps-access {fd} f o flags same h d at =
         let good = (both_true (is_there_for (named_in s) o.descriptor.on) _ (descriptor-sound limits s pid fd o.descriptor o.at h)).1 in
         let one : d ≡ o.descriptor = same-some (sym at ∙ o.at) in
-        let on : d.on ≡ opened.Queue f.number = ap (λ (e : Descriptor). e.on) one ∙ o.on in
+        let on : d.on ≡ opened.Mq f.number = ap (λ (e : Descriptor). e.on) one ∙ o.on in
         let was : not (nat_eq (bit_and o.descriptor.flags 3) 3) ≡ true = subst (λ (k : Opened). has_access k o.descriptor.flags ≡ true) o.on good in
         subst (λ (k : Opened). has_access k flags ≡ true) (sym on) (rw same was)
 
@@ -345,11 +345,11 @@ module _ (limits : Limits) where
     mq_send-ends fd priority text =
         after (sends s pid fd priority text) (λ f ok.
         let m : PlainMessage = record { priority = priority; text = text } in
-        let told : Bool = is_told s f.number f.queue in
-        put-ends fd f (arrived told f.queue m) Empty (firing told f.queue) ok.queue
-        (λ good. arrived-sound told f.queue m (sent_mq-sound limits f.queue m good ok.room (grind (arith, nat_tests, ok.low))
+        let notifies : Bool = is_to_notify s f.number f.queue in
+        put-ends fd f (arrived notifies f.queue m) Empty (firing notifies f.queue) ok.queue
+        (λ good. arrived-sound notifies f.queue m (sent_mq-sound limits f.queue m good ok.room (grind (arith, nat_tests, ok.low))
         (grind (arith, nat_tests, ok.short))))
-        (arrived-registered told f.queue m f.number) (λ _. omega arith) (λ p. omega (arith, fewer-arrived p told f.queue m)))
+        (arrived-registered notifies f.queue m f.number) (λ _. omega arith) (λ p. omega (arith, fewer-arrived p notifies f.queue m)))
 
     mq_receive-ends : (fd size : ℕ) → AtEnd false (Leaves (on_descriptor s pid fd)) (mq_receive s pid fd size)
     mq_receive-ends fd size =
@@ -389,7 +389,7 @@ module _ (limits : Limits) where
 
       mq_unlink-ends : (cred : Cred) (name : List ℕ) → AtEnd never (Leaves None) (mq_unlink s cred name)
       mq_unlink-ends cred name =
-          after-then (proper-ends names.Queue name) (λ _. after (unlinkable-ends s.mq cred name) (λ n _.
+          after-then (proper-ends names.Mq name) (λ _. after (unlinkable-ends s.mq cred name) (λ n _.
           same-ends (unlinked s n) Empty None refl refl refl (unlinked-sound limits s n) (λ _. omega arith)
           (λ h p on apart. elsewhere-unlinked limits s h n p on) (λ p. omega (arith, fewer-unlinked p s n))))
 
@@ -424,21 +424,21 @@ module _ (limits : Limits) where
 
       -- the queue that the name names, or a new one
       opened-ends : (cred : Cred) (flags n : ℕ) → (access_of flags == 3) ≡ false → has_all_descriptors limits s pid ≡ false
-          → AtEnd never (Leaves None) (opened_queue s cred pid flags n)
+          → AtEnd never (Leaves None) (opened_mq s cred pid flags n)
       opened-ends cred flags n mode few =
           after (usable-ends s.mq cred n (asked_by flags)) (λ e there.
-          opens-ends s (kept_flags flags) (opened.Queue n) refl refl refl few (λ h. h) (λ _. ap is_some there) (kept-mode flags mode) as_it_is
+          opens-ends s (kept_flags flags) (opened.Mq n) refl refl refl few (λ h. h) (λ _. ap is_some there) (kept-mode flags mode) as_it_is
           (λ p. omega arith))
 
       made-ends : (cred : Cred) (flags mode attr : ℕ) (maxmsg msgsize : ℤ) (name : List ℕ) → (access_of flags == 3) ≡ false
-          → has_all_descriptors limits s pid ≡ false → is_ok (check_name names.Queue name) ≡ true → named s.mq name ≡ None
-          → AtEnd never (Leaves None) (made_queue limits s cred pid flags mode attr maxmsg msgsize name)
+          → has_all_descriptors limits s pid ≡ false → is_ok (check_name names.Mq name) ≡ true → named s.mq name ≡ None
+          → AtEnd never (Leaves None) (made_mq limits s cred pid flags mode attr maxmsg msgsize name)
       made-ends cred flags mode attr maxmsg msgsize name access few right unused =
           after (attributes-ends limits attr maxmsg msgsize) (λ given good. after-refuse ENOSPC (λ room.
           let bits : ℕ = bit_and mode 511 in
           let q : Mq = empty_queue given.0 given.1 None in
           let e : NamedEntry Mq = record { name = name; owner = cred; mode = bits; object = q } in
-          opens-ends (with_new_mq s name cred bits q) (kept_flags flags) (opened.Queue s.mq.next) refl refl refl few
+          opens-ends (with_new_mq s name cred bits q) (kept_flags flags) (opened.Mq s.mq.next) refl refl refl few
           (with_new_mq-sound limits s name cred bits q unused room (omega (arith, and_le_r mode 511)) right good refl)
           (λ h. new-there s.mq e h.mq.held.named.numbered.numbers) (kept-mode flags access)
           (λ h p on. elsewhere-new_mq limits s h name cred bits q p on)
@@ -447,25 +447,25 @@ module _ (limits : Limits) where
       mq_open-ends : (cred : Cred) (flags mode attr : ℕ) (maxmsg msgsize : ℤ) (name : List ℕ)
           → AtEnd never (Leaves None) (mq_open limits s cred pid flags mode attr maxmsg msgsize name)
       mq_open-ends cred flags mode attr maxmsg msgsize name =
-          after-then (proper-ends names.Queue name) (λ right. after-refuse EINVAL (λ access. after-refuse EMFILE (λ few.
+          after-then (proper-ends names.Mq name) (λ right. after-refuse EINVAL (λ access. after-refuse EMFILE (λ few.
           after (sought-ends s.mq name flags) (λ found unused.
           by-if_some {o = found} (λ n _. opened-ends cred flags n access few)
           (λ none. made-ends cred flags mode attr maxmsg msgsize name access few right (unused none))))))
 
     -- ---- named semaphores
 
-    on-semaphore : (fd : ℕ) (f : FoundSem) → IsOpenSem s pid fd f → on_descriptor s pid fd ≡ Some (object.NamedSem f.number)
+    on-semaphore : (fd : ℕ) (f : FoundPsem) → IsOpenPsem s pid fd f → on_descriptor s pid fd ≡ Some (object.Psem f.number)
     on-semaphore fd f o = ap (option_map (λ (d : Descriptor). object_on d.on)) o.at ∙ ap (λ (on : Opened). Some (object_on on)) o.on
 
     -- another value of one that is open
-    change-ends : {never : Bool} (fd : ℕ) (f : FoundSem) (value : ℕ) → IsOpenSem s pid fd f → (f.value ≤ sem_value_max → value ≤ sem_value_max)
-        → AtEnd never (Leaves (on_descriptor s pid fd)) (answer (with_named_sem s f.number value) Empty)
+    change-ends : {never : Bool} (fd : ℕ) (f : FoundPsem) (value : ℕ) → IsOpenPsem s pid fd f → (f.value ≤ sem_value_max → value ≤ sem_value_max)
+        → AtEnd never (Leaves (on_descriptor s pid fd)) (answer (with_psem s f.number value) Empty)
     change-ends fd f value o good =
         let e = has-sem_entry s f.number f.value o.there in
-        same-ends (with_named_sem s f.number value) Empty None refl refl refl
-        (λ h. let most = named_sem-sound limits s f.number e.entry e.there h in
-        with_named_sem-sound limits s f.number e.entry value e.there (good (subst (λ (n : ℕ). n ≤ sem_value_max) e.object most)) h)
-        (λ _. omega arith) (λ h p on apart. elsewhere-named_sem s f.number value p on (λ same. apart (on-semaphore fd f o ∙ same))) (λ p. omega arith)
+        same-ends (with_psem s f.number value) Empty None refl refl refl
+        (λ h. let most = psem-sound limits s f.number e.entry e.there h in
+        with_psem-sound limits s f.number e.entry value e.there (good (subst (λ (n : ℕ). n ≤ sem_value_max) e.object most)) h)
+        (λ _. omega arith) (λ h p on apart. elsewhere-psem s f.number value p on (λ same. apart (on-semaphore fd f o ∙ same))) (λ p. omega arith)
 
     posted-few : (n : ℕ) → n ≤ sem_value_max → posted n ≤ sem_value_max
     posted-few n few = by_test (n == sem_value_max) refl
@@ -480,47 +480,47 @@ module _ (limits : Limits) where
     module _ {never : Bool} where
       sem_post-ends : (fd : ℕ) → AtEnd never (Leaves (on_descriptor s pid fd)) (sem_post s pid fd)
       sem_post-ends fd =
-          after (open_sem-ends s pid fd) (λ f o. after-then (passed-ends (post_answer f.value)) (λ _. change-ends fd f (posted f.value) o (posted-few f.value)))
+          after (open_psem-ends s pid fd) (λ f o. after-then (passed-ends (post_answer f.value)) (λ _. change-ends fd f (posted f.value) o (posted-few f.value)))
 
       sem_trywait-ends : (fd : ℕ) → AtEnd never (Leaves (on_descriptor s pid fd)) (sem_trywait s pid fd)
       sem_trywait-ends fd =
-          after (open_sem-ends s pid fd) (λ f o. after-then (passed-ends (wait_answer f.value)) (λ _.
+          after (open_psem-ends s pid fd) (λ f o. after-then (passed-ends (wait_answer f.value)) (λ _.
           change-ends fd f (waited f.value) o (λ few. omega (arith, few))))
 
       sem_getvalue-ends : (fd : ℕ) → AtEnd never (Leaves None) (sem_getvalue s pid fd)
-      sem_getvalue-ends fd = after (open_sem-ends s pid fd) (λ f o. read-ends (Number f.value) (omega arith))
+      sem_getvalue-ends fd = after (open_psem-ends s pid fd) (λ f o. read-ends (Number f.value) (omega arith))
 
       sem_open-ends : (cred : Cred) (flags mode value : ℕ) (name : List ℕ)
           → AtEnd never (Leaves None) (sem_open limits s cred pid flags mode value name)
       sem_open-ends cred flags mode value name =
-          after-then (proper-ends names.Semaphore name) (λ right. after-refuse EMFILE (λ few. after (sought-ends s.named_sem name flags) (λ found unused.
+          after-then (proper-ends names.Psem name) (λ right. after-refuse EMFILE (λ few. after (sought-ends s.psem name flags) (λ found unused.
           by-if_some {o = found}
-          (λ n _. after (usable-ends s.named_sem cred n 6) (λ e there.
-          opens-ends s 0 (opened.Semaphore n) refl refl refl few (λ h. h) (λ _. ap is_some there) refl as_it_is (λ p. omega arith)))
+          (λ n _. after (usable-ends s.psem cred n 6) (λ e there.
+          opens-ends s 0 (opened.Psem n) refl refl refl few (λ h. h) (λ _. ap is_some there) refl as_it_is (λ p. omega arith)))
           (λ none. after-refuse EINVAL (λ most. after-refuse ENOSPC (λ room.
           let bits : ℕ = bit_and mode 511 in
           let e : NamedEntry ℕ = record { name = name; owner = cred; mode = bits; object = value } in
           let short : value ≤ sem_value_max = grind (arith, nat_tests) in
-          opens-ends (with_new_named_sem s name cred bits value) 0 (opened.Semaphore s.named_sem.next) refl refl refl few
-          (with_new_named_sem-sound limits s name cred bits value (unused none) room (omega (arith, and_le_r mode 511)) right short)
-          (λ h. new-there s.named_sem e h.named_sem.named.numbered.numbers) refl
-          (λ h p on. elsewhere-new_named_sem limits s h name cred bits value p on) (λ p. omega arith)))))))
+          opens-ends (with_new_psem s name cred bits value) 0 (opened.Psem s.psem.next) refl refl refl few
+          (with_new_psem-sound limits s name cred bits value (unused none) room (omega (arith, and_le_r mode 511)) right short)
+          (λ h. new-there s.psem e h.psem.named.numbered.numbers) refl
+          (λ h p on. elsewhere-new_psem limits s h name cred bits value p on) (λ p. omega arith)))))))
 
       sem_unlink-ends : (cred : Cred) (name : List ℕ) → AtEnd never (Leaves None) (sem_unlink s cred name)
       sem_unlink-ends cred name =
-          after-then (proper-ends names.Semaphore name) (λ _. after (unlinkable-ends s.named_sem cred name) (λ n _.
-          same-ends (unlinked_sem s n) Empty None refl refl refl (unlinked_sem-sound limits s n) (λ _. omega arith)
-          (λ h p on apart. elsewhere-unlinked_sem limits s h n p on)
-          (λ p. omega (arith, fewer-swept_all p (record s { named_sem = unnamed s.named_sem n })))))
+          after-then (proper-ends names.Psem name) (λ _. after (unlinkable-ends s.psem cred name) (λ n _.
+          same-ends (unlinked_psem s n) Empty None refl refl refl (unlinked_psem-sound limits s n) (λ _. omega arith)
+          (λ h p on apart. elsewhere-unlinked_psem limits s h n p on)
+          (λ p. omega (arith, fewer-swept_all p (record s { psem = unnamed s.psem n })))))
 
       -- ---- segments
 
       -- another segment in the place of one that is open
-      put_segment-ends : (fd : ℕ) (f : FoundSegment) (x : Segment) → IsOpenSegment s pid fd f
-          → (HasSoundParts limits s → segment_bytes s.shm - length f.entry.object.bytes + length x.bytes ≤ limits.segment_bytes)
-          → AtEnd never (Leaves None) (answer (with_segment s f.number x) Empty)
+      put_segment-ends : (fd : ℕ) (f : FoundPshm) (x : Segment) → IsOpenPshm s pid fd f
+          → (HasSoundParts limits s → segment_bytes s.pshm - length f.entry.object.bytes + length x.bytes ≤ limits.segment_bytes)
+          → AtEnd never (Leaves None) (answer (with_pshm s f.number x) Empty)
       put_segment-ends fd f x o few =
-          same-ends (with_segment s f.number x) Empty None refl refl refl (λ h. with_segment-sound limits s f.number f.entry x o.there (few h) h)
+          same-ends (with_pshm s f.number x) Empty None refl refl refl (λ h. with_pshm-sound limits s f.number f.entry x o.there (few h) h)
           (λ _. omega arith) (λ h p on apart. elsewhere-segment s f.number x p on) (λ p. omega arith)
 
       ftruncate-ends : (fd len : ℕ) → AtEnd never (Leaves None) (ftruncate limits s pid fd len)
@@ -532,30 +532,30 @@ module _ (limits : Limits) where
       shm_write-ends fd offset bytes =
           after (writable-ends s pid fd) (λ f o. after-refuse EINVAL (λ _. after-refuse EINVAL (λ within.
           put_segment-ends fd f (written offset bytes f.entry.object) o (λ h.
-          omega (arith, h.shm.bytes, written-length f.entry.object offset bytes (not-false _ within), fewer-of s.shm f.number f.entry o.there)))))
+          omega (arith, h.pshm.bytes, written-length f.entry.object offset bytes (not-false _ within), fewer-of s.pshm f.number f.entry o.there)))))
 
       shm_read-ends : (fd offset len : ℕ) → AtEnd never (Leaves None) (shm_read limits s pid fd offset len)
       shm_read-ends fd offset len =
-          after (open_segment-ends s pid fd) (λ f o. after-refuse EINVAL {b = nat_lt limits.call_bytes len} (λ few. after-refuse EINVAL (λ within.
+          after (open_pshm-ends s pid fd) (λ f o. after-refuse EINVAL {b = nat_lt limits.call_bytes len} (λ few. after-refuse EINVAL (λ within.
           let short : len ≤ limits.call_bytes = grind (arith, nat_tests) in
           read-ends (Record (part offset len f.entry.object)) (omega (arith, short, length-take len (drop offset f.entry.object.bytes))))))
 
       shm_stat-ends : (fd : ℕ) → AtEnd never (Leaves None) (shm_stat s pid fd)
-      shm_stat-ends fd = after (open_segment-ends s pid fd) (λ f o. read-ends (Record (record_bytes (segment_fields f.entry))) (omega arith))
+      shm_stat-ends fd = after (open_pshm-ends s pid fd) (λ f o. read-ends (Record (record_bytes (segment_fields f.entry))) (omega arith))
 
       shm_unlink-ends : (cred : Cred) (name : List ℕ) → AtEnd never (Leaves None) (shm_unlink s cred name)
       shm_unlink-ends cred name =
-          after-then (proper-ends names.Segment name) (λ _. after (unlinkable-ends s.shm cred name) (λ n _.
-          same-ends (unlinked_segment s n) Empty None refl refl refl (unlinked_segment-sound limits s n) (λ _. omega arith)
-          (λ h p on apart. elsewhere-unlinked_segment limits s h n p on)
-          (λ p. omega (arith, fewer-swept_all p (record s { shm = unnamed s.shm n })))))
+          after-then (proper-ends names.Pshm name) (λ _. after (unlinkable-ends s.pshm cred name) (λ n _.
+          same-ends (unlinked_pshm s n) Empty None refl refl refl (unlinked_pshm-sound limits s n) (λ _. omega arith)
+          (λ h p on apart. elsewhere-unlinked_pshm limits s h n p on)
+          (λ p. omega (arith, fewer-swept_all p (record s { pshm = unnamed s.pshm n })))))
 
-      opened_segment-ends : (cred : Cred) (flags n : ℕ) → (bit_and flags 1 == 1) ≡ false → has_all_descriptors limits s pid ≡ false
-          → AtEnd never (Leaves None) (opened_segment s cred pid flags n)
-      opened_segment-ends cred flags n access few =
-          after (usable-ends s.shm cred n (asked_of_segment flags)) (λ e there.
+      opened_pshm-ends : (cred : Cred) (flags n : ℕ) → (bit_and flags 1 == 1) ≡ false → has_all_descriptors limits s pid ≡ false
+          → AtEnd never (Leaves None) (opened_pshm s cred pid flags n)
+      opened_pshm-ends cred flags n access few =
+          after (usable-ends s.pshm cred n (asked_of_pshm flags)) (λ e there.
           let t : State = cut_as flags s n e in
-          opens-ends t (access_of flags) (opened.Segment n) (cut-same (λ (u : State). u.processes) (λ x t m. refl) flags s n e)
+          opens-ends t (access_of flags) (opened.Pshm n) (cut-same (λ (u : State). u.processes) (λ x t m. refl) flags s n e)
           (cut-same (λ (u : State). u.clock) (λ x t m. refl) flags s n e) (cut-same (λ (u : State). u.wait) (λ x t m. refl) flags s n e)
           (ap (λ (ps : Numbered Process). nat_le limits.descriptors (length (descriptors_of ps.entries pid)))
           (cut-same (λ (u : State). u.processes) (λ x t m. refl) flags s n e) ∙ few)
@@ -565,18 +565,18 @@ module _ (limits : Limits) where
 
       shm_open-ends : (cred : Cred) (flags mode : ℕ) (name : List ℕ) → AtEnd never (Leaves None) (shm_open limits s cred pid flags mode name)
       shm_open-ends cred flags mode name =
-          after-then (proper-ends names.Segment name) (λ right. after-refuse EINVAL (λ access. after-refuse EMFILE (λ few.
-          after (sought-ends s.shm name flags) (λ found unused.
-          by-if_some {o = found} (λ n _. opened_segment-ends cred flags n access few)
+          after-then (proper-ends names.Pshm name) (λ right. after-refuse EINVAL (λ access. after-refuse EMFILE (λ few.
+          after (sought-ends s.pshm name flags) (λ found unused.
+          by-if_some {o = found} (λ n _. opened_pshm-ends cred flags n access few)
           (λ none. after-refuse ENOSPC (λ room.
           let bits : ℕ = bit_and mode 511 in
           let e : NamedEntry Segment = record { name = name; owner = cred; mode = bits; object = empty_segment } in
-          opens-ends (with_new_segment s name cred bits) (access_of flags) (opened.Segment s.shm.next) refl refl refl few
-          (with_new_segment-sound limits s name cred bits (unused none) room (omega (arith, and_le_r mode 511)) right)
-          (λ h. new-there s.shm e h.shm.held.named.numbered.numbers) (segment-mode flags access)
+          opens-ends (with_new_pshm s name cred bits) (access_of flags) (opened.Pshm s.pshm.next) refl refl refl few
+          (with_new_pshm-sound limits s name cred bits (unused none) room (omega (arith, and_le_r mode 511)) right)
+          (λ h. new-there s.pshm e h.pshm.held.named.numbered.numbers) (segment-mode flags access)
           (λ h p on. elsewhere-new_segment s name cred bits p on) (λ p. omega arith)))))))
 
-    pub call-ends : (call : PlainPosix) → AtEnd (not (may_wait (Posix call))) (Leaves (touched s pid call)) (call_of limits s pid call)
+    pub call-ends : (call : PlainPosix) → AtEnd (not (may_wait (Posix call))) (Leaves (touched s pid call)) (definition_of limits s pid call)
     call-ends (requests.Close fd) = close-ends fd
     call-ends (requests.MqOpen flags mode attr maxmsg msgsize name) = mq_open-ends (cred_of s pid) flags mode attr maxmsg msgsize name
     call-ends (requests.MqUnlink name) = mq_unlink-ends (cred_of s pid) name

@@ -31,12 +31,12 @@ use Rattle.ipc_state.specs.Named.{Named, named}
 use Rattle.ipc_state.specs.Numbered.{entry_of}
 use Rattle.ipc_state.specs.Opening.{descriptor_at}
 use Rattle.ipc_state.specs.State.{State}
-use Rattle.ipc_state.specs.Touching.{mq_object, named_sem_value}
+use Rattle.ipc_state.specs.Touching.{mq_object, psem_value}
 use Rattle.ipc_state.specs.Held.{Held}
-use Rattle.posix_calls.specs.Mq.{Found, asked_or, attributes, limited, open_queue, open_to, queue_number, receivable, sendable, waits_or_fails}
-use Rattle.posix_calls.specs.declared.sem.FoundSem.{FoundSem}
-use Rattle.posix_calls.specs.Sem.{lowerable, open_semaphore, semaphore_number}
-use Rattle.posix_calls.specs.Shm.{FoundSegment, open_segment, segment_number, writable}
+use Rattle.posix_calls.specs.Mq.{Found, asked_or, attributes, limited, open_mq, open_to, mq_number, receivable, sendable, waits_or_fails}
+use Rattle.posix_calls.specs.declared.psem.FoundPsem.{FoundPsem}
+use Rattle.posix_calls.specs.Psem.{lowerable, open_semaphore, semaphore_number}
+use Rattle.posix_calls.specs.Pshm.{FoundPshm, open_pshm, segment_number, writable}
 use Rattle.posix_calls.specs.Open.{passed, proper, reads, sought, unlinkable, usable, writes}
 
 -- ---- a queue that is open
@@ -45,16 +45,16 @@ use Rattle.posix_calls.specs.Open.{passed, proper, reads, sought, unlinkable, us
 pub record IsOpen (s : State) (pid fd : ℕ) (found : Found) : Type 0 where
   pub descriptor : Descriptor
   pub at : descriptor_at s.processes.entries pid fd ≡ Some descriptor
-  pub on : descriptor.on ≡ opened.Queue found.number
+  pub on : descriptor.on ≡ opened.Mq found.number
   pub flags : descriptor.flags ≡ found.flags
   pub there : mq_object s found.number ≡ Some found.queue
 
-number-is : (on : Opened) (n : ℕ) → queue_number on ≡ Some n → on ≡ opened.Queue n
-number-is (opened.Queue m) n is = cc
-number-is (opened.Semaphore m) n is = cc
-number-is (opened.Segment m) n is = cc
+number-is : (on : Opened) (n : ℕ) → mq_number on ≡ Some n → on ≡ opened.Mq n
+number-is (opened.Mq m) n is = cc
+number-is (opened.Psem m) n is = cc
+number-is (opened.Pshm m) n is = cc
 
-pub open-ends : {never : Bool} (s : State) (pid fd : ℕ) → AtEnd never (IsOpen s pid fd) (open_queue s pid fd)
+pub open-ends : {never : Bool} (s : State) (pid fd : ℕ) → AtEnd never (IsOpen s pid fd) (open_mq s pid fd)
 open-ends s pid fd =
     after-orelse EBADF (λ d at. after-orelse EBADF (λ n on. after-orelse EBADF (λ q there.
     at-value _ (record { descriptor = d; at = at; on = number-is d.on n on; flags = refl; there = there }))))
@@ -112,64 +112,64 @@ receives s pid fd size =
 -- ---- a semaphore that is open
 
 -- the descriptor by which it is
-pub record IsOpenSem (s : State) (pid fd : ℕ) (found : FoundSem) : Type 0 where
+pub record IsOpenPsem (s : State) (pid fd : ℕ) (found : FoundPsem) : Type 0 where
   pub descriptor : Descriptor
   pub at : descriptor_at s.processes.entries pid fd ≡ Some descriptor
-  pub on : descriptor.on ≡ opened.Semaphore found.number
-  pub there : named_sem_value s found.number ≡ Some found.value
+  pub on : descriptor.on ≡ opened.Psem found.number
+  pub there : psem_value s found.number ≡ Some found.value
 
-semaphore-is : (on : Opened) (n : ℕ) → semaphore_number on ≡ Some n → on ≡ opened.Semaphore n
-semaphore-is (opened.Queue m) n is = cc
-semaphore-is (opened.Semaphore m) n is = cc
-semaphore-is (opened.Segment m) n is = cc
+semaphore-is : (on : Opened) (n : ℕ) → semaphore_number on ≡ Some n → on ≡ opened.Psem n
+semaphore-is (opened.Mq m) n is = cc
+semaphore-is (opened.Psem m) n is = cc
+semaphore-is (opened.Pshm m) n is = cc
 
-pub open_sem-ends : {never : Bool} (s : State) (pid fd : ℕ) → AtEnd never (IsOpenSem s pid fd) (open_semaphore s pid fd)
-open_sem-ends s pid fd =
+pub open_psem-ends : {never : Bool} (s : State) (pid fd : ℕ) → AtEnd never (IsOpenPsem s pid fd) (open_semaphore s pid fd)
+open_psem-ends s pid fd =
     after-orelse EINVAL (λ d at. after-orelse EINVAL (λ n on. after-orelse EINVAL (λ value there.
     at-value _ (record { descriptor = d; at = at; on = semaphore-is d.on n on; there = there }))))
 
 -- one that may be lowered now
-pub record Lowers (s : State) (pid fd : ℕ) (found : FoundSem) : Type 0 where
-  pub semaphore : IsOpenSem s pid fd found
+pub record Lowers (s : State) (pid fd : ℕ) (found : FoundPsem) : Type 0 where
+  pub semaphore : IsOpenPsem s pid fd found
   pub some : (found.value == 0) ≡ false
 
 pub lowers : (s : State) (pid fd : ℕ) → AtEnd false (Lowers s pid fd) (lowerable s pid fd)
-lowers s pid fd = after (open_sem-ends s pid fd) (λ f o. after-stop Blocks (λ some. at-value f (record { semaphore = o; some = some })))
+lowers s pid fd = after (open_psem-ends s pid fd) (λ f o. after-stop Blocks (λ some. at-value f (record { semaphore = o; some = some })))
 
 -- the semaphore of a number has an entry
 pub record HasSemEntry (s : State) (n value : ℕ) : Type 0 where
   pub entry : NamedEntry ℕ
-  pub there : entry_of s.named_sem n ≡ Some entry
+  pub there : entry_of s.psem n ≡ Some entry
   pub object : entry.object ≡ value
 
-pub has-sem_entry : (s : State) (n value : ℕ) → named_sem_value s n ≡ Some value → HasSemEntry s n value
-has-sem_entry s n value is = by_entry (entry_of s.named_sem n) refl is
+pub has-sem_entry : (s : State) (n value : ℕ) → psem_value s n ≡ Some value → HasSemEntry s n value
+has-sem_entry s n value is = by_entry (entry_of s.psem n) refl is
   where
-    by_entry : (r : Option (NamedEntry ℕ)) → entry_of s.named_sem n ≡ r → option_map (λ (e : NamedEntry ℕ). e.object) r ≡ Some value → HasSemEntry s n value
+    by_entry : (r : Option (NamedEntry ℕ)) → entry_of s.psem n ≡ r → option_map (λ (e : NamedEntry ℕ). e.object) r ≡ Some value → HasSemEntry s n value
     by_entry None there is = cc
     by_entry (Some e) there is = record { entry = e; there = there; object = cc }
 
 -- ---- a segment that is open
 
 -- the descriptor by which it is
-pub record IsOpenSegment (s : State) (pid fd : ℕ) (found : FoundSegment) : Type 0 where
+pub record IsOpenPshm (s : State) (pid fd : ℕ) (found : FoundPshm) : Type 0 where
   pub descriptor : Descriptor
   pub at : descriptor_at s.processes.entries pid fd ≡ Some descriptor
-  pub on : descriptor.on ≡ opened.Segment found.number
-  pub there : entry_of s.shm found.number ≡ Some found.entry
+  pub on : descriptor.on ≡ opened.Pshm found.number
+  pub there : entry_of s.pshm found.number ≡ Some found.entry
 
-segment-is : (on : Opened) (n : ℕ) → segment_number on ≡ Some n → on ≡ opened.Segment n
-segment-is (opened.Queue m) n is = cc
-segment-is (opened.Semaphore m) n is = cc
-segment-is (opened.Segment m) n is = cc
+segment-is : (on : Opened) (n : ℕ) → segment_number on ≡ Some n → on ≡ opened.Pshm n
+segment-is (opened.Mq m) n is = cc
+segment-is (opened.Psem m) n is = cc
+segment-is (opened.Pshm m) n is = cc
 
-pub open_segment-ends : {never : Bool} (s : State) (pid fd : ℕ) → AtEnd never (IsOpenSegment s pid fd) (open_segment s pid fd)
-open_segment-ends s pid fd =
+pub open_pshm-ends : {never : Bool} (s : State) (pid fd : ℕ) → AtEnd never (IsOpenPshm s pid fd) (open_pshm s pid fd)
+open_pshm-ends s pid fd =
     after-orelse EBADF (λ d at. after-orelse EBADF (λ n on. after-orelse EBADF (λ e there.
     at-value _ (record { descriptor = d; at = at; on = segment-is d.on n on; there = there }))))
 
-pub writable-ends : {never : Bool} (s : State) (pid fd : ℕ) → AtEnd never (IsOpenSegment s pid fd) (writable s pid fd)
-writable-ends s pid fd = after (open_segment-ends s pid fd) (λ f o. after-refuse EBADF (λ _. at-value f o))
+pub writable-ends : {never : Bool} (s : State) (pid fd : ℕ) → AtEnd never (IsOpenPshm s pid fd) (writable s pid fd)
+writable-ends s pid fd = after (open_pshm-ends s pid fd) (λ f o. after-refuse EBADF (λ _. at-value f o))
 
 -- ---- what a name finds
 
@@ -229,7 +229,7 @@ no-spare-name name old new but others gone other = by_test (bytes_eq other name)
     by_test false is same = let apart : other ≢ name = λ one. let both = sym is ∙ same.1 one in cc in others other apart ∙ but other apart
 
 -- if no directory is another, no name has room that had none
-pub kept-names : (old new : Room) → new.names ≡ old.names → new.sem_names ≡ old.sem_names → new.segment_names ≡ old.segment_names
+pub kept-names : (old new : Room) → new.names ≡ old.names → new.psem_names ≡ old.psem_names → new.pshm_names ≡ old.pshm_names
     → HasNoSpareNames old → HasNoSpareNames new
 kept-names old new mq sem segment none =
     record {

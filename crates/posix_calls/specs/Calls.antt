@@ -9,33 +9,33 @@ use Rattle.ipc_state.specs.State.{State, cred_of}
 use Rattle.ipc_state.specs.Touching.{object_of}
 use Rattle.ipc_state.specs.Finish.{Tried, Attempt, Done, ended}
 use Rattle.posix_calls.specs.Mq.{close, mq_open, mq_unlink, mq_send, mq_receive, mq_notify, mq_getattr, mq_setattr}
-use Rattle.posix_calls.specs.Sem.{sem_getvalue, sem_open, sem_post, sem_trywait, sem_unlink, sem_wait}
-use Rattle.posix_calls.specs.Shm.{ftruncate, shm_open, shm_read, shm_stat, shm_unlink, shm_write}
+use Rattle.posix_calls.specs.Psem.{sem_getvalue, sem_open, sem_post, sem_trywait, sem_unlink, sem_wait}
+use Rattle.posix_calls.specs.Pshm.{ftruncate, shm_open, shm_read, shm_stat, shm_unlink, shm_write}
 
 -- each call by a process
-abbrev pub call_of : Limits → State → ℕ → PlainPosix → Attempt Done
-call_of limits s pid (requests.Close fd) = close s pid fd
-call_of limits s pid (requests.MqOpen flags mode attr maxmsg msgsize name) =
+abbrev pub definition_of : Limits → State → ℕ → PlainPosix → Attempt Done
+definition_of limits s pid (requests.Close fd) = close s pid fd
+definition_of limits s pid (requests.MqOpen flags mode attr maxmsg msgsize name) =
     mq_open limits s (cred_of s pid) pid flags mode attr maxmsg msgsize name
-call_of limits s pid (requests.MqUnlink name) = mq_unlink s (cred_of s pid) name
-call_of limits s pid (requests.MqSend fd deadline priority text) = mq_send s pid fd priority text
-call_of limits s pid (requests.MqReceive fd deadline size) = mq_receive s pid fd size
-call_of limits s pid (requests.MqNotify fd kind cookie) = mq_notify s pid fd kind cookie
-call_of limits s pid (requests.MqGetattr fd) = mq_getattr s pid fd
-call_of limits s pid (requests.MqSetattr fd flags) = mq_setattr s pid fd flags
-call_of limits s pid (requests.SemOpen flags mode value name) =
+definition_of limits s pid (requests.MqUnlink name) = mq_unlink s (cred_of s pid) name
+definition_of limits s pid (requests.MqSend fd deadline priority text) = mq_send s pid fd priority text
+definition_of limits s pid (requests.MqReceive fd deadline size) = mq_receive s pid fd size
+definition_of limits s pid (requests.MqNotify fd kind cookie) = mq_notify s pid fd kind cookie
+definition_of limits s pid (requests.MqGetattr fd) = mq_getattr s pid fd
+definition_of limits s pid (requests.MqSetattr fd flags) = mq_setattr s pid fd flags
+definition_of limits s pid (requests.SemOpen flags mode value name) =
     sem_open limits s (cred_of s pid) pid flags mode value name
-call_of limits s pid (requests.SemUnlink name) = sem_unlink s (cred_of s pid) name
-call_of limits s pid (requests.SemPost fd) = sem_post s pid fd
-call_of limits s pid (requests.SemWait fd deadline) = sem_wait s pid fd
-call_of limits s pid (requests.SemTrywait fd) = sem_trywait s pid fd
-call_of limits s pid (requests.SemGetvalue fd) = sem_getvalue s pid fd
-call_of limits s pid (requests.ShmOpen flags mode name) = shm_open limits s (cred_of s pid) pid flags mode name
-call_of limits s pid (requests.ShmUnlink name) = shm_unlink s (cred_of s pid) name
-call_of limits s pid (requests.Ftruncate fd len) = ftruncate limits s pid fd len
-call_of limits s pid (requests.ShmRead fd offset len) = shm_read limits s pid fd offset len
-call_of limits s pid (requests.ShmWrite fd offset bytes) = shm_write limits s pid fd offset bytes
-call_of limits s pid (requests.ShmStat fd) = shm_stat s pid fd
+definition_of limits s pid (requests.SemUnlink name) = sem_unlink s (cred_of s pid) name
+definition_of limits s pid (requests.SemPost fd) = sem_post s pid fd
+definition_of limits s pid (requests.SemWait fd deadline) = sem_wait s pid fd
+definition_of limits s pid (requests.SemTrywait fd) = sem_trywait s pid fd
+definition_of limits s pid (requests.SemGetvalue fd) = sem_getvalue s pid fd
+definition_of limits s pid (requests.ShmOpen flags mode name) = shm_open limits s (cred_of s pid) pid flags mode name
+definition_of limits s pid (requests.ShmUnlink name) = shm_unlink s (cred_of s pid) name
+definition_of limits s pid (requests.Ftruncate fd len) = ftruncate limits s pid fd len
+definition_of limits s pid (requests.ShmRead fd offset len) = shm_read limits s pid fd offset len
+definition_of limits s pid (requests.ShmWrite fd offset bytes) = shm_write limits s pid fd offset bytes
+definition_of limits s pid (requests.ShmStat fd) = shm_stat s pid fd
 
 -- the object on which a descriptor of the process is open
 abbrev pub on_descriptor : State → ℕ → ℕ → Option Object
@@ -54,4 +54,4 @@ touched s pid call = None
 
 -- what comes of it
 abbrev pub attempt : Limits → State → ℕ → PlainPosix → Tried
-attempt limits s pid call = ended s (call_of limits s pid call)
+attempt limits s pid call = ended s (definition_of limits s pid call)

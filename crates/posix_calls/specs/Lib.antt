@@ -1,7 +1,7 @@
 pub mod Open
 pub mod Mq
-pub mod Sem
-pub mod Shm
+pub mod Psem
+pub mod Pshm
 pub mod Calls
 pub mod Registrations
 pub mod Needs

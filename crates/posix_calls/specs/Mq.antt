@@ -13,7 +13,7 @@ use Rattle.ipc_base.specs.Numbers.{record_bytes}
 use Rattle.ipc_keys.specs.declared.check.NameKind.TheVariants as names
 use Rattle.ipc_wire.specs.declared.reply.Body.TheVariants.{Empty, MqMessage, Record}
 use Rattle.ipc_wire.specs.Reply.{PlainBody}
-use Rattle.posix_mq.specs.Queue.{Queue as Mq, PlainMessage, empty_queue, is_full as is_full_queue, with_message}
+use Rattle.posix_mq.specs.Queue.{Queue as Mq, PlainMessage, empty_queue, is_full as is_full_mq, with_message}
 use Rattle.posix_mq.specs.Queue.{received, received_message, registered, deregistered}
 use Rattle.posix_mq.specs.declared.queue.Registration.{Registration}
 use Rattle.ipc_state.specs.declared.descriptors.Opened.{Opened}
@@ -36,22 +36,22 @@ pub record Found : Type 0 where
   pub flags : ℕ
 
 -- the number of the queue that it is
-abbrev pub queue_number : Opened → Option ℕ
-queue_number (opened.Queue n) = Some n
-queue_number on = None
+abbrev pub mq_number : Opened → Option ℕ
+mq_number (opened.Mq n) = Some n
+mq_number on = None
 
 -- the queue on which a descriptor of the process is open
-abbrev pub open_queue : State → ℕ → ℕ → Attempt Found
-open_queue s pid fd = do
+abbrev pub open_mq : State → ℕ → ℕ → Attempt Found
+open_mq s pid fd = do
   d ← described s pid fd
-  n ← queue_number d.on orelse EBADF
+  n ← mq_number d.on orelse EBADF
   q ← mq_object s n orelse EBADF
   Ok (record { number = n; queue = q; flags = d.flags })
 
 -- if it is open to read, or to write
 abbrev pub open_to : (ℕ → Bool) → State → ℕ → ℕ → Attempt Found
 open_to allows s pid fd = do
-  found ← open_queue s pid fd
+  found ← open_mq s pid fd
   refuse EBADF (not (allows found.flags))
   Ok found
 
@@ -82,32 +82,32 @@ attributes limits attr maxmsg msgsize = do
   Ok (most, bytes)
 
 -- the queue that the name names
-abbrev pub opened_queue : State → Cred → ℕ → ℕ → ℕ → Attempt Done
-opened_queue s cred pid flags n = do
+abbrev pub opened_mq : State → Cred → ℕ → ℕ → ℕ → Attempt Done
+opened_mq s cred pid flags n = do
   e ← usable s.mq cred n (asked_by flags)
-  opens s pid (kept_flags flags) (opened.Queue n)
+  opens s pid (kept_flags flags) (opened.Mq n)
 
 -- a new queue of the caller
-abbrev pub made_queue : Limits → State → Cred → ℕ → ℕ → ℕ → ℕ → ℤ → ℤ → List ℕ → Attempt Done
-made_queue limits s cred pid flags mode attr maxmsg msgsize name = do
+abbrev pub made_mq : Limits → State → Cred → ℕ → ℕ → ℕ → ℕ → ℤ → ℤ → List ℕ → Attempt Done
+made_mq limits s cred pid flags mode attr maxmsg msgsize name = do
   most ← attributes limits attr maxmsg msgsize
   refuse ENOSPC (has_all_mqs limits s)
   opens (with_new_mq s name cred (bit_and mode 0o777) (empty_queue most.0 most.1 None)) pid (kept_flags flags)
-      (opened.Queue s.mq.next)
+      (opened.Mq s.mq.next)
 
 -- mq_open(3): the queue that the name names, or a new one
 abbrev pub mq_open : Limits → State → Cred → ℕ → ℕ → ℕ → ℕ → ℤ → ℤ → List ℕ → Attempt Done
 mq_open limits s cred pid flags mode attr maxmsg msgsize name = do
-  proper names.Queue name
+  proper names.Mq name
   refuse EINVAL (access_of flags == 3)
   refuse EMFILE (has_all_descriptors limits s pid)
   found ← sought s.mq name flags
-  if_some found (opened_queue s cred pid flags) (made_queue limits s cred pid flags mode attr maxmsg msgsize name)
+  if_some found (opened_mq s cred pid flags) (made_mq limits s cred pid flags mode attr maxmsg msgsize name)
 
 -- mq_unlink(3)
 abbrev pub mq_unlink : State → Cred → List ℕ → Attempt Done
 mq_unlink s cred name = do
-  proper names.Queue name
+  proper names.Mq name
   n ← unlinkable s.mq cred name
   answer (unlinked s n) Empty
 
@@ -125,16 +125,16 @@ sendable s pid fd priority text = do
   refuse EINVAL (nat_lt 32767 priority)
   found ← open_to writes s pid fd
   refuse EMSGSIZE (nat_lt found.queue.msgsize (length text))
-  stop (waits_or_fails found.flags) (is_full_queue found.queue)
+  stop (waits_or_fails found.flags) (is_full_mq found.queue)
   Ok found
 
 -- somebody is to be told of a message that comes to the queue: it has none, and no call waits to receive it
-abbrev pub is_told : State → ℕ → Mq → Bool
-is_told s n q = length q.messages == 0 && not (receiver_waits s n)
+abbrev pub is_to_notify : State → ℕ → Mq → Bool
+is_to_notify s n q = length q.messages == 0 && not (receiver_waits s n)
 
 -- the queue has one message more; a registration that is told of it is gone
 abbrev pub arrived : Bool → Mq → PlainMessage → Mq
-arrived told q m = if told then deregistered (with_message q m) else with_message q m
+arrived notifies q m = if notifies then deregistered (with_message q m) else with_message q m
 
 -- whom a frame is sent; none is to a null registration
 abbrev pub notified : Option Registration → Option Registration
@@ -143,16 +143,16 @@ notified (Some r) = if r.sends then Some r else None
 
 -- which registration fires
 abbrev pub firing : Bool → Mq → Option Registration
-firing told q = if told then notified q.registration else None
+firing notifies q = if notifies then notified q.registration else None
 
 -- mq_send(3)
 abbrev pub mq_send : State → ℕ → ℕ → ℕ → List ℕ → Attempt Done
 mq_send s pid fd priority text = do
   found ← sendable s pid fd priority text
   let q = found.queue
-  let told = is_told s found.number q
-  answer_firing (with_mq s found.number (arrived told q (record { priority = priority; text = text }))) Empty
-      (firing told q)
+  let notifies = is_to_notify s found.number q
+  answer_firing (with_mq s found.number (arrived notifies q (record { priority = priority; text = text }))) Empty
+      (firing notifies q)
 
 -- ---- mq_receive(3)
 
@@ -204,7 +204,7 @@ registering s found r = do
 abbrev pub mq_notify : State → ℕ → ℕ → ℕ → ℕ → Attempt Done
 mq_notify s pid fd kind cookie = do
   refuse EINVAL (nat_lt 2 kind)
-  found ← open_queue s pid fd
+  found ← open_mq s pid fd
   if kind == 0
       then answer (with_mq s found.number (given_up pid found.queue)) Empty
       else registering s found (registration pid fd kind cookie)
@@ -219,12 +219,12 @@ attr_fields found =
 
 abbrev pub mq_getattr : State → ℕ → ℕ → Attempt Done
 mq_getattr s pid fd = do
-  found ← open_queue s pid fd
+  found ← open_mq s pid fd
   answer s (Record (record_bytes (attr_fields found)))
 
 -- O_NONBLOCK alone may be changed; the answer has the attributes as they were
 abbrev pub mq_setattr : State → ℕ → ℕ → ℕ → Attempt Done
 mq_setattr s pid fd flags = do
-  found ← open_queue s pid fd
+  found ← open_mq s pid fd
   refuse EINVAL (not (bit_and flags nonblock == flags))
   answer (with_descriptor_flags s pid fd (access_of found.flags + flags)) (Record (record_bytes (attr_fields found)))

@@ -8,14 +8,14 @@ use Rattle.ipc_keys.specs.Directory.{is_vacant}
 use Rattle.ipc_wire.specs.Posix as posix
 use Rattle.ipc_wire.specs.Request.{PlainKind, PlainRequest, Posix}
 use Rattle.ipc_state.specs.Directory.{HasNoSpareName}
-use Rattle.ipc_state.specs.Held.{Room, HasMqPlace, HasSegmentPlace, HasSemPlace, HasZeros}
+use Rattle.ipc_state.specs.Held.{Room, HasMqPlace, HasPshmPlace, HasPsemPlace, HasZeros}
 use Rattle.ipc_state.specs.State.{State}
 use Rattle.ipc_state.specs.Waiting.{may_wait}
 
 pub data Needs : Type 0 where
   Nothing : Needs
   -- room for one queue more, and for its name; for a named semaphore; for a segment
-  Place SemPlace SegmentPlace : (name : List ℕ) → Needs
+  Place PsemPlace PshmPlace : (name : List ℕ) → Needs
   -- so many zeros
   Zeros : (len : ℕ) → Needs
   -- a text, in memory of its own
@@ -25,8 +25,8 @@ pub data Needs : Type 0 where
 abbrev pub needs : PlainKind → Needs
 needs (Posix (posix.MqOpen flags mode attr maxmsg msgsize name)) = Place name
 needs (Posix (posix.MqSend fd deadline priority text)) = Text
-needs (Posix (posix.SemOpen flags mode value name)) = SemPlace name
-needs (Posix (posix.ShmOpen flags mode name)) = SegmentPlace name
+needs (Posix (posix.SemOpen flags mode value name)) = PsemPlace name
+needs (Posix (posix.ShmOpen flags mode name)) = PshmPlace name
 needs (Posix (posix.Ftruncate fd len)) = Zeros len
 needs _ = Nothing
 
@@ -36,8 +36,8 @@ is_something _ = true
 
 abbrev pub is_place : Needs → Bool
 is_place (Place name) = true
-is_place (SemPlace name) = true
-is_place (SegmentPlace name) = true
+is_place (PsemPlace name) = true
+is_place (PshmPlace name) = true
 is_place (Zeros len) = true
 is_place _ = false
 
@@ -54,19 +54,19 @@ abbrev pub takes_memory : PlainKind → Bool
 takes_memory kind = is_something (needs kind)
 
 -- whether a request is kept while its call waits: a POSIX one is, if it may wait
-abbrev pub is_kept : PlainKind → Bool
-is_kept (Posix call) = may_wait (Posix call)
-is_kept _ = false
+abbrev pub keeps_request : PlainKind → Bool
+keeps_request (Posix call) = may_wait (Posix call)
+keeps_request _ = false
 
 -- what is kept of a request
 abbrev pub kept_of : PlainRequest → Option PlainRequest
-kept_of request = if is_kept request.kind then Some request else None
+kept_of request = if keeps_request request.kind then Some request else None
 
 -- what is needed is there; of a text it is what was kept
 abbrev pub Has : State → Room → Needs → Type 0
 Has s room (Place name) = HasMqPlace s room name
-Has s room (SemPlace name) = HasSemPlace s room name
-Has s room (SegmentPlace name) = HasSegmentPlace s room name
+Has s room (PsemPlace name) = HasPsemPlace s room name
+Has s room (PshmPlace name) = HasPshmPlace s room name
 Has s room (Zeros len) = HasRoomFor room len
 Has s room _ = Unit {0}
 
@@ -82,28 +82,28 @@ HasNoSpareNameBut name names = (other : List ℕ) → other ≢ name → is_vaca
 -- no name has room that no object has
 pub record HasNoSpareNames (room : Room) : Type 0 where
   pub queues : HasNoSpareName room.names
-  pub semaphores : HasNoSpareName room.sem_names
-  pub segments : HasNoSpareName room.segment_names
+  pub semaphores : HasNoSpareName room.psem_names
+  pub segments : HasNoSpareName room.pshm_names
 
 -- no name but one of a kind has
-pub record HasSpareQueue (name : List ℕ) (room : Room) : Type 0 where
+pub record HasSpareMq (name : List ℕ) (room : Room) : Type 0 where
   pub queues : HasNoSpareNameBut name room.names
-  pub semaphores : HasNoSpareName room.sem_names
-  pub segments : HasNoSpareName room.segment_names
+  pub semaphores : HasNoSpareName room.psem_names
+  pub segments : HasNoSpareName room.pshm_names
 
 pub record HasSpareSemaphore (name : List ℕ) (room : Room) : Type 0 where
   pub queues : HasNoSpareName room.names
-  pub semaphores : HasNoSpareNameBut name room.sem_names
-  pub segments : HasNoSpareName room.segment_names
+  pub semaphores : HasNoSpareNameBut name room.psem_names
+  pub segments : HasNoSpareName room.pshm_names
 
-pub record HasSpareSegment (name : List ℕ) (room : Room) : Type 0 where
+pub record HasSparePshm (name : List ℕ) (room : Room) : Type 0 where
   pub queues : HasNoSpareName room.names
-  pub semaphores : HasNoSpareName room.sem_names
-  pub segments : HasNoSpareNameBut name room.segment_names
+  pub semaphores : HasNoSpareName room.psem_names
+  pub segments : HasNoSpareNameBut name room.pshm_names
 
 -- no name but that of the call
 abbrev pub HasSpareNameOf : Room → Needs → Type 0
-HasSpareNameOf room (Place name) = HasSpareQueue name room
-HasSpareNameOf room (SemPlace name) = HasSpareSemaphore name room
-HasSpareNameOf room (SegmentPlace name) = HasSpareSegment name room
+HasSpareNameOf room (Place name) = HasSpareMq name room
+HasSpareNameOf room (PsemPlace name) = HasSpareSemaphore name room
+HasSpareNameOf room (PshmPlace name) = HasSparePshm name room
 HasSpareNameOf room _ = HasNoSpareNames room

@@ -12,10 +12,10 @@ use Rattle.ipc_state.specs.Waiting.{parked_posix}
 use Rattle.ipc_state.specs.declared.parked.ParkedPosix.{ParkedPosix}
 use Rattle.ipc_state.specs.declared.parked.ParkedPosix.TheVariants as parked
 use Rattle.posix_calls.specs.Mq.{Found as PlainFound, sendable, receivable}
-use Rattle.posix_calls.specs.Sem.{lowerable}
-use Rattle.posix_calls.specs.Shm.{FoundSegment as PlainSegment}
+use Rattle.posix_calls.specs.Psem.{lowerable}
+use Rattle.posix_calls.specs.Pshm.{FoundPshm as PlainSegment}
 use Rattle.posix_calls.specs.declared.mq.Found.{Found}
-use Rattle.posix_calls.specs.declared.shm.FoundSegment.{FoundSegment}
+use Rattle.posix_calls.specs.declared.pshm.FoundPshm.{FoundPshm}
 use Rattle.posix_calls.specs.declared.waiting.Tried.{Tried as Comes}
 use Rattle.posix_calls.specs.declared.waiting.Tried.TheVariants as comes
 
@@ -28,10 +28,10 @@ found_of (Ok f) = Ok (plain_found f)
 found_of (Err e) = Err (Fails e)
 
 -- a segment that is open
-abbrev pub plain_segment : FoundSegment → PlainSegment
+abbrev pub plain_segment : FoundPshm → PlainSegment
 plain_segment f = record { number = f.number; entry = f.entry.now; flags = f.flags.0 }
 
-abbrev pub segment_of : Result FoundSegment Errno → Attempt PlainSegment
+abbrev pub segment_of : Result FoundPshm Errno → Attempt PlainSegment
 segment_of (Ok f) = Ok (plain_segment f)
 segment_of (Err e) = Err (Fails e)
 
@@ -57,6 +57,6 @@ tried_of s (comes.Finishes answer fired) = Finishes (finish_firing s answer fire
 tried_of s (comes.Waits call) = Waits
 
 -- if it waits, it is the same call as before, and the state is as it was
-abbrev pub IsKeptIn : Held → PlainPosix → Held → Comes → Type 0
-IsKeptIn before call after (comes.Finishes answer fired) = Unit {0}
-IsKeptIn before call after (comes.Waits kept) = (parked_posix kept ≡ call) × (after ≡ before)
+abbrev pub WaitsUnchanged : Held → PlainPosix → Held → Comes → Type 0
+WaitsUnchanged before call after (comes.Finishes answer fired) = Unit {0}
+WaitsUnchanged before call after (comes.Waits kept) = (parked_posix kept ≡ call) × (after ≡ before)

@@ -9,12 +9,12 @@ ghost use Rattle.ipc_state.specs.State.{is_process};
 ghost use Rattle.ipc_state.specs.Waiting.{may_wait};
 ghost use Rattle.posix_calls.specs.Calls as defined;
 ghost use Rattle.posix_calls.specs.Needs.{Has, HasNoSpareNames, HasSpareNameOf, needs};
-ghost use Rattle.ipc_state.specs.Spare.{IsSpare, IsKept};
+ghost use Rattle.ipc_state.specs.Spare.{IsSpare, KeepsBuffer};
 
 use crate::mq::{close, mq_getattr, mq_notify, mq_setattr, mq_unlink};
 use crate::opening::{Wanted, mq_open};
-use crate::sem::{sem_getvalue, sem_open, sem_post, sem_trywait, sem_unlink};
-use crate::shm::{ftruncate, shm_open, shm_read, shm_stat, shm_unlink, shm_write};
+use crate::psem::{sem_getvalue, sem_open, sem_post, sem_trywait, sem_unlink};
+use crate::pshm::{ftruncate, shm_open, shm_read, shm_stat, shm_unlink, shm_write};
 use ipc_base::Pid;
 use ipc_state::{Answer, Awaited, Object, State};
 use ipc_wire::PosixCall;
@@ -33,7 +33,7 @@ pub fn attempt(state: &mut State, pid: Pid, call: &PosixCall<'_>, spare: &mut Ve
     ensures waits { state.new.room.waits ≡ state.old.room.waits }
     ensures keys { state.new.room.keys ≡ state.old.room.keys }
     ensures set_keys { state.new.room.set_keys ≡ state.old.room.set_keys }
-    ensures spare { IsKept state.old.limits spare.new result }
+    ensures spare { KeepsBuffer state.old.limits spare.new result }
     ensures no_name { HasSpareNameOf state.old.room (needs (Posix (plain_posix call.now)))
         → HasNoSpareNames state.new.room }
 {

@@ -6,8 +6,8 @@ mod calls;
 mod memory;
 mod mq;
 mod opening;
-mod sem;
-mod shm;
+mod psem;
+mod pshm;
 mod waiting;
 
 pub use calls::{attempt, touched};

@@ -5,7 +5,7 @@ ghost use Rattle.ipc_wire.specs.Request.{plain_kind};
 ghost use Rattle.ipc_wire.specs.View.{plain_request};
 ghost use Rattle.ipc_state.specs.Sound.{HasSoundParts};
 ghost use Rattle.ipc_state.specs.Waiting.{has_text};
-ghost use Rattle.posix_calls.specs.Needs.{Has, HasNoSpareNames, HasRoomFor, HasSpareNameOf, IsReserved, is_kept};
+ghost use Rattle.posix_calls.specs.Needs.{Has, HasNoSpareNames, HasRoomFor, HasSpareNameOf, IsReserved, keeps_request};
 ghost use Rattle.posix_calls.specs.Needs.{is_place, kept_of, needs, takes_memory};
 
 use ipc_state::{Parked, State};
@@ -53,8 +53,8 @@ fn reserve_object(state: &mut State, kind: &RequestKind<'_>) -> Result<(), Alloc
 {
     match kind {
         RequestKind::Posix(PosixCall::MqOpen { name, .. }) => state.reserve_mq(name),
-        RequestKind::Posix(PosixCall::SemOpen { name, .. }) => state.reserve_named_sem(name),
-        RequestKind::Posix(PosixCall::ShmOpen { name, .. }) => state.reserve_segment(name),
+        RequestKind::Posix(PosixCall::SemOpen { name, .. }) => state.reserve_psem(name),
+        RequestKind::Posix(PosixCall::ShmOpen { name, .. }) => state.reserve_pshm(name),
         RequestKind::Posix(PosixCall::Ftruncate { length, .. }) => reserve_zeros(state, *length),
         _ => Ok(()),
     }
@@ -80,10 +80,10 @@ fn reserve_zeros(state: &mut State, length: u64) -> Result<(), AllocError>
 fn keep(alloc: Global, request: &Request<'_>) -> Result<Option<Parked>, AllocError>
     ensures kept { IfOk result (λ kept. kept ≡ kept_of (plain_request request.now)) }
     ensures memory { has_text (plain_kind request.now.kind) ≡ false → IsOk result }
-    ensures others { is_kept (plain_kind request.now.kind) ≡ false → IsOk result }
+    ensures others { keeps_request (plain_kind request.now.kind) ≡ false → IsOk result }
 {
     match &request.kind {
         RequestKind::Posix(_) => Parked::new(alloc, request),
-        RequestKind::Hello(_) | RequestKind::Interrupt | RequestKind::Call(_) => Ok(None),
+        RequestKind::Hello(_) | RequestKind::Interrupt | RequestKind::Sysv(_) => Ok(None),
     }
 }

@@ -18,7 +18,7 @@ ghost use Rattle.posix_calls.specs.Open as opening;
 ghost use Rattle.posix_calls.specs.Registrations.{registrations};
 ghost use Rattle.ipc_state.specs.Steps.{result_of, seen};
 ghost use Rattle.posix_calls.specs.Seen.{found_of, plain_found};
-ghost use Rattle.ipc_state.specs.Spare.{IsSpare, IsKept};
+ghost use Rattle.ipc_state.specs.Spare.{IsSpare, KeepsBuffer};
 
 use crate::access::{described, unlinkable};
 use ipc_base::{Cred, Errno, Field, OpenFlags, Pid};
@@ -36,14 +36,14 @@ pub(crate) struct Found<'a> {
 }
 
 /// The queue on which a descriptor of the process is open.
-pub(crate) fn open_queue(state: &State, pid: Pid, fd: u32) -> Result<Found<'_>, Errno>
-    ensures found { found_of result ≡ defined.open_queue state.now.state pid.0 fd }
+pub(crate) fn open_mq(state: &State, pid: Pid, fd: u32) -> Result<Found<'_>, Errno>
+    ensures found { found_of result ≡ defined.open_mq state.now.state pid.0 fd }
     ensures queue { IfOk result (λ found. mq_object state.now.state found.number ≡ Some found.queue.now) }
     ensures there { IfOk result (λ found. is_some (entry_of state.now.state.mq found.number) ≡ true) }
     ensures passed { OnOk result (ArePassed state.now.limits) }
 {
     let descriptor = described(state, pid, fd)?;
-    let Opened::Queue(number) = descriptor.on else {
+    let Opened::Mq(number) = descriptor.on else {
         return Err(Errno::EBADF);
     };
     let Some(entry) = state.mq(number) else {
@@ -65,8 +65,8 @@ pub(crate) fn close(state: &mut State, pid: Pid, fd: u32) -> Answer
     ensures keys { state.new.room.keys ≡ state.old.room.keys }
     ensures set_keys { state.new.room.set_keys ≡ state.old.room.set_keys }
     ensures names { state.new.room.names ≡ state.old.room.names }
-    ensures sem_names { state.new.room.sem_names ≡ state.old.room.sem_names }
-    ensures segment_names { state.new.room.segment_names ≡ state.old.room.segment_names }
+    ensures psem_names { state.new.room.psem_names ≡ state.old.room.psem_names }
+    ensures pshm_names { state.new.room.pshm_names ≡ state.old.room.pshm_names }
 {
     described(state, pid, fd)?;
     state.close_descriptor(pid, fd);
@@ -98,9 +98,9 @@ pub(crate) fn mq_getattr(state: &State, pid: Pid, fd: u32, spare: &mut Vec<u8>) 
     requires spare { IsSpare state.now.limits spare.old }
     ensures finish { Finishes (finish_of state.now.state result)
         ≡ ended state.now.state (defined.mq_getattr state.now.state pid.0 fd) }
-    ensures spare { IsKept state.now.limits spare.new result }
+    ensures spare { KeepsBuffer state.now.limits spare.new result }
 {
-    let found = open_queue(state, pid, fd)?;
+    let found = open_mq(state, pid, fd)?;
     let mut body = take_spare(spare);
     push_attr(&mut body, &found);
     Ok(Body::Record(body))
@@ -119,9 +119,9 @@ pub(crate) fn mq_setattr(
     ensures finish { Finishes (finish_of state.new.state result)
         ≡ ended state.old.state (defined.mq_setattr state.old.state pid.0 fd flags.0) }
     ensures same { state.new ≡ record state.old { state = state.new.state } }
-    ensures spare { IsKept state.old.limits spare.new result }
+    ensures spare { KeepsBuffer state.old.limits spare.new result }
 {
-    let found = open_queue(state, pid, fd)?;
+    let found = open_mq(state, pid, fd)?;
     if flags.0 & OpenFlags::O_NONBLOCK.0 != flags.0 {
         return Err(Errno::EINVAL);
     }
@@ -204,7 +204,7 @@ pub(crate) fn mq_notify(state: &mut State, pid: Pid, fd: u32, kind: u32, cookie:
     if kind > 2 {
         return Err(Errno::EINVAL);
     }
-    let found = open_queue(state, pid, fd)?;
+    let found = open_mq(state, pid, fd)?;
     let number = found.number;
     if kind == 0 {
         unregister(state, pid, number);
@@ -226,11 +226,11 @@ pub(crate) fn mq_unlink(state: &mut State, cred: Cred, name: &[u8]) -> Answer
     ensures waits { state.new.room.waits ≡ state.old.room.waits }
     ensures keys { state.new.room.keys ≡ state.old.room.keys }
     ensures set_keys { state.new.room.set_keys ≡ state.old.room.set_keys }
-    ensures sem_names { state.new.room.sem_names ≡ state.old.room.sem_names }
-    ensures segment_names { state.new.room.segment_names ≡ state.old.room.segment_names }
+    ensures psem_names { state.new.room.psem_names ≡ state.old.room.psem_names }
+    ensures pshm_names { state.new.room.pshm_names ≡ state.old.room.pshm_names }
     ensures names { HasNoSpareName state.old.room.names → HasNoSpareName state.new.room.names }
 {
-    check_name(NameKind::Queue, name)?;
+    check_name(NameKind::Mq, name)?;
     let number = unlinkable(state.named_mqs(), cred, name)?;
     state.unlink_mq(number);
     Ok(Body::Empty)

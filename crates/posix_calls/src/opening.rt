@@ -54,8 +54,8 @@ pub(crate) fn mq_open(
     ensures waits { state.new.room.waits ≡ state.old.room.waits }
     ensures keys { state.new.room.keys ≡ state.old.room.keys }
     ensures set_keys { state.new.room.set_keys ≡ state.old.room.set_keys }
-    ensures sem_names { state.new.room.sem_names ≡ state.old.room.sem_names }
-    ensures segment_names { state.new.room.segment_names ≡ state.old.room.segment_names }
+    ensures psem_names { state.new.room.psem_names ≡ state.old.room.psem_names }
+    ensures pshm_names { state.new.room.pshm_names ≡ state.old.room.pshm_names }
     ensures no_name { HasNoSpareNameBut name.now state.old.room.names → HasNoSpareName state.new.room.names }
 {
     let answer = open(state, cred, pid, flags, wanted, name);
@@ -82,12 +82,12 @@ fn open(
     ensures waits { state.new.room.waits ≡ state.old.room.waits }
     ensures keys { state.new.room.keys ≡ state.old.room.keys }
     ensures set_keys { state.new.room.set_keys ≡ state.old.room.set_keys }
-    ensures sem_names { state.new.room.sem_names ≡ state.old.room.sem_names }
-    ensures segment_names { state.new.room.segment_names ≡ state.old.room.segment_names }
+    ensures psem_names { state.new.room.psem_names ≡ state.old.room.psem_names }
+    ensures pshm_names { state.new.room.pshm_names ≡ state.old.room.pshm_names }
     ensures others { (other : List ℕ) → other ≢ name.now
         → is_vacant state.new.room.names other ≡ is_vacant state.old.room.names other }
 {
-    check_name(NameKind::Queue, name)?;
+    check_name(NameKind::Mq, name)?;
     if flags.access_mode() == 3 {
         return Err(Errno::EINVAL);
     }
@@ -95,22 +95,22 @@ fn open(
         return Err(Errno::EMFILE);
     }
     let Some(number) = seek(state.named_mqs(), name, flags)? else {
-        return make_queue(state, cred, pid, flags, wanted, name);
+        return make_mq(state, cred, pid, flags, wanted, name);
     };
-    open_queue(state, cred, pid, flags, number)
+    open_mq(state, cred, pid, flags, number)
 }
 
 /// Opens the queue of a number, if the caller may use it so.
-fn open_queue(state: &mut State, cred: Cred, pid: Pid, flags: OpenFlags, number: u32) -> Answer
+fn open_mq(state: &mut State, cred: Cred, pid: Pid, flags: OpenFlags, number: u32) -> Answer
     requires sound { HasSoundParts state.old.limits state.old.state }
     requires process { is_process state.old.state pid.0 ≡ true }
     requires few { has_all_descriptors state.old.limits state.old.state pid.0 ≡ false }
     ensures finish { Finishes (finish_of state.new.state result)
-        ≡ ended state.old.state (defined.opened_queue state.old.state cred pid.0 flags.0 number) }
+        ≡ ended state.old.state (defined.opened_mq state.old.state cred pid.0 flags.0 number) }
     ensures same { state.new ≡ record state.old { state = state.new.state } }
 {
     usable(state.named_mqs(), cred, number, asked_by(flags))?;
-    let on = Opened::Queue(number);
+    let on = Opened::Mq(number);
     Ok(Body::Number(open_on(state, pid, on, flags.0 & KEPT_FLAGS)))
 }
 
@@ -144,7 +144,7 @@ fn attributes(limits: &Limits, wanted: Wanted) -> Result<(u32, u32), Errno>
 }
 
 /// Opens a new queue of the name that is ready.
-fn make_queue(
+fn make_mq(
     state: &mut State,
     cred: Cred,
     pid: Pid,
@@ -155,18 +155,18 @@ fn make_queue(
     requires sound { HasSoundParts state.old.limits state.old.state }
     requires process { is_process state.old.state pid.0 ≡ true }
     requires few { has_all_descriptors state.old.limits state.old.state pid.0 ≡ false }
-    requires proper { is_ok (checked kinds.Queue _name.now) ≡ true }
+    requires proper { is_ok (checked kinds.Mq _name.now) ≡ true }
     requires unused { named state.old.state.mq _name.now ≡ None }
     requires room { HasMqPlace state.old.state state.old.room _name.now }
     ensures finish { Finishes (finish_of state.new.state result)
-        ≡ ended state.old.state (defined.made_queue state.old.limits state.old.state cred pid.0 flags.0 wanted.mode
+        ≡ ended state.old.state (defined.made_mq state.old.limits state.old.state cred pid.0 flags.0 wanted.mode
         wanted.attr wanted.maxmsg wanted.msgsize _name.now) }
     ensures limits { state.new.limits ≡ state.old.limits }
     ensures waits { state.new.room.waits ≡ state.old.room.waits }
     ensures keys { state.new.room.keys ≡ state.old.room.keys }
     ensures set_keys { state.new.room.set_keys ≡ state.old.room.set_keys }
-    ensures sem_names { state.new.room.sem_names ≡ state.old.room.sem_names }
-    ensures segment_names { state.new.room.segment_names ≡ state.old.room.segment_names }
+    ensures psem_names { state.new.room.psem_names ≡ state.old.room.psem_names }
+    ensures pshm_names { state.new.room.pshm_names ≡ state.old.room.pshm_names }
     ensures others { (other : List ℕ) → other ≢ _name.now
         → is_vacant state.new.room.names other ≡ is_vacant state.old.room.names other }
 {
@@ -175,6 +175,6 @@ fn make_queue(
         return Err(Errno::ENOSPC);
     }
     let number = state.add_mq(cred, wanted.mode & 0o777, maxmsg, msgsize);
-    let on = Opened::Queue(number);
+    let on = Opened::Mq(number);
     Ok(Body::Number(open_on(state, pid, on, flags.0 & KEPT_FLAGS)))
 }

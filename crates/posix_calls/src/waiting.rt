@@ -13,13 +13,13 @@ ghost use Rattle.ipc_state.specs.Touching.{mq_object};
 ghost use Rattle.posix_mq.specs.Queue.{Queue, most_messages, plain, received, received_message};
 ghost use Rattle.posix_calls.specs.Calls as calls;
 ghost use Rattle.posix_calls.specs.Mq as defined;
-ghost use Rattle.posix_calls.specs.Sem as sem;
+ghost use Rattle.posix_calls.specs.Psem as sem;
 ghost use Rattle.ipc_state.specs.Steps.{attempted, plain_halt, seen};
-ghost use Rattle.posix_calls.specs.Seen.{IsKeptIn, number_in, tried_of};
+ghost use Rattle.posix_calls.specs.Seen.{WaitsUnchanged, number_in, tried_of};
 
 use crate::access::{reads, writes};
-use crate::mq::open_queue;
-use crate::sem::{lower, open_semaphore};
+use crate::mq::open_mq;
+use crate::psem::{lower, open_semaphore};
 use bitflags::Flags;
 use ipc_base::{Errno, OpenFlags, Pid};
 use ipc_state::{Answer, Halt, ParkedPosix, State};
@@ -40,7 +40,7 @@ pub fn try_parked(state: &mut State, pid: Pid, call: ParkedPosix) -> Tried
     requires sound { HasSoundParts state.old.limits state.old.state }
     ensures finish { tried_of state.new.state result
         ≡ calls.attempt state.old.limits state.old.state pid.0 (parked_posix call) }
-    ensures kept { IsKeptIn state.old (parked_posix call) state.new result }
+    ensures kept { WaitsUnchanged state.old (parked_posix call) state.new result }
     ensures limits { state.new.limits ≡ state.old.limits }
     ensures keys { state.new.room.keys ≡ state.old.room.keys }
     ensures set_keys { state.new.room.set_keys ≡ state.old.room.set_keys }
@@ -112,7 +112,7 @@ fn ready_to_send(state: &State, pid: Pid, fd: u32, message: &Message) -> Result<
     if message.priority > MOST_PRIORITY {
         return Err(Halt::Fails(Errno::EINVAL));
     }
-    let found = open_queue(state, pid, fd).map_err(Halt::Fails)?;
+    let found = open_mq(state, pid, fd).map_err(Halt::Fails)?;
     if !writes(found.flags) {
         return Err(Halt::Fails(Errno::EBADF));
     }
@@ -131,7 +131,7 @@ fn ready_to_receive(state: &State, pid: Pid, fd: u32, size: u32) -> Result<u32, 
         ≡ seen (λ found. found.0.number) (defined.receivable state.now.state pid.0 fd size) }
     ensures passed { OnOk result (ArePassed state.now.limits) }
 {
-    let found = open_queue(state, pid, fd).map_err(Halt::Fails)?;
+    let found = open_mq(state, pid, fd).map_err(Halt::Fails)?;
     if !reads(found.flags) {
         return Err(Halt::Fails(Errno::EBADF));
     }
@@ -158,10 +158,10 @@ fn ready_to_wait(state: &State, pid: Pid, fd: u32) -> Result<u32, Halt>
 }
 
 /// Whether somebody is to be told of a message that comes to a queue: it has none, and no call waits to receive it.
-fn is_told(state: &State, number: u32) -> bool
+fn is_to_notify(state: &State, number: u32) -> bool
     requires { is_some (entry_of state.now.state.mq number) ≡ true }
     ensures { (q : Queue) → mq_object state.now.state number ≡ Some q
-        → result ≡ defined.is_told state.now.state number q }
+        → result ≡ defined.is_to_notify state.now.state number q }
 {
     let entry = state.mq(number).unwrap();
     entry.object.len() == 0 && !state.mq_receiver_waits(number)
@@ -178,14 +178,14 @@ fn notified(registration: Option<Registration>) -> Option<Registration>
 }
 
 /// Appends a message. A registration that is told of it goes, and is given if a frame is sent to it.
-fn arrive(queue: &mut Mq, message: Message, told: bool) -> Option<Registration>
+fn arrive(queue: &mut Mq, message: Message, notifies: bool) -> Option<Registration>
     requires { length queue.old.messages < most_messages }
-    ensures queue { queue.new ≡ defined.arrived told queue.old (plain message) }
-    ensures fired { result ≡ defined.firing told queue.old }
+    ensures queue { queue.new ≡ defined.arrived notifies queue.old (plain message) }
+    ensures fired { result ≡ defined.firing notifies queue.old }
 {
     let registration = queue.registration();
     queue.send(message);
-    if !told {
+    if !notifies {
         return None;
     }
     queue.deregister();
@@ -200,14 +200,14 @@ fn send(state: &mut State, number: u32, message: Message) -> Option<Registration
     ensures state { (q : Queue) → mq_object state.old.state number ≡ Some q
         → state.new ≡ record state.old {
           state = with_mq state.old.state number
-              (defined.arrived (defined.is_told state.old.state number q) q (plain message));
+              (defined.arrived (defined.is_to_notify state.old.state number q) q (plain message));
         } }
     ensures fired { (q : Queue) → mq_object state.old.state number ≡ Some q
-        → result ≡ defined.firing (defined.is_told state.old.state number q) q }
+        → result ≡ defined.firing (defined.is_to_notify state.old.state number q) q }
     ensures same { state.new ≡ record state.old { state = state.new.state } }
 {
-    let told = is_told(state, number);
-    arrive(state.mq_object_mut(number).unwrap(), message, told)
+    let notifies = is_to_notify(state, number);
+    arrive(state.mq_object_mut(number).unwrap(), message, notifies)
 }
 
 /// Receives a message from a queue that is there and has one.

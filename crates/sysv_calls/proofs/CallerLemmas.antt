@@ -13,7 +13,7 @@ use Rattle.ipc_base.specs.declared.limits.Limits.{Limits}
 use Rattle.ipc_base.specs.declared.errno.Errno.TheVariants.{E2BIG, EPERM, EACCES, EFBIG, EINVAL, ENOSPC, EAGAIN, ENOMSG}
 use Rattle.ipc_base.specs.Numbers.{record_bytes}
 use Rattle.ipc_base.proofs.CallerLemmas.{message-is_bounded, other-with, value_at-without}
-use Rattle.ipc_wire.specs.Request.{PlainCall, PlainKind, PlainRequest, Calls}
+use Rattle.ipc_wire.specs.Request.{PlainSysv, PlainKind, PlainRequest, Sysv}
 use Rattle.ipc_wire.specs.Request as requests
 use Rattle.ipc_wire.specs.declared.reply.Body.TheVariants.{Empty, Number, Message, Record}
 use Rattle.sysv_msg.specs.Queue.{Queue, PlainMessage, pick, full, sent, taken, changed}
@@ -30,21 +30,21 @@ use Rattle.ipc_perm.specs.declared.perm.Perm.{Perm}
 use Rattle.ipc_perm.specs.Perm.{perm_of, owned_by, asked_by, may, owns}
 use Rattle.ipc_state.specs.Finish.{Attempt, Done, Finish, Halt, Finishes, IfFinishes, has_to_wait}
 use Rattle.ipc_state.specs.Finish.{refuse, stop, ◌orelse◌, ◌>>◌, ◌>>=◌}
-use Rattle.ipc_state.specs.Sound.{HasSoundParts, IsSoundMessage, IsSoundQueue, FitsBody}
-use Rattle.ipc_state.specs.State.{State, cred_of, is_waiting, set_of, with_queue, with_new_queue}
+use Rattle.ipc_state.specs.Sound.{HasSoundParts, IsSoundMessage, IsSoundMsgQueue, FitsBody}
+use Rattle.ipc_state.specs.State.{State, cred_of, is_waiting, semset_of, with_msg_queue, with_new_msg_queue}
 use Rattle.ipc_state.specs.Touching.{object_of, is_there, IsAsBefore}
 use Rattle.ipc_state.specs.Waiting.{awaited_by, may_wait}
 use Rattle.ipc_state.proofs.CallerLemmas.{IsGood, Ends, same-processes, after-refuse, after-attempt, by-if_some, answered, read, ended-good}
-use Rattle.ipc_state.proofs.CallerLemmas.{perm_of-mode, owned_by-mode, with_new_queue-sound, with_queue-sound, queue-sound, sent-sound, taken-sound}
-use Rattle.ipc_state.proofs.CallerLemmas.{changed-sound, permitted-sound, without_queue-sound}
+use Rattle.ipc_state.proofs.CallerLemmas.{perm_of-mode, owned_by-mode, with_new_msg_queue-sound, with_msg_queue-sound, queue-sound, sent-sound, taken-sound}
+use Rattle.ipc_state.proofs.CallerLemmas.{changed-sound, permitted-sound, without_msg_queue-sound}
 use Rattle.ipc_state.proofs.CallerLemmas.{blocked-seen, blocked-then, is_blocked, waits-blocked}
 use Rattle.sysv_calls.specs.Access.{write, has, accessible, gone, removed, sought}
 use Rattle.sysv_calls.specs.Msg.{except, is_too_long, sendable, receivable, message_at, waits_or}
 use Rattle.sysv_calls.specs.Semop.{are_within, asked, decided, held_by, operated, operations_of, performable, semop}
-use Rattle.sysv_calls.specs.Calls.{touched, call_of, attempt}
+use Rattle.sysv_calls.specs.Calls.{touched, definition_of, attempt}
 use Rattle.sysv_calls.specs.Records.{perm_fields, queue_fields, set_fields}
 use Rattle.sysv_calls.specs.Seen.{place_in}
-use Rattle.sysv_calls.specs.Needs.{IsReserved, is_kept}
+use Rattle.sysv_calls.specs.Needs.{IsReserved, keeps_request}
 use Rattle.ipc_state.specs.Held.{Room}
 use Rattle.sysv_calls.proofs.Received.{receive_steps, left, after-receive, blocked-left}
 use Rattle.sysv_calls.proofs.Reaching.{reached-there, removed-is, sought-none, sends, receives, there-append}
@@ -66,28 +66,28 @@ not_false true h = refl
 not_false false h = cc
 
 -- another object than the one of this identifier
-other_id : (id n : ℕ) → Some (object.Queue (record { 0 = id })) ≢ Some (object.Queue (record { 0 = n })) → n ≢ id
-other_id id n apart same = apart (ap (λ k. Some (object.Queue (record { 0 = k }))) (sym same))
+other_id : (id n : ℕ) → Some (object.MsgQueue (record { 0 = id })) ≢ Some (object.MsgQueue (record { 0 = n })) → n ≢ id
+other_id id n apart same = apart (ap (λ k. Some (object.MsgQueue (record { 0 = k }))) (sym same))
 
-own_id : (id : ℕ) (n : Id) → Some (awaited.Queue (record { 0 = id })) ≡ Some (awaited.Queue n) → id ≡ n.0
+own_id : (id : ℕ) (n : Id) → Some (awaited.MsgQueue (record { 0 = id })) ≡ Some (awaited.MsgQueue n) → id ≡ n.0
 own_id id n is = let same : record { 0 = id } ≡ n = cc in ap (λ (k : Id). k.0) same
 
-own_set : (id : ℕ) (n : Id) → Some (awaited.Set (record { 0 = id })) ≡ Some (awaited.Set n) → id ≡ n.0
+own_set : (id : ℕ) (n : Id) → Some (awaited.Semset (record { 0 = id })) ≡ Some (awaited.Semset n) → id ≡ n.0
 own_set id n is = let same : record { 0 = id } ≡ n = cc in ap (λ (k : Id). k.0) same
 
 -- a queue is no set
-no_set : (n k : Id) → Some (awaited.Queue n) ≡ Some (awaited.Set k) → ⊥
+no_set : (n k : Id) → Some (awaited.MsgQueue n) ≡ Some (awaited.Semset k) → ⊥
 no_set n k is = cc
 
-no_queue : (n k : Id) → Some (awaited.Set n) ≡ Some (awaited.Queue k) → ⊥
+no_queue : (n k : Id) → Some (awaited.Semset n) ≡ Some (awaited.MsgQueue k) → ⊥
 no_queue n k is = cc
 
 module _ (limits : Limits) (s : State) where
   -- the object of this identifier alone is another one
-  others-with : (id : ℕ) (e : Entry Queue) (pid : ℕ) (on : Awaited) → is_waiting s pid ≡ true → Some (object.Queue (record { 0 = id })) ≢ object_of s pid on
-      → is_there pid on s ≡ true → IsAsBefore pid on s (with_queue s id e)
-  others-with id e pid (awaited.Queue n) waits apart there = other-with s.msg.entries id n.0 e (other_id id n.0 apart)
-  others-with id e pid (awaited.Set n) waits apart there = (refl, λ pid num. refl)
+  others-with : (id : ℕ) (e : Entry Queue) (pid : ℕ) (on : Awaited) → is_waiting s pid ≡ true → Some (object.MsgQueue (record { 0 = id })) ≢ object_of s pid on
+      → is_there pid on s ≡ true → IsAsBefore pid on s (with_msg_queue s id e)
+  others-with id e pid (awaited.MsgQueue n) waits apart there = other-with s.msg.entries id n.0 e (other_id id n.0 apart)
+  others-with id e pid (awaited.Semset n) waits apart there = (refl, λ pid num. refl)
   others-with id e pid (awaited.Descriptor fd) waits apart there = (refl, λ n is. refl, λ n is. refl)
 
   msgget-ends : (cred : Cred) (key : ℤ) (flags : ℕ) → Ends limits s None (defined.msgget limits s cred key flags)
@@ -96,8 +96,8 @@ module _ (limits : Limits) (s : State) where
       after-attempt {a = accessible false s.msg cred id (asked_by flags)} (λ e _. read (Number id) (λ _. omega arith)))
       (λ none. after-refuse ENOSPC (λ room.
       let unused : keyed s.msg key ≡ None = sought-none s.msg key flags (is ∙ ap (λ (f : Option ℕ). Ok f) none) in
-      answered (with_new_queue limits s key (perm_of cred flags)) (Number s.msg.next) (record {
-        state = λ h. with_new_queue-sound limits s key (perm_of cred flags) unused room (perm_of-mode cred flags) h;
+      answered (with_new_msg_queue limits s key (perm_of cred flags)) (Number s.msg.next) (record {
+        state = λ h. with_new_msg_queue-sound limits s key (perm_of cred flags) unused room (perm_of-mode cred flags) h;
         body = λ _. omega arith;
         kept = same-processes s _ refl;
         clock = refl;
@@ -105,23 +105,23 @@ module _ (limits : Limits) (s : State) where
         others = λ h pid on waits apart there. as_added pid on there;
       }))))
     where
-      as_added : (pid : ℕ) (on : Awaited) → is_there pid on s ≡ true → IsAsBefore pid on s (with_new_queue limits s key (perm_of cred flags))
-      as_added pid (awaited.Queue n) there = there-append s.msg.entries _ n.0 there
-      as_added pid (awaited.Set n) there = (refl, λ pid num. refl)
+      as_added : (pid : ℕ) (on : Awaited) → is_there pid on s ≡ true → IsAsBefore pid on s (with_new_msg_queue limits s key (perm_of cred flags))
+      as_added pid (awaited.MsgQueue n) there = there-append s.msg.entries _ n.0 there
+      as_added pid (awaited.Semset n) there = (refl, λ pid num. refl)
       as_added pid (awaited.Descriptor fd) there = (refl, λ n is. refl, λ n is. refl)
 
   msgsnd-ends : (cred : Cred) (pid : ℕ) (again : Bool) (id flags : ℕ) (mtype : ℤ) (text : List ℕ)
-      → Ends limits s (Some (object.Queue (record { 0 = id }))) (defined.msgsnd limits s cred pid again id flags mtype text)
+      → Ends limits s (Some (object.MsgQueue (record { 0 = id }))) (defined.msgsnd limits s cred pid again id flags mtype text)
   msgsnd-ends cred pid again id flags mtype text =
       after-attempt {a = sendable limits s cred again id flags mtype text} (λ e is.
       let m : PlainMessage = record { mtype = mtype; text = text } in
       let new : Queue = sent e.object m pid s.clock in
       let ok = sends limits s cred again id flags mtype text e is in
-      answered (with_queue s id (holding e new)) Empty (record {
+      answered (with_msg_queue s id (holding e new)) Empty (record {
         state = λ h.
             let above = not_false (int_lt (pos 0) mtype) ok.above in
             let good : IsSoundMessage limits m = record { above = above; short = ltb-false limits.msgmax (length text) ok.short } in
-            with_queue-sound limits s id e new ok.there (sent-sound limits e.object m pid s.clock ok.room good (queue-sound limits s id e ok.there h)) h;
+            with_msg_queue-sound limits s id e new ok.there (sent-sound limits e.object m pid s.clock ok.room good (queue-sound limits s id e ok.there h)) h;
         body = λ _. omega arith;
         kept = same-processes s _ refl;
         clock = refl;
@@ -130,7 +130,7 @@ module _ (limits : Limits) (s : State) where
       }))
 
   -- a text of a message of a queue, cut
-  message_at-fits : (q : Queue) (at size : ℕ) → at < length q.messages → IsSoundQueue limits q
+  message_at-fits : (q : Queue) (at size : ℕ) → at < length q.messages → IsSoundMsgQueue limits q
       → FitsBody limits (Message (message_at q at).mtype (take size (message_at q at).text))
   message_at-fits q at size inside good =
       let none : PlainMessage = record { mtype = pos 0; text = [] } in
@@ -140,7 +140,7 @@ module _ (limits : Limits) (s : State) where
       omega (arith, message-is_bounded limits (length (take size (message_at q at).text)) (omega (arith, cut, short)))
 
   msgrcv-ends : (cred : Cred) (pid : ℕ) (again : Bool) (id flags size : ℕ) (mtype : ℤ)
-      → Ends limits s (Some (object.Queue (record { 0 = id }))) (defined.msgrcv s cred pid again id flags size mtype)
+      → Ends limits s (Some (object.MsgQueue (record { 0 = id }))) (defined.msgrcv s cred pid again id flags size mtype)
   msgrcv-ends cred pid again id flags size mtype =
       after-attempt {a = receivable s cred again id flags size mtype} (λ found is.
       let e : Entry Queue = found.0 in
@@ -148,8 +148,8 @@ module _ (limits : Limits) (s : State) where
       let q : Queue = e.object in
       let new : Queue = taken q at pid s.clock in
       let ok = receives s cred again id flags size mtype found is in
-      answered (with_queue s id (holding e new)) (Message (message_at q at).mtype (take size (message_at q at).text)) (record {
-        state = λ h. with_queue-sound limits s id e new ok.there (taken-sound limits q at pid s.clock ok.inside (queue-sound limits s id e ok.there h)) h;
+      answered (with_msg_queue s id (holding e new)) (Message (message_at q at).mtype (take size (message_at q at).text)) (record {
+        state = λ h. with_msg_queue-sound limits s id e new ok.there (taken-sound limits q at pid s.clock ok.inside (queue-sound limits s id e ok.there h)) h;
         body = λ h. message_at-fits q at size ok.inside (queue-sound limits s id e ok.there h);
         kept = same-processes s _ refl;
         clock = refl;
@@ -161,13 +161,13 @@ module _ (limits : Limits) (s : State) where
   msgctl_stat-ends cred id = after-attempt (λ e _. read (Record (record_bytes (perm_fields e ++ queue_fields e.object))) (λ _. omega arith))
 
   msgctl_set-ends : (cred : Cred) (id uid gid mode qbytes : ℕ)
-      → Ends limits s (Some (object.Queue (record { 0 = id }))) (defined.msgctl_set limits s cred id uid gid mode qbytes)
+      → Ends limits s (Some (object.MsgQueue (record { 0 = id }))) (defined.msgctl_set limits s cred id uid gid mode qbytes)
   msgctl_set-ends cred id uid gid mode qbytes =
       after-attempt (λ e is. after-refuse EPERM {b = nat_lt limits.msgmnb qbytes} (λ within.
       let perm : Perm = owned_by e.perm uid gid mode in
       let new : Queue = changed e.object qbytes s.clock in
       let is = reached-there false id EPERM (λ perm. not (owns cred perm)) s.msg e is in
-      answered (with_queue s id (holding (permitting e perm) new)) Empty (record {
+      answered (with_msg_queue s id (holding (permitting e perm) new)) Empty (record {
         state = λ h. permitted-sound limits s id e perm new is (owned_by-mode e.perm uid gid mode)
             (changed-sound limits e.object qbytes s.clock (ltb-false limits.msgmnb qbytes within) (queue-sound limits s id e is h)) h;
         body = λ _. omega arith;
@@ -177,12 +177,12 @@ module _ (limits : Limits) (s : State) where
         others = λ _. others-with id (holding (permitting e perm) new);
       })))
 
-  msgctl_rmid-ends : (cred : Cred) (id : ℕ) → Ends limits s (Some (object.Queue (record { 0 = id }))) (defined.msgctl_rmid s cred id)
+  msgctl_rmid-ends : (cred : Cred) (id : ℕ) → Ends limits s (Some (object.MsgQueue (record { 0 = id }))) (defined.msgctl_rmid s cred id)
   msgctl_rmid-ends cred id =
       after-attempt {a = removed s.msg cred id} (λ queues is.
       answered (record s { msg = queues }) Empty (record {
         state = λ h. subst (λ (m : Keyed Queue). HasSoundParts limits (record s { msg = m })) (removed-is s.msg cred id queues is)
-            (without_queue-sound limits s id h);
+            (without_msg_queue-sound limits s id h);
         body = λ _. omega arith;
         kept = same-processes s _ refl;
         clock = refl;
@@ -191,13 +191,13 @@ module _ (limits : Limits) (s : State) where
             (as_left pid on apart);
       }))
     where
-      as_left : (pid : ℕ) (on : Awaited) → Some (object.Queue (record { 0 = id })) ≢ object_of s pid on
+      as_left : (pid : ℕ) (on : Awaited) → Some (object.MsgQueue (record { 0 = id })) ≢ object_of s pid on
           → IsAsBefore pid on s (record s { msg = without_entry s.msg id })
-      as_left pid (awaited.Queue n) apart = value_at-without s.msg.entries id n.0 (other_id id n.0 apart)
-      as_left pid (awaited.Set n) apart = (refl, λ pid num. refl)
+      as_left pid (awaited.MsgQueue n) apart = value_at-without s.msg.entries id n.0 (other_id id n.0 apart)
+      as_left pid (awaited.Semset n) apart = (refl, λ pid num. refl)
       as_left pid (awaited.Descriptor fd) apart = (refl, λ n is. refl, λ n is. refl)
 
-  call-ends : (pid : ℕ) (again : Bool) (call : PlainCall) → Ends limits s (touched call) (call_of limits s pid again call)
+  call-ends : (pid : ℕ) (again : Bool) (call : PlainSysv) → Ends limits s (touched call) (definition_of limits s pid again call)
   call-ends pid again (requests.Msgget key flags) = msgget-ends (cred_of s pid) key flags
   call-ends pid again (requests.Msgsnd id flags mtype text) = msgsnd-ends (cred_of s pid) pid again id flags mtype text
   call-ends pid again (requests.Msgrcv id flags size mtype) = msgrcv-ends (cred_of s pid) pid again id flags size mtype
@@ -218,9 +218,9 @@ module _ (limits : Limits) (s : State) where
   call-ends pid again (requests.SemctlRmid id) = semctl_rmid-ends limits s (cred_of s pid) id
 
 -- what a call that comes to its end leaves and answers
-pub attempt-good : (limits : Limits) (s : State) (pid : ℕ) (again : Bool) (call : PlainCall)
+pub attempt-good : (limits : Limits) (s : State) (pid : ℕ) (again : Bool) (call : PlainSysv)
     → IfFinishes (IsGood limits s (touched call)) (attempt limits s pid again call)
-attempt-good limits s pid again call = ended-good limits s (touched call) (call_of limits s pid again call) (call-ends limits s pid again call)
+attempt-good limits s pid again call = ended-good limits s (touched call) (definition_of limits s pid again call) (call-ends limits s pid again call)
 
 -- ---- whether a call has to wait
 
@@ -231,7 +231,7 @@ module _ (limits : Limits) (s : State) (pid : ℕ) (again : Bool) where
       waits-blocked s (defined.msgsnd limits s (cred_of s pid) pid again id flags mtype text)
       ∙ blocked-then (sendable limits s (cred_of s pid) again id flags mtype text)
       (λ (e : Entry Queue). let d : Done = record {
-        state = with_queue s id (holding e (sent e.object (record { mtype = mtype; text = text }) pid s.clock));
+        state = with_msg_queue s id (holding e (sent e.object (record { mtype = mtype; text = text }) pid s.clock));
         body = Empty;
         fired = None;
       } in d)
@@ -242,7 +242,7 @@ module _ (limits : Limits) (s : State) (pid : ℕ) (again : Bool) where
       waits-blocked s (defined.msgrcv s (cred_of s pid) pid again id flags size mtype)
       ∙ blocked-then (receivable s (cred_of s pid) again id flags size mtype)
       (λ (found : Entry Queue × ℕ). let d : Done = record {
-        state = with_queue s id (holding found.0 (taken found.0.object found.1 pid s.clock));
+        state = with_msg_queue s id (holding found.0 (taken found.0.object found.1 pid s.clock));
         body = Message (message_at found.0.object found.1).mtype (take size (message_at found.0.object found.1).text);
         fired = None;
       } in d)
@@ -307,12 +307,12 @@ operates-alike limits cred again other false (Some e) held ops = refl
 
 -- two states that have the same caller and the same object make the same call wait, whether it waited before or not
 module _ (limits : Limits) (s t : State) (pid : ℕ) (again other : Bool) where
-  abbrev IsAlike : PlainCall → Type 0
-  IsAlike call = (on : Awaited) → awaited_by (Calls call) ≡ Some on → cred_of t pid ≡ cred_of s pid → IsAsBefore pid on s t
+  abbrev IsAlike : PlainSysv → Type 0
+  IsAlike call = (on : Awaited) → awaited_by (Sysv call) ≡ Some on → cred_of t pid ≡ cred_of s pid → IsAsBefore pid on s t
       → has_to_wait (attempt limits t pid other call) ≡ has_to_wait (attempt limits s pid again call)
 
   alike-send : (id flags : ℕ) (mtype : ℤ) (text : List ℕ) → IsAlike (requests.Msgsnd id flags mtype text)
-  alike-send id flags mtype text (awaited.Queue n) is cred alike =
+  alike-send id flags mtype text (awaited.MsgQueue n) is cred alike =
       let b1 = not (int_lt (pos 0) mtype) in
       let b2 = nat_lt limits.msgmax (length text) in
       let fills : Queue → Bool = λ q. full q (length text) in
@@ -324,11 +324,11 @@ module _ (limits : Limits) (s t : State) (pid : ℕ) (again other : Bool) where
       ∙ (ap (λ (f : Option (Entry Queue)). is_blocked (send_steps other b1 b2 f mine h fills)) same
       ∙ (sends-alike other again b1 b2 (entry_of s.msg id) mine h fills
       ∙ sym (waits-send limits s pid again id flags mtype text))))
-  alike-send id flags mtype text (awaited.Set n) is cred alike = absurd (no_set (record { 0 = id }) n is)
+  alike-send id flags mtype text (awaited.Semset n) is cred alike = absurd (no_set (record { 0 = id }) n is)
   alike-send id flags mtype text (awaited.Descriptor fd) is cred alike = cc
 
   alike-receive : (id flags size : ℕ) (mtype : ℤ) → IsAlike (requests.Msgrcv id flags size mtype)
-  alike-receive id flags size mtype (awaited.Queue n) is cred alike =
+  alike-receive id flags size mtype (awaited.MsgQueue n) is cred alike =
       let b1 = nat_lt last_number size in
       let picks : Queue → Option ℕ = λ q. pick q.messages mtype (has flags except) in
       let long : Queue → ℕ → Bool = λ q at. is_too_long flags size (length (message_at q at).text) in
@@ -340,26 +340,26 @@ module _ (limits : Limits) (s t : State) (pid : ℕ) (again other : Bool) where
       ∙ (ap (λ (f : Option (Entry Queue)). is_blocked (receive_steps other b1 f mine h picks long)) same
       ∙ (receives-alike other again b1 (entry_of s.msg id) mine h picks long
       ∙ sym (waits-receive limits s pid again id flags size mtype))))
-  alike-receive id flags size mtype (awaited.Set n) is cred alike = absurd (no_set (record { 0 = id }) n is)
+  alike-receive id flags size mtype (awaited.Semset n) is cred alike = absurd (no_set (record { 0 = id }) n is)
   alike-receive id flags size mtype (awaited.Descriptor fd) is cred alike = cc
 
   alike-semop : (id timeout : ℕ) (operations : List ℕ) → IsAlike (requests.Semop id timeout operations)
-  alike-semop id timeout operations (awaited.Queue n) is cred alike = absurd (no_queue (record { 0 = id }) n is)
+  alike-semop id timeout operations (awaited.MsgQueue n) is cred alike = absurd (no_queue (record { 0 = id }) n is)
   alike-semop id timeout operations (awaited.Descriptor fd) is cred alike = cc
-  alike-semop id timeout operations (awaited.Set n) is cred alike =
+  alike-semop id timeout operations (awaited.Semset n) is cred alike =
       let ops = operations_of operations in
       let b1 = length ops == 0 in
-      let same : IsAsBefore pid (awaited.Set (record { 0 = id })) s t =
-      subst (λ (k : ℕ). IsAsBefore pid (awaited.Set (record { 0 = k })) s t) (sym (own_set id n is)) alike in
+      let same : IsAsBefore pid (awaited.Semset (record { 0 = id })) s t =
+      subst (λ (k : ℕ). IsAsBefore pid (awaited.Semset (record { 0 = k })) s t) (sym (own_set id n is)) alike in
       let held : held_by t pid id ≡ held_by s pid id = λ i num. same.1 pid num i in
       waits-semop limits t pid other id timeout operations
-      ∙ (ap (λ (c : Cred). is_blocked (operate_steps limits c other b1 (set_of t id) (held_by t pid id) ops)) cred
+      ∙ (ap (λ (c : Cred). is_blocked (operate_steps limits c other b1 (semset_of t id) (held_by t pid id) ops)) cred
       ∙ (ap (λ (f : Option (Entry Set)). is_blocked (operate_steps limits (cred_of s pid) other b1 f (held_by t pid id) ops)) same.0
-      ∙ (ap (λ (h : ℕ → ℤ). is_blocked (operate_steps limits (cred_of s pid) other b1 (set_of s id) h ops)) held
-      ∙ (operates-alike limits (cred_of s pid) other again b1 (set_of s id) (held_by s pid id) ops
+      ∙ (ap (λ (h : ℕ → ℤ). is_blocked (operate_steps limits (cred_of s pid) other b1 (semset_of s id) h ops)) held
+      ∙ (operates-alike limits (cred_of s pid) other again b1 (semset_of s id) (held_by s pid id) ops
       ∙ sym (waits-semop limits s pid again id timeout operations)))))
 
-  pub waits-alike : (call : PlainCall) → IsAlike call
+  pub waits-alike : (call : PlainSysv) → IsAlike call
   waits-alike call = by-waiting IsAlike alike-send alike-receive alike-semop (λ call none on is. absurd (some-none (sym is ∙ none.never))) call
 
 sends-there : (again b1 b2 : Bool) (f : Option (Entry Queue)) (refuses : Perm → Bool) (h : Halt) (fills : Queue → Bool)
@@ -383,39 +383,39 @@ operates-there limits cred again false (Some e) held ops is = refl
 
 -- what waits on an object finds it there
 module _ (limits : Limits) (s : State) (pid : ℕ) (again : Bool) where
-  abbrev IsThere : PlainCall → Type 0
-  IsThere call = (on : Awaited) → awaited_by (Calls call) ≡ Some on → has_to_wait (attempt limits s pid again call) ≡ true → is_there pid on s ≡ true
+  abbrev IsThere : PlainSysv → Type 0
+  IsThere call = (on : Awaited) → awaited_by (Sysv call) ≡ Some on → has_to_wait (attempt limits s pid again call) ≡ true → is_there pid on s ≡ true
 
   there-send : (id flags : ℕ) (mtype : ℤ) (text : List ℕ) → IsThere (requests.Msgsnd id flags mtype text)
-  there-send id flags mtype text (awaited.Queue n) is waits =
+  there-send id flags mtype text (awaited.MsgQueue n) is waits =
       let there : is_some (entry_of s.msg id) ≡ true =
       sends-there again (not (int_lt (pos 0) mtype)) (nat_lt limits.msgmax (length text)) (entry_of s.msg id) (λ perm. not (may (cred_of s pid) perm write))
       (waits_or flags EAGAIN) (λ q. full q (length text)) (sym (waits-send limits s pid again id flags mtype text) ∙ waits) in
       subst (λ (k : ℕ). is_some (entry_of s.msg k) ≡ true) (own_id id n is) there
-  there-send id flags mtype text (awaited.Set n) is waits = absurd (no_set (record { 0 = id }) n is)
+  there-send id flags mtype text (awaited.Semset n) is waits = absurd (no_set (record { 0 = id }) n is)
   there-send id flags mtype text (awaited.Descriptor fd) is waits = cc
 
   there-receive : (id flags size : ℕ) (mtype : ℤ) → IsThere (requests.Msgrcv id flags size mtype)
-  there-receive id flags size mtype (awaited.Queue n) is waits =
+  there-receive id flags size mtype (awaited.MsgQueue n) is waits =
       let there : is_some (entry_of s.msg id) ≡ true =
       receives-there again (nat_lt last_number size) (entry_of s.msg id) (λ perm. not (may (cred_of s pid) perm access.read))
       (waits_or flags ENOMSG) (λ q. pick q.messages mtype (has flags except)) (λ q at. is_too_long flags size (length (message_at q at).text))
       (sym (waits-receive limits s pid again id flags size mtype) ∙ waits) in
       subst (λ (k : ℕ). is_some (entry_of s.msg k) ≡ true) (own_id id n is) there
-  there-receive id flags size mtype (awaited.Set n) is waits = absurd (no_set (record { 0 = id }) n is)
+  there-receive id flags size mtype (awaited.Semset n) is waits = absurd (no_set (record { 0 = id }) n is)
   there-receive id flags size mtype (awaited.Descriptor fd) is waits = cc
 
   there-semop : (id timeout : ℕ) (operations : List ℕ) → IsThere (requests.Semop id timeout operations)
-  there-semop id timeout operations (awaited.Queue n) is waits = absurd (no_queue (record { 0 = id }) n is)
+  there-semop id timeout operations (awaited.MsgQueue n) is waits = absurd (no_queue (record { 0 = id }) n is)
   there-semop id timeout operations (awaited.Descriptor fd) is waits = cc
-  there-semop id timeout operations (awaited.Set n) is waits =
+  there-semop id timeout operations (awaited.Semset n) is waits =
       let ops = operations_of operations in
-      let there : is_some (entry_of s.sem id) ≡ true =
-      operates-there limits (cred_of s pid) again (length ops == 0) (set_of s id) (held_by s pid id) ops
+      let there : is_some (entry_of s.semset id) ≡ true =
+      operates-there limits (cred_of s pid) again (length ops == 0) (semset_of s id) (held_by s pid id) ops
       (sym (waits-semop limits s pid again id timeout operations) ∙ waits) in
-      subst (λ (k : ℕ). is_some (entry_of s.sem k) ≡ true) (own_set id n is) there
+      subst (λ (k : ℕ). is_some (entry_of s.semset k) ≡ true) (own_set id n is) there
 
-  pub waits-there : (call : PlainCall) → IsThere call
+  pub waits-there : (call : PlainSysv) → IsThere call
   waits-there call = by-waiting IsThere there-send there-receive there-semop (λ call none on is. absurd (some-none (sym is ∙ none.never))) call
 
 -- after a receive has come to its end, each other receive that had to wait has to wait on
@@ -433,8 +433,8 @@ received-waits limits s pid again id flags size mtype f is other n flags' size' 
     (sym (waits-receive limits s other true n flags' size' mtype') ∙ waits))
 
 -- a call that waits on nothing never waits
-never-blocked : (limits : Limits) (s : State) (pid : ℕ) (again : Bool) (call : PlainCall) → awaited_by (Calls call) ≡ None
-    → is_blocked (call_of limits s pid again call) ≡ false
+never-blocked : (limits : Limits) (s : State) (pid : ℕ) (again : Bool) (call : PlainSysv) → awaited_by (Sysv call) ≡ None
+    → is_blocked (definition_of limits s pid again call) ≡ false
 never-blocked limits s pid again (requests.Msgget key flags) is = msgget-runs limits s (cred_of s pid) key flags
 never-blocked limits s pid again (requests.MsgctlStat id) is = listed-runs s s.msg (cred_of s pid) id queue_fields
 never-blocked limits s pid again (requests.MsgctlSet id uid gid mode qbytes) is = msgctl_set-runs limits s (cred_of s pid) id uid gid mode qbytes
@@ -447,19 +447,19 @@ never-blocked limits s pid again (requests.SemctlGetZcnt id num) is = semctl_get
 never-blocked limits s pid again (requests.SemctlSetVal id num value) is = semctl_setval-runs s (cred_of s pid) pid id num value
 never-blocked limits s pid again (requests.SemctlGetAll id) is = semctl_getall-runs s (cred_of s pid) id
 never-blocked limits s pid again (requests.SemctlSetAll id values) is = semctl_setall-runs s (cred_of s pid) pid id values
-never-blocked limits s pid again (requests.SemctlStat id) is = listed-runs s s.sem (cred_of s pid) id set_fields
+never-blocked limits s pid again (requests.SemctlStat id) is = listed-runs s s.semset (cred_of s pid) id set_fields
 never-blocked limits s pid again (requests.SemctlSet id uid gid mode) is = semctl_set-runs s (cred_of s pid) id uid gid mode
 never-blocked limits s pid again (requests.SemctlRmid id) is = semctl_rmid-runs s (cred_of s pid) id
 never-blocked limits s pid again (requests.Msgsnd id flags mtype text) is = cc
 never-blocked limits s pid again (requests.Msgrcv id flags size mtype) is = cc
 never-blocked limits s pid again (requests.Semop id timeout operations) is = cc
 
-pub never-waits : (limits : Limits) (s : State) (pid : ℕ) (again : Bool) (call : PlainCall) → awaited_by (Calls call) ≡ None
+pub never-waits : (limits : Limits) (s : State) (pid : ℕ) (again : Bool) (call : PlainSysv) → awaited_by (Sysv call) ≡ None
     → has_to_wait (attempt limits s pid again call) ≡ false
-never-waits limits s pid again call is = waits-blocked s (call_of limits s pid again call) ∙ never-blocked limits s pid again call is
+never-waits limits s pid again call is = waits-blocked s (definition_of limits s pid again call) ∙ never-blocked limits s pid again call is
 
 -- whether a call has to wait, by its tests
-pub waits-as-tested : (limits : Limits) (s : State) (pid : ℕ) (again : Bool) (call : PlainCall)
+pub waits-as-tested : (limits : Limits) (s : State) (pid : ℕ) (again : Bool) (call : PlainSysv)
     → has_to_wait (attempt limits s pid again call) ≡ is_blocked (place_in limits s (cred_of s pid) pid again call)
 waits-as-tested limits s pid again =
     by-waiting (λ call. has_to_wait (attempt limits s pid again call) ≡ is_blocked (place_in limits s (cred_of s pid) pid again call))
@@ -475,8 +475,8 @@ waits-as-tested limits s pid again =
 
 module _ (s : State) (room : Room) (request : PlainRequest) where
   -- a System V call of which nothing was kept never waits
-  pub never-kept : (call : PlainCall) → request.kind ≡ Calls call → IsReserved s room request None → may_wait (Calls call) ≡ false
-  never-kept call kind has = by_test (may_wait (Calls call)) (subst (λ (k : PlainKind). None ≡ (if is_kept k then Some request else None)) kind has.call)
+  pub never-kept : (call : PlainSysv) → request.kind ≡ Sysv call → IsReserved s room request None → may_wait (Sysv call) ≡ false
+  never-kept call kind has = by_test (may_wait (Sysv call)) (subst (λ (k : PlainKind). None ≡ (if keeps_request k then Some request else None)) kind has.call)
     where
       by_test : (b : Bool) → None ≡ (if b then Some request else None) → b ≡ false
       by_test true is = cc
@@ -484,7 +484,7 @@ module _ (s : State) (room : Room) (request : PlainRequest) where
 
   -- what was kept is the request
   pub kept-is : (kept : PlainRequest) → IsReserved s room request (Some kept) → kept ≡ request
-  kept-is kept has = by_test (is_kept request.kind) has.call
+  kept-is kept has = by_test (keeps_request request.kind) has.call
     where
       by_test : (b : Bool) → Some kept ≡ (if b then Some request else None) → kept ≡ request
       by_test true is = cc

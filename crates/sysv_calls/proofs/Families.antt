@@ -3,7 +3,7 @@ use Rattle.std.proofs.Common.{◌≡◌, ℕ, ℤ, Bool, false, List, None, refl
 use Rattle.std.specs.Prelude.{Ok}
 use Rattle.ipc_base.specs.declared.identity.Cred.{Cred}
 use Rattle.ipc_base.specs.declared.limits.Limits.{Limits}
-use Rattle.ipc_wire.specs.Request.{PlainCall, Calls}
+use Rattle.ipc_wire.specs.Request.{PlainSysv, Sysv}
 use Rattle.ipc_wire.specs.Request as requests
 use Rattle.ipc_state.specs.State.{State}
 use Rattle.ipc_state.specs.Waiting.{awaited_by}
@@ -11,16 +11,16 @@ use Rattle.sysv_calls.specs.Calls.{is_receive}
 use Rattle.sysv_calls.specs.Seen.{place_in}
 
 -- a call that never waits: it waits on nothing, has no tests to pass first, and is no receive
-pub record IsOther (call : PlainCall) : Type 0 where
-  pub never : awaited_by (Calls call) ≡ None
-  pub no_receive : is_receive (Calls call) ≡ false
+pub record IsOther (call : PlainSysv) : Type 0 where
+  pub never : awaited_by (Sysv call) ≡ None
+  pub no_receive : is_receive (Sysv call) ≡ false
   pub untested : (limits : Limits) (s : State) (cred : Cred) (pid : ℕ) (again : Bool) → place_in limits s cred pid again call ≡ Ok 0
 
 -- what holds of the calls that may wait, and of all others, holds of every call
-pub by-waiting : (P : PlainCall → Type 0) → ((id flags : ℕ) (mtype : ℤ) (text : List ℕ) → P (requests.Msgsnd id flags mtype text))
+pub by-waiting : (P : PlainSysv → Type 0) → ((id flags : ℕ) (mtype : ℤ) (text : List ℕ) → P (requests.Msgsnd id flags mtype text))
     → ((id flags size : ℕ) (mtype : ℤ) → P (requests.Msgrcv id flags size mtype))
-    → ((id timeout : ℕ) (operations : List ℕ) → P (requests.Semop id timeout operations)) → ((call : PlainCall) → IsOther call → P call)
-    → (call : PlainCall) → P call
+    → ((id timeout : ℕ) (operations : List ℕ) → P (requests.Semop id timeout operations)) → ((call : PlainSysv) → IsOther call → P call)
+    → (call : PlainSysv) → P call
 by-waiting P sends receives operates others (requests.Msgsnd id flags mtype text) = sends id flags mtype text
 by-waiting P sends receives operates others (requests.Msgrcv id flags size mtype) = receives id flags size mtype
 by-waiting P sends receives operates others (requests.Semop id timeout operations) = operates id timeout operations

@@ -29,11 +29,11 @@ use Rattle.sysv_sem.specs.declared.set.Semaphore.{Semaphore}
 use Rattle.sysv_sem.specs.declared.operation.Operation.{Operation}
 use Rattle.sysv_sem.specs.Operation.{Outcome, Done as IsDone, Blocks as Stops, Fails as IsRefused, most_value, outcome}
 use Rattle.sysv_sem.specs.Set.{Set, values_of}
-use Rattle.ipc_state.specs.Held.{Room, HasSetPlace}
+use Rattle.ipc_state.specs.Held.{Room, HasSemsetPlace}
 use Rattle.ipc_state.specs.Lends.{HasPutObject}
 use Rattle.ipc_state.specs.Tables.{HeldObjects}
 use Rattle.ipc_state.proofs.CallerLemmas.{put-keys}
-use Rattle.ipc_state.specs.State.{State, set_of}
+use Rattle.ipc_state.specs.State.{State, semset_of}
 use Rattle.ipc_state.specs.Finish.{Attempt, Halt, Fails, refuse, if_some, ◌orelse◌, ◌orstop◌, ◌>>◌, ◌>>=◌}
 use Rattle.ipc_state.proofs.CallerLemmas.{ok-same, orstop-passed, passed, stop-passed}
 use Rattle.sysv_calls.specs.Access.{read, write, has, gone, is_exclusive, may_make, reached, accessible, owned, removed, sought}
@@ -138,25 +138,25 @@ receives s cred again id flags size mtype found is =
 
 -- what holds of a semaphore that was found
 pub record IsFound (s : State) (id num : ℕ) (found : Entry Set × Semaphore) : Type 0 where
-  pub there : set_of s id ≡ Some found.0
+  pub there : semset_of s id ≡ Some found.0
   pub at : slice_get found.0.object.semaphores num ≡ Some found.1
 
 pub semaphore-there : (s : State) (cred : Cred) (id num access : ℕ) (found : Entry Set × Semaphore) → semaphore s cred id num access ≡ Ok found
     → IsFound s id num found
 semaphore-there s cred id num access found is =
-    let a = passed (set_of s id orelse EINVAL) _ found is in
+    let a = passed (semset_of s id orelse EINVAL) _ found is in
     let b = passed (slice_get a.value.object.semaphores num orelse EINVAL) _ found a.rest in
     let c = stop-passed (Fails EACCES) (not (may cred a.value.perm access)) _ found b.rest in
     let last : Ok (a.value, b.value) ≡ Ok found = c.1 in
     let same : (a.value, b.value) ≡ found = cc in
     subst (IsFound s id num) same (record {
-      there = orstop-passed (set_of s id) (Fails EINVAL) a.value a.was;
+      there = orstop-passed (semset_of s id) (Fails EINVAL) a.value a.was;
       at = orstop-passed (slice_get a.value.object.semaphores num) (Fails EINVAL) b.value b.was;
     })
 
 -- what holds of a set of which all values may be set
 pub record IsSettable (s : State) (id : ℕ) (to : List ℕ) (e : Entry Set) : Type 0 where
-  pub there : set_of s id ≡ Some e
+  pub there : semset_of s id ≡ Some e
   pub count : length to ≡ length e.object.semaphores
   pub values : All (λ v. v ≤ most_value) to
 
@@ -166,14 +166,14 @@ not-false false h = cc
 
 pub settable-there : (s : State) (cred : Cred) (id : ℕ) (values : List ℕ) (e : Entry Set) → settable s cred id values ≡ Ok e → IsSettable s id values e
 settable-there s cred id values e is =
-    let a = passed (set_of s id orelse EINVAL) _ e is in
+    let a = passed (semset_of s id orelse EINVAL) _ e is in
     let b = stop-passed (Fails EINVAL) (not (length values == length a.value.object.semaphores)) _ e a.rest in
     let c = stop-passed (Fails EACCES) (not (may cred a.value.perm write)) _ e b.1 in
     let d = stop-passed (Fails ERANGE) (not (are_values values)) _ e c.1 in
     let last : Ok a.value ≡ Ok e = d.1 in
     let same : a.value ≡ e = cc in
     subst (IsSettable s id values) same (record {
-      there = orstop-passed (set_of s id) (Fails EINVAL) a.value a.was;
+      there = orstop-passed (semset_of s id) (Fails EINVAL) a.value a.was;
       count = eqb-true _ _ (not-false _ b.0);
       values = All-weaker (λ v. nat_le v most_value ≡ true) (λ v. v ≤ most_value) (λ v is. leb-true v most_value is) values
           (AllPass-from_list_all (λ v. nat_le v most_value) values (not-false _ d.0));
@@ -182,7 +182,7 @@ settable-there s cred id values e is =
 -- what holds of a list of operations that can be performed, of its set, and of the values after it
 pub record Operates (limits : Limits) (s : State) (pid id : ℕ) (ops : List Operation) (found : Entry Set × List ℕ) : Type 0 where
   pub few : length ops ≤ limits.semopm
-  pub there : set_of s id ≡ Some found.0
+  pub there : semset_of s id ≡ Some found.0
   pub within : All (λ o. o.num < length found.0.object.semaphores) ops
   pub done : (after : ℕ → ℤ) × (outcome (values_of found.0.object) (held_by s pid id) ops ≡ IsDone found.1 after)
 
@@ -198,7 +198,7 @@ operates limits s cred pid again id ops found is =
     let o = passed (operable limits s cred again id ops) _ t.value t.was in
     let d = passed (decided ops t.value.1) _ found t.rest in
     let some = stop-passed (Fails EINVAL) (length ops == 0) _ o.value o.was in
-    let e = passed (set_of s id orelse gone again) _ o.value some.1 in
+    let e = passed (semset_of s id orelse gone again) _ o.value some.1 in
     let b = stop-passed (Fails E2BIG) (nat_lt limits.semopm (length ops)) _ o.value e.rest in
     let c = stop-passed (Fails EFBIG) (not (are_within (length e.value.object.semaphores) ops)) _ o.value b.1 in
     let f = stop-passed (Fails EACCES) (not (list_all (λ x. may cred e.value.perm (asked x)) ops)) _ o.value c.1 in
@@ -210,7 +210,7 @@ operates limits s cred pid again id ops found is =
     let whole : ends (pair e.value) ≡ found = ◌∙◌ {b = ends t.value} (ap ends tried) (ok-same d.rest) in
     subst (Operates limits s pid id ops) whole (record {
       few = ltb-false limits.semopm (length ops) b.0;
-      there = orstop-passed (set_of s id) (Fails (gone again)) e.value e.was;
+      there = orstop-passed (semset_of s id) (Fails (gone again)) e.value e.was;
       within = All-weaker (λ o. nat_lt o.num (length e.value.object.semaphores) ≡ true) (λ o. o.num < length e.value.object.semaphores)
           (λ o is. ltb-true o.num (length e.value.object.semaphores) is) ops
           (AllPass-from_list_all (λ o. nat_lt o.num (length e.value.object.semaphores)) ops (not-false _ c.0));
@@ -282,14 +282,14 @@ not-none n h = grind (arith, nat_tests)
 
 -- a set of as many semaphores as one may have has a place, if one was reserved
 pub has-set_place : (limits : Limits) (s : State) (room : Room) (key nsems : ℤ) (n : ℕ) → limits.semmsl ≤ 64 → count_of limits nsems ≡ Some n → 0 < n
-    → Has s room (set_place key nsems) → HasSetPlace s room key n
+    → Has s room (set_place key nsems) → HasSemsetPlace s room key n
 has-set_place limits s room key (pos zero) n most is some has =
     let none : n ≡ 0 = counted-is limits zero n is in absurd (omega (arith, none, some))
 has-set_place limits s room key (pos (suc k)) n most is some has =
     let same : n ≡ suc k = counted-is limits (suc k) n is in
     let few : suc k ≤ limits.semmsl = counted-few limits (suc k) n is in
     let inside : nat_lt k 64 ≡ true = below k 64 (omega (arith, few, most)) in
-    subst (λ (m : ℕ). HasSetPlace s room key m) (sym same)
+    subst (λ (m : ℕ). HasSemsetPlace s room key m) (sym same)
     (subst (λ (b : Bool). Has s room (if b then SetPlace key (suc k) else Nothing)) inside has)
   where
     below : (a b : ℕ) → a < b → nat_lt a b ≡ true

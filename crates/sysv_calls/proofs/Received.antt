@@ -13,7 +13,7 @@ use Rattle.sysv_msg.proofs.CallerLemmas.{pick-removed}
 use Rattle.ipc_state.specs.declared.keyed.Entry.{Entry}
 use Rattle.ipc_state.specs.Numbered.{entry_of, last_number}
 use Rattle.ipc_state.specs.Keyed.{holding}
-use Rattle.ipc_state.specs.State.{State, with_queue}
+use Rattle.ipc_state.specs.State.{State, with_msg_queue}
 use Rattle.ipc_state.specs.Finish.{Attempt, Finish, Finishes, Halt, Fails, Blocks, ended, answer, refuse, ◌orelse◌, ◌orstop◌, ◌>>◌, ◌>>=◌}
 use Rattle.ipc_state.proofs.CallerLemmas.{is_blocked}
 use Rattle.sysv_calls.specs.Access.{read, has, gone}
@@ -22,7 +22,7 @@ use Rattle.sysv_calls.proofs.Reaching.{Receives, receives}
 
 -- the state that a receive of this message leaves
 abbrev pub left : State → ℕ → ℕ → Entry Queue × ℕ → State
-left s pid id found = with_queue s id (holding found.0 (taken found.0.object found.1 pid s.clock))
+left s pid id found = with_msg_queue s id (holding found.0 (taken found.0.object found.1 pid s.clock))
 
 module _ (s : State) (cred : Cred) (pid : ℕ) (again : Bool) (id flags size : ℕ) (mtype : ℤ) (f : Finish) where
   -- what holds before, and after each message that may be taken, holds after a receive that came to its end

@@ -16,7 +16,7 @@ use Rattle.ipc_wire.specs.declared.reply.Body.TheVariants.{Empty, Number}
 use Rattle.ipc_state.specs.Keyed.{Keyed, holding, keyed, permitting}
 use Rattle.ipc_state.specs.Numbered.{entry_of, is_full}
 use Rattle.ipc_state.specs.Sound.{semaphore_count}
-use Rattle.ipc_state.specs.State.{State, set_of, with_queue, with_new_queue, with_new_set}
+use Rattle.ipc_state.specs.State.{State, semset_of, with_msg_queue, with_new_msg_queue, with_new_semset}
 use Rattle.ipc_state.specs.Finish.{Attempt, Done, answer, refuse}
 use Rattle.ipc_state.specs.Finish.{◌>>◌}
 use Rattle.ipc_state.proofs.CallerLemmas.{Runs, if_some-runs, orelse-runs, refuse-runs, then-runs}
@@ -55,35 +55,35 @@ msgget-runs limits s cred key flags =
     then-runs (sought s.msg key flags) _ (sought-runs s.msg key flags)
     (λ found. if_some-runs found (found_queue s cred flags) (made_queue limits s cred key flags)
     (λ id. then-runs (accessible false s.msg cred id (asked_by flags)) _ (accessible-runs s.msg cred id (asked_by flags)) (λ e. refl))
-    (refuse-runs ENOSPC (is_full limits.msgmni s.msg) (answer (with_new_queue limits s key (perm_of cred flags)) (Number s.msg.next)) refl))
+    (refuse-runs ENOSPC (is_full limits.msgmni s.msg) (answer (with_new_msg_queue limits s key (perm_of cred flags)) (Number s.msg.next)) refl))
 
 pub msgctl_set-runs : (limits : Limits) (s : State) (cred : Cred) (id uid gid mode qbytes : ℕ) → Runs (msgctl_set limits s cred id uid gid mode qbytes)
 msgctl_set-runs limits s cred id uid gid mode qbytes =
     then-runs (owned s.msg cred id) _ (owned-runs s.msg cred id) (λ e. refuse-runs EPERM (nat_lt limits.msgmnb qbytes)
-    (answer (with_queue s id (holding (permitting e (owned_by e.perm uid gid mode)) (changed e.object qbytes s.clock))) Empty) refl)
+    (answer (with_msg_queue s id (holding (permitting e (owned_by e.perm uid gid mode)) (changed e.object qbytes s.clock))) Empty) refl)
 
 pub msgctl_rmid-runs : (s : State) (cred : Cred) (id : ℕ) → Runs (msgctl_rmid s cred id)
 msgctl_rmid-runs s cred id = then-runs (removed s.msg cred id) _ (removed-runs s.msg cred id) (λ queues. refl)
 
 made_set-runs : (limits : Limits) (s : State) (cred : Cred) (key : ℤ) (flags n : ℕ) → Runs (made_set limits s cred key flags n)
 made_set-runs limits s cred key flags n =
-    let made : Attempt Done = answer (with_new_set s key (perm_of cred flags) n) (Number s.sem.next) in
-    let third : Attempt Done = refuse ENOSPC (nat_lt limits.semmns (semaphore_count s.sem + n)) >> made in
-    let second : Attempt Done = refuse ENOSPC (is_full limits.semmni s.sem) >> third in
-    refuse-runs EINVAL (n == 0) second (refuse-runs ENOSPC (is_full limits.semmni s.sem) third
-    (refuse-runs ENOSPC (nat_lt limits.semmns (semaphore_count s.sem + n)) made refl))
+    let made : Attempt Done = answer (with_new_semset s key (perm_of cred flags) n) (Number s.semset.next) in
+    let third : Attempt Done = refuse ENOSPC (nat_lt limits.semmns (semaphore_count s.semset + n)) >> made in
+    let second : Attempt Done = refuse ENOSPC (is_full limits.semmni s.semset) >> third in
+    refuse-runs EINVAL (n == 0) second (refuse-runs ENOSPC (is_full limits.semmni s.semset) third
+    (refuse-runs ENOSPC (nat_lt limits.semmns (semaphore_count s.semset + n)) made refl))
 
 pub semget-runs : (limits : Limits) (s : State) (cred : Cred) (key nsems : ℤ) (flags : ℕ) → Runs (semget limits s cred key nsems flags)
 semget-runs limits s cred key nsems flags =
-    orelse-runs (count_of limits nsems) EINVAL _ (λ n. then-runs (sought s.sem key flags) _ (sought-runs s.sem key flags) (λ found.
+    orelse-runs (count_of limits nsems) EINVAL _ (λ n. then-runs (sought s.semset key flags) _ (sought-runs s.semset key flags) (λ found.
     if_some-runs found (found_set s cred flags n) (made_set limits s cred key flags n)
-    (λ id. refuse-runs EINVAL (has_fewer (set_of s id) n) _
-    (then-runs (accessible false s.sem cred id (asked_by flags)) _ (accessible-runs s.sem cred id (asked_by flags)) (λ e. refl)))
+    (λ id. refuse-runs EINVAL (has_fewer (semset_of s id) n) _
+    (then-runs (accessible false s.semset cred id (asked_by flags)) _ (accessible-runs s.semset cred id (asked_by flags)) (λ e. refl)))
     (made_set-runs limits s cred key flags n)))
 
 semaphore-runs : (s : State) (cred : Cred) (id num access : ℕ) → Runs (semaphore s cred id num access)
 semaphore-runs s cred id num access =
-    orelse-runs (set_of s id) EINVAL _ (λ e. orelse-runs (slice_get e.object.semaphores num) EINVAL _ (λ x.
+    orelse-runs (semset_of s id) EINVAL _ (λ e. orelse-runs (slice_get e.object.semaphores num) EINVAL _ (λ x.
     refuse-runs EACCES (not (may cred e.perm access)) (Ok (e, x)) refl))
 
 pub semctl_getval-runs : (s : State) (cred : Cred) (id num : ℕ) → Runs (semctl_getval s cred id num)
@@ -100,18 +100,18 @@ semctl_setval-runs s cred pid id num value =
     then-runs (semaphore s cred id num write) _ (semaphore-runs s cred id num write) (λ found. orelse-runs (value_of value) ERANGE _ (λ v. refl))
 
 pub semctl_getall-runs : (s : State) (cred : Cred) (id : ℕ) → Runs (semctl_getall s cred id)
-semctl_getall-runs s cred id = then-runs (accessible false s.sem cred id read) _ (accessible-runs s.sem cred id read) (λ e. refl)
+semctl_getall-runs s cred id = then-runs (accessible false s.semset cred id read) _ (accessible-runs s.semset cred id read) (λ e. refl)
 
 pub semctl_setall-runs : (s : State) (cred : Cred) (pid id : ℕ) (bytes : List ℕ) → Runs (semctl_setall s cred pid id bytes)
 semctl_setall-runs s cred pid id bytes =
-    then-runs (settable s cred id (numbers_in bytes)) _ (orelse-runs (set_of s id) EINVAL _ (λ e.
+    then-runs (settable s cred id (numbers_in bytes)) _ (orelse-runs (semset_of s id) EINVAL _ (λ e.
     let last : Attempt (Entry Set) = refuse ERANGE (not (are_values (numbers_in bytes))) >> Ok e in
     let second : Attempt (Entry Set) = refuse EACCES (not (may cred e.perm write)) >> last in
     refuse-runs EINVAL (not (length (numbers_in bytes) == length e.object.semaphores)) second
     (refuse-runs EACCES (not (may cred e.perm write)) last (refuse-runs ERANGE (not (are_values (numbers_in bytes))) (Ok e) refl)))) (λ e. refl)
 
 pub semctl_set-runs : (s : State) (cred : Cred) (id uid gid mode : ℕ) → Runs (semctl_set s cred id uid gid mode)
-semctl_set-runs s cred id uid gid mode = then-runs (owned s.sem cred id) _ (owned-runs s.sem cred id) (λ e. refl)
+semctl_set-runs s cred id uid gid mode = then-runs (owned s.semset cred id) _ (owned-runs s.semset cred id) (λ e. refl)
 
 pub semctl_rmid-runs : (s : State) (cred : Cred) (id : ℕ) → Runs (semctl_rmid s cred id)
-semctl_rmid-runs s cred id = then-runs (removed s.sem cred id) _ (removed-runs s.sem cred id) (λ sets. refl)
+semctl_rmid-runs s cred id = then-runs (removed s.semset cred id) _ (removed-runs s.semset cred id) (λ sets. refl)

@@ -150,11 +150,11 @@ process-undo limits s pid sound process =
 
 -- for adjustments at semaphores that are there, there is room
 room : (limits : Limits) (s : State) (pid : ℕ) → HasSoundParts limits s → ArePassed limits → value_at nat_eq s.undo pid ≡ Some (undo_of s pid)
-    → (u : Undo) → AreAt s.sem u → fin.len u ≤ most_rows
+    → (u : Undo) → AreAt s.semset u → fin.len u ≤ most_rows
 room limits s pid sound passed there u at =
     let put = set-undo limits s (with_value nat_eq s.undo pid u) sound (record {
       pids = keys_of-with_value nat_eq s.undo pid u ∙ sound.undo.pids;
-      each = each-with (AreAt s.sem) s.undo pid u sound.undo.each at;
+      each = each-with (AreAt s.semset) s.undo pid u sound.undo.each at;
     }) in
     let few = each-at (λ (v : Undo). fin.len v ≤ limits.semmns) (with_value nat_eq s.undo pid u) pid u
     (few-adjustments limits (record s { undo = with_value nat_eq s.undo pid u }) put) (at-with s.undo pid u (undo_of s pid) there) in
@@ -258,9 +258,9 @@ ready-noted limits s pid id ops subtracted-there subtracted-others sound ready =
     let there = process-undo limits s pid sound ready.process in
     let e = ready.found.0.0 in
     let p = ready.found.1 in
-    let at = each-at (AreAt s.sem) s.undo pid (undo_of s pid) sound.undo.each there in
+    let at = each-at (AreAt s.semset) s.undo pid (undo_of s pid) sound.undo.each there in
     record {
       there = there;
-      each = noted-each s.sem id e p.there (room limits s pid sound ready.passed there) subtracted-there subtracted-others
+      each = noted-each s.semset id e p.there (room limits s pid sound ready.passed there) subtracted-there subtracted-others
           0 (values_of e.object) (held_by s pid id) ops ready.found.0.1 p.done.0 (undo_of s pid) p.done.1 (λ n. refl) p.within at;
     }

@@ -39,12 +39,12 @@ use Rattle.ipc_state.specs.Keyed.{Keyed, holding, keyed, permitting}
 use Rattle.ipc_state.specs.Numbered.{entry_of, is_full, with_new}
 use Rattle.ipc_state.specs.Finish.{Attempt, Done, answer}
 use Rattle.ipc_state.specs.Sound.{HasSoundParts, AreAt, FitsBody, has_semaphore, semaphore_count}
-use Rattle.ipc_state.specs.State.{State, set_of, undo_of, with_set, without_adjustments}
+use Rattle.ipc_state.specs.State.{State, semset_of, undo_of, with_semset, without_adjustments}
 use Rattle.ipc_state.specs.Touching.{object_of, is_there, IsAsBefore}
 use Rattle.ipc_state.proofs.CallerLemmas.{Ends, same-processes, after-refuse, after-attempt, after-orstop, by-if_some, answered}
 use Rattle.ipc_state.proofs.CallerLemmas as ends
-use Rattle.ipc_state.proofs.CallerLemmas.{perm_of-mode, owned_by-mode, with_new_set-sound, permitted_set-sound}
-use Rattle.ipc_state.proofs.CallerLemmas.{with_set-sound, without_set-sound, without_adjustments-sound}
+use Rattle.ipc_state.proofs.CallerLemmas.{perm_of-mode, owned_by-mode, with_new_semset-sound, permitted_set-sound}
+use Rattle.ipc_state.proofs.CallerLemmas.{with_semset-sound, without_semset-sound, without_adjustments-sound}
 use Rattle.ipc_state.proofs.CallerLemmas.{set-sound, with_value-sound, with_values-sound, carried-sound, changed_set-sound, with_undo-sound, undo_of-at}
 use Rattle.sysv_calls.specs.Access.{read, write, accessible, owned, removed, sought}
 use Rattle.sysv_calls.specs.Records.{perm_fields, set_fields}
@@ -59,7 +59,7 @@ abbrev EndsWell : Limits → State → Attempt Done → Type 0
 EndsWell limits s call = Ends limits s None call
 
 abbrev of : ℕ → Option Object
-of id = Some (object.Set (record { 0 = id }))
+of id = Some (object.Semset (record { 0 = id }))
 
 other_id : (id n : ℕ) → of id ≢ of n → n ≢ id
 other_id id n apart same = apart (ap of (sym same))
@@ -130,10 +130,10 @@ has-within sets id num e there within =
 
 module _ (limits : Limits) (s : State) where
   -- a new set changes none that is there
-  good-more : (e : Entry Set) → (HasSoundParts limits s → HasSoundParts limits (record s { sem = with_new s.sem e })) → (body : PlainBody)
-      → (HasSoundParts limits s → FitsBody limits body) → EndsWell limits s (answer (record s { sem = with_new s.sem e }) body)
+  good-more : (e : Entry Set) → (HasSoundParts limits s → HasSoundParts limits (record s { semset = with_new s.semset e })) → (body : PlainBody)
+      → (HasSoundParts limits s → FitsBody limits body) → EndsWell limits s (answer (record s { semset = with_new s.semset e }) body)
   good-more e sound body fits =
-      answered (record s { sem = with_new s.sem e }) body
+      answered (record s { semset = with_new s.semset e }) body
       (record {
         state = sound;
         body = fits;
@@ -143,18 +143,18 @@ module _ (limits : Limits) (s : State) where
         others = λ h pid on waits apart there. same pid on there;
       })
     where
-      same : (pid : ℕ) (on : Awaited) → is_there pid on s ≡ true → IsAsBefore pid on s (record s { sem = with_new s.sem e })
-      same pid (awaited.Queue n) there = refl
-      same pid (awaited.Set n) there = (there-append s.sem.entries _ n.0 there, λ pid num. refl)
+      same : (pid : ℕ) (on : Awaited) → is_there pid on s ≡ true → IsAsBefore pid on s (record s { semset = with_new s.semset e })
+      same pid (awaited.MsgQueue n) there = refl
+      same pid (awaited.Semset n) there = (there-append s.semset.entries _ n.0 there, λ pid num. refl)
       same pid (awaited.Descriptor fd) there = (refl, λ n is. refl, λ n is. refl)
 
   -- another set in its place, or none, and other adjustments there change no other set on which others wait
-  good-sets : (id : ℕ) (sem : Keyed Set) (undo : List (ℕ × Undo)) → (HasSoundParts limits s → HasSoundParts limits (record s { sem = sem; undo = undo }))
-      → ((n : ℕ) → n ≢ id → entry_of sem n ≡ entry_of s.sem n)
+  good-sets : (id : ℕ) (sem : Keyed Set) (undo : List (ℕ × Undo)) → (HasSoundParts limits s → HasSoundParts limits (record s { semset = sem; undo = undo }))
+      → ((n : ℕ) → n ≢ id → entry_of sem n ≡ entry_of s.semset n)
       → ((pid : ℕ) (k : Key) → k.0 ≢ id → adjustment (those undo pid) k ≡ adjustment (those s.undo pid) k)
-      → Ends limits s (of id) (answer (record s { sem = sem; undo = undo }) Empty)
+      → Ends limits s (of id) (answer (record s { semset = sem; undo = undo }) Empty)
   good-sets id sem undo sound others elsewhere =
-      answered (record s { sem = sem; undo = undo }) Empty
+      answered (record s { semset = sem; undo = undo }) Empty
       (record {
         state = sound;
         body = λ _. omega arith;
@@ -164,9 +164,9 @@ module _ (limits : Limits) (s : State) where
         others = λ h pid on waits apart there. same pid on apart;
       })
     where
-      same : (pid : ℕ) (on : Awaited) → of id ≢ object_of s pid on → IsAsBefore pid on s (record s { sem = sem; undo = undo })
-      same pid (awaited.Queue n) apart = refl
-      same pid (awaited.Set n) apart =
+      same : (pid : ℕ) (on : Awaited) → of id ≢ object_of s pid on → IsAsBefore pid on s (record s { semset = sem; undo = undo })
+      same pid (awaited.MsgQueue n) apart = refl
+      same pid (awaited.Semset n) apart =
           let other = other_id id n.0 apart in
           (others n.0 other, λ pid num. elsewhere pid (n.0, num) other)
       same pid (awaited.Descriptor fd) apart = (refl, λ n is. refl, λ n is. refl)
@@ -182,21 +182,21 @@ module _ (limits : Limits) (s : State) where
   some-of : (n : ℕ) → (n == 0) ≡ false → 0 < n
   some-of n is = grind (arith, nat_tests)
 
-  made-ends : (cred : Cred) (key : ℤ) (flags n : ℕ) → keyed s.sem key ≡ None → n ≤ limits.semmsl → EndsWell limits s (made_set limits s cred key flags n)
+  made-ends : (cred : Cred) (key : ℤ) (flags n : ℕ) → keyed s.semset key ≡ None → n ≤ limits.semmsl → EndsWell limits s (made_set limits s cred key flags n)
   made-ends cred key flags n unused few =
-      after-refuse EINVAL {b = n == 0} (λ some. after-refuse ENOSPC {b = is_full limits.semmni s.sem} (λ room.
-      after-refuse ENOSPC {b = nat_lt limits.semmns (semaphore_count s.sem + n)} (λ all.
+      after-refuse EINVAL {b = n == 0} (λ some. after-refuse ENOSPC {b = is_full limits.semmni s.semset} (λ room.
+      after-refuse ENOSPC {b = nat_lt limits.semmns (semaphore_count s.semset + n)} (λ all.
       good-more (record { key = key; perm = perm_of cred flags; object = new_set n s.clock })
-      (with_new_set-sound limits s key (perm_of cred flags) n unused room (perm_of-mode cred flags) (some-of n some) few
-      (ltb-false limits.semmns (semaphore_count s.sem + n) all)) (Number s.sem.next) (λ _. omega arith))))
+      (with_new_semset-sound limits s key (perm_of cred flags) n unused room (perm_of-mode cred flags) (some-of n some) few
+      (ltb-false limits.semmns (semaphore_count s.semset + n) all)) (Number s.semset.next) (λ _. omega arith))))
 
   pub semget-ends : (cred : Cred) (key nsems : ℤ) (flags : ℕ) → EndsWell limits s (semget limits s cred key nsems flags)
   semget-ends cred key nsems flags =
-      after-orstop _ {o = count_of limits nsems} (λ n is. after-attempt {a = sought s.sem key flags} (λ found looked.
+      after-orstop _ {o = count_of limits nsems} (λ n is. after-attempt {a = sought s.semset key flags} (λ found looked.
       by-if_some {o = found}
-      (λ id _. after-refuse EINVAL {b = has_fewer (set_of s id) n} (λ _. after-attempt {a = accessible false s.sem cred id (asked_by flags)} (λ e _.
+      (λ id _. after-refuse EINVAL {b = has_fewer (semset_of s id) n} (λ _. after-attempt {a = accessible false s.semset cred id (asked_by flags)} (λ e _.
       ends.read (Number id) (λ _. omega arith))))
-      (λ none. made-ends cred key flags n (sought-none s.sem key flags (looked ∙ ap (λ (f : Option ℕ). Ok f) none)) (count-few limits nsems n is))))
+      (λ none. made-ends cred key flags n (sought-none s.semset key flags (looked ∙ ap (λ (f : Option ℕ). Ok f) none)) (count-few limits nsems n is))))
 
   pub semctl_getval-ends : (cred : Cred) (id num : ℕ) → EndsWell limits s (semctl_getval s cred id num)
   semctl_getval-ends cred id num =
@@ -213,14 +213,14 @@ module _ (limits : Limits) (s : State) where
       let p : Pid = record { 0 = pid } in
       let x : Semaphore = record { value = v; pid = p } in
       let there = (semaphore-there s cred id num write found was).there in
-      good-sets id _ _ (λ h. without_adjustments-sound limits _ id (Some num) (with_set-sound limits s id e (with_value e.object num v p s.clock) there
+      good-sets id _ _ (λ h. without_adjustments-sound limits _ id (Some num) (with_semset-sound limits s id e (with_value e.object num v p s.clock) there
       (with_value-sound limits e.object num v p s.clock (value-fits value v is) (set-sound limits s id e there h)) (length-set e.object.semaphores num x) h))
-      (λ n. other-with s.sem.entries id n (holding e (with_value e.object num v p s.clock))) (λ pid. cleared-apart s.undo id (Some num) pid)))
+      (λ n. other-with s.semset.entries id n (holding e (with_value e.object num v p s.clock))) (λ pid. cleared-apart s.undo id (Some num) pid)))
 
   pub semctl_getall-ends : (cred : Cred) (id : ℕ) → EndsWell limits s (semctl_getall s cred id)
   semctl_getall-ends cred id =
-      after-attempt {a = accessible false s.sem cred id read} (λ e is. ends.read (Record (record_bytes (map U16 (values_of e.object)))) (λ h.
-      let few = (set-sound limits s id e (reached-there false id EACCES (λ perm. not (may cred perm read)) s.sem e is) h).few in
+      after-attempt {a = accessible false s.semset cred id read} (λ e is. ends.read (Record (record_bytes (map U16 (values_of e.object)))) (λ h.
+      let few = (set-sound limits s id e (reached-there false id EACCES (λ perm. not (may cred perm read)) s.semset e is) h).few in
       omega (
         arith,
         ap (λ fs. length (record_bytes fs)) (map-map U16
@@ -235,32 +235,32 @@ module _ (limits : Limits) (s : State) where
       let values = numbers_in bytes in
       let p : Pid = record { 0 = pid } in
       let ok = settable-there s cred id values e is in
-      good-sets id _ _ (λ h. without_adjustments-sound limits _ id None (with_set-sound limits s id e (with_values e.object values p s.clock) ok.there
+      good-sets id _ _ (λ h. without_adjustments-sound limits _ id None (with_semset-sound limits s id e (with_values e.object values p s.clock) ok.there
       (with_values-sound limits e.object values p s.clock ok.count ok.values (set-sound limits s id e ok.there h))
       (length-map values (λ v. let x : Semaphore = record { value = v; pid = p } in x) ∙ ok.count) h))
-      (λ n. other-with s.sem.entries id n (holding e (with_values e.object values p s.clock))) (λ pid. cleared-apart s.undo id None pid))
+      (λ n. other-with s.semset.entries id n (holding e (with_values e.object values p s.clock))) (λ pid. cleared-apart s.undo id None pid))
 
   pub semctl_stat-ends : (cred : Cred) (id : ℕ) → EndsWell limits s (semctl_stat s cred id)
   semctl_stat-ends cred id =
-      after-attempt {a = accessible false s.sem cred id read} (λ e _. ends.read (Record (record_bytes (perm_fields e ++ set_fields e.object)))
+      after-attempt {a = accessible false s.semset cred id read} (λ e _. ends.read (Record (record_bytes (perm_fields e ++ set_fields e.object)))
       (λ _. omega arith))
 
   pub semctl_set-ends : (cred : Cred) (id uid gid mode : ℕ) → Ends limits s (of id) (semctl_set s cred id uid gid mode)
   semctl_set-ends cred id uid gid mode =
-      after-attempt {a = owned s.sem cred id} (λ e was.
+      after-attempt {a = owned s.semset cred id} (λ e was.
       let perm : Perm = owned_by e.perm uid gid mode in
-      let is = reached-there false id EPERM (λ perm. not (owns cred perm)) s.sem e was in
+      let is = reached-there false id EPERM (λ perm. not (owns cred perm)) s.semset e was in
       good-sets id _ s.undo (λ h. permitted_set-sound limits s id e perm (changed e.object s.clock) is (owned_by-mode e.perm uid gid mode)
       (changed_set-sound limits e.object s.clock (set-sound limits s id e is h)) refl h)
-      (λ n. other-with s.sem.entries id n (holding (permitting e perm) (changed e.object s.clock))) (λ pid k apart. refl))
+      (λ n. other-with s.semset.entries id n (holding (permitting e perm) (changed e.object s.clock))) (λ pid k apart. refl))
 
   pub semctl_rmid-ends : (cred : Cred) (id : ℕ) → Ends limits s (of id) (semctl_rmid s cred id)
   semctl_rmid-ends cred id =
-      after-attempt {a = removed s.sem cred id} (λ sets is.
-      let left = removed-is s.sem cred id sets is in
+      after-attempt {a = removed s.semset cred id} (λ sets is.
+      let left = removed-is s.semset cred id sets is in
       good-sets id sets _
-      (λ h. subst (λ (m : Keyed Set). HasSoundParts limits (without_adjustments id None (record s { sem = m }))) left (without_set-sound limits s id h))
-      (λ n apart. subst (λ (m : Keyed Set). entry_of m n ≡ entry_of s.sem n) left (value_at-without s.sem.entries id n apart))
+      (λ h. subst (λ (m : Keyed Set). HasSoundParts limits (without_adjustments id None (record s { semset = m }))) left (without_semset-sound limits s id h))
+      (λ n apart. subst (λ (m : Keyed Set). entry_of m n ≡ entry_of s.semset n) left (value_at-without s.semset.entries id n apart))
       (λ pid. cleared-apart s.undo id None pid))
 
   pub semctl_getcnt-ends : (cred : Cred) (zero : Bool) (id num : ℕ) → EndsWell limits s (semctl_getcnt limits s cred zero id num)
@@ -274,15 +274,15 @@ module _ (limits : Limits) (s : State) where
       let e : Entry Set = found.0 in
       let p : Pid = record { 0 = pid } in
       let new : Set = carried e.object found.1 ops p s.clock in
-      let t : State = with_set s id (holding e new) in
+      let t : State = with_semset s id (holding e new) in
       let held = held_by s pid id in
       let long = length-carried e.object held ok.done.0 ops found.1 p s.clock ok.done.1 in
       let good = carried-sound limits e.object held ok.done.0 ops found.1 p s.clock ok.done.1 (set-sound limits s id e ok.there h) in
-      let whole : HasSoundParts limits t = with_set-sound limits s id e new ok.there good long h in
-      let there : entry_of t.sem id ≡ Some (holding e new) = at-with s.sem.entries id (holding e new) e ok.there in
-      with_undo-sound limits t pid (fold (noted id) (undo_of s pid) ops) whole (noted-at t.sem id (undo_of s pid) ops (undo_of-at limits t pid whole)
-      (All-weaker (λ o. o.num < length e.object.semaphores) (λ o. has_semaphore t.sem (id, o.num) ≡ true)
-      (λ o is. has-within t.sem id o.num (holding e new) there (omega (arith, is, long))) ops ok.within))
+      let whole : HasSoundParts limits t = with_semset-sound limits s id e new ok.there good long h in
+      let there : entry_of t.semset id ≡ Some (holding e new) = at-with s.semset.entries id (holding e new) e ok.there in
+      with_undo-sound limits t pid (fold (noted id) (undo_of s pid) ops) whole (noted-at t.semset id (undo_of s pid) ops (undo_of-at limits t pid whole)
+      (All-weaker (λ o. o.num < length e.object.semaphores) (λ o. has_semaphore t.semset (id, o.num) ≡ true)
+      (λ o is. has-within t.semset id o.num (holding e new) there (omega (arith, is, long))) ops ok.within))
 
   pub semop-ends : (cred : Cred) (pid : ℕ) (again : Bool) (id : ℕ) (operations : List ℕ) → Ends limits s (of id) (semop limits s cred pid again id operations)
   semop-ends cred pid again id operations =
@@ -290,5 +290,5 @@ module _ (limits : Limits) (s : State) where
       let ops = operations_of operations in
       let new : Set = carried found.0.object found.1 ops (record { 0 = pid }) s.clock in
       good-sets id _ _ (operated-sound pid id ops found (operates limits s cred pid again id ops found is))
-      (λ n. other-with s.sem.entries id n (holding found.0 new))
+      (λ n. other-with s.semset.entries id n (holding found.0 new))
       (λ p k apart. put-apart s.undo pid (fold (noted id) (undo_of s pid) ops) k (noted-apart id (undo_of s pid) ops k apart) p))

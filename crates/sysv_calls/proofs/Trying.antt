@@ -6,7 +6,7 @@ use Rattle.ipc_base.specs.declared.identity.Cred.{Cred}
 use Rattle.ipc_base.specs.declared.limits.Limits.{Limits}
 use Rattle.ipc_base.specs.Limits.{ArePassed}
 use Rattle.ipc_base.proofs.CallerLemmas.{passed-bounds}
-use Rattle.ipc_wire.specs.Request.{PlainCall}
+use Rattle.ipc_wire.specs.Request.{PlainSysv}
 use Rattle.ipc_wire.specs.Request as requests
 use Rattle.ipc_wire.specs.Reply.{PlainBody}
 use Rattle.ipc_wire.specs.declared.reply.Body.TheVariants.{Empty, Message}
@@ -16,10 +16,10 @@ use Rattle.ipc_state.specs.declared.keyed.Entry.{Entry}
 use Rattle.ipc_state.specs.Keyed.{holding}
 use Rattle.ipc_state.specs.Finish.{Attempt, Done, Halt, Finishes, answer, done, ended, has_to_wait, ◌>>=◌}
 use Rattle.ipc_state.specs.Sound.{HasSoundParts}
-use Rattle.ipc_state.specs.State.{State, cred_of, is_process, queue_of, with_queue}
+use Rattle.ipc_state.specs.State.{State, cred_of, is_process, msg_queue_of, with_msg_queue}
 use Rattle.ipc_state.proofs.CallerLemmas.{queue-sound}
 use Rattle.ipc_state.proofs.CallerLemmas.{Shows, passed, shows, stays-stopped}
-use Rattle.sysv_calls.specs.Calls.{attempt, call_of}
+use Rattle.sysv_calls.specs.Calls.{attempt, definition_of}
 use Rattle.sysv_calls.specs.Msg.{message_at, receivable, sendable}
 use Rattle.sysv_calls.specs.Semop.{IsReady, Passes, operated, operations_of, performable}
 use Rattle.ipc_state.specs.Steps.{attempted, plain_halt}
@@ -42,10 +42,10 @@ has_places q n most few places is =
     second false b is = is
 
 -- stopped by its tests, a call ends so
-stopped : (limits : Limits) (s : State) (pid : ℕ) (again : Bool) (call : PlainCall) (h : Halt) → place_in limits s (cred_of s pid) pid again call ≡ Err h
-    → call_of limits s pid again call ≡ Err h
+stopped : (limits : Limits) (s : State) (pid : ℕ) (again : Bool) (call : PlainSysv) (h : Halt) → place_in limits s (cred_of s pid) pid again call ≡ Err h
+    → definition_of limits s pid again call ≡ Err h
 stopped limits s pid again call h =
-    by-waiting (λ c. place_in limits s (cred_of s pid) pid again c ≡ Err h → call_of limits s pid again c ≡ Err h)
+    by-waiting (λ c. place_in limits s (cred_of s pid) pid again c ≡ Err h → definition_of limits s pid again c ≡ Err h)
     (λ id flags mtype text is. stays-stopped (λ (e : Entry Queue). 0) _ (sendable limits s (cred_of s pid) again id flags mtype text) h is)
     (λ id flags size mtype is. stays-stopped (λ (found : Entry Queue × ℕ). found.1) _ (receivable s (cred_of s pid) again id flags size mtype) h is)
     (λ id timeout operations is.
@@ -53,15 +53,15 @@ stopped limits s pid again call h =
     (λ c other is. let both = sym (other.untested limits s (cred_of s pid) pid again) ∙ is in cc) call
 
 -- the tests of a call answered so
-pub record Tested (limits : Limits) (s : State) (pid : ℕ) (again : Bool) (call : PlainCall) (r : Result ℕ Stops) : Type 0 where
+pub record Tested (limits : Limits) (s : State) (pid : ℕ) (again : Bool) (call : PlainSysv) (r : Result ℕ Stops) : Type 0 where
   pub place : place_in limits s (cred_of s pid) pid again call ≡ attempted r
 
-pub tested : (limits : Limits) (s : State) (pid : ℕ) (again : Bool) (cred : Cred) → cred ≡ cred_of s pid → (call : PlainCall) (r : Result ℕ Stops)
+pub tested : (limits : Limits) (s : State) (pid : ℕ) (again : Bool) (cred : Cred) → cred ≡ cred_of s pid → (call : PlainSysv) (r : Result ℕ Stops)
     → attempted r ≡ place_in limits s cred pid again call → Tested limits s pid again call r
 tested limits s pid again cred same call r answers =
     record { place = sym (answers ∙ ap (λ (c : Cred). place_in limits s c pid again call) same) }
 
-module _ {limits : Limits} {s : State} {pid : ℕ} {again : Bool} {call : PlainCall} {r : Result ℕ Stops} (tests : Tested limits s pid again call r) where
+module _ {limits : Limits} {s : State} {pid : ℕ} {again : Bool} {call : PlainSysv} {r : Result ℕ Stops} (tests : Tested limits s pid again call r) where
   pub waits-on : is_blocked (attempted r) ≡ has_to_wait (attempt limits s pid again call)
   waits-on = sym (waits-as-tested limits s pid again call ∙ ap is_blocked tests.place)
 
@@ -69,7 +69,7 @@ module _ {limits : Limits} {s : State} {pid : ℕ} {again : Bool} {call : PlainC
   ends-stopped h was = sym (ap (ended s) (stopped limits s pid again call (plain_halt h) (tests.place ∙ ap attempted was)))
 
   -- what the tests found of a call that may go on
-  passed-place : {at : ℕ} → r ≡ Ok at → (c : PlainCall) → c ≡ call → place_in limits s (cred_of s pid) pid again c ≡ Ok at
+  passed-place : {at : ℕ} → r ≡ Ok at → (c : PlainSysv) → c ≡ call → place_in limits s (cred_of s pid) pid again c ≡ Ok at
   passed-place was c is = ap (place_in limits s (cred_of s pid) pid again) is ∙ (tests.place ∙ ap attempted was)
 
   -- a send that may go on
@@ -80,10 +80,10 @@ module _ {limits : Limits} {s : State} {pid : ℕ} {again : Bool} {call : PlainC
     may_send : Sends limits s id mtype text shown-send.value
     may_send = sends limits s (cred_of s pid) again id flags mtype text shown-send.value shown-send.was
 
-    pub sends-there : is_some (queue_of s id) ≡ true
+    pub sends-there : is_some (msg_queue_of s id) ≡ true
     sends-there = ap is_some may_send.there
 
-    pub sends-room : HasSoundParts limits s → ArePassed limits → (e : Entry Queue) → queue_of s id ≡ Some e → length e.object.messages < most_messages
+    pub sends-room : HasSoundParts limits s → ArePassed limits → (e : Entry Queue) → msg_queue_of s id ≡ Some e → length e.object.messages < most_messages
     sends-room sound passed e there =
         let one : shown-send.value ≡ e = cc (may_send.there) in
         let room = subst (λ (f : Entry Queue). full f.object (length text) ≡ false) one may_send.room in
@@ -91,14 +91,14 @@ module _ {limits : Limits} {s : State} {pid : ℕ} {again : Bool} {call : PlainC
         has_places e.object (length text) limits.msgmnb (queue-sound limits s id e there sound).qbytes (omega (arith, most)) room
 
     pub sends-finish : (t : State)
-        → ((e : Entry Queue) → queue_of s id ≡ Some e → t ≡ with_queue s id (holding e (sent e.object (record { mtype = mtype; text = text }) pid s.clock)))
+        → ((e : Entry Queue) → msg_queue_of s id ≡ Some e → t ≡ with_msg_queue s id (holding e (sent e.object (record { mtype = mtype; text = text }) pid s.clock)))
         → Finishes (done t Empty) ≡ attempt limits s pid again call
     sends-finish t left =
         let next : Entry Queue → Attempt Done =
-        λ (e : Entry Queue). answer (with_queue s id (holding e (sent e.object (record { mtype = mtype; text = text }) pid s.clock))) Empty in
+        λ (e : Entry Queue). answer (with_msg_queue s id (holding e (sent e.object (record { mtype = mtype; text = text }) pid s.clock))) Empty in
         let ends : ended s (next shown-send.value) ≡ attempt limits s pid again (requests.Msgsnd id flags mtype text) =
         sym (ap (λ (a : Attempt (Entry Queue)). ended s (a >>= next)) shown-send.was) in
-        subst (λ (w : PlainCall). Finishes (done t Empty) ≡ attempt limits s pid again w) is
+        subst (λ (w : PlainSysv). Finishes (done t Empty) ≡ attempt limits s pid again w) is
         (ap (λ (u : State). Finishes (done u Empty)) (left shown-send.value may_send.there) ∙ ends)
 
   -- a receive that may go on
@@ -109,27 +109,27 @@ module _ {limits : Limits} {s : State} {pid : ℕ} {again : Bool} {call : PlainC
     may_receive : Receives s id shown-receive.value
     may_receive = receives s (cred_of s pid) again id flags size mtype shown-receive.value shown-receive.was
 
-    pub receives-there : is_some (queue_of s id) ≡ true
+    pub receives-there : is_some (msg_queue_of s id) ≡ true
     receives-there = ap is_some may_receive.there
 
-    pub receives-inside : (e : Entry Queue) → queue_of s id ≡ Some e → at < length e.object.messages
+    pub receives-inside : (e : Entry Queue) → msg_queue_of s id ≡ Some e → at < length e.object.messages
     receives-inside e there =
         let one : shown-receive.value.0 ≡ e = cc (may_receive.there) in
         let inside = subst (λ (f : Entry Queue). shown-receive.value.1 < length f.object.messages) one may_receive.inside in
         subst (λ (n : ℕ). n < length e.object.messages) shown-receive.is inside
 
     pub receives-finish : (t : State) (body : PlainBody)
-        → ((e : Entry Queue) → queue_of s id ≡ Some e → t ≡ with_queue s id (holding e (taken e.object at pid s.clock)))
-        → ((e : Entry Queue) → queue_of s id ≡ Some e → body ≡ Message (message_at e.object at).mtype (take size (message_at e.object at).text))
+        → ((e : Entry Queue) → msg_queue_of s id ≡ Some e → t ≡ with_msg_queue s id (holding e (taken e.object at pid s.clock)))
+        → ((e : Entry Queue) → msg_queue_of s id ≡ Some e → body ≡ Message (message_at e.object at).mtype (take size (message_at e.object at).text))
         → Finishes (done t body) ≡ attempt limits s pid again call
     receives-finish t body left says =
         let e : Entry Queue = shown-receive.value.0 in
         let next : Entry Queue × ℕ → Attempt Done =
-        λ (found : Entry Queue × ℕ). answer (with_queue s id (holding found.0 (taken found.0.object found.1 pid s.clock)))
+        λ (found : Entry Queue × ℕ). answer (with_msg_queue s id (holding found.0 (taken found.0.object found.1 pid s.clock)))
         (Message (message_at found.0.object found.1).mtype (take size (message_at found.0.object found.1).text)) in
         let ends : ended s (next shown-receive.value) ≡ attempt limits s pid again (requests.Msgrcv id flags size mtype) =
         sym (ap (λ (a : Attempt (Entry Queue × ℕ)). ended s (a >>= next)) shown-receive.was) in
-        subst (λ (w : PlainCall). Finishes (done t body) ≡ attempt limits s pid again w) is
+        subst (λ (w : PlainSysv). Finishes (done t body) ≡ attempt limits s pid again w) is
         ((λ i. Finishes (done (left e may_receive.there i) (says e may_receive.there i)))
         ∙ (ap (λ (n : ℕ). ended s (next (e, n))) (sym shown-receive.is) ∙ ends))
 
@@ -162,4 +162,4 @@ module _ {limits : Limits} {s : State} {pid : ℕ} {again : Bool} {call : PlainC
           let leaves : t ≡ operated s pid id (operations_of operations) found =
           subst (λ (l : List ℕ). Passes limits s pid id (operations_of l) found → t ≡ operated s pid id (operations_of l) found) same (left found)
           may_operate in
-          subst (λ (w : PlainCall). Finishes (done t Empty) ≡ attempt limits s pid again w) is (ap (λ (u : State). Finishes (done u Empty)) leaves ∙ ends)
+          subst (λ (w : PlainSysv). Finishes (done t Empty) ≡ attempt limits s pid again w) is (ap (λ (u : State). Finishes (done u Empty)) leaves ∙ ends)

@@ -1,7 +1,7 @@
 -- What each call answers and leaves, and which object it may change.
 use Rattle.std.specs.Prelude.{ℕ, Bool, true, false, Option, Some, None}
 use Rattle.ipc_base.specs.declared.limits.Limits.{Limits}
-use Rattle.ipc_wire.specs.Request.{PlainCall, PlainKind, Calls}
+use Rattle.ipc_wire.specs.Request.{PlainSysv, PlainKind, Sysv}
 use Rattle.ipc_wire.specs.Request as requests
 use Rattle.ipc_state.specs.declared.parked.Object.{Object}
 use Rattle.ipc_state.specs.declared.parked.Object.TheVariants as object
@@ -13,48 +13,48 @@ use Rattle.sysv_calls.specs.Sem.{semctl_stat, semctl_set, semctl_rmid}
 use Rattle.sysv_calls.specs.Semop.{semop, semctl_getcnt}
 
 -- each call by a process; again where it is one that waited
-abbrev pub call_of : Limits → State → ℕ → Bool → PlainCall → Attempt Done
-call_of limits s pid again (requests.Msgget key flags) = msgget limits s (cred_of s pid) key flags
-call_of limits s pid again (requests.Msgsnd id flags mtype text) =
+abbrev pub definition_of : Limits → State → ℕ → Bool → PlainSysv → Attempt Done
+definition_of limits s pid again (requests.Msgget key flags) = msgget limits s (cred_of s pid) key flags
+definition_of limits s pid again (requests.Msgsnd id flags mtype text) =
     msgsnd limits s (cred_of s pid) pid again id flags mtype text
-call_of limits s pid again (requests.Msgrcv id flags size mtype) =
+definition_of limits s pid again (requests.Msgrcv id flags size mtype) =
     msgrcv s (cred_of s pid) pid again id flags size mtype
-call_of limits s pid again (requests.MsgctlStat id) = msgctl_stat s (cred_of s pid) id
-call_of limits s pid again (requests.MsgctlSet id uid gid mode qbytes) =
+definition_of limits s pid again (requests.MsgctlStat id) = msgctl_stat s (cred_of s pid) id
+definition_of limits s pid again (requests.MsgctlSet id uid gid mode qbytes) =
     msgctl_set limits s (cred_of s pid) id uid gid mode qbytes
-call_of limits s pid again (requests.MsgctlRmid id) = msgctl_rmid s (cred_of s pid) id
-call_of limits s pid again (requests.Semget key nsems flags) = semget limits s (cred_of s pid) key nsems flags
-call_of limits s pid again (requests.Semop id timeout operations) =
+definition_of limits s pid again (requests.MsgctlRmid id) = msgctl_rmid s (cred_of s pid) id
+definition_of limits s pid again (requests.Semget key nsems flags) = semget limits s (cred_of s pid) key nsems flags
+definition_of limits s pid again (requests.Semop id timeout operations) =
     semop limits s (cred_of s pid) pid again id operations
-call_of limits s pid again (requests.SemctlGetVal id num) = semctl_getval s (cred_of s pid) id num
-call_of limits s pid again (requests.SemctlGetPid id num) = semctl_getpid s (cred_of s pid) id num
-call_of limits s pid again (requests.SemctlGetNcnt id num) = semctl_getcnt limits s (cred_of s pid) false id num
-call_of limits s pid again (requests.SemctlGetZcnt id num) = semctl_getcnt limits s (cred_of s pid) true id num
-call_of limits s pid again (requests.SemctlSetVal id num value) = semctl_setval s (cred_of s pid) pid id num value
-call_of limits s pid again (requests.SemctlGetAll id) = semctl_getall s (cred_of s pid) id
-call_of limits s pid again (requests.SemctlSetAll id values) = semctl_setall s (cred_of s pid) pid id values
-call_of limits s pid again (requests.SemctlStat id) = semctl_stat s (cred_of s pid) id
-call_of limits s pid again (requests.SemctlSet id uid gid mode) = semctl_set s (cred_of s pid) id uid gid mode
-call_of limits s pid again (requests.SemctlRmid id) = semctl_rmid s (cred_of s pid) id
+definition_of limits s pid again (requests.SemctlGetVal id num) = semctl_getval s (cred_of s pid) id num
+definition_of limits s pid again (requests.SemctlGetPid id num) = semctl_getpid s (cred_of s pid) id num
+definition_of limits s pid again (requests.SemctlGetNcnt id num) = semctl_getcnt limits s (cred_of s pid) false id num
+definition_of limits s pid again (requests.SemctlGetZcnt id num) = semctl_getcnt limits s (cred_of s pid) true id num
+definition_of limits s pid again (requests.SemctlSetVal id num value) = semctl_setval s (cred_of s pid) pid id num value
+definition_of limits s pid again (requests.SemctlGetAll id) = semctl_getall s (cred_of s pid) id
+definition_of limits s pid again (requests.SemctlSetAll id values) = semctl_setall s (cred_of s pid) pid id values
+definition_of limits s pid again (requests.SemctlStat id) = semctl_stat s (cred_of s pid) id
+definition_of limits s pid again (requests.SemctlSet id uid gid mode) = semctl_set s (cred_of s pid) id uid gid mode
+definition_of limits s pid again (requests.SemctlRmid id) = semctl_rmid s (cred_of s pid) id
 
 -- the object that a call may change, so that those that wait on it may go on
-abbrev pub touched : PlainCall → Option Object
-touched (requests.Msgsnd id flags mtype text) = Some (object.Queue (record { 0 = id }))
-touched (requests.Msgrcv id flags size mtype) = Some (object.Queue (record { 0 = id }))
-touched (requests.MsgctlSet id uid gid mode qbytes) = Some (object.Queue (record { 0 = id }))
-touched (requests.MsgctlRmid id) = Some (object.Queue (record { 0 = id }))
-touched (requests.Semop id timeout operations) = Some (object.Set (record { 0 = id }))
-touched (requests.SemctlSetVal id num value) = Some (object.Set (record { 0 = id }))
-touched (requests.SemctlSetAll id values) = Some (object.Set (record { 0 = id }))
-touched (requests.SemctlSet id uid gid mode) = Some (object.Set (record { 0 = id }))
-touched (requests.SemctlRmid id) = Some (object.Set (record { 0 = id }))
+abbrev pub touched : PlainSysv → Option Object
+touched (requests.Msgsnd id flags mtype text) = Some (object.MsgQueue (record { 0 = id }))
+touched (requests.Msgrcv id flags size mtype) = Some (object.MsgQueue (record { 0 = id }))
+touched (requests.MsgctlSet id uid gid mode qbytes) = Some (object.MsgQueue (record { 0 = id }))
+touched (requests.MsgctlRmid id) = Some (object.MsgQueue (record { 0 = id }))
+touched (requests.Semop id timeout operations) = Some (object.Semset (record { 0 = id }))
+touched (requests.SemctlSetVal id num value) = Some (object.Semset (record { 0 = id }))
+touched (requests.SemctlSetAll id values) = Some (object.Semset (record { 0 = id }))
+touched (requests.SemctlSet id uid gid mode) = Some (object.Semset (record { 0 = id }))
+touched (requests.SemctlRmid id) = Some (object.Semset (record { 0 = id }))
 touched call = None
 
 -- whether it is a receive from a queue: one takes a message away, so that no other receive goes on by it
 abbrev pub is_receive : PlainKind → Bool
-is_receive (Calls (requests.Msgrcv id flags size mtype)) = true
+is_receive (Sysv (requests.Msgrcv id flags size mtype)) = true
 is_receive _ = false
 
 -- what comes of it
-abbrev pub attempt : Limits → State → ℕ → Bool → PlainCall → Tried
-attempt limits s pid again call = ended s (call_of limits s pid again call)
+abbrev pub attempt : Limits → State → ℕ → Bool → PlainSysv → Tried
+attempt limits s pid again call = ended s (definition_of limits s pid again call)

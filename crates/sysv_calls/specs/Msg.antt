@@ -12,7 +12,7 @@ use Rattle.sysv_msg.specs.Queue.{Queue, PlainMessage, pick, full, sent, taken, c
 use Rattle.ipc_state.specs.declared.keyed.Entry.{Entry}
 use Rattle.ipc_state.specs.Numbered.{is_full, last_number}
 use Rattle.ipc_state.specs.Keyed.{holding, permitting}
-use Rattle.ipc_state.specs.State.{State, with_queue, with_new_queue}
+use Rattle.ipc_state.specs.State.{State, with_msg_queue, with_new_msg_queue}
 use Rattle.ipc_state.specs.Finish.{Halt, Fails, Blocks, Attempt, Done, answer, refuse, stop, if_some}
 use Rattle.ipc_state.specs.Finish.{◌orstop◌, ◌>>◌, ◌>>=◌}
 use Rattle.sysv_calls.specs.Access.{has, read, write, accessible, owned, sought, listed, removed}
@@ -47,7 +47,7 @@ found_queue s cred flags id = do
 abbrev pub made_queue : Limits → State → Cred → ℤ → ℕ → Attempt Done
 made_queue limits s cred key flags = do
   refuse ENOSPC (is_full limits.msgmni s.msg)
-  answer (with_new_queue limits s key (perm_of cred flags)) (Number s.msg.next)
+  answer (with_new_msg_queue limits s key (perm_of cred flags)) (Number s.msg.next)
 
 -- msgget(2): the queue that the key names, or a new one
 abbrev pub msgget : Limits → State → Cred → ℤ → ℕ → Attempt Done
@@ -68,7 +68,7 @@ sendable limits s cred again id flags mtype text = do
 abbrev pub msgsnd : Limits → State → Cred → ℕ → Bool → ℕ → ℕ → ℤ → List ℕ → Attempt Done
 msgsnd limits s cred pid again id flags mtype text = do
   e ← sendable limits s cred again id flags mtype text
-  answer (with_queue s id (holding e (sent e.object (record { mtype = mtype; text = text }) pid s.clock))) Empty
+  answer (with_msg_queue s id (holding e (sent e.object (record { mtype = mtype; text = text }) pid s.clock))) Empty
 
 -- the message at a place that a queue has
 abbrev pub message_at : Queue → ℕ → PlainMessage
@@ -91,7 +91,7 @@ receivable s cred again id flags size mtype = do
 abbrev pub msgrcv : State → Cred → ℕ → Bool → ℕ → ℕ → ℕ → ℤ → Attempt Done
 msgrcv s cred pid again id flags size mtype = do
   found ← receivable s cred again id flags size mtype
-  answer (with_queue s id (holding found.0 (taken found.0.object found.1 pid s.clock)))
+  answer (with_msg_queue s id (holding found.0 (taken found.0.object found.1 pid s.clock)))
       (Message (message_at found.0.object found.1).mtype (take size (message_at found.0.object found.1).text))
 
 -- IPC_STAT of msgctl(2)
@@ -104,7 +104,7 @@ msgctl_set limits s cred id uid gid mode qbytes = do
   e ← owned s.msg cred id
   refuse EPERM (nat_lt limits.msgmnb qbytes)
   answer
-      (with_queue s id (holding (permitting e (owned_by e.perm uid gid mode)) (changed e.object qbytes s.clock))) Empty
+      (with_msg_queue s id (holding (permitting e (owned_by e.perm uid gid mode)) (changed e.object qbytes s.clock))) Empty
 
 -- IPC_RMID of msgctl(2)
 abbrev pub msgctl_rmid : State → Cred → ℕ → Attempt Done

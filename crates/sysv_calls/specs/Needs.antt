@@ -2,12 +2,12 @@
 -- takes any: neither the call itself, nor one that waited.
 use Rattle.std.specs.Prelude.{◌≡◌, ◌≢◌, ℤ, pos, ℕ, suc, nat_lt, Bool, true, false, if◌then◌else◌, Option, None, Some}
 use Rattle.ipc_keys.specs.Directory.{is_vacant}
-use Rattle.ipc_wire.specs.Request.{PlainKind, PlainRequest, Calls}
+use Rattle.ipc_wire.specs.Request.{PlainKind, PlainRequest, Sysv}
 use Rattle.ipc_wire.specs.Request as requests
 use Rattle.std.specs.FinMap.{FinMap}
 use Rattle.std.specs.Ordering.{int_cmp}
 use Rattle.ipc_state.specs.Directory.{HasNoSpareKey}
-use Rattle.ipc_state.specs.Held.{Room, HasNoSpareKeys, HasQueuePlace, HasSetPlace}
+use Rattle.ipc_state.specs.Held.{Room, HasNoSpareKeys, HasMsgQueuePlace, HasSemsetPlace}
 use Rattle.ipc_state.specs.State.{State}
 use Rattle.ipc_state.specs.Waiting.{may_wait}
 use Rattle.sysv_calls.specs.declared.memory.Needs.{Needs as Wants}
@@ -29,10 +29,10 @@ set_place key _ = Nothing
 
 -- the table: a request that it does not name needs nothing here; what a POSIX request needs, the POSIX calls tell
 abbrev pub needs : PlainKind → Needs
-needs (Calls (requests.Msgget key flags)) = Place key
-needs (Calls (requests.Msgsnd id flags mtype text)) = Text
-needs (Calls (requests.Semget key nsems flags)) = set_place key nsems
-needs (Calls (requests.Semop id timeout operations)) = Text
+needs (Sysv (requests.Msgget key flags)) = Place key
+needs (Sysv (requests.Msgsnd id flags mtype text)) = Text
+needs (Sysv (requests.Semget key nsems flags)) = set_place key nsems
+needs (Sysv (requests.Semop id timeout operations)) = Text
 needs _ = Nothing
 
 abbrev pub is_something : Needs → Bool
@@ -49,18 +49,18 @@ abbrev pub takes_memory : PlainKind → Bool
 takes_memory kind = is_something (needs kind)
 
 -- whether a request is kept while its call waits: one of System V is, if it may wait
-abbrev pub is_kept : PlainKind → Bool
-is_kept (Calls call) = may_wait (Calls call)
-is_kept _ = false
+abbrev pub keeps_request : PlainKind → Bool
+keeps_request (Sysv call) = may_wait (Sysv call)
+keeps_request _ = false
 
 -- what is kept of a request
 abbrev pub kept_of : PlainRequest → Option PlainRequest
-kept_of request = if is_kept request.kind then Some request else None
+kept_of request = if keeps_request request.kind then Some request else None
 
 -- what is needed is there; of a text it is what was kept
 abbrev pub Has : State → Room → Needs → Type 0
-Has s room (Place key) = HasQueuePlace s room key
-Has s room (SetPlace key nsems) = HasSetPlace s room key nsems
+Has s room (Place key) = HasMsgQueuePlace s room key
+Has s room (SetPlace key nsems) = HasSemsetPlace s room key nsems
 Has s room _ = Unit {0}
 
 -- what a request needs is there

@@ -5,13 +5,13 @@ use Rattle.ipc_base.specs.declared.errno.Errno.{Errno}
 use Rattle.ipc_base.specs.declared.identity.Cred.{Cred}
 use Rattle.ipc_base.specs.declared.identity.Id.{Id}
 use Rattle.ipc_base.specs.declared.limits.Limits.{Limits}
-use Rattle.ipc_wire.specs.Request.{PlainCall}
+use Rattle.ipc_wire.specs.Request.{PlainSysv}
 use Rattle.ipc_wire.specs.Request as requests
 use Rattle.ipc_state.specs.Finish.{Attempt, Fails, Tried, Finishes, Waits, finish_of}
 use Rattle.ipc_state.specs.Steps.{seen}
 use Rattle.ipc_state.specs.Held.{Held}
 use Rattle.ipc_state.specs.State.{State}
-use Rattle.ipc_state.specs.Waiting.{parked_call}
+use Rattle.ipc_state.specs.Waiting.{parked_sysv}
 use Rattle.sysv_calls.specs.Msg.{sendable, receivable}
 use Rattle.sysv_calls.specs.Semop.{operations_of, performable}
 use Rattle.sysv_calls.specs.declared.waiting.Tried.{Tried as Comes}
@@ -34,7 +34,7 @@ unit_of left (Err e) = Err (Fails e)
 
 -- the tests of a call that may wait: if it may go on now, the place of the message that a receive takes, and 0 for any
 -- other
-abbrev pub place_in : Limits → State → Cred → ℕ → Bool → PlainCall → Attempt ℕ
+abbrev pub place_in : Limits → State → Cred → ℕ → Bool → PlainSysv → Attempt ℕ
 place_in limits s cred pid again (requests.Msgsnd id flags mtype text) =
     seen (λ e. 0) (sendable limits s cred again id flags mtype text)
 place_in limits s cred pid again (requests.Msgrcv id flags size mtype) =
@@ -49,6 +49,6 @@ tried_of s (comes.Finishes answer) = Finishes (finish_of s answer)
 tried_of s (comes.Waits call) = Waits
 
 -- if it waits, it is the same call as before, and the state is as it was
-abbrev pub IsKeptIn : Held → PlainCall → Held → Comes → Type 0
-IsKeptIn before call after (comes.Finishes answer) = Unit {0}
-IsKeptIn before call after (comes.Waits kept) = (parked_call kept ≡ call) × (after ≡ before)
+abbrev pub WaitsUnchanged : Held → PlainSysv → Held → Comes → Type 0
+WaitsUnchanged before call after (comes.Finishes answer) = Unit {0}
+WaitsUnchanged before call after (comes.Waits kept) = (parked_sysv kept ≡ call) × (after ≡ before)

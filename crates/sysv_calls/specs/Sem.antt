@@ -18,7 +18,7 @@ use Rattle.ipc_state.specs.declared.keyed.Entry.{Entry}
 use Rattle.ipc_state.specs.Numbered.{is_full}
 use Rattle.ipc_state.specs.Keyed.{holding, permitting}
 use Rattle.ipc_state.specs.Sound.{semaphore_count}
-use Rattle.ipc_state.specs.State.{State, set_of, with_set, with_new_set, without_adjustments}
+use Rattle.ipc_state.specs.State.{State, semset_of, with_semset, with_new_semset, without_adjustments}
 use Rattle.ipc_state.specs.Finish.{Attempt, Done, answer, refuse, if_some, ◌orelse◌, ◌>>◌, ◌>>=◌}
 use Rattle.sysv_calls.specs.Access.{read, write, accessible, owned, sought, listed, removed}
 use Rattle.sysv_calls.specs.Records.{set_fields}
@@ -40,29 +40,29 @@ has_fewer (Some e) nsems = nat_lt (length e.object.semaphores) nsems
 -- the set that an identifier has, if it has so many semaphores
 abbrev pub found_set : State → Cred → ℕ → ℕ → ℕ → Attempt Done
 found_set s cred flags n id = do
-  refuse EINVAL (has_fewer (set_of s id) n)
-  e ← accessible false s.sem cred id (asked_by flags)
+  refuse EINVAL (has_fewer (semset_of s id) n)
+  e ← accessible false s.semset cred id (asked_by flags)
   answer s (Number id)
 
 -- a new set of the caller, of so many semaphores
 abbrev pub made_set : Limits → State → Cred → ℤ → ℕ → ℕ → Attempt Done
 made_set limits s cred key flags n = do
   refuse EINVAL (n == 0)
-  refuse ENOSPC (is_full limits.semmni s.sem)
-  refuse ENOSPC (nat_lt limits.semmns (semaphore_count s.sem + n))
-  answer (with_new_set s key (perm_of cred flags) n) (Number s.sem.next)
+  refuse ENOSPC (is_full limits.semmni s.semset)
+  refuse ENOSPC (nat_lt limits.semmns (semaphore_count s.semset + n))
+  answer (with_new_semset s key (perm_of cred flags) n) (Number s.semset.next)
 
 -- semget(2): the set that the key names, or a new one
 abbrev pub semget : Limits → State → Cred → ℤ → ℤ → ℕ → Attempt Done
 semget limits s cred key nsems flags = do
   n ← count_of limits nsems orelse EINVAL
-  found ← sought s.sem key flags
+  found ← sought s.semset key flags
   if_some found (found_set s cred flags n) (made_set limits s cred key flags n)
 
 -- a set and a semaphore of it, for a caller that may use it so
 abbrev pub semaphore : State → Cred → ℕ → ℕ → ℕ → Attempt (Entry Set × Semaphore)
 semaphore s cred id num access = do
-  e ← set_of s id orelse EINVAL
+  e ← semset_of s id orelse EINVAL
   x ← slice_get e.object.semaphores num orelse EINVAL
   refuse EACCES (not (may cred e.perm access))
   Ok (e, x)
@@ -84,12 +84,12 @@ semctl_setval s cred pid id num value = do
   found ← semaphore s cred id num write
   v ← value_of value orelse ERANGE
   let set = holding found.0 (with_value found.0.object num v (record { 0 = pid }) s.clock)
-  answer (without_adjustments id (Some num) (with_set s id set)) Empty
+  answer (without_adjustments id (Some num) (with_semset s id set)) Empty
 
 -- GETALL of semctl(2): each value in two bytes
 abbrev pub semctl_getall : State → Cred → ℕ → Attempt Done
 semctl_getall s cred id = do
-  e ← accessible false s.sem cred id read
+  e ← accessible false s.semset cred id read
   answer s (Record (record_bytes (map U16 (values_of e.object))))
 
 -- each is a value that a semaphore may have
@@ -99,7 +99,7 @@ are_values values = list_all (λ v. nat_le v most_value) values
 -- the set of which all values may be set to these
 abbrev pub settable : State → Cred → ℕ → List ℕ → Attempt (Entry Set)
 settable s cred id values = do
-  e ← set_of s id orelse EINVAL
+  e ← semset_of s id orelse EINVAL
   refuse EINVAL (not (length values == length e.object.semaphores))
   refuse EACCES (not (may cred e.perm write))
   refuse ERANGE (not (are_values values))
@@ -110,20 +110,20 @@ abbrev pub semctl_setall : State → Cred → ℕ → ℕ → List ℕ → Attem
 semctl_setall s cred pid id bytes = do
   e ← settable s cred id (numbers_in bytes)
   let set = holding e (with_values e.object (numbers_in bytes) (record { 0 = pid }) s.clock)
-  answer (without_adjustments id None (with_set s id set)) Empty
+  answer (without_adjustments id None (with_semset s id set)) Empty
 
 -- IPC_STAT of semctl(2)
 abbrev pub semctl_stat : State → Cred → ℕ → Attempt Done
-semctl_stat s cred id = listed s s.sem cred id set_fields
+semctl_stat s cred id = listed s s.semset cred id set_fields
 
 -- IPC_SET of semctl(2)
 abbrev pub semctl_set : State → Cred → ℕ → ℕ → ℕ → ℕ → Attempt Done
 semctl_set s cred id uid gid mode = do
-  e ← owned s.sem cred id
-  answer (with_set s id (holding (permitting e (owned_by e.perm uid gid mode)) (changed e.object s.clock))) Empty
+  e ← owned s.semset cred id
+  answer (with_semset s id (holding (permitting e (owned_by e.perm uid gid mode)) (changed e.object s.clock))) Empty
 
 -- IPC_RMID of semctl(2); the adjustments at the set go with it
 abbrev pub semctl_rmid : State → Cred → ℕ → Attempt Done
 semctl_rmid s cred id = do
-  sets ← removed s.sem cred id
-  answer (without_adjustments id None (record s { sem = sets })) Empty
+  sets ← removed s.semset cred id
+  answer (without_adjustments id None (record s { semset = sets })) Empty

@@ -16,7 +16,7 @@ use Rattle.ipc_base.specs.Table.{value_at}
 use Rattle.ipc_perm.specs.Perm.{may}
 use Rattle.ipc_wire.specs.declared.reply.Body.TheVariants.{Empty, Number}
 use Rattle.ipc_wire.specs.declared.sixes.SemBuf.{SemBuf}
-use Rattle.ipc_wire.specs.Request.{PlainKind, Calls}
+use Rattle.ipc_wire.specs.Request.{PlainKind, Sysv}
 use Rattle.ipc_wire.specs.Request as requests
 use Rattle.ipc_wire.specs.Sixes.{operations_in}
 use Rattle.sem_undo.specs.Undo.{Undo, adjustment, subtracted, is_adjustment, most_rows}
@@ -25,7 +25,7 @@ use Rattle.sysv_sem.specs.Operation.{Outcome, Done as IsDone, Blocks as Stops, F
 use Rattle.sysv_sem.specs.Set.{Set, values_of, carried}
 use Rattle.ipc_state.specs.declared.keyed.Entry.{Entry}
 use Rattle.ipc_state.specs.Keyed.{holding}
-use Rattle.ipc_state.specs.State.{State, cred_of, is_process, set_of, undo_of, with_set, with_undo}
+use Rattle.ipc_state.specs.State.{State, cred_of, is_process, semset_of, undo_of, with_semset, with_undo}
 use Rattle.ipc_state.specs.Waiting.{PlainWaiting}
 use Rattle.ipc_state.specs.Finish.{Halt, Fails, Blocks, Attempt, Done, answer, refuse, ◌orelse◌, ◌>>◌, ◌>>=◌}
 use Rattle.sysv_calls.specs.Access.{gone, read, write}
@@ -64,7 +64,7 @@ noted id undo o = if has_undo o then subtracted undo (id, o.num) o.sem_op else u
 abbrev pub operable : Limits → State → Cred → Bool → ℕ → List Operation → Attempt (Entry Set)
 operable limits s cred again id ops = do
   refuse EINVAL (length ops == 0)
-  e ← set_of s id orelse gone again
+  e ← semset_of s id orelse gone again
   refuse E2BIG (nat_lt limits.semopm (length ops))
   refuse EFBIG (not (are_within (length e.object.semaphores) ops))
   refuse EACCES (not (list_all (λ o. may cred e.perm (asked o)) ops))
@@ -97,14 +97,14 @@ performable limits s cred pid again id ops = do
 -- the state after them
 abbrev pub operated : State → ℕ → ℕ → List Operation → Entry Set × List ℕ → State
 operated s pid id ops found =
-    with_undo (with_set s id (holding found.0 (carried found.0.object found.1 ops (record { 0 = pid }) s.clock))) pid
+    with_undo (with_semset s id (holding found.0 (carried found.0.object found.1 ops (record { 0 = pid }) s.clock))) pid
     (fold (noted id) (undo_of s pid) ops)
 
 -- there are no more than a buffer has room for, their set is there, and they can be performed
 pub record Passes (limits : Limits) (s : State) (pid id : ℕ) (ops : List Operation) (found : Entry Set × List ℕ)
     : Type 0 where
   pub few : length ops ≤ 32
-  pub there : set_of s id ≡ Some found.0
+  pub there : semset_of s id ≡ Some found.0
   pub within : All (λ o. o.num < length found.0.object.semaphores) ops
   pub done : (after : ℕ → ℤ) × (outcome (values_of found.0.object) (held_by s pid id) ops ≡ IsDone found.1 after)
 
@@ -144,7 +144,7 @@ is_of zero num (Some o) = nat_eq o.num num && (if zero then int_eq o.sem_op (pos
 
 -- whether a call that waits is a list on this set that such an operation stops
 abbrev pub is_stopped : Limits → State → Bool → ℕ → ℕ → ℕ → PlainKind → Bool
-is_stopped limits s zero id num pid (Calls (requests.Semop other timeout bytes)) =
+is_stopped limits s zero id num pid (Sysv (requests.Semop other timeout bytes)) =
     nat_eq other id && is_of zero num (stopping (operations_of bytes)
     (tried_list limits s (cred_of s pid) pid true id (operations_of bytes)))
 is_stopped limits s zero id num pid kind = false

@@ -2,7 +2,7 @@
 //! change.
 
 ghost use Rattle.std.specs.Prelude.{◌≡◌, true, false, IfOk, IsOk, OnOk, OnErr};
-ghost use Rattle.ipc_wire.specs.Request.{Calls, plain_call, plain_kind};
+ghost use Rattle.ipc_wire.specs.Request.{Sysv, plain_sysv, plain_kind};
 ghost use Rattle.ipc_wire.specs.View.{plain_request};
 ghost use Rattle.ipc_state.specs.Finish.{Finishes, finish_of};
 ghost use Rattle.ipc_state.specs.Held.{HasNoSpareKeys};
@@ -11,8 +11,8 @@ ghost use Rattle.ipc_state.specs.State.{is_process};
 ghost use Rattle.sysv_calls.specs.Calls as defined;
 ghost use Rattle.ipc_state.specs.Waiting.{has_text, may_wait};
 ghost use Rattle.sysv_calls.specs.Needs.{Has, HasSpareKeysOf, IsReserved, is_place, needs, plain_needs};
-ghost use Rattle.sysv_calls.specs.Needs.{is_kept, kept_of, takes_memory};
-ghost use Rattle.ipc_state.specs.Spare.{IsSpare, IsKept};
+ghost use Rattle.sysv_calls.specs.Needs.{keeps_request, kept_of, takes_memory};
+ghost use Rattle.ipc_state.specs.Spare.{IsSpare, KeepsBuffer};
 
 use crate::memory::{Needs, needed_by};
 use crate::msg::{msgctl_rmid, msgctl_set, msgctl_stat, msgget};
@@ -23,7 +23,7 @@ use crate::sem::{
 use crate::semop::semctl_getcnt;
 use ipc_base::{Errno, Pid};
 use ipc_state::{Answer, Object, Parked, State};
-use ipc_wire::{Body, Call, Request, RequestKind};
+use ipc_wire::{Body, Request, RequestKind, SysvCall};
 use std::alloc::{AllocError, Global};
 
 /// Takes the memory that a System V request may need, which one that grows nothing never does. A call that may wait is
@@ -53,10 +53,10 @@ pub fn reserve(
 fn keep(alloc: Global, request: &Request<'_>) -> Result<Option<Parked>, AllocError>
     ensures kept { IfOk result (λ kept. kept ≡ kept_of (plain_request request.now)) }
     ensures memory { has_text (plain_kind request.now.kind) ≡ false → IsOk result }
-    ensures others { is_kept (plain_kind request.now.kind) ≡ false → IsOk result }
+    ensures others { keeps_request (plain_kind request.now.kind) ≡ false → IsOk result }
 {
     match &request.kind {
-        RequestKind::Call(_) => Parked::new(alloc, request),
+        RequestKind::Sysv(_) => Parked::new(alloc, request),
         RequestKind::Hello(_) | RequestKind::Interrupt | RequestKind::Posix(_) => Ok(None),
     }
 }
@@ -73,81 +73,82 @@ fn reserve_place(state: &mut State, needs: Needs) -> Result<(), AllocError>
     ensures no_key { OnErr result (HasNoSpareKeys state.old.room → HasNoSpareKeys state.new.room) }
 {
     match needs {
-        Needs::Place { key } => state.reserve_queue(key),
-        Needs::SetPlace { key, nsems } => state.reserve_set(key, nsems),
+        Needs::Place { key } => state.reserve_msg_queue(key),
+        Needs::SetPlace { key, nsems } => state.reserve_semset(key, nsems),
         Needs::Text | Needs::Nothing => Ok(()),
     }
 }
 
 /// The attempt of a call by a process, whose memory is reserved and that never waits. It takes none: a body that is no
 /// number and no message is made in the spare buffer, and has it.
-pub fn attempt(state: &mut State, pid: Pid, call: &Call<'_>, spare: &mut Vec<u8>) -> Answer
+pub fn attempt(state: &mut State, pid: Pid, call: &SysvCall<'_>, spare: &mut Vec<u8>) -> Answer
     requires sound { HasSoundParts state.old.limits state.old.state }
-    requires never { may_wait (Calls (plain_call call.now)) ≡ false }
-    requires room { Has state.old.state state.old.room (needs (Calls (plain_call call.now))) }
+    requires never { may_wait (Sysv (plain_sysv call.now)) ≡ false }
+    requires room { Has state.old.state state.old.room (needs (Sysv (plain_sysv call.now))) }
     requires process { is_process state.old.state pid.0 ≡ true }
     requires spare { IsSpare state.old.limits spare.old }
     ensures finish { Finishes (finish_of state.new.state result)
-        ≡ defined.attempt state.old.limits state.old.state pid.0 false (plain_call call.now) }
+        ≡ defined.attempt state.old.limits state.old.state pid.0 false (plain_sysv call.now) }
     ensures limits { state.new.limits ≡ state.old.limits }
     ensures waits { state.new.room.waits ≡ state.old.room.waits }
-    ensures spare { IsKept state.old.limits spare.new result }
-    ensures no_key { HasSpareKeysOf state.old.room (needs (Calls (plain_call call.now)))
+    ensures spare { KeepsBuffer state.old.limits spare.new result }
+    ensures no_key { HasSpareKeysOf state.old.room (needs (Sysv (plain_sysv call.now)))
         → HasNoSpareKeys state.new.room }
 {
     let cred = state.cred(pid);
     match call {
-        Call::Msgget { key, flags } => msgget(state, cred, *key, *flags),
-        Call::MsgctlStat { id } => msgctl_stat(state, cred, *id, spare),
-        Call::MsgctlSet {
+        SysvCall::Msgget { key, flags } => msgget(state, cred, *key, *flags),
+        SysvCall::MsgctlStat { id } => msgctl_stat(state, cred, *id, spare),
+        SysvCall::MsgctlSet {
             id,
             uid,
             gid,
             mode,
             qbytes,
         } => msgctl_set(state, cred, *id, *uid, *gid, *mode, *qbytes),
-        Call::MsgctlRmid { id } => msgctl_rmid(state, cred, *id),
-        Call::Semget { key, nsems, flags } => semget(state, cred, *key, *nsems, *flags),
-        Call::SemctlGetVal { id, num } => semctl_getval(state, cred, *id, *num),
-        Call::SemctlGetPid { id, num } => semctl_getpid(state, cred, *id, *num),
-        Call::SemctlGetNcnt { id, num } => semctl_getcnt(state, cred, false, *id, *num),
-        Call::SemctlGetZcnt { id, num } => semctl_getcnt(state, cred, true, *id, *num),
-        Call::SemctlSetVal { id, num, value } => {
+        SysvCall::MsgctlRmid { id } => msgctl_rmid(state, cred, *id),
+        SysvCall::Semget { key, nsems, flags } => semget(state, cred, *key, *nsems, *flags),
+        SysvCall::SemctlGetVal { id, num } => semctl_getval(state, cred, *id, *num),
+        SysvCall::SemctlGetPid { id, num } => semctl_getpid(state, cred, *id, *num),
+        SysvCall::SemctlGetNcnt { id, num } => semctl_getcnt(state, cred, false, *id, *num),
+        SysvCall::SemctlGetZcnt { id, num } => semctl_getcnt(state, cred, true, *id, *num),
+        SysvCall::SemctlSetVal { id, num, value } => {
             semctl_setval(state, cred, pid, *id, *num, *value)
         }
-        Call::SemctlGetAll { id } => semctl_getall(state, cred, *id, spare),
-        Call::SemctlSetAll { id, values } => semctl_setall(state, cred, pid, *id, values),
-        Call::SemctlStat { id } => semctl_stat(state, cred, *id, spare),
-        Call::SemctlSet { id, uid, gid, mode } => {
+        SysvCall::SemctlGetAll { id } => semctl_getall(state, cred, *id, spare),
+        SysvCall::SemctlSetAll { id, values } => semctl_setall(state, cred, pid, *id, values),
+        SysvCall::SemctlStat { id } => semctl_stat(state, cred, *id, spare),
+        SysvCall::SemctlSet { id, uid, gid, mode } => {
             semctl_set(state, cred, *id, *uid, *gid, *mode)
         }
-        Call::SemctlRmid { id } => semctl_rmid(state, cred, *id),
-        Call::Msgsnd { .. } | Call::Msgrcv { .. } | Call::Semop { .. } => unreachable!(),
+        SysvCall::SemctlRmid { id } => semctl_rmid(state, cred, *id),
+        SysvCall::Msgsnd { .. } | SysvCall::Msgrcv { .. } | SysvCall::Semop { .. } =>
+            unreachable!(),
     }
 }
 
 /// The object that a call may change, so that those that wait on it may go on.
-pub fn touched(call: &Call<'_>) -> Option<Object>
-    ensures { result ≡ defined.touched (plain_call call.now) }
+pub fn touched(call: &SysvCall<'_>) -> Option<Object>
+    ensures { result ≡ defined.touched (plain_sysv call.now) }
 {
     match call {
-        Call::Msgsnd { id, .. }
-        | Call::Msgrcv { id, .. }
-        | Call::MsgctlSet { id, .. }
-        | Call::MsgctlRmid { id } => Some(Object::Queue(*id)),
-        Call::Semop { id, .. }
-        | Call::SemctlSetVal { id, .. }
-        | Call::SemctlSetAll { id, .. }
-        | Call::SemctlSet { id, .. }
-        | Call::SemctlRmid { id } => Some(Object::Set(*id)),
-        Call::Msgget { .. }
-        | Call::MsgctlStat { .. }
-        | Call::Semget { .. }
-        | Call::SemctlGetVal { .. }
-        | Call::SemctlGetPid { .. }
-        | Call::SemctlGetNcnt { .. }
-        | Call::SemctlGetZcnt { .. }
-        | Call::SemctlGetAll { .. }
-        | Call::SemctlStat { .. } => None,
+        SysvCall::Msgsnd { id, .. }
+        | SysvCall::Msgrcv { id, .. }
+        | SysvCall::MsgctlSet { id, .. }
+        | SysvCall::MsgctlRmid { id } => Some(Object::MsgQueue(*id)),
+        SysvCall::Semop { id, .. }
+        | SysvCall::SemctlSetVal { id, .. }
+        | SysvCall::SemctlSetAll { id, .. }
+        | SysvCall::SemctlSet { id, .. }
+        | SysvCall::SemctlRmid { id } => Some(Object::Semset(*id)),
+        SysvCall::Msgget { .. }
+        | SysvCall::MsgctlStat { .. }
+        | SysvCall::Semget { .. }
+        | SysvCall::SemctlGetVal { .. }
+        | SysvCall::SemctlGetPid { .. }
+        | SysvCall::SemctlGetNcnt { .. }
+        | SysvCall::SemctlGetZcnt { .. }
+        | SysvCall::SemctlGetAll { .. }
+        | SysvCall::SemctlStat { .. } => None,
     }
 }

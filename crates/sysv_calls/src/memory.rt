@@ -5,7 +5,7 @@ ghost use Rattle.ipc_wire.specs.Request.{plain_kind};
 ghost use Rattle.sysv_calls.specs.Needs as defined;
 ghost use Rattle.sysv_calls.specs.Needs.{needs as needs_of, plain_needs};
 
-use ipc_wire::{Call, RequestKind};
+use ipc_wire::{RequestKind, SysvCall};
 
 /// What a request may need.
 #[derive(Clone, Copy)]
@@ -24,9 +24,9 @@ pub(crate) fn needed_by(kind: &RequestKind<'_>) -> Needs
     ensures { plain_needs result ≡ needs_of (plain_kind kind.now) }
 {
     match kind {
-        RequestKind::Call(Call::Msgget { key, .. }) => Needs::Place { key: *key },
-        RequestKind::Call(Call::Msgsnd { .. } | Call::Semop { .. }) => Needs::Text,
-        RequestKind::Call(Call::Semget { key, nsems, .. }) => set_place(*key, *nsems),
+        RequestKind::Sysv(SysvCall::Msgget { key, .. }) => Needs::Place { key: *key },
+        RequestKind::Sysv(SysvCall::Msgsnd { .. } | SysvCall::Semop { .. }) => Needs::Text,
+        RequestKind::Sysv(SysvCall::Semget { key, nsems, .. }) => set_place(*key, *nsems),
         _ => Needs::Nothing,
     }
 }

@@ -7,10 +7,10 @@ ghost use Rattle.ipc_base.specs.Numbers.{record_bytes};
 ghost use Rattle.ipc_keys.specs.Directory.{is_vacant};
 ghost use Rattle.ipc_state.specs.Directory.{HasNoSpareKey};
 ghost use Rattle.ipc_state.specs.Finish.{Finishes, ended, finish_of};
-ghost use Rattle.ipc_state.specs.Held.{HasQueuePlace};
+ghost use Rattle.ipc_state.specs.Held.{HasMsgQueuePlace};
 ghost use Rattle.ipc_state.specs.Keyed.{holding, keyed};
 ghost use Rattle.ipc_state.specs.Sound.{HasSoundParts, HasNumbers};
-ghost use Rattle.ipc_state.specs.State.{queue_of, with_queue};
+ghost use Rattle.ipc_state.specs.State.{msg_queue_of, with_msg_queue};
 ghost use Rattle.ipc_state.specs.declared.keyed.Entry.{Entry};
 ghost use Rattle.ipc_wire.specs.Reply.{body_of};
 ghost use Rattle.ipc_wire.specs.declared.reply.Body.TheVariants as body;
@@ -18,7 +18,7 @@ ghost use Rattle.sysv_calls.specs.Msg as defined;
 ghost use Rattle.sysv_calls.specs.Needs.{HasNoSpareKeyBut};
 ghost use Rattle.sysv_calls.specs.Records.{queue_fields};
 ghost use Rattle.ipc_state.specs.Steps.{attempted, plain_halt, seen};
-ghost use Rattle.ipc_state.specs.Spare.{IsSpare, IsKept};
+ghost use Rattle.ipc_state.specs.Spare.{IsSpare, KeepsBuffer};
 ghost use Rattle.sysv_msg.specs.Queue.{Queue, most_messages, plain, sent, taken};
 
 use crate::access::{accessible, owned, push_perm, remove, seek};
@@ -32,7 +32,7 @@ use sysv_msg::{Message, MsgQueue};
 /// msgget(2). What room of the key is not used is given back.
 pub(crate) fn msgget(state: &mut State, cred: Cred, key: i32, flags: GetFlags) -> Answer
     requires sound { HasSoundParts state.old.limits state.old.state }
-    requires room { HasQueuePlace state.old.state state.old.room key }
+    requires room { HasMsgQueuePlace state.old.state state.old.room key }
     ensures finish { Finishes (finish_of state.new.state result) ≡ ended state.old.state
         (defined.msgget state.old.limits state.old.state cred key flags.0) }
     ensures limits { state.new.limits ≡ state.old.limits }
@@ -48,7 +48,7 @@ pub(crate) fn msgget(state: &mut State, cred: Cred, key: i32, flags: GetFlags) -
 /// The queue that a key names, or a new one.
 fn get_queue(state: &mut State, cred: Cred, key: i32, flags: GetFlags) -> Answer
     requires sound { HasSoundParts state.old.limits state.old.state }
-    requires room { HasQueuePlace state.old.state state.old.room key }
+    requires room { HasMsgQueuePlace state.old.state state.old.room key }
     ensures finish { Finishes (finish_of state.new.state result) ≡ ended state.old.state
         (defined.msgget state.old.limits state.old.state cred key flags.0) }
     ensures limits { state.new.limits ≡ state.old.limits }
@@ -68,7 +68,7 @@ fn get_queue(state: &mut State, cred: Cred, key: i32, flags: GetFlags) -> Answer
 fn make_queue(state: &mut State, cred: Cred, key: i32, flags: GetFlags) -> Answer
     requires sound { HasSoundParts state.old.limits state.old.state }
     requires unused { keyed state.old.state.msg key ≡ None }
-    requires room { HasQueuePlace state.old.state state.old.room key }
+    requires room { HasMsgQueuePlace state.old.state state.old.room key }
     ensures finish { Finishes (finish_of state.new.state result) ≡ ended state.old.state
         (defined.made_queue state.old.limits state.old.state cred key flags.0) }
     ensures limits { state.new.limits ≡ state.old.limits }
@@ -80,7 +80,7 @@ fn make_queue(state: &mut State, cred: Cred, key: i32, flags: GetFlags) -> Answe
     if state.msg().is_full(state.limits().msgmni) {
         return Err(Errno::ENOSPC);
     }
-    Ok(Body::Number(state.add_queue(key, Perm::new(cred, flags.0)).0))
+    Ok(Body::Number(state.add_msg_queue(key, Perm::new(cred, flags.0)).0))
 }
 
 /// What becomes of a call that cannot go on: it fails, if its flags have IPC_NOWAIT.
@@ -119,11 +119,11 @@ pub(crate) fn ready_to_send(
 
 /// Sends a message to a queue that is there.
 pub(crate) fn send(state: &mut State, pid: Pid, id: Id, message: Message)
-    requires there { is_some (queue_of state.old.state id.0) ≡ true }
-    requires room { (e : Entry Queue) → queue_of state.old.state id.0 ≡ Some e
+    requires there { is_some (msg_queue_of state.old.state id.0) ≡ true }
+    requires room { (e : Entry Queue) → msg_queue_of state.old.state id.0 ≡ Some e
         → length e.object.messages < most_messages }
-    ensures state { (e : Entry Queue) → queue_of state.old.state id.0 ≡ Some e → state.new.state
-        ≡ with_queue state.old.state id.0 (holding e (sent e.object (plain message) pid.0 state.old.state.clock)) }
+    ensures state { (e : Entry Queue) → msg_queue_of state.old.state id.0 ≡ Some e → state.new.state
+        ≡ with_msg_queue state.old.state id.0 (holding e (sent e.object (plain message) pid.0 state.old.state.clock)) }
     ensures limits { state.new.limits ≡ state.old.limits }
     ensures keys { state.new.room.keys ≡ state.old.room.keys }
     ensures set_keys { state.new.room.set_keys ≡ state.old.room.set_keys }
@@ -165,12 +165,12 @@ pub(crate) fn ready_to_receive(
 
 /// Receives the message at a place of a queue that is there. Its text is cut to `size`.
 pub(crate) fn receive(state: &mut State, pid: Pid, id: Id, at: usize, size: u32) -> Body<Vec<u8>>
-    requires there { is_some (queue_of state.old.state id.0) ≡ true }
-    requires inside { (e : Entry Queue) → queue_of state.old.state id.0 ≡ Some e
+    requires there { is_some (msg_queue_of state.old.state id.0) ≡ true }
+    requires inside { (e : Entry Queue) → msg_queue_of state.old.state id.0 ≡ Some e
         → at < length e.object.messages }
-    ensures state { (e : Entry Queue) → queue_of state.old.state id.0 ≡ Some e → state.new.state
-        ≡ with_queue state.old.state id.0 (holding e (taken e.object at pid.0 state.old.state.clock)) }
-    ensures body { (e : Entry Queue) → queue_of state.old.state id.0 ≡ Some e → body_of (λ text. text.items) result
+    ensures state { (e : Entry Queue) → msg_queue_of state.old.state id.0 ≡ Some e → state.new.state
+        ≡ with_msg_queue state.old.state id.0 (holding e (taken e.object at pid.0 state.old.state.clock)) }
+    ensures body { (e : Entry Queue) → msg_queue_of state.old.state id.0 ≡ Some e → body_of (λ text. text.items) result
         ≡ body.Message (defined.message_at e.object at).mtype (take size (defined.message_at e.object at).text) }
     ensures limits { state.new.limits ≡ state.old.limits }
     ensures keys { state.new.room.keys ≡ state.old.room.keys }
@@ -200,7 +200,7 @@ pub(crate) fn msgctl_stat(state: &State, cred: Cred, id: Id, spare: &mut Vec<u8>
     requires spare { IsSpare state.now.limits spare.old }
     ensures finish { Finishes (finish_of state.now.state result)
         ≡ ended state.now.state (defined.msgctl_stat state.now.state cred id.0) }
-    ensures spare { IsKept state.now.limits spare.new result }
+    ensures spare { KeepsBuffer state.now.limits spare.new result }
 {
     let entry = accessible(state.msg(), cred, false, id, Access::READ)?;
     let mut body = take_spare(spare);

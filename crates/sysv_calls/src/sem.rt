@@ -9,7 +9,7 @@ ghost use Rattle.ipc_keys.specs.Directory.{is_vacant};
 ghost use Rattle.ipc_wire.specs.Pairs.{bytes_of, numbers_in};
 ghost use Rattle.ipc_state.specs.Directory.{HasNoSpareKey};
 ghost use Rattle.ipc_state.specs.Finish.{Finishes, ended, finish_of};
-ghost use Rattle.ipc_state.specs.Held.{HasSetPlace};
+ghost use Rattle.ipc_state.specs.Held.{HasSemsetPlace};
 ghost use Rattle.ipc_state.specs.Keyed.{keyed};
 ghost use Rattle.ipc_state.specs.Numbered.{entry_of};
 ghost use Rattle.ipc_state.specs.Sound.{HasSoundParts};
@@ -17,7 +17,7 @@ ghost use Rattle.sysv_calls.specs.Needs.{Has, HasNoSpareKeyBut, set_place};
 ghost use Rattle.sysv_calls.specs.Records.{set_fields};
 ghost use Rattle.ipc_state.specs.Steps.{result_of, seen};
 ghost use Rattle.sysv_calls.specs.Sem as defined;
-ghost use Rattle.ipc_state.specs.Spare.{IsSpare, IsKept};
+ghost use Rattle.ipc_state.specs.Spare.{IsSpare, KeepsBuffer};
 
 use crate::access::{accessible, owned, push_perm, remove, seek};
 use ipc_base::{Cred, Errno, Field, GetFlags, Id, Limits, Pid};
@@ -38,7 +38,7 @@ pub(crate) fn semget(state: &mut State, cred: Cred, key: i32, nsems: i32, flags:
     ensures no_key { HasNoSpareKeyBut key state.old.room.set_keys → HasNoSpareKey state.new.room.set_keys }
 {
     let answer = get_set(state, cred, key, nsems, flags);
-    state.sem_mut().release(key);
+    state.semset_mut().release(key);
     answer
 }
 
@@ -57,13 +57,13 @@ fn get_set(state: &mut State, cred: Cred, key: i32, nsems: i32, flags: GetFlags)
     let Some(count) = count_of(state.limits(), nsems) else {
         return Err(Errno::EINVAL);
     };
-    let Some(id) = seek(state.sem(), key, flags)? else {
+    let Some(id) = seek(state.semset(), key, flags)? else {
         return make_set(state, cred, key, count, flags);
     };
-    if has_fewer(state.sem(), id, count) {
+    if has_fewer(state.semset(), id, count) {
         return Err(Errno::EINVAL);
     }
-    accessible(state.sem(), cred, false, id, Access::asked_by(flags.0))?;
+    accessible(state.semset(), cred, false, id, Access::asked_by(flags.0))?;
     Ok(Body::Number(id.0))
 }
 
@@ -90,8 +90,8 @@ fn has_fewer(sets: &Keyed<SemSet>, id: Id, count: usize) -> bool
 /// A new set of so many semaphores.
 fn make_set(state: &mut State, cred: Cred, key: i32, count: usize, flags: GetFlags) -> Answer
     requires sound { HasSoundParts state.old.limits state.old.state }
-    requires unused { keyed state.old.state.sem key ≡ None }
-    requires room { 0 < count → HasSetPlace state.old.state state.old.room key count }
+    requires unused { keyed state.old.state.semset key ≡ None }
+    requires room { 0 < count → HasSemsetPlace state.old.state state.old.room key count }
     ensures finish { Finishes (finish_of state.new.state result) ≡ ended state.old.state
         (defined.made_set state.old.limits state.old.state cred key flags.0 count) }
     ensures limits { state.new.limits ≡ state.old.limits }
@@ -103,13 +103,13 @@ fn make_set(state: &mut State, cred: Cred, key: i32, count: usize, flags: GetFla
     if count == 0 {
         return Err(Errno::EINVAL);
     }
-    if state.sem().is_full(state.limits().semmni) {
+    if state.semset().is_full(state.limits().semmni) {
         return Err(Errno::ENOSPC);
     }
     if !state.may_have_more(count) {
         return Err(Errno::ENOSPC);
     }
-    Ok(Body::Number(state.add_set(key, Perm::new(cred, flags.0)).0))
+    Ok(Body::Number(state.add_semset(key, Perm::new(cred, flags.0)).0))
 }
 
 /// A semaphore of a set, for a caller that may use it so.
@@ -124,7 +124,7 @@ pub(crate) fn semaphore(
         ≡ seen (λ found. found.1) (defined.semaphore state.now.state cred id.0 num access.0) }
     ensures passed { OnOk result (ArePassed state.now.limits) }
 {
-    let Some(entry) = state.sem().get(id) else {
+    let Some(entry) = state.semset().get(id) else {
         return Err(Errno::EINVAL);
     };
     let Some(semaphore) = entry.object.semaphores().get(num as usize) else {
@@ -176,7 +176,7 @@ pub(crate) fn semctl_setval(
         return Err(Errno::ERANGE);
     };
     let now = state.clock();
-    let set = state.sem_mut().get_mut(id).unwrap();
+    let set = state.semset_mut().get_mut(id).unwrap();
     let num = num as u16;
     set.set_value(num, value, pid, now);
     state.clear_adjustments(id, Some(num));
@@ -199,9 +199,9 @@ pub(crate) fn semctl_getall(state: &State, cred: Cred, id: Id, spare: &mut Vec<u
     requires spare { IsSpare state.now.limits spare.old }
     ensures finish { Finishes (finish_of state.now.state result)
         ≡ ended state.now.state (defined.semctl_getall state.now.state cred id.0) }
-    ensures spare { IsKept state.now.limits spare.new result }
+    ensures spare { KeepsBuffer state.now.limits spare.new result }
 {
-    let entry = accessible(state.sem(), cred, false, id, Access::READ)?;
+    let entry = accessible(state.semset(), cred, false, id, Access::READ)?;
     let mut body = take_spare(spare);
     push_values(&mut body, entry.object.semaphores());
     Ok(Body::Record(body))
@@ -241,7 +241,7 @@ pub(crate) fn semctl_setall(
     let mut all = [0; MOST_SEMAPHORES];
     put_values(values, &mut all);
     let now = state.clock();
-    let set = state.sem_mut().get_mut(id).unwrap();
+    let set = state.semset_mut().get_mut(id).unwrap();
     set.set_all(&all[..values.len()], pid, now);
     state.clear_adjustments(id, None);
     Ok(Body::Empty)
@@ -253,7 +253,7 @@ fn ready_to_set(state: &State, cred: Cred, id: Id, values: &Pairs<'_>) -> Result
         ≡ seen (λ e. tt) (defined.settable state.now.state cred id.0 (numbers_in (bytes_of values.now))) }
     ensures passed { OnOk result (ArePassed state.now.limits) }
 {
-    let Some(entry) = state.sem().get(id) else {
+    let Some(entry) = state.semset().get(id) else {
         return Err(Errno::EINVAL);
     };
     if values.len() != entry.object.semaphores().len() {
@@ -296,9 +296,9 @@ pub(crate) fn semctl_stat(state: &State, cred: Cred, id: Id, spare: &mut Vec<u8>
     requires spare { IsSpare state.now.limits spare.old }
     ensures finish { Finishes (finish_of state.now.state result)
         ≡ ended state.now.state (defined.semctl_stat state.now.state cred id.0) }
-    ensures spare { IsKept state.now.limits spare.new result }
+    ensures spare { KeepsBuffer state.now.limits spare.new result }
 {
-    let entry = accessible(state.sem(), cred, false, id, Access::READ)?;
+    let entry = accessible(state.semset(), cred, false, id, Access::READ)?;
     let mut body = take_spare(spare);
     push_perm(&mut body, entry);
     push_set(&mut body, &entry.object);
@@ -339,9 +339,9 @@ pub(crate) fn semctl_set(
     ensures keys { state.new.room.keys ≡ state.old.room.keys }
     ensures set_keys { state.new.room.set_keys ≡ state.old.room.set_keys }
 {
-    let perm = owned(state.sem(), cred, id)?.perm;
+    let perm = owned(state.semset(), cred, id)?.perm;
     let now = state.clock();
-    let sets = state.sem_mut();
+    let sets = state.semset_mut();
     sets.set_perm(id, perm.owned_by(uid, gid, mode));
     sets.get_mut(id).unwrap().set(now);
     Ok(Body::Empty)
@@ -357,7 +357,7 @@ pub(crate) fn semctl_rmid(state: &mut State, cred: Cred, id: Id) -> Answer
     ensures keys { state.new.room.keys ≡ state.old.room.keys }
     ensures set_keys { HasNoSpareKey state.old.room.set_keys → HasNoSpareKey state.new.room.set_keys }
 {
-    remove(state.sem_mut(), cred, id)?;
+    remove(state.semset_mut(), cred, id)?;
     state.clear_adjustments(id, None);
     Ok(Body::Empty)
 }

@@ -24,7 +24,7 @@ use crate::sem::semaphore;
 use bitflags::Flags;
 use ipc_base::{Cred, Errno, Id, Pid, SemFlags};
 use ipc_perm::{Access, Perm, may};
-use ipc_state::{Answer, Halt, ParkedCall, ParkedKind, State};
+use ipc_state::{Answer, Halt, ParkedKind, ParkedSysv, State};
 use ipc_wire::{Body, SemBuf, Sixes};
 use sem_undo::subtracted_adds_up;
 use sysv_sem::{Operation, Trial};
@@ -135,7 +135,7 @@ fn try_operations(
     if count == 0 {
         return Err(Halt::Fails(Errno::EINVAL));
     }
-    let Some(entry) = state.sem().get(id) else {
+    let Some(entry) = state.semset().get(id) else {
         return Err(Halt::Fails(gone(again)));
     };
     if count > state.limits().semopm as usize {
@@ -203,7 +203,7 @@ pub(crate) fn operate(state: &mut State, pid: Pid, id: Id, operations: &Sixes<'_
     put_operations(operations, &mut all);
     let all = &all[..operations.len()];
     let now = state.clock();
-    let set = state.sem_mut().get_mut(id).unwrap();
+    let set = state.semset_mut().get_mut(id).unwrap();
     set.carry(all, pid, now);
     subtracted_adds_up();
     note_undo(state, pid, id, all);
@@ -254,8 +254,8 @@ fn is_stopped(state: &State, zero: bool, id: Id, num: u16, pid: Pid, call: &Park
     ensures { result ≡ defined.is_stopped state.now.limits state.now.state zero id.0 num pid.0
         (parked_kind call.now) }
 {
-    let ParkedKind::Call(
-        ParkedCall::Semop {
+    let ParkedKind::Sysv(
+        ParkedSysv::Semop {
             id: other,
             operations,
             ..

@@ -17,8 +17,8 @@ abbrev pub synced_slot : List ℕ → Slot
 synced_slot sector = record { synced = sector; last = sector }
 
 -- after a sync
-abbrev pub settled : Slot → Slot
-settled slot = synced_slot slot.last
+abbrev pub flushed : Slot → Slot
+flushed slot = synced_slot slot.last
 
 -- a sector that is not listed reads as it did at the last sync
 abbrev pub ListsUnsynced : List ℕ → List Slot → Type 0

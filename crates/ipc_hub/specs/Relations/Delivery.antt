@@ -93,35 +93,35 @@ AllShort [] = Unit {0}
 AllShort (o ∷ os) = IsShort o × AllShort os
 
 -- a reply has room in the outbox, and the last frames behind it
-abbrev pub HasRoom : PlainOutcome → ConnectionView → Type 0
-HasRoom o c = length (reply_bytes (reply_of o)) + last_frames ≤ c.outbox.free
+abbrev pub HasSpace : PlainOutcome → ConnectionView → Type 0
+HasSpace o c = length (reply_bytes (reply_of o)) + last_frames ≤ c.outbox.free
 
 -- a reply has room in the outbox of its process
-abbrev pub HasRoomIn : PlainOutcome → ConnectionView → Type 0
-HasRoomIn o c = is_for o.pid c.process ≡ true → HasRoom o c
+abbrev pub HasSpaceIn : PlainOutcome → ConnectionView → Type 0
+HasSpaceIn o c = is_for o.pid c.process ≡ true → HasSpace o c
 
 -- so have all those of some replies that are for its process, if it has one
-abbrev pub HasRoomForAll : List PlainOutcome → ConnectionView → Type 0
-HasRoomForAll os c = (pid : ℕ) → c.process ≡ Some pid → bytes_to pid os + last_frames ≤ c.outbox.free
+abbrev pub HasSpaceForAll : List PlainOutcome → ConnectionView → Type 0
+HasSpaceForAll os c = (pid : ℕ) → c.process ≡ Some pid → bytes_to pid os + last_frames ≤ c.outbox.free
 
 -- so it is of each connection, and no reply is too long for its length field
-pub record HaveRoom (os : List PlainOutcome) (table : Table) : Type 0 where
+pub record HaveSpace (os : List PlainOutcome) (table : Table) : Type 0 where
   pub short : AllShort os
-  pub each : EachValue (HasRoomForAll os) table
+  pub each : EachValue (HasSpaceForAll os) table
 
 -- the reply to a HELLO has room in the connection that said it
-abbrev pub HasRoomToGreet : Option PlainOutcome → ConnectionView → Type 0
-HasRoomToGreet None c = Unit {0}
-HasRoomToGreet (Some o) c = IsShort o × HasRoom o c
+abbrev pub HasSpaceToGreet : Option PlainOutcome → ConnectionView → Type 0
+HasSpaceToGreet None c = Unit {0}
+HasSpaceToGreet (Some o) c = IsShort o × HasSpace o c
 
 -- the table in which a connection has been told the reply to its request
 abbrev pub with_answer : List PlainOutcome → ℕ → Table → Table
 with_answer os conn table = changed (answered (last_reply os)) conn table
 
 -- the replies to the request of a connection, and the others of its event, have room
-pub record HasRoomToAnswer (os : List PlainOutcome) (conn : ℕ) (table : Table) : Type 0 where
-  pub own : IfSome (value_at nat_eq table conn) (λ c. c.process ≡ None → HasRoomToGreet (last_reply os) c)
-  pub all : HaveRoom os (with_answer os conn table)
+pub record HasSpaceToAnswer (os : List PlainOutcome) (conn : ℕ) (table : Table) : Type 0 where
+  pub own : IfSome (value_at nat_eq table conn) (λ c. c.process ≡ None → HasSpaceToGreet (last_reply os) c)
+  pub all : HaveSpace os (with_answer os conn table)
 
 -- how many bytes of frames a process, if there is one, is owed
 abbrev pub owed_to : Limits → State → Option ℕ → ℕ
@@ -139,7 +139,7 @@ unanswered_at h conn = unanswered_of h.state (process_in h.connections conn)
 
 -- in a connection that goes on, what its process is owed has room, and behind it a reply of so many bytes and the last
 -- frames
-abbrev pub HasRoomFor : HubView → ℕ → ℕ → Type 0
-HasRoomFor h reply conn =
+abbrev pub HasSpaceFor : HubView → ℕ → ℕ → Type 0
+HasSpaceFor h reply conn =
     IfSome (value_at nat_eq h.connections conn) (λ c. c.ended ≡ false
     → owed_to h.limits h.state c.process + reply + last_frames ≤ c.outbox.free)

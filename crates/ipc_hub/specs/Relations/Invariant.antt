@@ -9,8 +9,8 @@ use Rattle.ipc_wire.specs.Stream.PlainFrame.{More}
 use Rattle.ipc_state.specs.State.{State, is_process}
 use Rattle.ipc_engine.specs.Bytes.{most_owed}
 use Rattle.ipc_hub.specs.View.{ConnectionView, HubView, StoredHub, HasNoFrame, kept}
-use Rattle.ipc_hub.specs.Relations.Delivery.{last_frames, owed_to, released, HasRoomFor, HasSpare}
-use Rattle.ipc_hub.specs.Relations.Rows.{Table, goes_on_in, process_in}
+use Rattle.ipc_hub.specs.Relations.Delivery.{last_frames, owed_to, released, HasSpaceFor, HasSpare}
+use Rattle.ipc_hub.specs.Relations.Rows.{Table, is_open_in, process_in}
 
 -- no two connections have one process
 abbrev pub AreApart : Table → Type 0
@@ -26,7 +26,7 @@ pub record AreOwn (s : State) (table : Table) : Type 0 where
 -- frames that may still be the last: both, or one where the server has ended the connection, which has no process then.
 -- The most that a process is owed, the longest reply and both have room in an empty outbox, so that this always takes a
 -- request.
-pub record IsKept (limits : Limits) (owed : Option ℕ → ℕ) (c : ConnectionView) : Type 0 where
+pub record IsSoundConnection (limits : Limits) (owed : Option ℕ → ℕ) (c : ConnectionView) : Type 0 where
   pub input : first c.input ≡ More
   pub last : c.ended ≡ false → owed c.process + last_frames ≤ c.outbox.free
   pub over : c.ended ≡ true → c.process ≡ None
@@ -34,8 +34,8 @@ pub record IsKept (limits : Limits) (owed : Option ℕ → ℕ) (c : ConnectionV
   pub size : most_owed limits + longest_reply limits + last_frames ≤ length (kept c.outbox) + c.outbox.free
 
 -- the same in a hub, of what it owes
-abbrev pub IsKeptIn : HubView → ConnectionView → Type 0
-IsKeptIn h = IsKept h.limits (owed_to h.limits h.state)
+abbrev pub IsSoundIn : HubView → ConnectionView → Type 0
+IsSoundIn h = IsSoundConnection h.limits (owed_to h.limits h.state)
 
 -- a connection that was just made, with so much room for replies
 pub record IsNew (replies : ℕ) (c : ConnectionView) : Type 0 where
@@ -44,21 +44,21 @@ pub record IsNew (replies : ℕ) (c : ConnectionView) : Type 0 where
   pub ended : c.ended ≡ false
   pub visible : c.outbox.visible ≡ []
   pub waiting : c.outbox.waiting ≡ []
-  pub room : replies + last_frames ≤ c.outbox.free
+  pub space : replies + last_frames ≤ c.outbox.free
 
 pub record HubInvariant (h : HubView) : Type 0 where
   pub own : AreOwn h.state h.connections
-  pub each : EachValue (IsKeptIn h) h.connections
+  pub each : EachValue (IsSoundIn h) h.connections
   -- the numbers of the connections rise
   pub rising : IsRising 0 (keys_of h.connections) (2 ^ 32)
 
 -- Numbers rise. While the store goes on, the rest holds too.
 pub record StoredInvariant {D : Type 0} (v : StoredHub D) : Type 0 where
   pub rising : IsRising 0 (keys_of v.hub.connections) (2 ^ 32)
-  pub goes_on : v.store.stopped ≡ false → HubInvariant v.hub
+  pub running : v.store.stopped ≡ false → HubInvariant v.hub
 
 -- the same connections go on
-pub record GoesOn (old new : HubView) : Type 0 where
+pub record Continues (old new : HubView) : Type 0 where
   pub limits : new.limits ≡ old.limits
   pub numbers : keys_of new.connections ≡ keys_of old.connections
   pub invariant : HubInvariant new
@@ -70,8 +70,8 @@ SameButSeen old new =
 
 -- Time has passed: no connection goes on that did not before, and in one that kept no frame a request has room.
 pub record HasPassed (old new : HubView) : Type 0 where
-  pub ended : (conn : ℕ) → goes_on_in old.connections conn ≡ false → goes_on_in new.connections conn ≡ false
-  pub room : (conn : ℕ) → HasNoFrame old conn → HasRoomFor new (longest_reply new.limits) conn
+  pub ended : (conn : ℕ) → is_open_in old.connections conn ≡ false → is_open_in new.connections conn ≡ false
+  pub space : (conn : ℕ) → HasNoFrame old conn → HasSpaceFor new (longest_reply new.limits) conn
 
 -- the process, if there is one, is connected
 abbrev pub IsConnected : State → Option ℕ → Type 0

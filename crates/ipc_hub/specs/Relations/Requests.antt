@@ -8,7 +8,7 @@ use Rattle.ipc_wire.specs.Request.{PlainRequest}
 use Rattle.ipc_wire.specs.Stream.{PlainFrame, first, missing}
 use Rattle.ipc_wire.specs.Stream.PlainFrame.{More, Whole, Fault}
 use Rattle.ipc_engine.specs.Sound.{IsSound}
-use Rattle.ipc_engine.specs.Engine.{takes_memory}
+use Rattle.ipc_engine.specs.Engine.{event_takes_memory}
 use Rattle.ipc_engine.specs.Event.{PlainEvent, Exit}
 use Rattle.ipc_engine.specs.Step.{step}
 use Rattle.ipc_store.specs.View.{StoreView, IsReadyFor}
@@ -18,7 +18,7 @@ use Rattle.ipc_hub.specs.Clients.{event_of}
 use Rattle.ipc_hub.specs.View.{ConnectionView, HasNoFrame}
 use Rattle.ipc_hub.specs.Relations.Rows.{Table, hub_view, stored_view}
 use Rattle.ipc_hub.specs.Relations.Delivery.{last_frames, unanswered_at, owed_to}
-use Rattle.ipc_hub.specs.Relations.Invariant.{HubInvariant, GoesOn}
+use Rattle.ipc_hub.specs.Relations.Invariant.{HubInvariant, Continues}
 use Rattle.ipc_hub.specs.Relations.Matches.{Pends, TakesIn}
 
 -- the exit of a process, if there is one
@@ -51,7 +51,7 @@ pub record IsRefused {D : Type 0} (old new : StoreView D) (frame : PlainFrame) (
   pub event : PlainEvent
   pub made : IsRequest frame process moment (Some event)
   pub serial : made.request.serial ≡ number
-  pub takes : takes_memory old.machine.limits old.machine.state event ≡ true
+  pub takes : event_takes_memory old.machine.limits old.machine.state event ≡ true
   pub same : new ≡ old
 
 -- a fault of the frames, or a request that has no place
@@ -88,7 +88,7 @@ pub record Received {D : Type 0} (medium : D → Medium) (old new : StoreView D)
   pub was : ConnectionView
   pub found : value_at nat_eq before conn ≡ Some was
   pub live : was.ended ≡ false
-  pub room : owed_to old.machine.limits old.machine.state was.process + longest_reply old.machine.limits + last_frames
+  pub space : owed_to old.machine.limits old.machine.state was.process + longest_reply old.machine.limits + last_frames
       ≤ was.outbox.free
   pub partial : first was.input ≡ More
   pub few : length bytes ≤ missing was.input
@@ -109,6 +109,6 @@ pub record Waits {D : Type 0} (old new : StoreView D) (before after : Table) (co
 -- The connection with a number has taken bytes, and what they complete was served.
 pub record Took {D : Type 0} (medium : D → Medium) (old new : StoreView D) (before after : Table) (conn : ℕ)
     (piece : List ℕ) (moment : ℕ) : Type 0 where
-  pub goes_on : GoesOn (hub_view old.machine before) (hub_view new.machine after)
+  pub continues : Continues (hub_view old.machine before) (hub_view new.machine after)
   pub bytes : TakesIn medium (stored_view old before) (stored_view new after) conn piece moment
   pub answers : HasNoFrame (hub_view new.machine after) conn → Waits old new before after conn

@@ -48,8 +48,8 @@ abbrev pub process_in : Table → ℕ → Option ℕ
 process_in table conn = option_and_then (λ c. c.process) (value_at nat_eq table conn)
 
 -- whether a connection has the number, and the server has not ended it
-abbrev pub goes_on_in : Table → ℕ → Bool
-goes_on_in table conn = unwrap_or (option_map (λ c. not c.ended) (value_at nat_eq table conn)) false
+abbrev pub is_open_in : Table → ℕ → Bool
+is_open_in table conn = unwrap_or (option_map (λ c. not c.ended) (value_at nat_eq table conn)) false
 
 -- the bytes that the client of a connection may see, and whether the server has ended it
 abbrev pub output_in : Table → ℕ → List ℕ

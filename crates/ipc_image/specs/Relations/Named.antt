@@ -3,18 +3,18 @@ use Rattle.std.proofs.Common.{◌≡◌, ℕ, List, [], ◌++◌, length, take, 
 use Rattle.std.proofs.lemmas.List.{append-nil, take_at, drop_at}
 use Rattle.shm_segment.specs.Segment.{Segment}
 use Rattle.ipc_state.specs.declared.named.NamedEntry.{NamedEntry}
-use Rattle.ipc_image.specs.Saved.{named_sem_shape, named_sem_tree, named_sem_bytes, FitsNamedSem}
+use Rattle.ipc_image.specs.Saved.{psem_shape, psem_tree, psem_bytes, FitsPsem}
 use Rattle.ipc_image.specs.Saved.{segment_shape, segment_tree, segment_bytes, FitsSegment}
-use Rattle.ipc_image.specs.SavedParts.{named_sem_from, segment_from}
+use Rattle.ipc_image.specs.SavedParts.{psem_from, segment_from}
 use Rattle.ipc_image.specs.Relations.Shapes.{plain_one}
 use Rattle.ipc_image.specs.Relations.Trees.{one_if_back}
 
 -- two semaphores
-pub named_sem_one : (e f : NamedEntry ℕ) → FitsNamedSem e → FitsNamedSem f → named_sem_bytes e ≡ named_sem_bytes f
+pub psem_one : (e f : NamedEntry ℕ) → FitsPsem e → FitsPsem f → psem_bytes e ≡ psem_bytes f
     → e ≡ f
-named_sem_one e f fit also same =
-    let trees = one_if_back named_sem_tree named_sem_from FitsNamedSem (λ g fits. refl) in
-    let one = plain_one named_sem_shape named_sem_tree FitsNamedSem (λ g fits. fits.1) trees in
+psem_one e f fit also same =
+    let trees = one_if_back psem_tree psem_from FitsPsem (λ g fits. refl) in
+    let one = plain_one psem_shape psem_tree FitsPsem (λ g fits. fits.1) trees in
     (one e f [] [] fit also (ap (λ (l : List ℕ). l ++ []) same)).0
 
 -- a segment by its numbers, and its name and its bytes

@@ -38,9 +38,9 @@ one_if_back tree back Fits known x y fit also same = sym (known x fit) ∙ ap ba
 
 -- two descriptors
 opened_known : (on : Opened) → opened_from (opened_kind on) (opened_number on) ≡ on
-opened_known (opened.Queue n) = refl
-opened_known (opened.Semaphore n) = refl
-opened_known (opened.Segment n) = refl
+opened_known (opened.Mq n) = refl
+opened_known (opened.Psem n) = refl
+opened_known (opened.Pshm n) = refl
 
 pub descriptor_one : (d e : ℕ × Descriptor) → FitsDescriptor d → FitsDescriptor e
     → descriptor_numbers d ≡ descriptor_numbers e → d ≡ e

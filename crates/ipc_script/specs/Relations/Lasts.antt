@@ -13,13 +13,13 @@ abbrev pub Lasts : {D : Type 0} → (D → Medium) → StoreView D → StoreView
 Lasts medium old new = (events : List PlainEvent) × Takes medium old events new
 
 -- if nothing waited, nothing waits
-abbrev pub Settled : {D : Type 0} → StoreView D → StoreView D → Type 0
-Settled old new = old.waiting ≡ 0 → new.waiting ≡ 0
+abbrev pub StaysCommitted : {D : Type 0} → StoreView D → StoreView D → Type 0
+StaysCommitted old new = old.waiting ≡ 0 → new.waiting ≡ 0
 
 -- so it is, unless the disk failed
-abbrev pub Settles : {A D : Type 0} → StoreView D → StoreView D → Result A ScriptFault → Type 0
-Settles old new (Ok _) = Settled old new
-Settles old new (Err e) = ByFault e (Settled old new) ⊤ (Settled old new)
+abbrev pub CommitsOrFails : {A D : Type 0} → StoreView D → StoreView D → Result A ScriptFault → Type 0
+CommitsOrFails old new (Ok _) = StaysCommitted old new
+CommitsOrFails old new (Err e) = ByFault e (StaysCommitted old new) ⊤ (StaysCommitted old new)
 
 -- nothing waits, unless the disk failed
 abbrev pub Empties : {A D : Type 0} → StoreView D → Result A ScriptFault → Type 0

@@ -8,7 +8,7 @@ use Rattle.ipc_script.specs.Script.{DiskFailed}
 
 -- the store goes on, and has so many numbers left
 pub record HasNumbers {D : Type 0} (n : ℕ) (store : StoreView D) : Type 0 where
-  pub goes_on : store.stopped ≡ false
+  pub running : store.stopped ≡ false
   pub left : numbers_used store + n + 3 < 2 ^ 64
 
 -- a call was Ok and has used so many at most, or its fault is not the disk's unless that has failed

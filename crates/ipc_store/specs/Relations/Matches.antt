@@ -58,7 +58,7 @@ pub record HasPending {D : Type 0} (store : StoreView D) (base : State) (pending
 -- these events wait. Its engine is in the state after them.
 pub record StoreMatches {D : Type 0} (medium : Medium) (store : StoreView D) (base : State)
     (pending : List PlainEvent) : Type 0 where
-  pub goes_on : store.stopped ≡ false
+  pub running : store.stopped ≡ false
   pub device : DeviceMatches medium store.machine.limits store.checkpoint store.journal base
   pub waits : HasPending store base pending
 

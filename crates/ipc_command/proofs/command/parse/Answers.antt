@@ -22,7 +22,7 @@ use Rattle.clap.specs.declared.builder.command.Command.{Command}
 use Rattle.clap.specs.declared.parser.matches.ArgMatches.{ArgMatches}
 use Rattle.clap.specs.Simple.{HasMatchesOf}
 use Rattle.clap.proofs.OnLiterals.{clap_on_literals}
-use Rattle.ipc_command.specs.Command.{PlainRequest, plain_request, asked, declared, is_no_flag, number_of}
+use Rattle.ipc_command.specs.Command.{PlainRequest, plain_request, asked, declared, is_no_flag, parsed_number}
 use Rattle.ipc_command.specs.Command.{small_words, sectors_words, turns_words, AsksFor, IsTakenAs}
 use Rattle.ipc_command.specs.Command.PlainRequest.{Replay, Format, Run, Dump, Serve}
 use Rattle.ipc_command.proofs.command.parse.Goals as goal
@@ -120,14 +120,14 @@ number-from (x ∷ rest) is = by (x == 45) refl
           ) refl;
         }
 
-number-at : (word : Text) → IsSome (number_of word) → IsNumber word
+number-at : (word : Text) → IsSome (parsed_number word) → IsNumber word
 number-at word some = by (is_unsigned_in 0 4294967295 word) refl
   where
     by : (is : Bool) → is_unsigned_in 0 4294967295 word ≡ is → IsNumber word
     by true is = number-from word is
     by false is = let never : false ≡ true = rw is at some in cc
 
-numbers-of : (number : Option Text) → IfSome number (λ word. IsSome (number_of word)) → IfSome number IsNumber
+numbers-of : (number : Option Text) → IfSome number (λ word. IsSome (parsed_number word)) → IfSome number IsNumber
 numbers-of None some = tt
 numbers-of (Some word) some = number-at word some
 
@@ -135,14 +135,14 @@ abbrev format_line : List ℕ → List ℕ → Bool → Option Text → List Tex
 format_line name device small number = name ∷ codes "format" ∷ device ∷ small_words small ++ sectors_words number
 
 format-read : (name device : List ℕ) (small : Bool) (number : Option Text) → IsValue device → IfSome number IsNumber
-    → asked (subcommand_of declared (format_line name device small number)) ≡ Format device small (option_and_then number_of number)
+    → asked (subcommand_of declared (format_line name device small number)) ≡ Format device small (option_and_then parsed_number number)
 unfolding clap_on_literals
 format-read name device false None v n = rw (v.dashes, v.long, v.short) refl
 format-read name device true None v n = rw (v.dashes, v.long, v.short) refl
 format-read name device false (Some word) v n =
-    rw (v.dashes, v.long, v.short, n.value.dashes, n.value.long, n.value.short) (ap (λ (t : Text). Format device false (number_of t)) n.same)
+    rw (v.dashes, v.long, v.short, n.value.dashes, n.value.long, n.value.short) (ap (λ (t : Text). Format device false (parsed_number t)) n.same)
 format-read name device true (Some word) v n =
-    rw (v.dashes, v.long, v.short, n.value.dashes, n.value.long, n.value.short) (ap (λ (t : Text). Format device true (number_of t)) n.same)
+    rw (v.dashes, v.long, v.short, n.value.dashes, n.value.long, n.value.short) (ap (λ (t : Text). Format device true (parsed_number t)) n.same)
 
 -- the number is the one value that is tested
 abbrev passes_all : Bool → Bool
@@ -162,12 +162,12 @@ abbrev serve_line : List ℕ → List ℕ → List ℕ → Option Text → List 
 serve_line name device socket number = name ∷ codes "serve" ∷ device ∷ socket ∷ turns_words number
 
 serve-read : (name device socket : List ℕ) (number : Option Text) → IsValue device → IsValue socket → IfSome number IsNumber
-    → asked (subcommand_of declared (serve_line name device socket number)) ≡ Serve device socket (option_and_then number_of number)
+    → asked (subcommand_of declared (serve_line name device socket number)) ≡ Serve device socket (option_and_then parsed_number number)
 unfolding clap_on_literals
 serve-read name device socket None v w n = rw (v.dashes, v.long, v.short, w.dashes, w.long, w.short) refl
 serve-read name device socket (Some word) v w n =
     rw (v.dashes, v.long, v.short, w.dashes, w.long, w.short, n.value.dashes, n.value.long, n.value.short)
-    (ap (λ (t : Text). Serve device socket (number_of t)) n.same)
+    (ap (λ (t : Text). Serve device socket (parsed_number t)) n.same)
 
 serve-taken : (name device socket : List ℕ) (number : Option Text) → IsValue device → IsValue socket → IfSome number IsNumber
     → takes declared (serve_line name device socket number) ≡ true

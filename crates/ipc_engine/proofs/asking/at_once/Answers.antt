@@ -4,7 +4,7 @@ use Rattle.ipc_wire.specs.Request.{plain_kind}
 use Rattle.ipc_wire.specs.View.{plain_request}
 use Rattle.ipc_state.specs.declared.parked.Object.{Object}
 use Rattle.ipc_state.specs.Finish.{Tried, finish_of}
-use Rattle.ipc_engine.specs.Step.{after, replied, settle, told}
+use Rattle.ipc_engine.specs.Step.{after, replied, settle, replied_or_joined}
 use Rattle.ipc_engine.specs.View.{plain_outcome}
 use Rattle.ipc_engine.proofs.Buffers.{finish-state, waits-kept}
 use Rattle.ipc_engine.proofs.Resumes.{ended-of, good-here}
@@ -34,7 +34,7 @@ returns-clause-state c =
     let f = finish_of c.try_at_once-answer.new.state.state c.try_at_once-answer.result.0 in
     c.finish.ensures.state
     ∙ ((λ i. (after (replied c.args.pid.0 c.args.request.now.serial f) (settle (c.try_at_once-answer.ensures.limits i))).state)
-    ∙ ap (λ (t : Tried). (told s.limits c.args.pid.0 (plain_request c.args.request.now) s.state t).state) c.try_at_once-answer.ensures.finish)
+    ∙ ap (λ (t : Tried). (replied_or_joined s.limits c.args.pid.0 (plain_request c.args.request.now) s.state t).state) c.try_at_once-answer.ensures.finish)
 
 pub returns-clause-outcomes : goal.returns-clause-outcomes
 returns-clause-outcomes c =
@@ -43,7 +43,7 @@ returns-clause-outcomes c =
     let old = map plain_outcome c.args.outcomes.now.items in
     c.finish.ensures.outcomes
     ∙ ((λ i. old ++ (after (replied c.args.pid.0 c.args.request.now.serial f) (settle (c.try_at_once-answer.ensures.limits i))).outcomes)
-    ∙ ap (λ (t : Tried). old ++ (told s.limits c.args.pid.0 (plain_request c.args.request.now) s.state t).outcomes) c.try_at_once-answer.ensures.finish)
+    ∙ ap (λ (t : Tried). old ++ (replied_or_joined s.limits c.args.pid.0 (plain_request c.args.request.now) s.state t).outcomes) c.try_at_once-answer.ensures.finish)
 
 pub returns-clause-buffer : goal.returns-clause-buffer
 returns-clause-buffer c = omega (arith, c.try_at_once-answer.ensures.spare, c.finish.ensures.room)

@@ -3,7 +3,7 @@ use Rattle.ipc_base.specs.declared.errno.Errno.TheVariants.{EINTR}
 use Rattle.ipc_base.specs.declared.identity.Pid.{Pid}
 use Rattle.ipc_wire.specs.declared.reply.Body.TheVariants.{Empty}
 use Rattle.ipc_wait.proofs.CallerLemmas.{filter-none}
-use Rattle.ipc_wait.specs.Waits.{call_of, is_of}
+use Rattle.ipc_wait.specs.Waits.{waiting_call_of, is_of}
 use Rattle.ipc_state.specs.State.{State, without_waiting}
 use Rattle.ipc_state.specs.Waiting.{PlainWaiting}
 use Rattle.ipc_engine.specs.Step.{Step, interrupted}
@@ -11,7 +11,7 @@ use Rattle.ipc_engine.specs.View.{plain_outcome}
 use Rattle.ipc_engine.proofs.Buffers.{pushed}
 use Rattle.ipc_engine.proofs.asking.end_waiting.Goals as goal
 
-some : (s : List PlainWaiting) (w : PlainWaiting) (p : Pid) → call_of p s ≡ Some w → 1 ≤ length s
+some : (s : List PlainWaiting) (w : PlainWaiting) (p : Pid) → waiting_call_of p s ≡ Some w → 1 ≤ length s
 some [] w p is = cc
 some (v ∷ vs) w p is = omega arith
 
@@ -40,9 +40,9 @@ returns-clause-outcomes c =
     let s = c.args.state.now.state in
     let is = sym c.leave_wait.ensures.call ∙ c.in-Some.is in
     let reply = ap (λ (t : Step). t.outcomes) (c.reply_to.ensures.reply (without_waiting s c.args.pid.0)) in
-    let told = ap (λ (n : _). record { pid = c.args.pid.0; serial = n; errno = Some EINTR; body = Empty } ∷ []) c.serial.ensures in
+    let replied_or_joined = ap (λ (n : _). record { pid = c.args.pid.0; serial = n; errno = Some EINTR; body = Empty } ∷ []) c.serial.ensures in
     pushed c.args.outcomes.now.items c.push.new.outcomes.items c.reply_to.result _ c.push.ensures.items
-    (reply ∙ (told ∙ sym (ap (λ (r : _). (interrupted s c.args.pid.0 r).outcomes) is)))
+    (reply ∙ (replied_or_joined ∙ sym (ap (λ (r : _). (interrupted s c.args.pid.0 r).outcomes) is)))
 
 pub returns-clause-few : goal.returns-clause-few
 returns-clause-few c =

@@ -44,6 +44,6 @@ returns-clause-outcomes c =
     let own = (replied c.args.pid.0 c.args.serial (finish_firing s.state c.args.answer c.args.fired)).outcomes in
     let others = (settle s.limits s.state).outcomes in
     c.settle.ensures.outcomes
-    ∙ (ap (λ (xs : List PlainOutcome). xs ++ others) (c.tell.ensures.outcomes s.state)
+    ∙ (ap (λ (xs : List PlainOutcome). xs ++ others) (c.push_reply.ensures.outcomes s.state)
     ∙ (append_assoc old own others
     ∙ ap (λ (t : State). old ++ (own ++ (settle s.limits t).outcomes)) (sym (finish-state s.state c.args.answer c.args.fired))))

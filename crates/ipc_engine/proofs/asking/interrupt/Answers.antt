@@ -1,5 +1,5 @@
 use Rattle.std.proofs.Common.{List, ◌++◌, map, ap, ◌∙◌, append_assoc}
-use Rattle.ipc_wait.specs.Waits.{call_of}
+use Rattle.ipc_wait.specs.Waits.{waiting_call_of}
 use Rattle.ipc_state.specs.Finish.{done}
 use Rattle.ipc_wire.specs.declared.reply.Body.TheVariants.{Empty}
 use Rattle.ipc_engine.specs.Event.{PlainOutcome}
@@ -11,7 +11,7 @@ use Rattle.ipc_engine.proofs.asking.interrupt.Goals as goal
 pub returns-clause-outcomes : goal.returns-clause-outcomes
 returns-clause-outcomes c =
     let s = c.args.state.now.state in
-    let first = interrupted s c.args.pid.0 (call_of c.args.pid s.wait) in
+    let first = interrupted s c.args.pid.0 (waiting_call_of c.args.pid s.wait) in
     let own = (replied c.args.pid.0 c.args.serial (done first.state Empty)).outcomes in
     pushed c.end_waiting.new.outcomes.items c.push.new.outcomes.items c.reply_to.result own c.push.ensures.items
     (ap (λ (t : Step). t.outcomes) (c.reply_to.ensures.reply first.state))

@@ -1,13 +1,13 @@
 use Rattle.std.proofs.Common.{◌≡◌, Bool, true, false, Some, None, sym, ap, ◌∙◌}
 use Rattle.std.specs.Prelude.{if◌then◌else◌}
-use Rattle.ipc_wire.specs.Request.{PlainKind, PlainRequest, Calls, Hello, Interrupt, Posix}
+use Rattle.ipc_wire.specs.Request.{PlainKind, PlainRequest, Sysv, Hello, Interrupt, Posix}
 use Rattle.ipc_wire.specs.View.{plain_request}
 use Rattle.ipc_state.specs.Held.{Room}
 use Rattle.ipc_state.specs.State.{State, is_waiting}
 use Rattle.posix_calls.specs.Needs as posix
 use Rattle.sysv_calls.specs.Needs as sysv
 use Rattle.ipc_engine.specs.Reserved.{IsReserved, IsReservedAs}
-use Rattle.ipc_engine.specs.Step.{Step, told, tried}
+use Rattle.ipc_engine.specs.Step.{Step, replied_or_joined, tried}
 use Rattle.ipc_engine.proofs.asking.make.Goals as goal
 
 -- what is kept of a request is the request
@@ -19,10 +19,10 @@ kept-is s room request parked = by_kind request.kind
     unless false is = cc
 
     by_kind : (kind : PlainKind) → IsReservedAs kind s room request (Some parked) → parked ≡ request
-    by_kind (Posix call) h = unless (posix.is_kept request.kind) h.call
-    by_kind (Calls call) h = unless (sysv.is_kept request.kind) h.call
-    by_kind (Hello cred) h = unless (sysv.is_kept request.kind) h.call
-    by_kind Interrupt h = unless (sysv.is_kept request.kind) h.call
+    by_kind (Posix call) h = unless (posix.keeps_request request.kind) h.call
+    by_kind (Sysv call) h = unless (sysv.keeps_request request.kind) h.call
+    by_kind (Hello cred) h = unless (sysv.keeps_request request.kind) h.call
+    by_kind Interrupt h = unless (sysv.keeps_request request.kind) h.call
 
 pub returns-then-is_waiting-clause-outcomes : goal.returns-then-is_waiting-clause-outcomes
 returns-then-is_waiting-clause-outcomes c =
@@ -35,5 +35,5 @@ returns-in-Some-clause-state c =
     let free : is_waiting s.state c.args.pid.0 ≡ false = sym c.is_waiting.ensures ∙ c.if-is_waiting.false in
     let reserved = rw c.in-Some.is at c.requires.room free in
     let same = kept-is s.state s.room (plain_request c.args.request.now) c.in-Some.parked reserved in
-    let went : PlainRequest → Step = λ r. told s.limits c.args.pid.0 r s.state (tried s.limits s.state c.args.pid.0 false r.kind) in
+    let went : PlainRequest → Step = λ r. replied_or_joined s.limits c.args.pid.0 r s.state (tried s.limits s.state c.args.pid.0 false r.kind) in
     rw free (c.try_once.ensures.state ∙ ap (λ (r : PlainRequest). (went r).state) same)

@@ -8,7 +8,7 @@ use Rattle.ipc_state.specs.State.{State}
 use Rattle.ipc_state.specs.Waiting.{awaited_by}
 use Rattle.ipc_state.proofs.CallerLemmas.{room-waiting}
 use Rattle.ipc_engine.specs.Settling.{ReceivesWait, touched_by}
-use Rattle.ipc_engine.specs.Step.{after, replied, settle, told, joins}
+use Rattle.ipc_engine.specs.Step.{after, replied, settle, replied_or_joined, joins}
 use Rattle.ipc_engine.specs.View.{plain_outcome}
 use Rattle.ipc_engine.proofs.Buffers.{finish-state, waits-kept}
 use Rattle.ipc_engine.proofs.Going.{receives-tried}
@@ -61,7 +61,7 @@ returns-in-Finishes-clause-state c =
     let f = finish_firing c.try_kept.new.state.state c.in-Finishes.answer c.in-Finishes.fired in
     c.finish.ensures.state
     ∙ ((λ i. (after (replied c.args.pid.0 (c.serial-serial.ensures i) f) (settle (c.try_kept.ensures.limits i))).state)
-    ∙ ap (λ (t : Tried). (told s.limits c.args.pid.0 c.args.parked s.state t).state) c.in-Finishes.ensures.finish)
+    ∙ ap (λ (t : Tried). (replied_or_joined s.limits c.args.pid.0 c.args.parked s.state t).state) c.in-Finishes.ensures.finish)
 
 pub returns-in-Finishes-clause-outcomes : goal.returns-in-Finishes-clause-outcomes
 returns-in-Finishes-clause-outcomes c =
@@ -70,7 +70,7 @@ returns-in-Finishes-clause-outcomes c =
     let f = finish_firing c.try_kept.new.state.state c.in-Finishes.answer c.in-Finishes.fired in
     c.finish.ensures.outcomes
     ∙ ((λ i. old ++ (after (replied c.args.pid.0 (c.serial-serial.ensures i) f) (settle (c.try_kept.ensures.limits i))).outcomes)
-    ∙ ap (λ (t : Tried). old ++ (told s.limits c.args.pid.0 c.args.parked s.state t).outcomes) c.in-Finishes.ensures.finish)
+    ∙ ap (λ (t : Tried). old ++ (replied_or_joined s.limits c.args.pid.0 c.args.parked s.state t).outcomes) c.in-Finishes.ensures.finish)
 
 pub join-requires-clause-room : goal.join-requires-clause-room
 join-requires-clause-room c =
@@ -85,7 +85,7 @@ returns-in-Waits-clause-state c =
     let kept = c.in-Waits.ensures.kept in
     c.join.ensures.state
     ∙ ((λ i. (joins (kept.1 i).state c.args.pid.0 (kept.0 i) (awaited_by (kept.0 i).kind)).state)
-    ∙ ap (λ (t : Tried). (told s.limits c.args.pid.0 c.args.parked s.state t).state) c.in-Waits.ensures.finish)
+    ∙ ap (λ (t : Tried). (replied_or_joined s.limits c.args.pid.0 c.args.parked s.state t).state) c.in-Waits.ensures.finish)
 
 pub returns-in-Waits-clause-outcomes : goal.returns-in-Waits-clause-outcomes
 returns-in-Waits-clause-outcomes c =
@@ -94,4 +94,4 @@ returns-in-Waits-clause-outcomes c =
     let old = map plain_outcome c.args.outcomes.now.items in
     c.join.ensures.outcomes
     ∙ ((λ i. old ++ (joins (kept.1 i).state c.args.pid.0 (kept.0 i) (awaited_by (kept.0 i).kind)).outcomes)
-    ∙ ap (λ (t : Tried). old ++ (told s.limits c.args.pid.0 c.args.parked s.state t).outcomes) c.in-Waits.ensures.finish)
+    ∙ ap (λ (t : Tried). old ++ (replied_or_joined s.limits c.args.pid.0 c.args.parked s.state t).outcomes) c.in-Waits.ensures.finish)

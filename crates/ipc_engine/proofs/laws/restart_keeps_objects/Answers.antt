@@ -17,8 +17,8 @@ use Rattle.ipc_engine.proofs.laws.restart_keeps_objects.Goals as goal
 pub returns-clause-sets : goal.returns-clause-sets
 returns-clause-sets c limits s = (restart-sets limits s).0
 
-pub returns-clause-next_set : goal.returns-clause-next_set
-returns-clause-next_set c limits s = (restart-sets limits s).1
+pub returns-clause-next_semset : goal.returns-clause-next_semset
+returns-clause-next_semset c limits s = (restart-sets limits s).1
 
 -- with no process, those that stay are those with a name
 named-stay : {X : Type 0} (kind : NameKind) (es : List (ℕ × NamedEntry X))
@@ -77,22 +77,22 @@ returns-clause-named c limits s n e is named =
     let goes : Registration → Bool = is_by None None in
     let there : value_at nat_eq (without_registrations goes s.mq).entries n ≡ Some (deregistered goes e) =
     at-map (deregistered goes) s.mq.entries n ∙ ap (option_map (deregistered goes)) is in
-    ap (λ (es : List (ℕ × NamedEntry Mq)). value_at nat_eq es n) (named-stay names.Queue (without_registrations goes s.mq).entries)
+    ap (λ (es : List (ℕ × NamedEntry Mq)). value_at nat_eq es n) (named-stay names.Mq (without_registrations goes s.mq).entries)
     ∙ left (without_registrations goes s.mq).entries n (deregistered goes e) there named
     ∙ ap (λ (r : Option Registration). Some (record e { object = record e.object { registration = r } })) (none-by e.object.registration)
 
 pub returns-clause-no_other : goal.returns-clause-no_other
 returns-clause-no_other c limits s =
     let es = (without_registrations (is_by None None) s.mq).entries in
-    subst (All (λ (e : ℕ × NamedEntry Mq). has_name e.1 ≡ true)) (sym (named-stay names.Queue es))
+    subst (All (λ (e : ℕ × NamedEntry Mq). has_name e.1 ≡ true)) (sym (named-stay names.Mq es))
     (all-left es)
 
-pub returns-clause-named_sems : goal.returns-clause-named_sems
-returns-clause-named_sems c limits s =
-    ap (λ (es : List (ℕ × NamedEntry ℕ)). let o : Named ℕ = record { next = s.named_sem.next; entries = es } in o)
-    (named-stay names.Semaphore s.named_sem.entries)
+pub returns-clause-psems : goal.returns-clause-psems
+returns-clause-psems c limits s =
+    ap (λ (es : List (ℕ × NamedEntry ℕ)). let o : Named ℕ = record { next = s.psem.next; entries = es } in o)
+    (named-stay names.Psem s.psem.entries)
 
 pub returns-clause-segments : goal.returns-clause-segments
 returns-clause-segments c limits s =
-    ap (λ (es : List (ℕ × NamedEntry Segment)). let o : Named Segment = record { next = s.shm.next; entries = es } in o)
-    (named-stay names.Segment s.shm.entries)
+    ap (λ (es : List (ℕ × NamedEntry Segment)). let o : Named Segment = record { next = s.pshm.next; entries = es } in o)
+    (named-stay names.Pshm s.pshm.entries)

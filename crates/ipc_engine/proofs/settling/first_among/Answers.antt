@@ -7,7 +7,7 @@ use Rattle.ipc_state.specs.Touching.{object_of}
 use Rattle.ipc_state.specs.Waiting.{PlainWaiting, IsSoundWaiting}
 use Rattle.sysv_calls.specs.Calls.{is_receive}
 use Rattle.ipc_engine.specs.Settling.{MayBe}
-use Rattle.ipc_engine.specs.Step.{can_go_on}
+use Rattle.ipc_engine.specs.Step.{can_resume}
 use Rattle.ipc_engine.proofs.Lists.{found-at, nothing-found}
 use Rattle.ipc_engine.proofs.settling.first_among.Goals as goal
 
@@ -23,20 +23,20 @@ can_go-requires-clause-process c =
 pub can_go-requires-clause-other : goal.can_go-requires-clause-other
 can_go-requires-clause-other c =
     let s = c.args.state.now in
-    subst (λ (w : PlainWaiting). ¬ MayBe c.args.among (object_of s.state w.pid.0 w.on) → can_go_on s.limits s.state w ≡ false) (sym c.waiting-item.is)
+    subst (λ (w : PlainWaiting). ¬ MayBe c.args.among (object_of s.state w.pid.0 w.on) → can_resume s.limits s.state w ≡ false) (sym c.waiting-item.is)
     (c.requires.rest c.loop-waiting.waiting-index c.waiting-item.result c.loop-waiting-test.true)
 
 pub can_go-requires-clause-receive : goal.can_go-requires-clause-receive
 can_go-requires-clause-receive c after =
-    subst (λ (w : PlainWaiting). is_receive w.call.kind ≡ true → can_go_on c.args.state.now.limits c.args.state.now.state w ≡ false) (sym c.waiting-item.is)
+    subst (λ (w : PlainWaiting). is_receive w.call.kind ≡ true → can_resume c.args.state.now.limits c.args.state.now.state w ≡ false) (sym c.waiting-item.is)
     (c.requires.receives after c.loop-waiting.waiting-index c.waiting-item.result c.loop-waiting-test.true)
 
 pub returns-then-can_go : goal.returns-then-can_go
 returns-then-can_go c =
     let s = c.args.state.now in
-    let goes : can_go_on s.limits s.state c.waiting-item.result ≡ true = sym c.can_go.ensures ∙ c.if-can_go.true in (
+    let goes : can_resume s.limits s.state c.waiting-item.result ≡ true = sym c.can_go.ensures ∙ c.if-can_go.true in (
       c.waiting-item.result,
-      found-at (can_go_on s.limits s.state) c.args.calls.now c.loop-waiting.waiting-index c.waiting-item.result c.loop-waiting-test.true
+      found-at (can_resume s.limits s.state) c.args.calls.now c.loop-waiting.waiting-index c.waiting-item.result c.loop-waiting-test.true
           c.waiting-item.is c.loop-waiting.invariant goes,
       λ i. c.waiting-item.result.pid,
     )
@@ -44,14 +44,14 @@ returns-then-can_go c =
 pub loop-waiting-preserved : goal.loop-waiting-preserved
 loop-waiting-preserved c =
     let s = c.args.state.now in
-    All-more (λ (w : PlainWaiting). can_go_on s.limits s.state w ≡ false) c.args.calls.now c.loop-waiting.waiting-index c.waiting-item.result
+    All-more (λ (w : PlainWaiting). can_resume s.limits s.state w ≡ false) c.args.calls.now c.loop-waiting.waiting-index c.waiting-item.result
     c.loop-waiting-test.true
     c.loop-waiting.invariant
-    (subst (λ (w : PlainWaiting). can_go_on s.limits s.state w ≡ false) c.waiting-item.is (sym c.can_go.ensures ∙ c.if-can_go.false))
+    (subst (λ (w : PlainWaiting). can_resume s.limits s.state w ≡ false) c.waiting-item.is (sym c.can_go.ensures ∙ c.if-can_go.false))
 
 pub returns : goal.returns
 returns c =
     let s = c.args.state.now in
     let all : take c.loop-waiting.waiting-index c.args.calls.now ≡ c.args.calls.now = take_all c.loop-waiting.waiting-index c.args.calls.now (omega arith) in
-    nothing-found (can_go_on s.limits s.state) c.args.calls.now
-    (subst (λ (ws : List PlainWaiting). All (λ (w : PlainWaiting). can_go_on s.limits s.state w ≡ false) ws) all c.loop-waiting.invariant)
+    nothing-found (can_resume s.limits s.state) c.args.calls.now
+    (subst (λ (ws : List PlainWaiting). All (λ (w : PlainWaiting). can_resume s.limits s.state w ≡ false) ws) all c.loop-waiting.invariant)

@@ -8,7 +8,7 @@ use Rattle.ipc_state.specs.State.{State, is_process}
 use Rattle.ipc_state.specs.Waiting.{PlainWaiting}
 use Rattle.ipc_state.proofs.CallerLemmas.{without_waiting-sound}
 use Rattle.ipc_engine.specs.Event.{PlainOutcome}
-use Rattle.ipc_engine.specs.Step.{Step, can_go_on}
+use Rattle.ipc_engine.specs.Step.{Step, can_resume}
 use Rattle.ipc_engine.specs.View.{plain_outcome}
 use Rattle.ipc_engine.proofs.Buffers.{finish-state}
 use Rattle.ipc_engine.proofs.Lists.{found-all}
@@ -38,7 +38,7 @@ try_kept-requires-clause-process c =
     let s = c.args.state.now in
     let first = c.requires.first.0 in
     let there : is_process s.state first.pid.0 ≡ true =
-    found-all (can_go_on s.limits s.state)
+    found-all (can_resume s.limits s.state)
     (λ (w : PlainWaiting). is_process s.state w.pid.0 ≡ true) s.state.wait first c.requires.linked c.requires.first.1 in
     ap (λ (t : State). is_process t c.args.pid.0) c.leave_wait.ensures.state ∙ (ap (λ (p : Pid). is_process s.state p.0) (sym c.requires.first.2) ∙ there)
 
@@ -64,7 +64,7 @@ returns-in-Finishes-clause-outcomes c w also =
     let is = resumed-finishes s.limits s.state c.leave_wait.new.self.state c.leave_wait.new.self.limits c.args.pid c.serial-serial.result first.0 v w
     c.requires.parts first.1 its first.2
     c.serial-serial.ensures c.leave_wait.ensures.limits c.leave_wait.ensures.state also f c.in-Finishes.ensures.finish in
-    c.tell.ensures.outcomes c.try_kept.new.state.state ∙ ap (λ (t : Step). map plain_outcome c.args.outcomes.now.items ++ t.outcomes) (sym is)
+    c.push_reply.ensures.outcomes c.try_kept.new.state.state ∙ ap (λ (t : Step). map plain_outcome c.args.outcomes.now.items ++ t.outcomes) (sym is)
 
 pub returns-in-Waits-clause-state : goal.returns-in-Waits-clause-state
 returns-in-Waits-clause-state c w also =

@@ -4,7 +4,7 @@ use Rattle.ipc_base.specs.declared.limits.Limits.{Limits}
 use Rattle.ipc_wait.proofs.CallerLemmas.{found-in}
 use Rattle.ipc_state.specs.Sound.{HasSoundParts}
 use Rattle.ipc_engine.specs.Settling.{RestWaits}
-use Rattle.ipc_engine.specs.Step.{Step, can_go_on, silent, settle, settle_within}
+use Rattle.ipc_engine.specs.Step.{Step, can_resume, silent, settle, settle_within}
 use Rattle.ipc_engine.specs.View.{plain_outcome}
 use Rattle.ipc_engine.proofs.Going.{goes-on, within-none, within-all, within-nothing}
 use Rattle.ipc_engine.proofs.settling.settle_among.Goals as goal
@@ -45,7 +45,7 @@ resume-requires-clause-room c =
     let l = c.loop-gone in
     let s = l.state in
     let first = c.in-Some.ensures in
-    omega (arith, l.invariant.room, (found-in (can_go_on s.limits s.state) s.state.wait first.0 l.invariant.parts.wait.pids first.1).fewer)
+    omega (arith, l.invariant.room, (found-in (can_resume s.limits s.state) s.state.wait first.0 l.invariant.parts.wait.pids first.1).fewer)
 
 pub loop-gone-preserved : goal.loop-gone-preserved
 loop-gone-preserved c =

@@ -5,7 +5,7 @@ use Rattle.ipc_engine.specs.declared.event.Outcome.{Outcome}
 use Rattle.ipc_engine.specs.Event.{PlainOutcome}
 use Rattle.ipc_engine.specs.View.{plain_outcome}
 use Rattle.ipc_hub.specs.Clients.{last_reply}
-use Rattle.ipc_hub.specs.Relations.Delivery.{answered, with_answer, put_all, HasRoomToGreet}
+use Rattle.ipc_hub.specs.Relations.Delivery.{answered, with_answer, put_all, HasSpaceToGreet}
 use Rattle.ipc_hub.specs.Relations.Rows.{pid_of, view_of, table_of}
 use Rattle.ipc_base.specs.Table.{keys_of}
 use Rattle.ipc_hub.proofs.Keeping.{changed-keys}
@@ -42,10 +42,10 @@ told c =
 
 pub hear_own-requires : goal.hear_own-requires
 hear_own-requires c = record {
-  room = λ none.
-      subst (λ (r : Option PlainOutcome). HasRoomToGreet r (view_of c.in-Some.connection.now))
+  space = λ none.
+      subst (λ (r : Option PlainOutcome). HasSpaceToGreet r (view_of c.in-Some.connection.now))
       (sym (last-is c.args.outcomes.now (option_copied c.last.result) c.last.ensures.value))
-      ((rw (sym c.in-Some.ensures.found) at c.requires.room.own) (ap pid_of none));
+      ((rw (sym c.in-Some.ensures.found) at c.requires.space.own) (ap pid_of none));
 }
 
 pub deliver-requires-clause-rising : goal.deliver-requires-clause-rising
@@ -56,8 +56,8 @@ deliver-requires-clause-rising c =
 pub deliver-requires-clause-apart : goal.deliver-requires-clause-apart
 deliver-requires-clause-apart c = rw (told (goal.at.deliver-requires-clause-apart c).Joined-get_mut) c.requires.apart
 
-pub deliver-requires-clause-room : goal.deliver-requires-clause-room
-deliver-requires-clause-room c = rw (told (goal.at.deliver-requires-clause-room c).Joined-get_mut) c.requires.room.all
+pub deliver-requires-clause-space : goal.deliver-requires-clause-space
+deliver-requires-clause-space c = rw (told (goal.at.deliver-requires-clause-space c).Joined-get_mut) c.requires.space.all
 
 pub returns : goal.returns
 returns c = c.deliver.ensures ∙ ap (put_all (map plain_outcome c.args.outcomes.now)) (told (goal.at.returns c).Joined-get_mut)

@@ -4,7 +4,7 @@ use Rattle.ipc_base.proofs.CallerLemmas.{test_cases}
 use Rattle.ipc_wire.specs.View.{plain_request}
 use Rattle.ipc_wire.specs.Stream.{first}
 use Rattle.ipc_wire.specs.Stream.PlainFrame.{Whole}
-use Rattle.ipc_engine.specs.Engine.{takes_memory}
+use Rattle.ipc_engine.specs.Engine.{event_takes_memory}
 use Rattle.ipc_engine.specs.View.{plain_event}
 use Rattle.ipc_hub.specs.Clients.{event_of}
 use Rattle.ipc_image.specs.Records.{HasRecord}
@@ -26,8 +26,8 @@ returns-in-Err-NoMemory-clause-comes g c =
     let whole : first c.args.connection.now.input.items ≡ Whole c.in-Whole.used (plain_request c.in-Whole.request) = search rules in
     let made : event_of (pid_of c.args.connection.now.process) (plain_request c.in-Whole.request) c.args.moment.0 ≡ Some e =
     sym c.event_of.ensures.event ∙ ap (option_map plain_event) c.in-Some.is in
-    let takes : takes_memory c.args.store.now.machine.limits c.args.store.now.machine.state e ≡ true =
-    elim (test_cases (takes_memory c.args.store.now.machine.limits c.args.store.now.machine.state e)) [
+    let takes : event_takes_memory c.args.store.now.machine.limits c.args.store.now.machine.state e ≡ true =
+    elim (test_cases (event_takes_memory c.args.store.now.machine.limits c.args.store.now.machine.state e)) [
       | inl does ↦ does
       | inr never ↦ absurd (search rules)
     ] in
@@ -55,6 +55,6 @@ returns-in-Ok-clause-comes g c =
       passed = c.in-Ok.ensures.passed;
       sound = c.in-Ok.ensures.was_sound;
       pends = record { confirmed = c.in-Ok.ensures.confirmed; waiting = c.in-Ok.ensures.waiting; takes = c.in-Ok.ensures.takes.0 };
-      less = λ n ready. ready-less old new e n has c.in-Ok.ensures.records c.in-Ok.ensures.waiting c.in-Ok.ensures.confirmed c.in-Ok.ensures.goes_on ready;
+      less = λ n ready. ready-less old new e n has c.in-Ok.ensures.records c.in-Ok.ensures.waiting c.in-Ok.ensures.confirmed c.in-Ok.ensures.running ready;
     } in
     (e, (record { used = c.in-Whole.used; request = plain_request c.in-Whole.request; whole = whole; event = made }, steps))

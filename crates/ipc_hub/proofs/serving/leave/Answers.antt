@@ -9,7 +9,7 @@ use Rattle.ipc_hub.specs.Relations.Invariant.{LeavesOthers}
 use Rattle.ipc_hub.specs.Relations.Matches.{Pends}
 use Rattle.ipc_hub.specs.Relations.Requests.{exit_of}
 use Rattle.ipc_hub.specs.Relations.Rows.{Table, pid_of, table_of, hub_view}
-use Rattle.ipc_hub.proofs.Keeping.{Happened, happened-matches, put-others, quiet-goes-on, quiet-room}
+use Rattle.ipc_hub.proofs.Keeping.{Happened, happened-matches, put-others, quiet-goes-on, quiet-space}
 use Rattle.ipc_hub.proofs.Taking.{same-pends}
 use Rattle.ipc_hub.proofs.serving.leave.Given.{Over}
 use Rattle.ipc_hub.proofs.serving.leave.Goals.{After-outcomes, After-deliver}
@@ -20,10 +20,10 @@ are : (g : Over) (c : After-outcomes g) → map plain_outcome c.outcomes.result.
     ≡ (step c.args.store.now.machine.limits c.args.store.now.machine.state (Exit c.in-Some.pid.0 c.args.moment.0)).outcomes
 are g c = c.outcomes.ensures ∙ ap (λ (m : Machine). m.outcomes) c.engine.ensures ∙ rw c.unwrap.ensures at c.step.ensures.outcomes
 
-pub deliver-requires-clause-room : goal.deliver-requires-clause-room
-deliver-requires-clause-room g c =
-    rw (are g (goal.at.deliver-requires-clause-room g c).After-outcomes)
-    (quiet-room (hub_view c.args.store.now.machine (table_of c.args.connections.now)) (Exit c.in-Some.pid.0 c.args.moment.0)
+pub deliver-requires-clause-space : goal.deliver-requires-clause-space
+deliver-requires-clause-space g c =
+    rw (are g (goal.at.deliver-requires-clause-space g c).After-outcomes)
+    (quiet-space (hub_view c.args.store.now.machine (table_of c.args.connections.now)) (Exit c.in-Some.pid.0 c.args.moment.0)
     (rw c.unwrap.ensures at c.step.ensures.was_sound) c.requires.hub (λ pid. refl) (rw c.unwrap.ensures at c.step.ensures.passed))
 
 happened : (g : Over) (c : After-deliver g) → Happened (hub_view c.args.store.now.machine (table_of c.args.connections.now))
@@ -36,11 +36,11 @@ happened g c = record {
   rows = c.deliver.ensures ∙ ap (λ os. put_all os (table_of c.args.connections.now)) (are g c.before);
 }
 
-pub returns-in-Some-clause-goes_on : goal.returns-in-Some-clause-goes_on
-returns-in-Some-clause-goes_on g c =
+pub returns-in-Some-clause-continues : goal.returns-in-Some-clause-continues
+returns-in-Some-clause-continues g c =
     let machine = c.args.store.now.machine in
     let gone = c.in-Some.pid.0 in
-    let is = happened g (goal.at.returns-in-Some-clause-goes_on g c).After-deliver in
+    let is = happened g (goal.at.returns-in-Some-clause-continues g c).After-deliver in
     quiet-goes-on _ (Exit gone c.args.moment.0) is.sound c.requires.hub (λ pid. refl) _ is
     (λ conn pid mine.
     let apart : pid ≢ gone = λ e. c.requires.nobodys conn pid (search rules) mine in

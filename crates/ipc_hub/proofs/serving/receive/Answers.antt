@@ -8,7 +8,7 @@ use Rattle.ipc_wire.specs.Stream.{first}
 use Rattle.ipc_hub.specs.declared.connection.Connection.{Connection}
 use Rattle.ipc_hub.specs.View.{ConnectionView}
 use Rattle.ipc_hub.specs.Relations.Delivery.{owed_to}
-use Rattle.ipc_hub.specs.Relations.Invariant.{IsKeptIn, IsConnected}
+use Rattle.ipc_hub.specs.Relations.Invariant.{IsSoundIn, IsConnected}
 use Rattle.ipc_hub.specs.Relations.Requests.{ComesTo, taken_off}
 use Rattle.ipc_hub.specs.Relations.Rows.{Table, view_of, table_of, hub_view}
 use Rattle.ipc_hub.proofs.Rows.{same_value, process_of}
@@ -25,7 +25,7 @@ pub fill-count-requires : goal.fill-count-requires
 fill-count-requires g c =
     let before = table_of c.args.connections.now in
     let b = c.unwrap-connection.result in
-    (each-at (IsKeptIn (hub_view c.args.store.now.machine before)) before c.args.conn (view_of b.now) c.requires.hub.each
+    (each-at (IsSoundIn (hub_view c.args.store.now.machine before)) before c.args.conn (view_of b.now) c.requires.hub.each
     (lent c.get_mut.result b before c.args.conn c.unwrap-connection.ensures c.get_mut.ensures.found)).input
 
 pub ask-asked-requires-clause-connected : goal.ask-asked-requires-clause-connected
@@ -47,7 +47,7 @@ returns-clause-received g c =
     let number = subst (λ (r : Option (MutBor Connection)). IfSome r (λ d. d.now.number ≡ c.args.conn)) c.unwrap-connection.ensures c.get_mut.ensures.number in
     let known = live-at before c.args.conn c.requires.live in
     let live : was.ended ≡ false = ap (λ (v : ConnectionView). v.ended) (same_value was known.0 (sym found ∙ known.1.0)) ∙ known.1.1 in
-    let kept = each-at (IsKeptIn (hub_view old.machine before)) before c.args.conn was c.requires.hub.each found in
+    let kept = each-at (IsSoundIn (hub_view old.machine before)) before c.args.conn was c.requires.hub.each found in
     let bytes : List ℕ = was.input ++ take c.fill-count.result c.args.piece.now in
     let then : ConnectionView = taken_off c.ask-asked.result (record was { input = bytes }) in
     let filled = c.fill-count.ensures in
@@ -64,7 +64,7 @@ returns-clause-received g c =
       was = was;
       found = found;
       live = live;
-      room = (rw found at c.requires.room) live;
+      space = (rw found at c.requires.space) live;
       partial = kept.input;
       few = filled.few;
       comes = came;

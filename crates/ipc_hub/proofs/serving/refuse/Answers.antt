@@ -8,10 +8,10 @@ use Rattle.ipc_hub.specs.Relations.Rows.{view_of, table_of}
 use Rattle.ipc_hub.proofs.Rows.{put-changed}
 use Rattle.ipc_hub.proofs.serving.refuse.Goals as goal
 
-pub push-requires-clause-room : goal.push-requires-clause-room
-push-requires-clause-room c =
-    let room : last_frame ≤ c.in-Some.connection.now.outbox.free = rw (sym c.in-Some.ensures.found) at c.requires.room in
-    omega (arith, room, length-reply_bytes (reply_of (refusal c.args.serial c.args.errno)), ap (λ (r : PlainReply). length (reply_bytes r)) c.refusal.ensures)
+pub push-requires-clause-space : goal.push-requires-clause-space
+push-requires-clause-space c =
+    let space : last_frame ≤ c.in-Some.connection.now.outbox.free = rw (sym c.in-Some.ensures.found) at c.requires.space in
+    omega (arith, space, length-reply_bytes (reply_of (refusal c.args.serial c.args.errno)), ap (λ (r : PlainReply). length (reply_bytes r)) c.refusal.ensures)
 
 pub returns-in-Some : goal.returns-in-Some
 returns-in-Some c =

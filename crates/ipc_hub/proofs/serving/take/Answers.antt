@@ -1,37 +1,37 @@
 use Rattle.std.proofs.Common.{◌≡◌, List, inl, refl, sym, ap, ◌∙◌, subst}
 use Rattle.ipc_engine.specs.Engine.{Machine}
 use Rattle.ipc_engine.specs.Event.{PlainOutcome}
-use Rattle.ipc_hub.specs.Relations.Delivery.{with_answer, HasRoomToAnswer}
+use Rattle.ipc_hub.specs.Relations.Delivery.{with_answer, HasSpaceToAnswer}
 use Rattle.ipc_hub.specs.Relations.Invariant.{AreApart}
 use Rattle.ipc_hub.specs.Relations.Rows.{table_of, stored_view}
 use Rattle.ipc_hub.proofs.Taking.{over-takes}
-use Rattle.ipc_hub.proofs.Receiving.{more-took, served-room, served-apart, served-took, refused-room, refused-took, broken-live, broken-took}
+use Rattle.ipc_hub.proofs.Receiving.{more-took, served-space, served-apart, served-took, refused-space, refused-took, broken-live, broken-took}
 use Rattle.ipc_hub.proofs.serving.take.Goals as goal
 
 -- the outcomes that a store lends
 outcomes-are : {lent machine : Machine} {os : List PlainOutcome} → lent ≡ machine → os ≡ lent.outcomes → machine.outcomes ≡ os
 outcomes-are same is = sym (is ∙ ap (λ (m : Machine). m.outcomes) same)
 
-pub returns-then-not-goes_on-clause-took : goal.returns-then-not-goes_on-clause-took
-returns-then-not-goes_on-clause-took g c = record {
-  goes_on = record { limits = refl; numbers = refl; invariant = c.requires.hub };
+pub returns-then-not-is_open-clause-took : goal.returns-then-not-is_open-clause-took
+returns-then-not-is_open-clause-took g c = record {
+  continues = record { limits = refl; numbers = refl; invariant = c.requires.hub };
   bytes = over-takes g.D.SectorDisk.medium g.met.D.SectorDisk.only_now (stored_view c.args.store.now (table_of c.args.connections.now)) c.args.conn
-      c.args.moment.0 _ (sym c.goes_on.ensures ∙ c.if-not-goes_on.true);
+      c.args.moment.0 _ (sym c.is_open.ensures ∙ c.if-not-is_open.true);
   answers = λ none. record { empty = none; event = inl (refl, refl) };
 }
 
-pub answer-requires-clause-room : goal.answer-requires-clause-room
-answer-requires-clause-room g c =
-    subst (λ (os : List PlainOutcome). HasRoomToAnswer os c.args.conn (table_of c.receive-count.new.connections))
-    (outcomes-are c.engine.ensures c.outcomes.ensures) (served-room (rw c.in-Served.is at c.receive-count.ensures.received))
+pub answer-requires-clause-space : goal.answer-requires-clause-space
+answer-requires-clause-space g c =
+    subst (λ (os : List PlainOutcome). HasSpaceToAnswer os c.args.conn (table_of c.receive-count.new.connections))
+    (outcomes-are c.engine.ensures c.outcomes.ensures) (served-space (rw c.in-Served.is at c.receive-count.ensures.received))
 
 pub answer-requires-clause-apart : goal.answer-requires-clause-apart
 answer-requires-clause-apart g c =
     subst (λ (os : List PlainOutcome). AreApart (with_answer os c.args.conn (table_of c.receive-count.new.connections)))
     (outcomes-are c.engine.ensures c.outcomes.ensures) (served-apart (rw c.in-Served.is at c.receive-count.ensures.received))
 
-pub refuse-requires-clause-room : goal.refuse-requires-clause-room
-refuse-requires-clause-room g c = refused-room g.met.D.SectorDisk.only_now (rw c.in-NoMemory.is at c.receive-count.ensures.received)
+pub refuse-requires-clause-space : goal.refuse-requires-clause-space
+refuse-requires-clause-space g c = refused-space g.met.D.SectorDisk.only_now (rw c.in-NoMemory.is at c.receive-count.ensures.received)
 
 pub break_off-requires-clause-live : goal.break_off-requires-clause-live
 break_off-requires-clause-live g c = broken-live (rw c.in-Broken.is at c.receive-count.ensures.received)
@@ -51,4 +51,4 @@ returns-in-NoMemory-clause-took g c =
 pub returns-in-Broken-clause-took : goal.returns-in-Broken-clause-took
 returns-in-Broken-clause-took g c =
     broken-took (rw c.in-Broken.is at c.receive-count.ensures.received) c.break_off.new.store (table_of c.break_off.new.connections)
-    c.break_off.ensures.goes_on c.break_off.ensures.ends c.break_off.ensures.accepts c.break_off.ensures.answers
+    c.break_off.ensures.continues c.break_off.ensures.ends c.break_off.ensures.accepts c.break_off.ensures.answers

@@ -12,21 +12,21 @@ use Rattle.ipc_hub.proofs.Committing.{adds-both}
 use Rattle.ipc_hub.proofs.Receiving.{goes-further}
 use Rattle.ipc_hub.proofs.Taking.{over-takes, nothing-takes, takes-then}
 use Rattle.ipc_engine.specs.Sound.{IsSound}
-use Rattle.ipc_hub.specs.Relations.Delivery.{unanswered_at, HasRoomFor}
-use Rattle.ipc_hub.proofs.Keeping.{empty-room}
+use Rattle.ipc_hub.specs.Relations.Delivery.{unanswered_at, HasSpaceFor}
+use Rattle.ipc_hub.proofs.Keeping.{empty-space}
 use Rattle.ipc_hub.proofs.serving.take_in.Given.{Over}
-use Rattle.ipc_hub.proofs.serving.take_in.Goals.{After-has_room}
+use Rattle.ipc_hub.proofs.serving.take_in.Goals.{After-has_space}
 use Rattle.ipc_hub.proofs.serving.take_in.Goals as goal
 
-pub returns-then-not-goes_on-clause-bytes : goal.returns-then-not-goes_on-clause-bytes
-returns-then-not-goes_on-clause-bytes g c =
+pub returns-then-not-is_open-clause-bytes : goal.returns-then-not-is_open-clause-bytes
+returns-then-not-is_open-clause-bytes g c =
     over-takes g.D.SectorDisk.medium g.met.D.SectorDisk.only_now (stored_view c.args.store.now (table_of c.args.connections.now)) c.args.conn c.args.moment.0 _
-    (sym c.goes_on.ensures ∙ c.if-not-goes_on.true)
+    (sym c.is_open.ensures ∙ c.if-not-is_open.true)
 
 pub loop-taken-init : goal.loop-taken-init
 loop-taken-init g c = record {
   within = omega arith;
-  goes_on = record { limits = refl; numbers = refl; invariant = c.requires.hub };
+  continues = record { limits = refl; numbers = refl; invariant = c.requires.hub };
   bytes = nothing-takes g.D.SectorDisk.medium g.met.D.SectorDisk.only_now (stored_view c.args.store.now (table_of c.args.connections.now)) c.args.conn
       c.args.moment.0 c.requires.hub;
   first = λ _. (refl, refl);
@@ -45,7 +45,7 @@ returns-then-not-is_ready_for-clause-whole g c none =
     let never : true ≡ false = sym (c.is_ready_for.ensures.1 ready) ∙ c.if-not-is_ready_for.true in cc
 
 pub returns-then-not-is_ready_for-clause-starts : goal.returns-then-not-is_ready_for-clause-starts
-returns-then-not-is_ready_for-clause-starts g c room some =
+returns-then-not-is_ready_for-clause-starts g c space some =
     elim (cases_eq c.loop-taken.taken 0) [
       | inr more ↦ omega (arith, more)
       | inl first ↦
@@ -59,41 +59,41 @@ longest : {reply : ℕ} {asked : Limits} {machine engine : Machine} → reply �
 longest is same lent = is ∙ ap longest_reply (same ∙ ap (λ (m : Machine). m.limits) lent)
 
 -- a connection in which a request has room
-roomy : (g : Over) (c : After-has_room g)
-    → HasRoomFor (hub_view c.loop-taken.store.machine (table_of c.loop-taken.connections)) (longest_reply c.loop-taken.store.machine.limits) c.args.conn
-    → c.has_room.result ≡ true
-roomy g c room =
+spacious : (g : Over) (c : After-has_space g)
+    → HasSpaceFor (hub_view c.loop-taken.store.machine (table_of c.loop-taken.connections)) (longest_reply c.loop-taken.store.machine.limits) c.args.conn
+    → c.has_space.result ≡ true
+spacious g c space =
     let reply = longest c.longest_reply-reply.ensures.longest c.limits.ensures.limits c.engine.ensures in
-    c.has_room.ensures.1
-    (subst (λ (m : Machine). HasRoomFor (hub_view m (table_of c.loop-taken.connections)) c.longest_reply-reply.result c.args.conn)
+    c.has_space.ensures.1
+    (subst (λ (m : Machine). HasSpaceFor (hub_view m (table_of c.loop-taken.connections)) c.longest_reply-reply.result c.args.conn)
     (sym c.engine-in-loop-taken.ensures)
-    (subst (λ (n : ℕ). HasRoomFor (hub_view c.loop-taken.store.machine (table_of c.loop-taken.connections)) n c.args.conn) (sym reply) room))
+    (subst (λ (n : ℕ). HasSpaceFor (hub_view c.loop-taken.store.machine (table_of c.loop-taken.connections)) n c.args.conn) (sym reply) space))
 
-pub returns-then-not-has_room-clause-whole : goal.returns-then-not-has_room-clause-whole
-returns-then-not-has_room-clause-whole g c none =
+pub returns-then-not-has_space-clause-whole : goal.returns-then-not-has_space-clause-whole
+returns-then-not-has_space-clause-whole g c none =
     let now = hub_view c.loop-taken.store.machine (table_of c.loop-taken.connections) in
     let sound = subst (λ (m : Machine). IsSound m.limits m.state) c.engine.ensures c.limits.ensures.sound in
-    let room = roomy g (goal.at.returns-then-not-has_room-clause-whole g c).After-has_room
-    (empty-room now c.args.conn sound c.loop-taken.invariant.goes_on.invariant none) in
-    let never : true ≡ false = sym room ∙ c.if-not-has_room.true in cc
+    let space = spacious g (goal.at.returns-then-not-has_space-clause-whole g c).After-has_space
+    (empty-space now c.args.conn sound c.loop-taken.invariant.continues.invariant none) in
+    let never : true ≡ false = sym space ∙ c.if-not-has_space.true in cc
 
-pub returns-then-not-has_room-clause-starts : goal.returns-then-not-has_room-clause-starts
-returns-then-not-has_room-clause-starts g c room some =
+pub returns-then-not-has_space-clause-starts : goal.returns-then-not-has_space-clause-starts
+returns-then-not-has_space-clause-starts g c space some =
     elim (cases_eq c.loop-taken.taken 0) [
       | inr more ↦ omega (arith, more)
       | inl first ↦
           let same = c.loop-taken.invariant.first first in
-          let here : HasRoomFor (hub_view c.loop-taken.store.machine (table_of c.loop-taken.connections)) (longest_reply c.loop-taken.store.machine.limits)
-          c.args.conn = rw (same.0, same.1) room in
-          let never : true ≡ false = sym (roomy g (goal.at.returns-then-not-has_room-clause-starts g c).After-has_room here) ∙ c.if-not-has_room.true in cc
+          let here : HasSpaceFor (hub_view c.loop-taken.store.machine (table_of c.loop-taken.connections)) (longest_reply c.loop-taken.store.machine.limits)
+          c.args.conn = rw (same.0, same.1) space in
+          let never : true ≡ false = sym (spacious g (goal.at.returns-then-not-has_space-clause-starts g c).After-has_space here) ∙ c.if-not-has_space.true in cc
     ]
 
-pub take-taken-requires-clause-room : goal.take-taken-requires-clause-room
-take-taken-requires-clause-room g c =
+pub take-taken-requires-clause-space : goal.take-taken-requires-clause-space
+take-taken-requires-clause-space g c =
     let reply = longest c.longest_reply-reply.ensures.longest c.limits.ensures.limits c.engine.ensures in
-    subst (λ (n : ℕ). HasRoomFor (hub_view c.loop-taken.store.machine (table_of c.loop-taken.connections)) n c.args.conn) reply
-    (subst (λ (m : Machine). HasRoomFor (hub_view m (table_of c.loop-taken.connections)) c.longest_reply-reply.result c.args.conn)
-    c.engine-in-loop-taken.ensures (c.has_room.ensures.0 c.if-not-has_room.false))
+    subst (λ (n : ℕ). HasSpaceFor (hub_view c.loop-taken.store.machine (table_of c.loop-taken.connections)) n c.args.conn) reply
+    (subst (λ (m : Machine). HasSpaceFor (hub_view m (table_of c.loop-taken.connections)) c.longest_reply-reply.result c.args.conn)
+    c.engine-in-loop-taken.ensures (c.has_space.ensures.0 c.if-not-has_space.false))
 
 -- no event came, or one to which the reply is still to come
 still-ready : {D : Type 0} (old new : StoreView D) (before after : ℕ)
@@ -121,7 +121,7 @@ loop-taken-preserved g c =
     let took = c.take-taken.ensures.took in
     record {
       within = omega (arith, c.take-taken.ensures.within, ap length whole, length-drop i piece);
-      goes_on = goes-further old.hub mid.hub new.hub held.goes_on.limits held.goes_on.numbers took.goes_on;
+      continues = goes-further old.hub mid.hub new.hub held.continues.limits held.continues.numbers took.continues;
       bytes = subst (λ (bs : List ℕ). TakesIn med old new conn bs c.args.moment.0)
           (sym (take-add i n piece ∙ ap (λ (r : List ℕ). take i piece ++ take n r) (sym whole)))
           (takes-then med g.met.D.SectorDisk.only_now old mid new conn c.args.moment.0 (take i piece) (take n rest) held.bytes took.bytes);

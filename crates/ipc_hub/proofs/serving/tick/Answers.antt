@@ -6,7 +6,7 @@ use Rattle.ipc_engine.specs.View.{plain_outcome}
 use Rattle.ipc_engine.proofs.CallerLemmas.{tick-stays}
 use Rattle.ipc_hub.specs.Relations.Delivery.{put_all}
 use Rattle.ipc_hub.specs.Relations.Rows.{table_of, hub_view}
-use Rattle.ipc_hub.proofs.Keeping.{Happened, happened-matches, quiet-goes-on, quiet-passes, quiet-room}
+use Rattle.ipc_hub.proofs.Keeping.{Happened, happened-matches, quiet-goes-on, quiet-passes, quiet-space}
 use Rattle.ipc_store.proofs.CallerLemmas.{ready-less}
 use Rattle.ipc_hub.proofs.serving.tick.Given.{Over}
 use Rattle.ipc_hub.proofs.serving.tick.Goals.{After-outcomes, After-deliver}
@@ -17,10 +17,10 @@ are : (g : Over) (c : After-outcomes g)
     → map plain_outcome c.outcomes.result.now ≡ (step c.args.store.now.machine.limits c.args.store.now.machine.state (Tick c.args.moment.0)).outcomes
 are g c = c.outcomes.ensures ∙ ap (λ (m : Machine). m.outcomes) c.engine.ensures ∙ rw c.unwrap.ensures at c.step.ensures.outcomes
 
-pub deliver-requires-clause-room : goal.deliver-requires-clause-room
-deliver-requires-clause-room g c =
-    rw (are g (goal.at.deliver-requires-clause-room g c).After-outcomes)
-    (quiet-room (hub_view c.args.store.now.machine (table_of c.args.connections.now)) (Tick c.args.moment.0)
+pub deliver-requires-clause-space : goal.deliver-requires-clause-space
+deliver-requires-clause-space g c =
+    rw (are g (goal.at.deliver-requires-clause-space g c).After-outcomes)
+    (quiet-space (hub_view c.args.store.now.machine (table_of c.args.connections.now)) (Tick c.args.moment.0)
     (rw c.unwrap.ensures at c.step.ensures.was_sound) c.requires.hub (λ pid. refl) (rw c.unwrap.ensures at c.step.ensures.passed))
 
 happened : (g : Over) (c : After-deliver g) → Happened (hub_view c.args.store.now.machine (table_of c.args.connections.now))
@@ -33,10 +33,10 @@ happened g c = record {
   rows = c.deliver.ensures ∙ ap (λ os. put_all os (table_of c.args.connections.now)) (are g c.before);
 }
 
-pub returns-clause-goes_on : goal.returns-clause-goes_on
-returns-clause-goes_on g c =
+pub returns-clause-continues : goal.returns-clause-continues
+returns-clause-continues g c =
     let machine = c.args.store.now.machine in
-    let is = happened g (goal.at.returns-clause-goes_on g c).After-deliver in
+    let is = happened g (goal.at.returns-clause-continues g c).After-deliver in
     quiet-goes-on _ (Tick c.args.moment.0) is.sound c.requires.hub (λ pid. refl) _ is
     (λ conn pid mine. tick-stays machine.limits machine.state c.args.moment.0 pid (c.requires.hub.own.connected conn pid mine))
 
@@ -52,5 +52,5 @@ returns-clause-ticks g c limits confirmed h m =
 pub returns-clause-ready : goal.returns-clause-ready
 returns-clause-ready g c =
     ready-less c.args.store.now c.step.new.self (Tick c.args.moment.0) 2 (search rules) (search rules)
-    (search rules) c.step.ensures.confirmed c.step.ensures.goes_on
+    (search rules) c.step.ensures.confirmed c.step.ensures.running
     c.requires.ready

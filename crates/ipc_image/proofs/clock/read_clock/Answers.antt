@@ -20,7 +20,7 @@ both ns rest bytes s has found fit is =
     fields_one clock_sizes ns (clock_numbers s) rest [] has fit (sym found ∙ is ∙ sym (append-nil (fields_bytes clock_sizes (clock_numbers s))))
 
 listed_is : (ns : List ℕ) (s : State) → s.clock ≡ get_or ns 0 0 → s.processes.next ≡ get_or ns 1 0 → s.msg.next ≡ get_or ns 2 0
-    → s.sem.next ≡ get_or ns 3 0 → s.mq.next ≡ get_or ns 4 0 → s.named_sem.next ≡ get_or ns 5 0 → s.shm.next ≡ get_or ns 6 0
+    → s.semset.next ≡ get_or ns 3 0 → s.mq.next ≡ get_or ns 4 0 → s.psem.next ≡ get_or ns 5 0 → s.pshm.next ≡ get_or ns 6 0
     → listed 7 0 ns ≡ clock_numbers s
 listed_is ns s a b c d e f g = cc
 

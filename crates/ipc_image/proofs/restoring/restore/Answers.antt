@@ -78,13 +78,13 @@ pub returns-in_err-next-2-clause-damaged : goal.returns-in_err-next-2-clause-dam
 returns-in_err-next-2-clause-damaged c is s all are =
     let why = rw is at c.from_residual-in_err-next-2.ensures in
     let left = c.in_ok-next.ensures.whole s.msg.entries _ (after-queues s) (parts_of s c.args.objects.now are).things all.queues in
-    c.in_err-next-2.ensures.damaged (ap (λ e. Err e) (sym why.1)) s.sem.entries (named_objects (named_in s)) (after-sets s) all.sets left
+    c.in_err-next-2.ensures.damaged (ap (λ e. Err e) (sym why.1)) s.semset.entries (named_objects (named_in s)) (after-sets s) all.sets left
 
 pub returns-in_err-restore_named-clause-damaged : goal.returns-in_err-restore_named-clause-damaged
 returns-in_err-restore_named-clause-damaged c is s all are =
     let why = rw is at c.from_residual-in_err-restore_named.ensures in
     let left = c.in_ok-next.ensures.whole s.msg.entries _ (after-queues s) (parts_of s c.args.objects.now are).things all.queues in
-    let last = c.in_ok-next-2.ensures.whole s.sem.entries _ (after-sets s) left all.sets in
+    let last = c.in_ok-next-2.ensures.whole s.semset.entries _ (after-sets s) left all.sets in
     c.in_err-restore_named.ensures.damaged (ap (λ e. Err e) (sym why.1)) (named_in s) all.named last
 
 pub returns-clause-ok : goal.returns-clause-ok

@@ -12,17 +12,17 @@ invariant_of-result c =
     let same = seen-is (record {
       clock = c.clock.result;
       next_pid = c.next_pid.result;
-      next_queue = c.next_queue.result;
-      next_set = c.next_set.result;
+      next_msg_queue = c.next_msg_queue.result;
+      next_semset = c.next_semset.result;
       next_mq = c.next_mq.result;
-      next_named_sem = c.next.result;
-      next_segment = c.next-2.result;
-    }) c.processes.result.now c.waits.result.now c.adjustments.result.now c.queues.result.now c.sets.result.now _
-    c.state-state.result.now.state c.clock.ensures c.next_pid.ensures c.next_queue.ensures c.next_set.ensures c.processes.ensures
-    c.waits.ensures c.adjustments.ensures c.queues.ensures c.sets.ensures (λ i. record {
+      next_psem = c.next.result;
+      next_pshm = c.next-2.result;
+    }) c.processes.result.now c.waits.result.now c.adjustments.result.now c.msg_queues.result.now c.semsets.result.now _
+    c.state-state.result.now.state c.clock.ensures c.next_pid.ensures c.next_msg_queue.ensures c.next_semset.ensures c.processes.ensures
+    c.waits.ensures c.adjustments.ensures c.msg_queues.ensures c.semsets.ensures (λ i. record {
       mq = record { next = c.next_mq.ensures i; entries = c.mqs.ensures i };
-      named_sem = record { next = (c.next.ensures ∙ ap (λ (x : Named ℕ). x.next) c.named_sems.ensures.objects) i; entries = (c.items.ensures ∙ ap (λ (x : Named ℕ). x.entries) c.named_sems-2.ensures.objects) i };
-      shm = record { next = (c.next-2.ensures ∙ ap (λ (x : Named Segment). x.next) c.segments.ensures.objects) i; entries = (c.items-2.ensures ∙ ap (λ (x : Named Segment). x.entries) c.segments-2.ensures.objects) i };
+      psem = record { next = (c.next.ensures ∙ ap (λ (x : Named ℕ). x.next) c.psems.ensures.objects) i; entries = (c.items.ensures ∙ ap (λ (x : Named ℕ). x.entries) c.psems-2.ensures.objects) i };
+      pshm = record { next = (c.next-2.ensures ∙ ap (λ (x : Named Segment). x.next) c.pshms.ensures.objects) i; entries = (c.items-2.ensures ∙ ap (λ (x : Named Segment). x.entries) c.pshms-2.ensures.objects) i };
     }) in
     let objects = saved-are c.args.engine.now.limits c.args.engine.now.state c.state-state.ensures.passed c.state-state.ensures.sound in
     (subst HasAllPlaces (sym same) c.read_state.ensures, subst (λ (s : State). AreObjects (saved s)) (sym (same ∙ c.state-state.ensures.state)) objects)
@@ -32,16 +32,16 @@ returns-clause-objects c =
     ap saved (seen-is (record {
       clock = c.clock.result;
       next_pid = c.next_pid.result;
-      next_queue = c.next_queue.result;
-      next_set = c.next_set.result;
+      next_msg_queue = c.next_msg_queue.result;
+      next_semset = c.next_semset.result;
       next_mq = c.next_mq.result;
-      next_named_sem = c.next.result;
-      next_segment = c.next-2.result;
-    }) _ _ _ _ _ _ c.state-state.result.now.state c.clock.ensures c.next_pid.ensures c.next_queue.ensures c.next_set.ensures
-    c.processes.ensures c.waits.ensures c.adjustments.ensures c.queues.ensures c.sets.ensures (λ i. record {
+      next_psem = c.next.result;
+      next_pshm = c.next-2.result;
+    }) _ _ _ _ _ _ c.state-state.result.now.state c.clock.ensures c.next_pid.ensures c.next_msg_queue.ensures c.next_semset.ensures
+    c.processes.ensures c.waits.ensures c.adjustments.ensures c.msg_queues.ensures c.semsets.ensures (λ i. record {
       mq = record { next = c.next_mq.ensures i; entries = c.mqs.ensures i };
-      named_sem = record { next = (c.next.ensures ∙ ap (λ (x : Named ℕ). x.next) c.named_sems.ensures.objects) i; entries = (c.items.ensures ∙ ap (λ (x : Named ℕ). x.entries) c.named_sems-2.ensures.objects) i };
-      shm = record { next = (c.next-2.ensures ∙ ap (λ (x : Named Segment). x.next) c.segments.ensures.objects) i; entries = (c.items-2.ensures ∙ ap (λ (x : Named Segment). x.entries) c.segments-2.ensures.objects) i };
+      psem = record { next = (c.next.ensures ∙ ap (λ (x : Named ℕ). x.next) c.psems.ensures.objects) i; entries = (c.items.ensures ∙ ap (λ (x : Named ℕ). x.entries) c.psems-2.ensures.objects) i };
+      pshm = record { next = (c.next-2.ensures ∙ ap (λ (x : Named Segment). x.next) c.pshms.ensures.objects) i; entries = (c.items-2.ensures ∙ ap (λ (x : Named Segment). x.entries) c.pshms-2.ensures.objects) i };
     }) ∙ c.state-state.ensures.state)
 
 pub returns-clause-fit : goal.returns-clause-fit

@@ -19,7 +19,7 @@ abbrev last : State → ℕ → Mark → Type 0
 last s = IsMarkOfNamed (named_in s)
 
 abbrev later : State → ℕ → Mark → Type 0
-later s = MarkAt IsMarkOfSet (last s) s.sem.entries
+later s = MarkAt IsMarkOfSet (last s) s.semset.entries
 
 pub returns-then-at-objects : goal.returns-then-at-objects
 returns-then-at-objects c =
@@ -42,10 +42,10 @@ returns-then-at-objects-2 c =
     let is = table-at item_row o.sets.now at c.index-objects-at-then-at-objects-2.result c.if-at-objects-2.true in
     subst (λ (t : State). IsFound t c.args.i (set_object (item_row e)) (IsMarkOfSet (item_row e)) (FitsIn FitsSet (item_row e)))
     c.objects.view_is (found-thing s c.objects.invariant.1 c.args.i c.requires.thing _ _ _
-    (each-at (FitsIn FitsSet) s.sem.entries at (item_row e) c.objects.invariant.0.sets is)
+    (each-at (FitsIn FitsSet) s.semset.entries at (item_row e) c.objects.invariant.0.sets is)
     (past queue_object IsMarkOfQueue (later s) s.msg.entries (sets_and_named s) (c.args.i - 4) at _ _
     (omega (arith, length-map o.queues.now item_row, c.if-at-objects.false))
-    (here set_object IsMarkOfSet (last s) s.sem.entries (named_objects (named_in s)) at (item_row e) is)))
+    (here set_object IsMarkOfSet (last s) s.semset.entries (named_objects (named_in s)) at (item_row e) is)))
 
 pub named_at-requires : goal.named_at-requires
 named_at-requires c =
@@ -75,5 +75,5 @@ returns c =
     c.objects.view_is (found-thing s c.objects.invariant.1 c.args.i c.requires.thing _ _ _ c.named_at.ensures.fits
     (past queue_object IsMarkOfQueue (later s) s.msg.entries (sets_and_named s) (c.args.i - 4) second _ _
     (omega (arith, length-map o.queues.now item_row, c.if-at-objects.false))
-    (past set_object IsMarkOfSet (last s) s.sem.entries (named_objects (named_in s)) second at _ _ (omega (arith, length-map o.sets.now item_row, c.if-at-objects-2.false))
+    (past set_object IsMarkOfSet (last s) s.semset.entries (named_objects (named_in s)) second at _ _ (omega (arith, length-map o.sets.now item_row, c.if-at-objects-2.false))
     named)))

@@ -11,7 +11,7 @@ use Rattle.ipc_state.specs.State.{State}
 use Rattle.ipc_state.specs.Tables.{item_row}
 use Rattle.ipc_state.specs.Waiting.{IsSoundWaiting}
 use Rattle.ipc_image.specs.Kind.{FitsIn}
-use Rattle.ipc_image.specs.Saved.{adjustments_of, FitsAdjustment, FitsProcess, FitsWaiting, FitsQueue, FitsSet, FitsMq, FitsNamedSem, FitsSegment}
+use Rattle.ipc_image.specs.Saved.{adjustments_of, FitsAdjustment, FitsProcess, FitsWaiting, FitsQueue, FitsSet, FitsMq, FitsPsem, FitsSegment}
 use Rattle.ipc_image.proofs.AdjustmentLists.{each-fit}
 use Rattle.ipc_image.proofs.Attaching.{rising-distinct}
 use Rattle.ipc_image.proofs.SavedObjects.{processes-numbers, rows-numbers, sets-numbers, mqs-numbers, sems-numbers, segments-numbers, undo-counted}
@@ -26,11 +26,11 @@ read_each-requires-2 c = subst (All IsSoundWaiting) (sym c.waits.ensures) c.requ
 
 pub read_each-requires-4 : goal.read_each-requires-4
 read_each-requires-4 c =
-    rows-numbers c.args.state.now.limits c.args.state.now.state c.requires.passed c.requires.sound c.queues.result.now c.queues.ensures
+    rows-numbers c.args.state.now.limits c.args.state.now.state c.requires.passed c.requires.sound c.msg_queues.result.now c.msg_queues.ensures
 
 pub read_each-requires-5 : goal.read_each-requires-5
 read_each-requires-5 c =
-    sets-numbers c.args.state.now.limits c.args.state.now.state c.requires.passed c.requires.sound c.sets.result.now c.sets.ensures
+    sets-numbers c.args.state.now.limits c.args.state.now.state c.requires.passed c.requires.sound c.semsets.result.now c.semsets.ensures
 
 pub read_each-requires-6 : goal.read_each-requires-6
 read_each-requires-6 c =
@@ -39,12 +39,12 @@ read_each-requires-6 c =
 pub read_each-requires-7 : goal.read_each-requires-7
 read_each-requires-7 c =
     sems-numbers c.args.state.now.limits c.args.state.now.state c.requires.passed c.requires.sound c.items.result.now
-    (c.items.ensures ∙ ap (λ (o : Named ℕ). o.entries) c.named_sems.ensures.objects)
+    (c.items.ensures ∙ ap (λ (o : Named ℕ). o.entries) c.psems.ensures.objects)
 
 pub read_each-requires-8 : goal.read_each-requires-8
 read_each-requires-8 c =
     segments-numbers c.args.state.now.limits c.args.state.now.state c.requires.passed c.requires.sound c.items-2.result.now
-    (c.items-2.ensures ∙ ap (λ (o : Named Segment). o.entries) c.segments.ensures.objects)
+    (c.items-2.ensures ∙ ap (λ (o : Named Segment). o.entries) c.pshms.ensures.objects)
 
 pub returns : goal.returns
 returns c =
@@ -65,13 +65,13 @@ returns c =
       undo_pids = pids;
       distinct = subst (IsDistinct nat_eq) (sym pids) (rising-distinct 1 (keys_of s.processes.entries) s.processes.next
           c.requires.sound.parts.processes.numbered.numbers);
-      queues = subst (All (FitsIn FitsQueue)) c.queues.ensures (All-map (FitsIn FitsQueue) item_row c.queues.result.now c.read_each-4.ensures);
-      sets = subst (All (FitsIn FitsSet)) c.sets.ensures (All-map (FitsIn FitsSet) item_row c.sets.result.now c.read_each-5.ensures);
+      queues = subst (All (FitsIn FitsQueue)) c.msg_queues.ensures (All-map (FitsIn FitsQueue) item_row c.msg_queues.result.now c.read_each-4.ensures);
+      sets = subst (All (FitsIn FitsSet)) c.semsets.ensures (All-map (FitsIn FitsSet) item_row c.semsets.result.now c.read_each-5.ensures);
       named = record {
         mqs = subst (All (FitsIn FitsMq)) c.mqs.ensures (All-map (FitsIn FitsMq) item_row c.mqs.result.now c.read_each-6.ensures);
-        named_sems = subst (All (FitsIn FitsNamedSem)) (c.items.ensures ∙ ap (λ (o : Named ℕ). o.entries) c.named_sems.ensures.objects)
-            (All-map (FitsIn FitsNamedSem) item_row c.items.result.now c.read_each-7.ensures);
-        segments = subst (All (FitsIn FitsSegment)) (c.items-2.ensures ∙ ap (λ (o : Named Segment). o.entries) c.segments.ensures.objects)
+        psems = subst (All (FitsIn FitsPsem)) (c.items.ensures ∙ ap (λ (o : Named ℕ). o.entries) c.psems.ensures.objects)
+            (All-map (FitsIn FitsPsem) item_row c.items.result.now c.read_each-7.ensures);
+        segments = subst (All (FitsIn FitsSegment)) (c.items-2.ensures ∙ ap (λ (o : Named Segment). o.entries) c.pshms.ensures.objects)
             (All-map (FitsIn FitsSegment) item_row c.items-2.result.now c.read_each-8.ensures);
       };
     }

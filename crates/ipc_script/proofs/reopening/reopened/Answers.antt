@@ -74,7 +74,7 @@ returns-in-Ok-clause-stops g c honest =
       c.close-2.result,
       came g d,
       record {
-        goes_on = ap (λ s. s.stopped) c.close-2.ensures.store
+        running = ap (λ s. s.stopped) c.close-2.ensures.store
             ∙ ready-goes-on c.release.new.self.store most_events (omega arith) c.in_default.ensures.ready;
         empty = none g d;
         honest = still g d honest;
@@ -110,7 +110,7 @@ returns-in-Ok-clause-spends g c honest has =
     let epoch = root g.D.SectorDisk.medium c.close-2.result c.in-Ok.store c.close-3.result c.close-3.ensures.disk (fits g d honest) (still g d honest)
     (none g d) (there g d honest) in
     rw c.new.ensures.store (record {
-      goes_on = (c.in-Ok.ensures.ok is).found.2.goes_on;
+      running = (c.in-Ok.ensures.ok is).found.2.running;
       failures = c.in-Ok.ensures.no_failure.0 ∙ failures g d;
       numbers = omega (arith, c.in-Ok.ensures.numbers is, epoch, ap numbers_used c.close-2.ensures.store, c.in_default.ensures.spends.numbers);
     })

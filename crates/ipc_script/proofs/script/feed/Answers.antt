@@ -5,7 +5,7 @@ use Rattle.std.specs.Prelude.{Ok}
 use Rattle.ipc_script.specs.Script.{Progress, is_open}
 use Rattle.ipc_script.proofs.FedPieces.{fed_begun, fed_more, fed_all, fed_refused, all_taken, rest_length}
 use Rattle.ipc_script.proofs.NumbersSpent.{spends-none, spends-both, spends-more, left-behind, failed-behind}
-use Rattle.ipc_script.proofs.Lasting.{lasts-none, lasts-both, settles-after}
+use Rattle.ipc_script.proofs.Lasting.{lasts-none, lasts-both, commits-after}
 use Rattle.ipc_script.proofs.script.feed.Goals as goal
 
 pub pieces-init : goal.pieces-init
@@ -14,7 +14,7 @@ pieces-init g c = record {
   left = omega arith;
   spends = spends-none;
   lasts = λ limits r b. lasts-none g.D.SectorDisk.medium g.met.D.SectorDisk.only_now c.args.hub.now.store;
-  settled = λ none. none;
+  committed = λ none. none;
   runs = λ limits r b.
       (omega arith, c.requires, fed_begun limits r c.args.sender c.args.bytes.now c.args.hub.now c.args.opened.now _ b);
 }
@@ -49,7 +49,7 @@ pieces-preserved g c = record {
   lasts = λ limits r b. lasts-both g.D.SectorDisk.medium c.args.hub.now.store c.pieces.hub.store c.feed_some.new.hub.store
       (c.pieces.invariant.lasts limits r b)
       (c.feed_some.ensures.lasts limits (c.pieces.invariant.runs limits r b).2.now (c.pieces.invariant.runs limits r b).2.at);
-  settled = λ none. c.in_ok-taken.ensures.settles (c.pieces.invariant.settled none);
+  committed = λ none. c.in_ok-taken.ensures.commits (c.pieces.invariant.committed none);
   runs = λ limits r b.
       let p = c.pieces.invariant.runs limits r b in
       let s = c.in_ok-taken.ensures.ok limits p.2.now p.2.at in
@@ -91,16 +91,16 @@ returns-in_err-taken-clause-lasts g c = λ limits r b.
     lasts-both g.D.SectorDisk.medium c.args.hub.now.store c.pieces.hub.store c.feed_some.new.hub.store (c.pieces.invariant.lasts limits r b)
     (c.feed_some.ensures.lasts limits (c.pieces.invariant.runs limits r b).2.now (c.pieces.invariant.runs limits r b).2.at)
 
-pub returns-in_err-taken-clause-settles : goal.returns-in_err-taken-clause-settles
-returns-in_err-taken-clause-settles g c =
+pub returns-in_err-taken-clause-commits : goal.returns-in_err-taken-clause-commits
+returns-in_err-taken-clause-commits g c =
     let q = err_from_is_err_and c.from_residual.result c.from_residual.ensures.1 in
-    rw (q.1, q.2) (settles-after c.args.hub.now.store c.pieces.hub.store c.feed_some.new.hub.store c.in_err-taken.field-0.0
-    c.pieces.invariant.settled c.in_err-taken.ensures.settles)
+    rw (q.1, q.2) (commits-after c.args.hub.now.store c.pieces.hub.store c.feed_some.new.hub.store c.in_err-taken.field-0.0
+    c.pieces.invariant.committed c.in_err-taken.ensures.commits)
 
 pub returns-then-is_empty-clause-lasts : goal.returns-then-is_empty-clause-lasts
 returns-then-is_empty-clause-lasts g c = λ limits r b.
     lasts-both g.D.SectorDisk.medium c.args.hub.now.store c.pieces.hub.store c.feed_some.new.hub.store (c.pieces.invariant.lasts limits r b)
     (c.feed_some.ensures.lasts limits (c.pieces.invariant.runs limits r b).2.now (c.pieces.invariant.runs limits r b).2.at)
 
-pub returns-then-is_empty-clause-settles : goal.returns-then-is_empty-clause-settles
-returns-then-is_empty-clause-settles g c = λ none. c.in_ok-taken.ensures.settles (c.pieces.invariant.settled none)
+pub returns-then-is_empty-clause-commits : goal.returns-then-is_empty-clause-commits
+returns-then-is_empty-clause-commits g c = λ none. c.in_ok-taken.ensures.commits (c.pieces.invariant.committed none)

@@ -4,7 +4,7 @@ use Rattle.std.proofs.lemmas.Result.{err_from_is_err_and}
 use Rattle.ipc_script.proofs.HubAndClients.{connected, is_known, is_unknown, is_its_fault}
 use Rattle.ipc_script.proofs.FedPieces.{feeds_some, feeds_part}
 use Rattle.ipc_script.proofs.FaultCases.{by_fault}
-use Rattle.ipc_script.proofs.Lasting.{lasts-refused, lasts-more, settles-empty}
+use Rattle.ipc_script.proofs.Lasting.{lasts-refused, lasts-more, commits-empty}
 use Rattle.ipc_script.proofs.script.feed_some.Goals as goal
 
 pub returns-in_err-report-in-Ok-clause-err : goal.returns-in_err-report-in-Ok-clause-err
@@ -43,18 +43,18 @@ returns-in_err-report-in-Ok-clause-lasts g c = λ limits r b.
     let fed = (c.in-Ok.ensures.ok limits r.hub b.run.matches).1 in
     lasts-more g.D.SectorDisk.medium c.args.hub.now.store c.feed.new.self.store c.report.new.hub.store (fed.events, fed.takes) c.report.ensures.takes
 
-pub returns-in_err-report-in-Ok-clause-settles : goal.returns-in_err-report-in-Ok-clause-settles
-returns-in_err-report-in-Ok-clause-settles g c =
+pub returns-in_err-report-in-Ok-clause-commits : goal.returns-in_err-report-in-Ok-clause-commits
+returns-in_err-report-in-Ok-clause-commits g c =
     let q = err_from_is_err_and c.from_residual.result c.from_residual.ensures.1 in
-    rw (q.1, q.2) (settles-empty c.args.hub.now.store c.report.new.hub.store c.in_err-report-in-Ok.field-0.0 c.in_err-report-in-Ok.ensures.empties)
+    rw (q.1, q.2) (commits-empty c.args.hub.now.store c.report.new.hub.store c.in_err-report-in-Ok.field-0.0 c.in_err-report-in-Ok.ensures.empties)
 
 pub returns-in_ok-report-in-Ok-clause-lasts : goal.returns-in_ok-report-in-Ok-clause-lasts
 returns-in_ok-report-in-Ok-clause-lasts g c = λ limits r b.
     let fed = (c.in-Ok.ensures.ok limits r.hub b.run.matches).1 in
     lasts-more g.D.SectorDisk.medium c.args.hub.now.store c.feed.new.self.store c.report.new.hub.store (fed.events, fed.takes) c.report.ensures.takes
 
-pub returns-in_ok-report-in-Ok-clause-settles : goal.returns-in_ok-report-in-Ok-clause-settles
-returns-in_ok-report-in-Ok-clause-settles g c = λ _. c.in_ok-report-in-Ok.ensures.empties
+pub returns-in_ok-report-in-Ok-clause-commits : goal.returns-in_ok-report-in-Ok-clause-commits
+returns-in_ok-report-in-Ok-clause-commits g c = λ _. c.in_ok-report-in-Ok.ensures.empties
 
 pub returns-in-Err-clause-lasts : goal.returns-in-Err-clause-lasts
 returns-in-Err-clause-lasts g c = λ limits r b.

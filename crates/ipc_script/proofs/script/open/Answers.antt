@@ -14,9 +14,9 @@ pub returns-clause-ok : goal.returns-clause-ok
 returns-clause-ok g c limits r b =
     let os = c.args.opened.now.items in
     let one : Opened = record { conn = c.args.conn; told = false } in
-    let goes_on : ¬ HasStopped c.args.hub.now = λ has. let bad = c.in-Ok.ensures.stopped.1 has in cc in
+    let running : ¬ HasStopped c.args.hub.now = λ has. let bad = c.in-Ok.ensures.stopped.1 has in cc in
     let new : is_connected c.args.hub.now.hub c.args.conn ≡ false =
-    elim (test (is_connected c.args.hub.now.hub c.args.conn)) [ inl t ↦ let bad = c.in-Ok.ensures.in_use.1 (goes_on, t) in cc | inr f ↦ f ] in
+    elim (test (is_connected c.args.hub.now.hub c.args.conn)) [ inl t ↦ let bad = c.in-Ok.ensures.in_use.1 (running, t) in cc | inr f ↦ f ] in
     let kept : c.reserve.new.self.items ≡ os = c.reserve.ensures.items in
     let seen : c.deref.result.now ≡ os = c.deref.ensures.value ∙ kept in
     let place : c.place_for-place.result ≡ prefix_len (λ o. nat_lt o.conn c.args.conn) os = c.place_for-place.ensures.ok

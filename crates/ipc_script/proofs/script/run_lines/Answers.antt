@@ -14,7 +14,7 @@ use Rattle.ipc_script.proofs.FaultCases.{by_fault}
 use Rattle.ipc_script.proofs.ScriptLines.{run_begun, run_more, run_stopped, run_refused, run_broken, run_halted, run_ended, no_lines, may-here, may-behind}
 use Rattle.ipc_script.proofs.ScriptLines.{no-stop-here, no-stop-behind, run_came, ends_after, stops_grown}
 use Rattle.ipc_hub.specs.Clients.{Clients}
-use Rattle.ipc_script.proofs.Lasting.{lasts-none, lasts-both, settles-after, settled-unless}
+use Rattle.ipc_script.proofs.Lasting.{lasts-none, lasts-both, commits-after, committed-unless}
 use Rattle.ipc_script.proofs.Stopping.{unless, lives-none, lives-more, lives-stop}
 use Rattle.ipc_script.proofs.WrittenText.{part_none, grown_none}
 use Rattle.ipc_script.proofs.LineLengths.{cost-fits}
@@ -30,7 +30,7 @@ lines-init g c = record {
   none = λ stops. stops;
   lasts = λ limits h matches none stops. lasts-none g.D.SectorDisk.medium g.met.D.SectorDisk.only_now c.args.hub.store;
   lives = λ limits h matches none may. lives-none g.D.SectorDisk.medium c.args.hub.store g.met.D.SectorDisk.only_now;
-  settled = λ may waits. waits;
+  committed = λ may waits. waits;
   runs = λ limits h matches none may. rw c.new-opened.ensures.items
       (run_begun limits h c.args.script.now g.D.SectorDisk.medium c.args.hub.store c.args.hub _ matches none refl);
 }
@@ -98,7 +98,7 @@ lines-preserved-in-Ok g c =
           let again = c.in-Ok.ensures.stops honest in
           lives-stop g.D.SectorDisk.medium c.args.hub.store g.met.D.SectorDisk.only_now c.lines.hub.store again.0 c.in-Ok.next.store
           (c.lines.invariant.lives limits h matches none may) again.1 again.2;
-      settled = λ may waits.
+      committed = λ may waits.
           let honest = may-here rest text behind c.first_line.ensures.lines old (c.lines.invariant.may may) stop in
           (c.in-Ok.ensures.stops honest).2.opens.found.2.waits.count;
       runs = λ limits h matches none may.
@@ -135,7 +135,7 @@ lines-preserved g c = record {
       let p = c.lines.invariant.runs limits h matches none may in
       lives-more g.D.SectorDisk.medium c.args.hub.store c.lines.hub.store c.run_line.new.hub.store
       (c.lines.invariant.lives limits h matches none may) (c.run_line.ensures.lasts limits p.now p.at);
-  settled = λ may waits. c.in_default-run_line.ensures.settles (c.lines.invariant.settled may waits);
+  committed = λ may waits. c.in_default-run_line.ensures.commits (c.lines.invariant.committed may waits);
   runs = λ limits h matches none may.
       let p = c.lines.invariant.runs limits h matches none may in
       let n = c.lines.number + 1 in
@@ -145,11 +145,11 @@ lines-preserved g c = record {
       c.first_line.result.0.now c.first_line.result.1.now c.first_line.ensures.lines s.0 s.1
       is c.run_line.new.hub c.run_line.new.opened.items _ s.3.0 s.3.1
       (Line n p.first c.first_line.result.0.now c.lines.hub.store c.run_line.new.hub.store p.now p.text s.0 s.1 p.lived is
-      (c.run_line.ensures.lasts limits p.now p.at) c.in_default-run_line.ensures.settles (λ young.
+      (c.run_line.ensures.lasts limits p.now p.at) c.in_default-run_line.ensures.commits (λ young.
       let has = young-has c.args.hub.store c.args.script.now young c.requires in
       let cost = cost-fits c.first_line.result.0.now (plain_line c.in-Some.line) (sym c.line_of.ensures ∙ ap (option_map plain_line) c.in-Some.is)
       c.first_line.ensures.parts c.first_line.ensures.shorter in
-      (c.in_default-run_line.ensures.costs (left-behind _ has (c.lines.invariant.spends has may) (omega (arith, c.lines.invariant.left, cost)))).goes_on));
+      (c.in_default-run_line.ensures.costs (left-behind _ has (c.lines.invariant.spends has may) (omega (arith, c.lines.invariant.left, cost)))).running));
 }
 
 none-left : (n : ℕ) → true ≡ (n == 0) → n ≡ 0
@@ -194,7 +194,7 @@ returns-in_default-clause-leaves g c = λ limits h matches none may.
           (lasts-none g.D.SectorDisk.medium g.met.D.SectorDisk.only_now c.lines.hub.store) (grown_none _);
       handed = inl handed;
       one = λ stops. (c.lines.invariant.lasts limits h matches none stops, handed);
-      settled = c.lines.invariant.settled may;
+      committed = c.lines.invariant.committed may;
       state = tt;
     }
 
@@ -215,7 +215,7 @@ returns-in-Err-clause-leaves g c = λ limits h matches none may.
           left.1 (grown_none _);
       handed = left.2;
       one = λ stops. absurd (no-stop-here rest text behind c.first_line.ensures.lines (c.lines.invariant.none stops) stop);
-      settled = unless c.in-Err.fault _ _ (λ empty _. empty) left.3;
+      committed = unless c.in-Err.fault _ _ (λ empty _. empty) left.3;
       state = tt;
     }
 
@@ -238,9 +238,9 @@ returns-in-Err-run_line-clause-leaves g c = λ limits h matches none may.
             (c.lines.invariant.lasts limits h matches none stops) lasts,
         handed,
       );
-      settled = settled-unless c.args.hub.store c.run_line.new.hub.store c.in-Err-run_line.fault
-          (settles-after c.args.hub.store c.lines.hub.store c.run_line.new.hub.store c.in-Err-run_line.fault
-          (c.lines.invariant.settled may) c.in-Err-run_line.ensures.settles);
+      committed = committed-unless c.args.hub.store c.run_line.new.hub.store c.in-Err-run_line.fault
+          (commits-after c.args.hub.store c.lines.hub.store c.run_line.new.hub.store c.in-Err-run_line.fault
+          (c.lines.invariant.committed may) c.in-Err-run_line.ensures.commits);
       state = tt;
     }
 
@@ -255,7 +255,7 @@ returns-clause-leaves g c = λ limits h matches none may.
           (lasts-none g.D.SectorDisk.medium g.met.D.SectorDisk.only_now c.lines.hub.store) (grown_none _);
       handed = inl handed;
       one = λ stops. (c.lines.invariant.lasts limits h matches none stops, handed);
-      settled = c.lines.invariant.settled may;
+      committed = c.lines.invariant.committed may;
       state =
           let p = c.lines.invariant.runs limits h matches none may in
           let empty : length c.lines.rest.now ≡ 0 = none-left _ c.lines-test.ensures in
@@ -267,6 +267,6 @@ returns-clause-leaves g c = λ limits h matches none may.
             ap (λ s. s.machine.state) (sym c.close-2.ensures.store) ∙ c.close-2.ensures.state ∙ p.at.run.matches.hub.state
                 ∙ ap (λ (k : Clients). k.state) (sym all.2),
             handed,
-            λ young. (c.lines.invariant.spends (young-has c.args.hub.store c.args.script.now young c.requires) may).goes_on,
+            λ young. (c.lines.invariant.spends (young-has c.args.hub.store c.args.script.now young c.requires) may).running,
           );
     }

@@ -5,7 +5,7 @@ use Rattle.ipc_hub.specs.Relations.Matches.{StoredMatches}
 use Rattle.ipc_store.specs.View.{Spends}
 use Rattle.ipc_script.specs.Script.{MayStop, HasNoStop}
 use Rattle.ipc_script.specs.Stops.{LivesOn}
-use Rattle.ipc_script.specs.Relations.Lasts.{Lasts, Settled}
+use Rattle.ipc_script.specs.Relations.Lasts.{Lasts, StaysCommitted}
 use Rattle.ipc_script.specs.Relations.Numbers.{HasNumbers}
 use Rattle.ipc_script.proofs.ScriptLines.{PartlyRun}
 use Rattle.ipc_script.proofs.script.run_lines.Given as goal
@@ -24,7 +24,7 @@ invariant-lines g l = record {
       → Lasts g.D.SectorDisk.medium l.fn.hub.store l.hub.store;
   lives : (limits : Limits) (h : Clients) → StoredMatches limits l.fn.hub h → h.clients ≡ []
       → MayStop (g.D.SectorDisk.medium l.fn.hub.store.disk) l.fn.script → LivesOn g.D.SectorDisk.medium l.fn.hub.store l.hub.store;
-  settled : MayStop (g.D.SectorDisk.medium l.fn.hub.store.disk) l.fn.script → Settled l.fn.hub.store l.hub.store;
+  committed : MayStop (g.D.SectorDisk.medium l.fn.hub.store.disk) l.fn.script → StaysCommitted l.fn.hub.store l.hub.store;
   runs : (limits : Limits) (h : Clients) → StoredMatches limits l.fn.hub h → h.clients ≡ []
       → MayStop (g.D.SectorDisk.medium l.fn.hub.store.disk) l.fn.script
       → PartlyRun limits h l.fn.script g.D.SectorDisk.medium l.fn.hub.store (l.number + 1) l.hub l.opened.items l.rest

@@ -32,7 +32,7 @@ returns-in-Ok g c =
           (subst (λ s. MayStop (g.D.SectorDisk.medium s.disk) c.deref.result.now) (sym c.new.ensures.store)
           (subst (MayStop (g.D.SectorDisk.medium c.args.store.disk)) (sym c.deref.ensures.value) may))),
       λ young may. rw c.new.ensures.store at (c.run_lines.ensures.disk)
-          (record { goes_on = young.goes_on; left = omega (arith, young.numbers, c.in-Ok.ensures.bounded, ap length c.deref.ensures.value) })
+          (record { running = young.running; left = omega (arith, young.numbers, c.in-Ok.ensures.bounded, ap length c.deref.ensures.value) })
           (subst (MayStop (g.D.SectorDisk.medium c.args.store.disk)) (sym c.deref.ensures.value) may),
       λ events count may.
           let left = c.run_lines.ensures.leaves machine.limits (no_clients machine.state events) (c.new.ensures.matches events count) refl

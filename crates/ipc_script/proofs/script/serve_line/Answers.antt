@@ -13,7 +13,7 @@ use Rattle.ipc_script.proofs.HexBytes.{hex_nonempty}
 use Rattle.ipc_script.proofs.LineForms.{written_back, still_matches, line_unwritten, line_reported, line_refused}
 use Rattle.ipc_script.proofs.LineForms.{open_done, open_refused, end_done, end_refused}
 use Rattle.ipc_script.proofs.script.serve_line.Goals.{in-Open+in_ok-open-in-Open, in-End+in_ok-close-in-End, in-Tick+in-Ok, in-Save+in-Ok-save}
-use Rattle.ipc_script.proofs.Lasting.{lasts-same, lasts-none, lasts-more, lasts-halted, settles-all}
+use Rattle.ipc_script.proofs.Lasting.{lasts-same, lasts-none, lasts-more, lasts-halted, commits-all}
 use Rattle.ipc_script.proofs.script.serve_line.Goals as goal
 
 pub returns-in_err-open-in-Open-clause-line : goal.returns-in_err-open-in-Open-clause-line
@@ -123,5 +123,5 @@ returns-clause-lasts g c = λ limits r b.
       | in-Save+in-Ok-save w ↦ rw w.hub-is ([], w.save.ensures.takes)
     ]) c.report.ensures.takes
 
-pub returns-clause-settles : goal.returns-clause-settles
-returns-clause-settles g c = settles-all c.args.hub.now.store c.report.new.hub.store c.report.result c.report.ensures.empties
+pub returns-clause-commits : goal.returns-clause-commits
+returns-clause-commits g c = commits-all c.args.hub.now.store c.report.new.hub.store c.report.result c.report.ensures.empties

@@ -23,8 +23,8 @@ returns-clause-answers g c = record {
   sends = c.put_out_all.ensures.sends;
 }
 
-pub returns-clause-settled : goal.returns-clause-settled
-returns-clause-settled g c = rw (sends-store c.release.new.self c.put_out_all.new.hub c.put_out_all.ensures.sends) c.in_ok-release.ensures.waiting
+pub returns-clause-committed : goal.returns-clause-committed
+returns-clause-committed g c = rw (sends-store c.release.new.self c.put_out_all.new.hub c.put_out_all.ensures.sends) c.in_ok-release.ensures.waiting
 
 pub returns-clause-numbers : goal.returns-clause-numbers
 returns-clause-numbers g c = c.put_out_all.ensures.numbers ∙ c.release.ensures.numbers

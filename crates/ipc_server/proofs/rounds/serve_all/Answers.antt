@@ -119,7 +119,7 @@ returns-clause-read g c is =
     (stands-both first seen left (stands-all first seen c.answer_all.ensures.stays)
     (stands-both seen noted left c.note_ends.ensures.stands c.part_with_gone.ensures.stands))
     c.in_ok-part_with_gone.ensures.left c.answer_all-2.ensures.stays (within g c is))
-    c.answer_all-2.ensures.settled
+    c.answer_all-2.ensures.committed
 
 pub returns-clause-written : goal.returns-clause-written
 returns-clause-written g c is =
@@ -132,7 +132,7 @@ returns-clause-failed g c is =
     (clients_of c.part_with_gone.new.clients) (clients_of c.answer_all-2.new.clients)
     (rw c.part_with_gone.ensures.capacity c.note_ends.ensures.failed) c.part_with_gone.ensures.stands
     c.in_ok-part_with_gone.ensures.left c.answer_all-2.ensures.stays (within g c is) number ((kept g c).failed number bad))
-    c.answer_all-2.ensures.settled
+    c.answer_all-2.ensures.committed
 
 pub returns-clause-parted : goal.returns-clause-parted
 returns-clause-parted g c is =

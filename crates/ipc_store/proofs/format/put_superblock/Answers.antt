@@ -12,7 +12,7 @@ use Rattle.ipc_store.proofs.format.put_superblock.Given.{Over}
 use Rattle.ipc_store.proofs.format.put_superblock.Goals as goal
 
 -- the superblock of an image of now
-the_superblock : (g : Over) (c : goal.After-settle g) (image : Image) → (g.D.SectorDisk.medium c.args.disk.now).images_now image
+the_superblock : (g : Over) (c : goal.After-put_durably g) (image : Image) → (g.D.SectorDisk.medium c.args.disk.now).images_now image
     → IsSuperblock (length image) c.args.limits.now c.superblock_of-sector.result
 the_superblock g c image now =
     subst (λ (n : ℕ). IsSuperblock n c.args.limits.now c.superblock_of-sector.result)
@@ -21,16 +21,16 @@ the_superblock g c image now =
 pub returns-clause-ok : goal.returns-clause-ok
 returns-clause-ok g c =
     let old = g.D.SectorDisk.medium c.args.disk.now in
-    on_ok_weaker c.settle.result (λ written honest prepared image now.
+    on_ok_weaker c.put_durably.result (λ written honest prepared image now.
     subst (StandsFor c.args.limits.now start) (sym (written honest image now))
     (becomes-device c.args.limits.now c.superblock_of-sector.result old.contents (the_superblock g c old.contents honest.reads)
     (prepared old.contents honest.reads)))
-    c.settle.ensures.written
+    c.put_durably.ensures.written
 
 pub returns-clause-any_moment : goal.returns-clause-any_moment
 returns-clause-any_moment g c = λ honest prepared.
     let old = g.D.SectorDisk.medium c.args.disk.now in
     EachImageSince-set old _ 0 c.superblock_of-sector.result (λ image. IsErased image ⊎ StandsFor c.args.limits.now start image)
-    (c.settle.ensures.any_moment honest) (λ image now. inl (prepared image now).erased)
+    (c.put_durably.ensures.any_moment honest) (λ image now. inl (prepared image now).erased)
     (λ image now. inr (becomes-device c.args.limits.now c.superblock_of-sector.result image (the_superblock g c image now)
     (prepared image now)))

@@ -9,7 +9,7 @@ use Rattle.ipc_wire.specs.declared.reply.Body.TheVariants.{Number}
 use Rattle.ipc_state.specs.Finish.{Finishes, done}
 use Rattle.ipc_state.specs.Numbered.{is_full}
 use Rattle.ipc_state.specs.Sound.{semaphore_count}
-use Rattle.ipc_state.specs.State.{State, with_new_set}
+use Rattle.ipc_state.specs.State.{State, with_new_semset}
 use Rattle.ipc_state.proofs.CallerLemmas.{next_of-positive}
 use Rattle.sysv_calls.proofs.Reaching.{not-above, not-none}
 use Rattle.sysv_calls.proofs.sem.make_set.Goals.{After-new}
@@ -18,14 +18,14 @@ use Rattle.sysv_calls.proofs.sem.make_set.Goals as goal
 some : (c : After-new) → 0 < c.args.count
 some c = omega (arith, c.if-count-eq0.false)
 
-pub add_set-requires-clause-key : goal.add_set-requires-clause-key
-add_set-requires-clause-key c named =
+pub add_semset-requires-clause-key : goal.add_semset-requires-clause-key
+add_semset-requires-clause-key c named =
     let n : to_z w32 (of_z w32 c.args.key) ≡ c.args.key = to_z-of_z w32 c.args.key c.ranges.key in
     subst (λ (z : ℤ). is_vacant c.args.state.now.room.set_keys z ≡ true) (sym n)
     ((c.requires.room (some c)).vacant (subst (λ (z : ℤ). z ≢ pos 0) n named) c.requires.unused)
 
-pub add_set-requires-clause-number : goal.add_set-requires-clause-number
-add_set-requires-clause-number c = next_of-positive c.args.state.now.state.sem c.requires.sound.sem.keyed
+pub add_semset-requires-clause-number : goal.add_semset-requires-clause-number
+add_semset-requires-clause-number c = next_of-positive c.args.state.now.state.semset c.requires.sound.semset.keyed
 
 pub returns-clause-finish : goal.returns-clause-finish
 returns-clause-finish c =
@@ -33,14 +33,14 @@ returns-clause-finish c =
     let g = (goal.at.returns-clause-finish c).After-new in
     let n : to_z w32 (of_z w32 c.args.key) ≡ c.args.key = to_z-of_z w32 c.args.key c.ranges.key in
     let there : (c.args.count == 0) ≡ false = not-none c.args.count (some g) in
-    let full : is_full old.limits.semmni old.state.sem ≡ false =
-    sym (ap (is_full old.limits.semmni) c.sem.ensures.sets)
-    ∙ (ap (λ (l : Limits). is_full l.semmni c.sem.result.now.objects) (sym c.limits.ensures.limits) ∙ (sym c.is_full.ensures ∙ c.if-is_full.false)) in
-    let more : nat_lt old.limits.semmns (semaphore_count old.state.sem + c.args.count) ≡ false =
-    not-above (semaphore_count old.state.sem + c.args.count) old.limits.semmns (c.may_have_more.ensures.0 c.if-not-may_have_more.false) in
-    let made : c.add_set.new.self.state ≡ with_new_set old.state c.args.key (perm_of c.args.cred c.args.flags.0) c.args.count =
-    c.add_set.ensures.state c.args.count (c.requires.room (some g)).fresh
-    ∙ (ap (λ (z : ℤ). with_new_set old.state z c.new.result c.args.count) n
-    ∙ ap (λ p. with_new_set old.state c.args.key p c.args.count) c.new.ensures.perm) in
-    rw there (rw full (rw more (ap (λ (i : ℕ). Finishes (done c.add_set.new.self.state (Number i))) c.add_set.ensures.id
-    ∙ ap (λ (s : State). Finishes (done s (Number old.state.sem.next))) made)))
+    let full : is_full old.limits.semmni old.state.semset ≡ false =
+    sym (ap (is_full old.limits.semmni) c.semset.ensures.sets)
+    ∙ (ap (λ (l : Limits). is_full l.semmni c.semset.result.now.objects) (sym c.limits.ensures.limits) ∙ (sym c.is_full.ensures ∙ c.if-is_full.false)) in
+    let more : nat_lt old.limits.semmns (semaphore_count old.state.semset + c.args.count) ≡ false =
+    not-above (semaphore_count old.state.semset + c.args.count) old.limits.semmns (c.may_have_more.ensures.0 c.if-not-may_have_more.false) in
+    let made : c.add_semset.new.self.state ≡ with_new_semset old.state c.args.key (perm_of c.args.cred c.args.flags.0) c.args.count =
+    c.add_semset.ensures.state c.args.count (c.requires.room (some g)).fresh
+    ∙ (ap (λ (z : ℤ). with_new_semset old.state z c.new.result c.args.count) n
+    ∙ ap (λ p. with_new_semset old.state c.args.key p c.args.count) c.new.ensures.perm) in
+    rw there (rw full (rw more (ap (λ (i : ℕ). Finishes (done c.add_semset.new.self.state (Number i))) c.add_semset.ensures.id
+    ∙ ap (λ (s : State). Finishes (done s (Number old.state.semset.next))) made)))

@@ -19,9 +19,9 @@ use Rattle.sysv_calls.proofs.sem.semctl_getall.Goals.{After-semaphores}
 use Rattle.sysv_calls.proofs.sem.semctl_getall.Goals as goal
 
 -- the set of a caller that may read it
-reads : (c : After-semaphores) → accessible false c.args.state.now.state.sem c.args.cred c.args.id.0 read ≡ Ok c.in_ok-entry.entry.now
+reads : (c : After-semaphores) → accessible false c.args.state.now.state.semset c.args.cred c.args.id.0 read ≡ Ok c.in_ok-entry.entry.now
 reads c =
-    told (λ (t : Keyed Set). accessible false t c.args.cred c.args.id.0 read) c.sem.result.now.objects c.args.state.now.state.sem c.sem.ensures.sets
+    told (λ (t : Keyed Set). accessible false t c.args.cred c.args.id.0 read) c.semset.result.now.objects c.args.state.now.state.semset c.semset.ensures.sets
     (attempt_of c.accessible.result) c.accessible.ensures ∙ ap attempt_of c.in_ok-entry.was
 
 -- the buffer is empty at first
@@ -34,7 +34,7 @@ push_values-requires c =
     let limits = c.args.state.now.limits in
     let s = c.args.state.now.state in
     let e = c.in_ok-entry.entry.now in
-    let there = reached-there false c.args.id.0 EACCES (λ perm. not (may c.args.cred perm read)) s.sem e (reads g) in
+    let there = reached-there false c.args.id.0 EACCES (λ perm. not (may c.args.cred perm read)) s.semset e (reads g) in
     let few = (set-sound limits s c.args.id.0 e there c.requires.sound).few in
     let len : vec_len c.take_spare-body.result ≡ length c.take_spare-body.result.items = search rules in
     let all = ap length c.semaphores.ensures.semaphores in

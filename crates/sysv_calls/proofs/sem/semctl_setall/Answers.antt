@@ -43,16 +43,16 @@ returns-clause-finish c =
     let e : Entry Set = (shown g).value in
     let values : List ℕ = numbers_in (bytes_of c.args.values.now) in
     let left = c.set_all.new.self in
-    let object = lent-object c.sem_mut.result.now old.state.sem id e c.sem_mut.ensures.sets (found g).there c.get_mut.result c.get_mut.ensures.object
+    let object = lent-object c.semset_mut.result.now old.state.semset id e c.semset_mut.ensures.sets (found g).there c.get_mut.result c.get_mut.ensures.object
     c.unwrap-set.result c.unwrap-set.ensures in
-    let puts = put-object c.sem_mut.result.now old.state.sem id e c.sem_mut.ensures.sets (found g).there left (c.get_mut.follows.lender left)
+    let puts = put-object c.semset_mut.result.now old.state.semset id e c.semset_mut.ensures.sets (found g).there left (c.get_mut.follows.lender left)
     (c.get_mut.follows.holds left) in
     let all : take c.len.result c.put_values.new.all ≡ values = ap (λ (n : ℕ). take n c.put_values.new.all) c.len.ensures ∙ c.put_values.ensures in
     let sets : left ≡ with_values e.object values c.args.pid old.state.clock =
     c.set_all.ensures ∙ (λ i. with_values (object i) (all i) c.args.pid (c.clock-now.ensures i)) in
     ap (λ (h : Held). Finishes (done h.state Empty)) c.clear_adjustments.ensures
-    ∙ ap (λ (m : Keyed Set). Finishes (done (without_adjustments id (None) (record old.state { sem = m })) Empty))
-    (puts ∙ ap (λ (x : Set). with_entry old.state.sem id (holding e x)) sets)
+    ∙ ap (λ (m : Keyed Set). Finishes (done (without_adjustments id (None) (record old.state { semset = m })) Empty))
+    (puts ∙ ap (λ (x : Set). with_entry old.state.semset id (holding e x)) sets)
     ∙ rw (shown g).was refl
 
 pub returns-clause-set_keys : goal.returns-clause-set_keys
@@ -60,5 +60,5 @@ returns-clause-set_keys c =
     let g = (goal.at.returns-clause-set_keys c).In_ok-ready_to_set in
     let left = c.set_all.new.self in
     ap (λ (h : Held). h.room.set_keys) c.clear_adjustments.ensures
-    ∙ keys-kept c.sem_mut.result.now c.args.state.now.state.sem c.args.id.0 c.sem_mut.ensures.sets (ap is_some (found g).there) left
-    (c.get_mut.follows.lender left) (c.get_mut.follows.holds left) ∙ c.sem_mut.ensures.keys
+    ∙ keys-kept c.semset_mut.result.now c.args.state.now.state.semset c.args.id.0 c.semset_mut.ensures.sets (ap is_some (found g).there) left
+    (c.get_mut.follows.lender left) (c.get_mut.follows.holds left) ∙ c.semset_mut.ensures.keys

@@ -40,7 +40,7 @@ overflow_cast-num c =
 
 pub set_value-requires-clause-num : goal.set_value-requires-clause-num
 set_value-requires-clause-num c =
-    let object = lent-object c.sem_mut.result.now c.args.state.now.state.sem c.args.id.0 (shown c).value.0 c.sem_mut.ensures.sets (found c).there c.get_mut.result
+    let object = lent-object c.semset_mut.result.now c.args.state.now.state.semset c.args.id.0 (shown c).value.0 c.semset_mut.ensures.sets (found c).there c.get_mut.result
     c.get_mut.ensures.object c.unwrap-set.result c.unwrap-set.ensures in
     subst (λ (s : Set). c.args.num < length s.semaphores) (sym object) (inside c)
 
@@ -54,15 +54,15 @@ returns-clause-finish c =
     let left = c.set_value.new.self in
     let n : to_z w32 (of_z w32 c.args.value) ≡ c.args.value = to_z-of_z w32 c.args.value c.ranges.value in
     let value : value_of c.args.value ≡ Some c.in-Some.value = ap value_of (sym n) ∙ (sym c.value_of.ensures ∙ c.in-Some.is) in
-    let object = lent-object c.sem_mut.result.now old.state.sem id e c.sem_mut.ensures.sets (found g).there c.get_mut.result c.get_mut.ensures.object
+    let object = lent-object c.semset_mut.result.now old.state.semset id e c.semset_mut.ensures.sets (found g).there c.get_mut.result c.get_mut.ensures.object
     c.unwrap-set.result c.unwrap-set.ensures in
-    let puts = put-object c.sem_mut.result.now old.state.sem id e c.sem_mut.ensures.sets (found g).there left (c.get_mut.follows.lender left)
+    let puts = put-object c.semset_mut.result.now old.state.semset id e c.semset_mut.ensures.sets (found g).there left (c.get_mut.follows.lender left)
     (c.get_mut.follows.holds left) in
     let sets : left ≡ with_value e.object num c.in-Some.value c.args.pid old.state.clock =
     c.set_value.ensures ∙ (λ i. with_value (object i) num c.in-Some.value c.args.pid (c.clock-now.ensures i)) in
     ap (λ (h : Held). Finishes (done h.state Empty)) c.clear_adjustments.ensures
-    ∙ ap (λ (m : Keyed Set). Finishes (done (without_adjustments id (Some num) (record old.state { sem = m })) Empty))
-    (puts ∙ ap (λ (x : Set). with_entry old.state.sem id (holding e x)) sets)
+    ∙ ap (λ (m : Keyed Set). Finishes (done (without_adjustments id (Some num) (record old.state { semset = m })) Empty))
+    (puts ∙ ap (λ (x : Set). with_entry old.state.semset id (holding e x)) sets)
     ∙ rw (shown g).was (rw value refl)
 
 pub returns-clause-set_keys : goal.returns-clause-set_keys
@@ -70,5 +70,5 @@ returns-clause-set_keys c =
     let g = (goal.at.returns-clause-set_keys c).After-unwrap-set in
     let left = c.set_value.new.self in
     ap (λ (h : Held). h.room.set_keys) c.clear_adjustments.ensures
-    ∙ keys-kept c.sem_mut.result.now c.args.state.now.state.sem c.args.id.0 c.sem_mut.ensures.sets (ap is_some (found g).there) left
-    (c.get_mut.follows.lender left) (c.get_mut.follows.holds left) ∙ c.sem_mut.ensures.keys
+    ∙ keys-kept c.semset_mut.result.now c.args.state.now.state.semset c.args.id.0 c.semset_mut.ensures.sets (ap is_some (found g).there) left
+    (c.get_mut.follows.lender left) (c.get_mut.follows.holds left) ∙ c.semset_mut.ensures.keys

@@ -15,7 +15,7 @@ push_set-requires-clause-few c =
     let limits = c.args.state.now.limits in
     let s = c.args.state.now.state in
     let e = c.in_ok-entry.entry.now in
-    let is = told (λ (t : Keyed Set). accessible false t c.args.cred c.args.id.0 read) c.sem.result.now.objects s.sem c.sem.ensures.sets
+    let is = told (λ (t : Keyed Set). accessible false t c.args.cred c.args.id.0 read) c.semset.result.now.objects s.semset c.semset.ensures.sets
     (attempt_of c.accessible.result) c.accessible.ensures ∙ ap attempt_of c.in_ok-entry.was in
-    let there = reached-there false c.args.id.0 EACCES (λ perm. not (may c.args.cred perm read)) s.sem e is in
-    omega (arith, (set-sound limits s c.args.id.0 e there c.requires.sound).few, (passed-bounds limits c.sem.ensures.passed).semmsl)
+    let there = reached-there false c.args.id.0 EACCES (λ perm. not (may c.args.cred perm read)) s.semset e is in
+    omega (arith, (set-sound limits s c.args.id.0 e there c.requires.sound).few, (passed-bounds limits c.semset.ensures.passed).semmsl)

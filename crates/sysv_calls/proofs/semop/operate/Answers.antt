@@ -32,7 +32,7 @@ module _ (c : After-unwrap-set) (found : Entry Set × List ℕ)
     (p : Passes c.args.state.now.limits c.args.state.now.state c.args.pid.0 c.args.id.0 (operations c) found) where
   object : c.unwrap-set.result.now ≡ found.0.object
   object =
-      lent-object c.sem_mut.result.now c.args.state.now.state.sem c.args.id.0 found.0 c.sem_mut.ensures.sets p.there c.get_mut.result c.get_mut.ensures.object
+      lent-object c.semset_mut.result.now c.args.state.now.state.semset c.args.id.0 found.0 c.semset_mut.ensures.sets p.there c.get_mut.result c.get_mut.ensures.object
       c.unwrap-set.result c.unwrap-set.ensures
 
   -- the list passes there
@@ -53,7 +53,7 @@ note_undo-requires c =
     let s = c.args.state.now.state in
     let can = ready-noted c.args.state.now.limits s c.args.pid.0 c.args.id.0 (operations g) c.subtracted_adds_up.ensures.there
     c.subtracted_adds_up.ensures.others c.requires.sound c.requires.ready in
-    subst (λ (ops : List Operation). CanBeNoted (record s { sem = (c.get_mut.follows.lender c.carry.new.self).objects }) c.args.pid.0 c.args.id.0 ops)
+    subst (λ (ops : List Operation). CanBeNoted (record s { semset = (c.get_mut.follows.lender c.carry.new.self).objects }) c.args.pid.0 c.args.id.0 ops)
     (sym (front g)) (record { there = can.there; each = can.each })
 
 pub returns-clause-state : goal.returns-clause-state
@@ -64,18 +64,18 @@ returns-clause-state c found p =
     let id = c.args.id.0 in
     let e = found.0 in
     let left = c.carry.new.self in
-    let puts = put-object c.sem_mut.result.now s.sem id e c.sem_mut.ensures.sets p.there left (c.get_mut.follows.lender left) (c.get_mut.follows.holds left) in
+    let puts = put-object c.semset_mut.result.now s.semset id e c.semset_mut.ensures.sets p.there left (c.get_mut.follows.lender left) (c.get_mut.follows.holds left) in
     let sets : left ≡ carried e.object found.1 (operations g) c.args.pid s.clock =
     c.carry.ensures (held_by s pid id) p.done.0 found.1 (passes g found p ∙ p.done.1)
     ∙ (λ i. carried (object g found p i) found.1 (front g i) c.args.pid (c.clock-now.ensures i)) in
-    let all = puts ∙ ap (λ (x : Set). with_entry s.sem id (holding e x)) sets in
+    let all = puts ∙ ap (λ (x : Set). with_entry s.semset id (holding e x)) sets in
     ap (λ (h : Held). h.state) c.note_undo.ensures
-    ∙ (λ i. with_undo (record s { sem = all i }) pid (fold (noted id) (undo_of s pid) (front g i)))
+    ∙ (λ i. with_undo (record s { semset = all i }) pid (fold (noted id) (undo_of s pid) (front g i)))
 
 pub returns-clause-set_keys : goal.returns-clause-set_keys
 returns-clause-set_keys c =
     let p = c.requires.ready.found.1 in
     let left = c.carry.new.self in
     ap (λ (h : Held). h.room.set_keys) c.note_undo.ensures
-    ∙ keys-kept c.sem_mut.result.now c.args.state.now.state.sem c.args.id.0 c.sem_mut.ensures.sets (ap is_some p.there) left
-    (c.get_mut.follows.lender left) (c.get_mut.follows.holds left) ∙ c.sem_mut.ensures.keys
+    ∙ keys-kept c.semset_mut.result.now c.args.state.now.state.semset c.args.id.0 c.semset_mut.ensures.sets (ap is_some p.there) left
+    (c.get_mut.follows.lender left) (c.get_mut.follows.holds left) ∙ c.semset_mut.ensures.keys

@@ -16,17 +16,17 @@ pub write_objects-requires-clause-counted : goal.write_objects-requires-clause-c
 write_objects-requires-clause-counted g c =
     omega (arith, Fit-bytes c.args.layout.area (g.O.Objects.objects c.args.objects.now) c.requires.fits, c.requires.laid_out)
 
-pub returns-in_err-settle_sector-clause-others : goal.returns-in_err-settle_sector-clause-others
-returns-in_err-settle_sector-clause-others g c = λ honest.
+pub returns-in_err-write_durably-clause-others : goal.returns-in_err-write_durably-clause-others
+returns-in_err-write_durably-clause-others g c = λ honest.
     let run = c.write_objects.ensures.others honest in
     others-both c.args.layout _ c.requires.laid_out 0 c.sectors.result _ _ _ _ (omega arith) c.sectors.ensures run (Stays-start _)
-    (c.settle_sector.ensures.others run.honest)
+    (c.write_durably.ensures.others run.honest)
 
 pub returns-clause-others : goal.returns-clause-others
 returns-clause-others g c = λ honest.
     let run = c.write_objects.ensures.others honest in
     others-both c.args.layout _ c.requires.laid_out 0 c.sectors.result _ _ _ _ (omega arith) c.sectors.ensures run (Stays-start _)
-    (c.settle_sector.ensures.others run.honest)
+    (c.write_durably.ensures.others run.honest)
 
 pub returns-clause-holds : goal.returns-clause-holds
 returns-clause-holds g c = λ honest.
@@ -39,7 +39,7 @@ returns-clause-holds g c = λ honest.
     subst (λ (r : Range). IsWrittenAt r.first (area_bytes objects) mid) c.sectors.ensures (c.in_ok-len.ensures.written honest) in
     record {
       area = 0;
-      there = subst (HoldsIn c.args.layout 0 1 objects) (sym (c.in_ok-settle_sector.ensures.written run.honest))
+      there = subst (HoldsIn c.args.layout 0 1 objects) (sym (c.in_ok-write_durably.ensures.written run.honest))
           (HoldsIn-root c.args.layout (g.D.SectorDisk.size c.args.disk.now) c.requires.laid_out 0 1 objects mid c.root_sector.result long
           c.in_ok-len.ensures.objects c.requires.fits (omega arith) (omega arith) c.root_sector.ensures.epoch c.root_sector.ensures.live
           (c.root_sector.ensures.long ∙ c.in_ok-len.ensures.len)

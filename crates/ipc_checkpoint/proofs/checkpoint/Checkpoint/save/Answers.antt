@@ -35,14 +35,14 @@ returns-in_err-sync-clause-any_moment g c = λ saved at.
     moment-sync c.args.self.now _ c.requires.laid_out saved _ at c.args.epoch (g.O.Objects.objects c.args.objects.now) c.sectors.result c.sectors.ensures _ _
     (c.write_objects.ensures.others at.honest) c.sync.ensures.medium
 
-pub returns-in_err-settle_sector-clause-others : goal.returns-in_err-settle_sector-clause-others
-returns-in_err-settle_sector-clause-others g c = λ honest.
+pub returns-in_err-write_durably-clause-others : goal.returns-in_err-write_durably-clause-others
+returns-in_err-write_durably-clause-others g c = λ honest.
     let run = c.write_objects.ensures.others honest in
     others-both c.args.self.now.layout _ c.requires.laid_out (1 - c.args.self.now.live) c.sectors.result _ _ _ _ (omega arith) c.sectors.ensures run
-    c.sync.ensures.medium (c.settle_sector.ensures.others (c.sync.ensures.medium.time.honest.0 run.honest))
+    c.sync.ensures.medium (c.write_durably.ensures.others (c.sync.ensures.medium.time.honest.0 run.honest))
 
-pub returns-in_err-settle_sector-clause-any_moment : goal.returns-in_err-settle_sector-clause-any_moment
-returns-in_err-settle_sector-clause-any_moment g c = λ saved at.
+pub returns-in_err-write_durably-clause-any_moment : goal.returns-in_err-write_durably-clause-any_moment
+returns-in_err-write_durably-clause-any_moment g c = λ saved at.
     let run = c.write_objects.ensures.others at.honest in
     let kept = c.sync.ensures.medium.time.honest.0 run.honest in
     let long = (g.met.D.SectorDisk.shaped c.sync.new.self _ kept.reads).count in
@@ -50,13 +50,13 @@ returns-in_err-settle_sector-clause-any_moment g c = λ saved at.
     (g.O.Objects.objects c.args.objects.now) c.sectors.result c.sectors.ensures _ _ run c.sync.ensures.medium c.in_ok-sync.ensures.durable
     (long ∙ c.sync.ensures.size ∙ c.write_objects.ensures.size) c.in_ok-len.ensures.objects c.requires.fits (omega (arith, c.requires.later))
     (c.in_ok-len.ensures.written at.honest) c.root_sector.result c.root_sector.ensures.epoch c.root_sector.ensures.live
-    (c.root_sector.ensures.long ∙ c.in_ok-len.ensures.len) _ (c.settle_sector.ensures.any_moment kept)
+    (c.root_sector.ensures.long ∙ c.in_ok-len.ensures.len) _ (c.write_durably.ensures.any_moment kept)
 
 pub returns-clause-others : goal.returns-clause-others
 returns-clause-others g c = λ honest.
     let run = c.write_objects.ensures.others honest in
     others-both c.args.self.now.layout _ c.requires.laid_out (1 - c.args.self.now.live) c.sectors.result _ _ _ _ (omega arith) c.sectors.ensures run
-    c.sync.ensures.medium (c.settle_sector.ensures.others (c.sync.ensures.medium.time.honest.0 run.honest))
+    c.sync.ensures.medium (c.write_durably.ensures.others (c.sync.ensures.medium.time.honest.0 run.honest))
 
 pub returns-clause-any_moment : goal.returns-clause-any_moment
 returns-clause-any_moment g c = λ saved at.
@@ -67,7 +67,7 @@ returns-clause-any_moment g c = λ saved at.
     (g.O.Objects.objects c.args.objects.now) c.sectors.result c.sectors.ensures _ _ run c.sync.ensures.medium c.in_ok-sync.ensures.durable
     (long ∙ c.sync.ensures.size ∙ c.write_objects.ensures.size) c.in_ok-len.ensures.objects c.requires.fits (omega (arith, c.requires.later))
     (c.in_ok-len.ensures.written at.honest) c.root_sector.result c.root_sector.ensures.epoch c.root_sector.ensures.live
-    (c.root_sector.ensures.long ∙ c.in_ok-len.ensures.len) _ (c.settle_sector.ensures.any_moment kept)
+    (c.root_sector.ensures.long ∙ c.in_ok-len.ensures.len) _ (c.write_durably.ensures.any_moment kept)
 
 -- and then the new objects are there
 pub returns-clause-matches : goal.returns-clause-matches
@@ -77,10 +77,10 @@ returns-clause-matches g c = λ saved at.
     let long = (g.met.D.SectorDisk.shaped c.sync.new.self _ kept.reads).count in
     let objects = g.O.Objects.objects c.args.objects.now in
     record {
-      honest = (c.settle_sector.ensures.others kept).honest;
+      honest = (c.write_durably.ensures.others kept).honest;
       images = λ image now.
           subst (HoldsIn c.args.self.now.layout (1 - c.args.self.now.live) c.args.epoch objects)
-          (sym (c.in_ok-settle_sector.ensures.durable image now ∙ c.in_ok-settle_sector.ensures.written kept))
+          (sym (c.in_ok-write_durably.ensures.durable image now ∙ c.in_ok-write_durably.ensures.written kept))
           (saved-there c.args.self.now (g.D.SectorDisk.size c.args.disk.now) c.requires.laid_out saved _ at c.args.epoch
           objects c.sectors.result c.sectors.ensures _ _ run c.sync.ensures.medium c.in_ok-sync.ensures.durable
           (long ∙ c.sync.ensures.size ∙ c.write_objects.ensures.size) c.in_ok-len.ensures.objects c.requires.fits (omega (arith, c.requires.later))

@@ -24,8 +24,8 @@ returns-clause-medium g c =
     Stays-put (g.D.RunDisk.size disk.disk) _ _ disk.run.value (g.D.RunDisk.medium disk.disk) (g.D.RunDisk.medium c.write-done.new.self)
     (ap (λ (r : Run). r.range.first) c.deref.ensures) (c.sectors.ensures ∙ ap run_values c.deref-2.ensures) disk.inside (g.met.D.RunDisk.shaped disk.disk)
     (λ image now. subst (λ (n : ℕ). IsShaped n image) c.write-done.ensures.size (g.met.D.RunDisk.shaped c.write-done.new.self image now))
-    c.write-done.ensures.medium c.begin.new.self c.begin.ensures.values
-    (omega (arith, c.requires, ap (λ (r : Range). r.first) c.begin.ensures.range, ap (λ (r : Range). r.count) c.begin.ensures.range))
+    c.write-done.ensures.medium c.start_at.new.self c.start_at.ensures.values
+    (omega (arith, c.requires, ap (λ (r : Range). r.first) c.start_at.ensures.range, ap (λ (r : Range). r.count) c.start_at.ensures.range))
     (subst (λ (r : Result (Unit {0}) DiskFault). OnOk r (IsHonest (g.D.RunDisk.medium disk.disk)
     → (g.D.RunDisk.medium c.write-done.new.self).contents
     ≡ set_run c.deref.result.now.range.first c.sectors.result.now (g.D.RunDisk.medium disk.disk).contents))

@@ -7,7 +7,7 @@ use Rattle.ipc_wire.specs.Request.{PlainRequest}
 use Rattle.ipc_wire.specs.View.{plain_request}
 use Rattle.ipc_state.specs.Held.{Room}
 use Rattle.ipc_state.specs.State.{State, is_waiting}
-use Rattle.ipc_wire.specs.Request.{PlainKind, Calls, Posix, Hello, Interrupt as Interrupts}
+use Rattle.ipc_wire.specs.Request.{PlainKind, Sysv, Posix, Hello, Interrupt as Interrupts}
 use Rattle.sysv_calls.specs.Needs as sysv
 use Rattle.posix_calls.specs.Needs as posix
 use Rattle.ipc_engine.specs.declared.event.Outcome.{Outcome}
@@ -46,8 +46,8 @@ reserved-due s places request kept moment h = by_kind request.kind h
     by_posix : (n : posix.Needs) → posix.Has s places n → posix.Has (due moment s).state places n
     by_posix posix.Nothing has = has
     by_posix (posix.Place name) has = record { place = has.place; fresh = has.fresh; called = has.called; vacant = has.vacant }
-    by_posix (posix.SemPlace name) has = record { place = has.place; called = has.called; vacant = has.vacant }
-    by_posix (posix.SegmentPlace name) has = record { place = has.place; called = has.called; vacant = has.vacant }
+    by_posix (posix.PsemPlace name) has = record { place = has.place; called = has.called; vacant = has.vacant }
+    by_posix (posix.PshmPlace name) has = record { place = has.place; called = has.called; vacant = has.vacant }
     by_posix (posix.Zeros len) has = has
     by_posix posix.Text has = has
 
@@ -56,7 +56,7 @@ reserved-due s places request kept moment h = by_kind request.kind h
 
     by_kind : (kind : PlainKind) → IsReservedAs kind s places request kept → IsReservedAs kind (due moment s).state places request kept
     by_kind (Posix call) h = record { call = h.call; room = by_posix (posix.needs request.kind) h.room }
-    by_kind (Calls call) h = for_sysv h
+    by_kind (Sysv call) h = for_sysv h
     by_kind (Hello cred) h = for_sysv h
     by_kind Interrupts h = for_sysv h
 
@@ -74,42 +74,42 @@ returns-in_ok-reserve_hello-in-Connect-clause-fits c =
     let serial = c.in-Connect.serial in
     let moment = c.in-Connect.moment.0 in
     let own = (connect old.limits cred serial (due moment old.state).state).outcomes in
-    let limits = c.begin.ensures.limits ∙ c.reserve_hello.ensures.limits in
-    let begun = c.begin.ensures.state ∙ ap (λ (s : State). (due moment s).state) c.reserve_hello.ensures.state in
-    let told : map plain_outcome c.push.new.outcomes.items ≡ (due moment old.state).outcomes ++ own =
-    pushed c.begin.new.outcomes.items c.push.new.outcomes.items c.connect-outcome.result own c.push.ensures.items
+    let limits = c.advance.ensures.limits ∙ c.reserve_hello.ensures.limits in
+    let begun = c.advance.ensures.state ∙ ap (λ (s : State). (due moment s).state) c.reserve_hello.ensures.state in
+    let replied_or_joined : map plain_outcome c.push.new.outcomes.items ≡ (due moment old.state).outcomes ++ own =
+    pushed c.advance.new.outcomes.items c.push.new.outcomes.items c.connect-outcome.result own c.push.ensures.items
     (ap (λ (t : Step). t.outcomes) c.connect-outcome.ensures.step ∙ (λ i. (connect (limits i) cred serial (begun i)).outcomes))
-    ∙ ap (λ (xs : List PlainOutcome). xs ++ own) (c.begin.ensures.outcomes ∙ ap (λ (s : State). (due moment s).outcomes) c.reserve_hello.ensures.state) in
+    ∙ ap (λ (xs : List PlainOutcome). xs ++ own) (c.advance.ensures.outcomes ∙ ap (λ (s : State). (due moment s).outcomes) c.reserve_hello.ensures.state) in
     after-fits old.limits c.connect-outcome.new.state.limits old.state (map plain_outcome c.push.new.outcomes.items) (Connect cred serial moment)
-    (search rules) told c.self.invariant.1
+    (search rules) replied_or_joined c.self.invariant.1
 
 pub invariant_of-self-in-Connect : goal.invariant_of-self-in-Connect
 invariant_of-self-in-Connect c =
     let old = c.self.inside.state in
     let new = c.connect-outcome.new.state in
     let same : new.limits ≡ old.limits = search rules in
-    let waits = c.connect-outcome.ensures.waits ∙ (ap (λ (r : Room). r.waits) c.begin.ensures.room ∙ c.reserve_hello.ensures.waits) in
-    keeps old.limits new.limits old.room.waits new.room.waits (vec_capacity c.push.new.outcomes) new.state c.begin.new.spare c.push.new.outcomes.items
+    let waits = c.connect-outcome.ensures.waits ∙ (ap (λ (r : Room). r.waits) c.advance.ensures.room ∙ c.reserve_hello.ensures.waits) in
+    keeps old.limits new.limits old.room.waits new.room.waits (vec_capacity c.push.new.outcomes) new.state c.advance.new.spare c.push.new.outcomes.items
     same (search rules)
     (after-sound old.limits new.limits old.state new.state (Connect c.in-Connect.cred c.in-Connect.serial c.in-Connect.moment.0) same (search rules)
     c.self.invariant.1 tt tt)
     c.self.invariant.2
-    (buffer-spare old.limits new.limits c.self.inside.spare c.begin.new.spare c.self.inside.outcomes.items c.push.new.outcomes.items same c.self.invariant.3
-    c.begin.ensures.buffer)
+    (buffer-spare old.limits new.limits c.self.inside.spare c.advance.new.spare c.self.inside.outcomes.items c.push.new.outcomes.items same c.self.invariant.3
+    c.advance.ensures.buffer)
     c.self.invariant.4 waits
 
 pub ask-requires-clause-room : goal.ask-requires-clause-room
 ask-requires-clause-room c free =
     let old = c.self.inside.state in
     let ready = c.prepare.new.state in
-    let now = c.begin-in-Call.new.state in
+    let now = c.advance-in-Call.new.state in
     let moment = c.in-Call.moment.0 in
     let request = plain_request c.in-Call.request in
     let kept = c.in_ok-kept-in-Call.kept in
-    let is : now.state ≡ (due moment old.state).state = c.begin-in-Call.ensures.state ∙ ap (λ (s : State). (due moment s).state) c.prepare.ensures.state in
+    let is : now.state ≡ (due moment old.state).state = c.advance-in-Call.ensures.state ∙ ap (λ (s : State). (due moment s).state) c.prepare.ensures.state in
     let has = c.in_ok-kept-in-Call.ensures.ok (subst (λ (s : State). is_waiting s c.in-Call.pid.0 ≡ false) is free) in
-    subst (λ (r : Room). IsReserved now.state r request kept) (sym c.begin-in-Call.ensures.room)
-    (subst (λ (s : State). IsReserved s ready.room request kept) (sym c.begin-in-Call.ensures.state)
+    subst (λ (r : Room). IsReserved now.state r request kept) (sym c.advance-in-Call.ensures.room)
+    (subst (λ (s : State). IsReserved s ready.room request kept) (sym c.advance-in-Call.ensures.state)
     (reserved-due ready.state ready.room request kept moment has))
 
 pub returns-in_ok-kept-in-Call-clause-sound : goal.returns-in_ok-kept-in-Call-clause-sound
@@ -130,8 +130,8 @@ invariant_of-self-in-Call c =
     let old = c.self.inside.state in
     let new = c.ask.new.state in
     let same : new.limits ≡ old.limits = search rules in
-    let begun : c.begin-in-Call.new.state.limits ≡ new.limits = sym c.ask.ensures.limits in
-    let waits = c.ask.ensures.waits ∙ (ap (λ (r : Room). r.waits) c.begin-in-Call.ensures.room ∙ c.prepare.ensures.waits) in
+    let begun : c.advance-in-Call.new.state.limits ≡ new.limits = sym c.ask.ensures.limits in
+    let waits = c.ask.ensures.waits ∙ (ap (λ (r : Room). r.waits) c.advance-in-Call.ensures.room ∙ c.prepare.ensures.waits) in
     keeps old.limits new.limits old.room.waits new.room.waits (vec_capacity c.ask.new.outcomes) new.state c.ask.new.spare c.ask.new.outcomes.items
     same (search rules)
     (after-sound old.limits new.limits old.state new.state (Call c.in-Call.pid.0 (plain_request c.in-Call.request) c.in-Call.moment.0) same (search rules)
@@ -159,20 +159,20 @@ invariant_of-self-in-Interrupt c =
     let old = c.self.inside.state in
     let new = c.interrupt.new.state in
     let same : new.limits ≡ old.limits = search rules in
-    let waits = c.interrupt.ensures.waits ∙ ap (λ (r : Room). r.waits) c.begin-in-Interrupt.ensures.room in
-    keeps old.limits new.limits old.room.waits new.room.waits (vec_capacity c.interrupt.new.outcomes) new.state c.begin-in-Interrupt.new.spare
+    let waits = c.interrupt.ensures.waits ∙ ap (λ (r : Room). r.waits) c.advance-in-Interrupt.ensures.room in
+    keeps old.limits new.limits old.room.waits new.room.waits (vec_capacity c.interrupt.new.outcomes) new.state c.advance-in-Interrupt.new.spare
     c.interrupt.new.outcomes.items same (search rules)
     (after-sound old.limits new.limits old.state new.state (Interrupt c.in-Interrupt.pid.0 c.in-Interrupt.serial c.in-Interrupt.moment.0) same (search rules)
     c.self.invariant.1 (search rules) tt)
     c.self.invariant.2
-    (buffer-spare old.limits new.limits c.self.inside.spare c.begin-in-Interrupt.new.spare c.self.inside.outcomes.items c.interrupt.new.outcomes.items same
-    c.self.invariant.3 c.begin-in-Interrupt.ensures.buffer)
+    (buffer-spare old.limits new.limits c.self.inside.spare c.advance-in-Interrupt.new.spare c.self.inside.outcomes.items c.interrupt.new.outcomes.items same
+    c.self.invariant.3 c.advance-in-Interrupt.ensures.buffer)
     c.self.invariant.4 waits
 
 pub returns-in-Tick-clause-fits : goal.returns-in-Tick-clause-fits
 returns-in-Tick-clause-fits c =
     let old = c.self.inside.state in
-    after-fits old.limits c.begin-in-Tick.new.state.limits old.state (map plain_outcome c.begin-in-Tick.new.outcomes.items) (Tick c.in-Tick.moment.0)
+    after-fits old.limits c.advance-in-Tick.new.state.limits old.state (map plain_outcome c.advance-in-Tick.new.outcomes.items) (Tick c.in-Tick.moment.0)
     (search rules) (search rules) c.self.invariant.1
 
 pub returns-in-Exit-clause-sound : goal.returns-in-Exit-clause-sound
@@ -193,13 +193,13 @@ invariant_of-self-in-Exit c =
     let old = c.self.inside.state in
     let new = c.leave.new.state in
     let same : new.limits ≡ old.limits = search rules in
-    let waits = c.leave.ensures.waits ∙ ap (λ (r : Room). r.waits) c.begin-in-Exit.ensures.room in
-    keeps old.limits new.limits old.room.waits new.room.waits (vec_capacity c.leave.new.outcomes) new.state c.begin-in-Exit.new.spare
+    let waits = c.leave.ensures.waits ∙ ap (λ (r : Room). r.waits) c.advance-in-Exit.ensures.room in
+    keeps old.limits new.limits old.room.waits new.room.waits (vec_capacity c.leave.new.outcomes) new.state c.advance-in-Exit.new.spare
     c.leave.new.outcomes.items same (search rules)
     (after-sound old.limits new.limits old.state new.state (Exit c.in-Exit.pid.0 c.in-Exit.moment.0) same (search rules) c.self.invariant.1 (search rules) tt)
     c.self.invariant.2
-    (buffer-spare old.limits new.limits c.self.inside.spare c.begin-in-Exit.new.spare c.self.inside.outcomes.items c.leave.new.outcomes.items same
-    c.self.invariant.3 c.begin-in-Exit.ensures.buffer)
+    (buffer-spare old.limits new.limits c.self.inside.spare c.advance-in-Exit.new.spare c.self.inside.outcomes.items c.leave.new.outcomes.items same
+    c.self.invariant.3 c.advance-in-Exit.ensures.buffer)
     c.self.invariant.4 waits
 
 pub returns-in-Restart-clause-sound : goal.returns-in-Restart-clause-sound

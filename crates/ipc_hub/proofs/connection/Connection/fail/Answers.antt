@@ -6,8 +6,8 @@ use Rattle.ipc_engine.specs.View.{reply_of}
 use Rattle.ipc_hub.specs.Clients.{refusal}
 use Rattle.ipc_hub.proofs.connection.Connection.fail.Goals as goal
 
-pub push-requires-clause-room : goal.push-requires-clause-room
-push-requires-clause-room c =
+pub push-requires-clause-space : goal.push-requires-clause-space
+push-requires-clause-space c =
     omega (
       arith,
       c.requires,

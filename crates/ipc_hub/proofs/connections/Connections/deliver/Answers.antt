@@ -8,9 +8,9 @@ use Rattle.ipc_engine.specs.Event.{PlainOutcome}
 use Rattle.ipc_engine.specs.View.{plain_outcome}
 use Rattle.ipc_hub.specs.declared.connection.Connection.{Connection}
 use Rattle.ipc_hub.specs.Relations.Rows.{Table, rows, table_of}
-use Rattle.ipc_hub.specs.Relations.Delivery.{HasRoomIn, HaveRoom, put_all, put_for}
+use Rattle.ipc_hub.specs.Relations.Delivery.{HasSpaceIn, HaveSpace, put_all, put_for}
 use Rattle.ipc_hub.specs.Relations.Invariant.{AreApart}
-use Rattle.ipc_hub.proofs.Keeping.{first-each, put-apart, rest-room}
+use Rattle.ipc_hub.proofs.Keeping.{first-each, put-apart, rest-space}
 use Rattle.ipc_hub.proofs.connections.Connections.deliver.Goals as goal
 
 -- the replies that are left begin with this one
@@ -22,19 +22,19 @@ left os i o within is =
 
 -- and they have room
 has : (os : List Outcome) (i : ℕ) (o : Outcome) (table : Table) → i < length os → o ≡ get_or os i o
-    → HaveRoom (map plain_outcome (drop i os)) table → HaveRoom (plain_outcome o ∷ map plain_outcome (drop (i + 1) os)) table
-has os i o table within is room = subst (λ (ps : List PlainOutcome). HaveRoom ps table) (left os i o within is) room
+    → HaveSpace (map plain_outcome (drop i os)) table → HaveSpace (plain_outcome o ∷ map plain_outcome (drop (i + 1) os)) table
+has os i o table within is space = subst (λ (ps : List PlainOutcome). HaveSpace ps table) (left os i o within is) space
 
-pub put-requires-clause-room : goal.put-requires-clause-room
-put-requires-clause-room c =
+pub put-requires-clause-space : goal.put-requires-clause-space
+put-requires-clause-space c =
     let os = c.args.outcomes.now in
     let i = c.loop-outcome.outcome-index in
     let o = c.outcome-item.result in
     let table = table_of c.loop-outcome.self in
     let here : c.deref_mut.result.now ≡ c.loop-outcome.self.items.items = search rules in
-    subst (λ (cs : List Connection). EachValue (HasRoomIn (plain_outcome o)) (rows cs)) (sym here)
+    subst (λ (cs : List Connection). EachValue (HasSpaceIn (plain_outcome o)) (rows cs)) (sym here)
     (first-each (plain_outcome o) (map plain_outcome (drop (i + 1) os)) table
-    (has os i o table c.loop-outcome-test.true c.outcome-item.is c.loop-outcome.invariant.room).each)
+    (has os i o table c.loop-outcome-test.true c.outcome-item.is c.loop-outcome.invariant.space).each)
 
 pub loop-outcome-preserved : goal.loop-outcome-preserved
 loop-outcome-preserved c =
@@ -51,8 +51,8 @@ loop-outcome-preserved c =
     record {
       rising = rw (ap keys_of put ∙ keys-map (put_for (plain_outcome o)) table) c.loop-outcome.invariant.rising;
       apart = subst AreApart (sym put) (put-apart (plain_outcome o) table c.loop-outcome.invariant.apart);
-      room = subst (HaveRoom rest) (sym put)
-          (rest-room (plain_outcome o) rest table (has os i o table c.loop-outcome-test.true c.outcome-item.is c.loop-outcome.invariant.room));
+      space = subst (HaveSpace rest) (sym put)
+          (rest-space (plain_outcome o) rest table (has os i o table c.loop-outcome-test.true c.outcome-item.is c.loop-outcome.invariant.space));
       all = ap (put_all rest) put
           ∙ ap (λ (ps : List PlainOutcome). put_all ps table) (sym (left os i o c.loop-outcome-test.true c.outcome-item.is)) ∙ c.loop-outcome.invariant.all;
     }

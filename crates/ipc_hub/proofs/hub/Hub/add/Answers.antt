@@ -43,7 +43,7 @@ invariant_of-self-2 g c =
     let new = c.in_ok-connection.connection in
     let number : new.number ≡ c.args.conn = search rules in
     let is : IsNew (c.most_owed.result + c.longest_reply.result) (view_of new) = search rules in
-    let goes_on = ap (λ v. v.store.stopped) c.self.view_is ∙ going c.args.self.now c.requires.goes_on in
+    let running = ap (λ v. v.store.stopped) c.self.view_is ∙ going c.args.self.now c.requires.running in
     let added : table_of c.insert.new.self ≡ with_entry (table_of c.self.inside.connections) c.args.conn (view_of new) =
     rw number at c.in_ok-insert.ensures.ok in
     let limits = ap (λ (m : Machine). m.limits) c.engine-engine.ensures in
@@ -51,9 +51,9 @@ invariant_of-self-2 g c =
     let most = c.most_owed.ensures.most ∙ ap most_owed limits in
     let inv : HubInvariant (hub_view c.self.inside.store.machine (table_of c.insert.new.self)) =
     rw added (entry-invariant (hub_view c.self.inside.store.machine (table_of c.self.inside.connections)) c.args.conn (view_of new)
-    (c.self.invariant.goes_on goes_on) c.ranges.conn.fits (free c.args.conn (ap (λ v. v.hub.connections) c.self.view_is) c.requires.free)
+    (c.self.invariant.running running) c.ranges.conn.fits (free c.args.conn (ap (λ v. v.hub.connections) c.self.view_is) c.requires.free)
     (rw (most, long) at is)) in
-    record { rising = inv.rising; goes_on = λ _. inv }
+    record { rising = inv.rising; running = λ _. inv }
 
 pub returns-clause-ok : goal.returns-clause-ok
 returns-clause-ok g c limits confirmed h m =

@@ -13,7 +13,7 @@ returns-clause-ok g c limits h m =
 pub returns-clause-starts : goal.returns-clause-starts
 returns-clause-starts g c none =
     c.take_in-taken.ensures.starts
-    (rw (sym c.self-2.view_is) at (c.in_default.ensures.passed.room c.args.conn none))
+    (rw (sym c.self-2.view_is) at (c.in_default.ensures.passed.space c.args.conn none))
 
 pub returns-clause-dropped : goal.returns-clause-dropped
 returns-clause-dropped g c over =
@@ -22,4 +22,4 @@ returns-clause-dropped g c over =
 
 pub returns-clause-numbers : goal.returns-clause-numbers
 returns-clause-numbers g c =
-    c.take_in-taken.ensures.goes_on.numbers ∙ ap (λ v. numbers_of v.hub) c.self-2.view_is ∙ c.pass.ensures.numbers
+    c.take_in-taken.ensures.continues.numbers ∙ ap (λ v. numbers_of v.hub) c.self-2.view_is ∙ c.advance.ensures.numbers

@@ -12,8 +12,8 @@ use Rattle.ipc_hub.proofs.hub.Hub.hangup.Goals as goal
 -- when time has passed
 invariant : (g : Over) (c : After-remove-process g) → HubInvariant (hub_view c.self-2.inside.store.machine (table_of c.self-2.inside.connections))
 invariant g c =
-    c.self-2.invariant.goes_on
-    (ap (λ v. v.store.stopped) c.self-2.view_is ∙ ready-goes-on c.pass.new.self.store 2 (omega arith) c.in_default.ensures.ready)
+    c.self-2.invariant.running
+    (ap (λ v. v.store.stopped) c.self-2.view_is ∙ ready-goes-on c.advance.new.self.store 2 (omega arith) c.in_default.ensures.ready)
 
 pub leave-requires-clause-hub : goal.leave-requires-clause-hub
 leave-requires-clause-hub g c =
@@ -36,5 +36,5 @@ returns-clause-ok g c limits h m =
 pub returns-clause-leaves : goal.returns-clause-leaves
 returns-clause-leaves g c other =
     without-leaves c.args.self.now.hub.connections (table_of c.self-2.inside.connections) (table_of c.remove-process.new.self)
-    (table_of c.leave.new.connections) c.args.conn other (ap (λ v. numbers_of v.hub) c.self-2.view_is ∙ c.pass.ensures.numbers)
-    c.remove-process.ensures.left c.leave.ensures.goes_on.numbers c.self-2.invariant.rising
+    (table_of c.leave.new.connections) c.args.conn other (ap (λ v. numbers_of v.hub) c.self-2.view_is ∙ c.advance.ensures.numbers)
+    c.remove-process.ensures.left c.leave.ensures.continues.numbers c.self-2.invariant.rising

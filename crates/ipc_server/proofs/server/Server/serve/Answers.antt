@@ -9,7 +9,7 @@ loop-turn-init g c = None
 pub loop-turn-preserved : goal.loop-turn-preserved
 loop-turn-preserved g c =
     More c.loop-turn._turn c.loop-turn.moment.0 c.later-moment.result.0 c.loop-turn.self.hub c.turn.new.self.hub c.loop-turn.invariant (omega arith)
-    c.in_ok-turn.ensures.ok c.in_ok-turn.ensures.settled
+    c.in_ok-turn.ensures.ok c.in_ok-turn.ensures.committed
 
 pub returns-in_err-turn-clause-err : goal.returns-in_err-turn-clause-err
 returns-in_err-turn-clause-err g c =

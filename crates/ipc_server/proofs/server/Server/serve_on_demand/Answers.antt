@@ -9,7 +9,7 @@ loop-round-init g c = None
 pub loop-round-preserved : goal.loop-round-preserved
 loop-round-preserved g c =
     More c.loop-round._round c.loop-round.moment.0 c.in_ok-moment.moment.0 c.loop-round.self.hub c.turn.new.self.hub c.loop-round.invariant
-    c.in_ok-moment.ensures.later (rw c.rest.ensures.same at c.in_ok-turn.ensures.ok) c.in_ok-turn.ensures.settled
+    c.in_ok-moment.ensures.later (rw c.rest.ensures.same at c.in_ok-turn.ensures.ok) c.in_ok-turn.ensures.committed
 
 -- the sockets cannot be waited for
 pub returns-in_err-moment-clause-err : goal.returns-in_err-moment-clause-err

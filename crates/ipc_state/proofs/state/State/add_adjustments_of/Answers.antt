@@ -15,4 +15,4 @@ returns-in_default c =
     let none : value_at nat_eq old.state.undo c.args.pid.0 ≡ None =
     ap (λ (m : Held). value_at nat_eq m.state.undo c.args.pid.0) (sym c.self.view_is)
     ∙ sym (sym (ap (λ r. option_map (λ (e : Item Undo). e.value) (option_copied r)) c.in_default.is) ∙ c.get.ensures) in
-    ap (λ (m : Keyed Set). record old { state = record old.state { sem = m } }) (sym (none-undone old.state.sem c.args.pid.0 old.state.undo none))
+    ap (λ (m : Keyed Set). record old { state = record old.state { semset = m } }) (sym (none-undone old.state.semset c.args.pid.0 old.state.undo none))

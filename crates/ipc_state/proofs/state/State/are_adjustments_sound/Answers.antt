@@ -24,11 +24,11 @@ same c =
 pub returns-then-have_same_numbers : goal.returns-then-have_same_numbers
 returns-then-have_same_numbers c =
     let is = ap (map item_row) c.items-then-have_same_numbers.ensures ∙ ap (λ (m : Held). m.state.undo) c.self.view_is in
-    let sets = ap (λ (m : Held). m.state.sem) c.self.view_is in
-    let told = subst (λ (b : Bool). Decides b (EachValue (AreAt c.self.inside.sem.objects) (map item_row c.items-then-have_same_numbers.result.now)))
-    (sym c.are_at_semaphores.ensures) (told-each c.self.inside.sem.objects c.items-then-have_same_numbers.result.now) in
+    let sets = ap (λ (m : Held). m.state.semset) c.self.view_is in
+    let told = subst (λ (b : Bool). Decides b (EachValue (AreAt c.self.inside.semset.objects) (map item_row c.items-then-have_same_numbers.result.now)))
+    (sym c.are_at_semaphores.ensures) (told-each c.self.inside.semset.objects c.items-then-have_same_numbers.result.now) in
     let each = subst (λ (o : Keyed Set). Decides c.are_at_semaphores.result (EachValue (AreAt o) c.args.self.now.state.undo)) sets
-    (subst (λ (us : List (ℕ × Undo)). Decides c.are_at_semaphores.result (EachValue (AreAt c.self.inside.sem.objects) us)) is told) in
+    (subst (λ (us : List (ℕ × Undo)). Decides c.are_at_semaphores.result (EachValue (AreAt c.self.inside.semset.objects) us)) is told) in
     (λ yes. record { pids = (same ((goal.at.returns-then-have_same_numbers c).After-have_same_numbers)).0 c.if-have_same_numbers.true; each = each.0 yes }, λ h. each.1 h.each)
 
 pub returns-else-have_same_numbers : goal.returns-else-have_same_numbers

@@ -11,6 +11,6 @@ pub returns : goal.returns
 returns c =
     let is = ap (map item_row) c.items.ensures ∙ ap (λ (m : Held). m.state.processes.entries) c.self.view_is in
     let now = c.args.self.now in
-    subst (λ (ps : List (ℕ × Process)). Decides c.are_held.result (AreHeld now.limits.queues (IsSoundMq now.limits) names.Queue ps now.state.mq)) is
-    (subst (λ (m : Held). Decides c.are_held.result (AreHeld m.limits.queues (IsSoundMq m.limits) names.Queue (map item_row c.items.result.now) m.state.mq))
+    subst (λ (ps : List (ℕ × Process)). Decides c.are_held.result (AreHeld now.limits.queues (IsSoundMq now.limits) names.Mq ps now.state.mq)) is
+    (subst (λ (m : Held). Decides c.are_held.result (AreHeld m.limits.queues (IsSoundMq m.limits) names.Mq (map item_row c.items.result.now) m.state.mq))
     c.self.view_is c.are_held.ensures)

@@ -21,10 +21,10 @@ returns-clause-state c =
       wait = ws;
       undo = us.entries;
       msg = t.msg.objects;
-      sem = t.sem.objects;
+      semset = t.semset.objects;
       mq = t.mq.objects;
-      named_sem = t.named_sem.objects;
-      shm = t.shm.objects;
+      psem = t.psem.objects;
+      pshm = t.pshm.objects;
     } in
     (λ i. left (c.remove-2.ensures i) (c.remove.ensures i) (c.leave-waiting.ensures.others i))
     ∙ ap (λ (m : Held). without_waiting (record m.state {

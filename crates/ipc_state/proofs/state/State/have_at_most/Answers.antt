@@ -14,10 +14,10 @@ pub returns : goal.returns
 returns c =
     let items = c.items.result.now in
     let size : ℕ × Entry Set → ℕ = λ e. length e.1.object.semaphores in
-    let count : sum_by (λ e. size (item_row e)) items ≡ semaphore_count c.self.inside.sem.objects =
+    let count : sum_by (λ e. size (item_row e)) items ≡ semaphore_count c.self.inside.semset.objects =
     sym (sum-map (λ e. size (item_row e)) items) ∙ ap sum (sym (map-map size item_row items)) ∙ sum-map size (map item_row items)
     ∙ ap (sum_by size) c.items.ensures in
-    subst (λ (m : Held). Decides c.are_few.result (semaphore_count m.state.sem ≤ c.args.most)) c.self.view_is (
+    subst (λ (m : Held). Decides c.are_few.result (semaphore_count m.state.semset ≤ c.args.most)) c.self.view_is (
       λ yes. omega (arith, count, c.are_few.ensures.0 yes),
       λ few. c.are_few.ensures.1 (omega (arith, count, few)),
     )

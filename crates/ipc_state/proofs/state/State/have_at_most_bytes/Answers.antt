@@ -14,10 +14,10 @@ pub returns : goal.returns
 returns c =
     let items = c.items.result.now in
     let size : ℕ × NamedEntry Segment → ℕ = λ e. length e.1.object.bytes in
-    let count : sum_by (λ e. size (item_row e)) items ≡ segment_bytes c.self.inside.shm.objects =
+    let count : sum_by (λ e. size (item_row e)) items ≡ segment_bytes c.self.inside.pshm.objects =
     sym (sum-map (λ e. size (item_row e)) items) ∙ ap sum (sym (map-map size item_row items)) ∙ sum-map size (map item_row items)
     ∙ ap (sum_by size) c.items.ensures in
-    subst (λ (m : Held). Decides c.are_short.result (segment_bytes m.state.shm ≤ c.args.most)) c.self.view_is (
+    subst (λ (m : Held). Decides c.are_short.result (segment_bytes m.state.pshm ≤ c.args.most)) c.self.view_is (
       λ yes. omega (arith, count, c.are_short.ensures.0 yes),
       λ few. c.are_short.ensures.1 (omega (arith, count, few)),
     )

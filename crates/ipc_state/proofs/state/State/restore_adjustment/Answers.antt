@@ -5,6 +5,7 @@ use Rattle.std.proofs.lemmas.Result.{on_err_weaker}
 use Rattle.ipc_base.specs.Table.{value_at, with_value}
 use Rattle.ipc_base.proofs.CallerLemmas.{own}
 use Rattle.sem_undo.specs.Undo.{Undo, key_of}
+use Rattle.ipc_state.specs.contracts.state.State.{the_view}
 use Rattle.ipc_state.specs.declared.numbered.Numbered.{Numbered as Table}
 use Rattle.ipc_state.specs.Held.{Held}
 use Rattle.ipc_state.specs.Numbered.{Numbered}
@@ -22,17 +23,7 @@ returns-in_default-clause-state c kept =
     ap (λ (o : Table Undo). (numbered_of o).entries) c.get_mut.follows.holds-at-none in
     let with : (x : Undo) → with_value nat_eq old.undo c.args.pid.0 x ≡ old.undo =
     λ x. with-none old.undo c.args.pid.0 x (ap (λ (m : Held). value_at nat_eq m.state.undo c.args.pid.0) (sym c.self.view_is) ∙ none) in
-    ap (λ (us : List (ℕ × Undo)). record {
-      clock = t.clock.0;
-      processes = numbered_of t.processes;
-      wait = t.wait.calls;
-      undo = us;
-      msg = t.msg.objects;
-      sem = t.sem.objects;
-      mq = t.mq.objects;
-      named_sem = t.named_sem.objects;
-      shm = t.shm.objects;
-    }) same
+    ap (λ (us : List (ℕ × Undo)). record (the_view t).state { undo = us }) same
     ∙ ap (λ (m : Held). m.state) c.self.view_is
     ∙ ap (λ (us : List (ℕ × Undo)). record old { undo = us }) (sym (with (fin.insert (undo_of old c.args.pid.0) (key_of c.args.row) c.args.row.adjustment)))
 
@@ -42,38 +33,11 @@ returns-clause-err c =
     let pid = c.args.pid.0 in
     let was : value_at nat_eq (numbered_of t.undo).entries pid ≡ Some c.in-Some.undo.now = sym (c.in-Some.ensures).value in
     let puts = c.get_mut.follows.holds c.restore.new.self in
-    let viewed : List (ℕ × Undo) → Bool → Held = λ (us : List (ℕ × Undo)) (place : Bool). record {
-      limits = t.limits;
-      state = record {
-        clock = t.clock.0;
-        processes = numbered_of t.processes;
-        wait = t.wait.calls;
-        undo = us;
-        msg = t.msg.objects;
-        sem = t.sem.objects;
-        mq = t.mq.objects;
-        named_sem = t.named_sem.objects;
-        shm = t.shm.objects;
-      };
-      room = record {
-        process = has_place t.processes && (place && (is_some t.fresh_undo && is_some t.fresh_descriptors));
-        queue = t.msg.place;
-        keys = t.msg.keys;
-        fresh = is_some t.fresh;
-        waits = t.wait.room;
-        set = t.sem.place;
-        set_keys = t.sem.keys;
-        fresh_set = t.fresh_set;
-        mq = t.mq.place;
-        names = t.mq.names;
-        fresh_mq = is_some t.fresh_mq;
-        fresh_name = t.fresh_name;
-        named_sem = t.named_sem.place;
-        sem_names = t.named_sem.names;
-        shm = t.shm.place;
-        segment_names = t.shm.names;
-        fresh_segment = t.fresh_segment;
-      };
+    let viewed : List (ℕ × Undo) → Bool → Held = λ (us : List (ℕ × Undo)) (place : Bool).
+    let v = the_view t in
+    record v {
+      state = record v.state { undo = us };
+      room = record v.room { process = has_place t.processes && (place && (is_some t.fresh_undo && is_some t.fresh_descriptors)) };
     } in
     on_err_weaker c.restore.result
     (λ same.

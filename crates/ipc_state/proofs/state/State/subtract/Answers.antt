@@ -5,6 +5,7 @@ use Rattle.std.specs.Int.{w16}
 use Rattle.std.proofs.lemmas.Int.{to_z-of_z}
 use Rattle.ipc_base.specs.Table.{value_at, with_value}
 use Rattle.sem_undo.specs.Undo.{Undo, adjustment, subtracted, is_adjustment, most_rows}
+use Rattle.ipc_state.specs.contracts.state.State.{the_view}
 use Rattle.ipc_state.specs.declared.numbered.Numbered.{Numbered as Table}
 use Rattle.ipc_state.specs.Held.{Held}
 use Rattle.ipc_state.specs.Numbered.{Numbered}
@@ -22,39 +23,7 @@ returns-in_default c =
     let none : value_at nat_eq (numbered_of t.undo).entries pid ≡ None = sym (c.in_default.ensures).value in
     let with : (x : Undo) → with_value nat_eq old.state.undo pid x ≡ old.state.undo =
     λ x. with-none old.state.undo pid x (ap (λ (m : Held). value_at nat_eq m.state.undo pid) (sym c.self.view_is) ∙ none) in
-    let viewed : Table Undo → Held = λ (o : Table Undo). record {
-      limits = t.limits;
-      state = record {
-        clock = t.clock.0;
-        processes = numbered_of t.processes;
-        wait = t.wait.calls;
-        undo = (numbered_of o).entries;
-        msg = t.msg.objects;
-        sem = t.sem.objects;
-        mq = t.mq.objects;
-        named_sem = t.named_sem.objects;
-        shm = t.shm.objects;
-      };
-      room = record {
-        process = has_place t.processes && (has_place o && (is_some t.fresh_undo && is_some t.fresh_descriptors));
-        queue = t.msg.place;
-        keys = t.msg.keys;
-        fresh = is_some t.fresh;
-        waits = t.wait.room;
-        set = t.sem.place;
-        set_keys = t.sem.keys;
-        fresh_set = t.fresh_set;
-        mq = t.mq.place;
-        names = t.mq.names;
-        fresh_mq = is_some t.fresh_mq;
-        fresh_name = t.fresh_name;
-        named_sem = t.named_sem.place;
-        sem_names = t.named_sem.names;
-        shm = t.shm.place;
-        segment_names = t.shm.names;
-        fresh_segment = t.fresh_segment;
-      };
-    } in
+    let viewed : Table Undo → Held = λ (o : Table Undo). the_view (record t { undo = o }) in
     ap viewed c.get_mut.follows.holds-at-none ∙ c.self.view_is
     ∙ ap (λ (us : List (ℕ × Undo)). record old { state = record old.state { undo = us } })
     (sym (with (subtracted (undo_of old.state pid) (c.args.set.0, c.args.num) c.args.sem_op)))
@@ -91,38 +60,11 @@ returns c =
     let entries : (numbered_of (c.get_mut.follows.lender c.subtract.new.self)).entries
     ≡ with_value nat_eq (numbered_of t.undo).entries pid (subtracted (undo_of old.state pid) (c.args.set.0, c.args.num) c.args.sem_op) =
     ap (λ (o : Numbered Undo). o.entries) puts.numbered ∙ ap (λ (x : Undo). with_value nat_eq (numbered_of t.undo).entries pid x) new in
-    let viewed : List (ℕ × Undo) → Bool → Held = λ (us : List (ℕ × Undo)) (place : Bool). record {
-      limits = t.limits;
-      state = record {
-        clock = t.clock.0;
-        processes = numbered_of t.processes;
-        wait = t.wait.calls;
-        undo = us;
-        msg = t.msg.objects;
-        sem = t.sem.objects;
-        mq = t.mq.objects;
-        named_sem = t.named_sem.objects;
-        shm = t.shm.objects;
-      };
-      room = record {
-        process = has_place t.processes && (place && (is_some t.fresh_undo && is_some t.fresh_descriptors));
-        queue = t.msg.place;
-        keys = t.msg.keys;
-        fresh = is_some t.fresh;
-        waits = t.wait.room;
-        set = t.sem.place;
-        set_keys = t.sem.keys;
-        fresh_set = t.fresh_set;
-        mq = t.mq.place;
-        names = t.mq.names;
-        fresh_mq = is_some t.fresh_mq;
-        fresh_name = t.fresh_name;
-        named_sem = t.named_sem.place;
-        sem_names = t.named_sem.names;
-        shm = t.shm.place;
-        segment_names = t.shm.names;
-        fresh_segment = t.fresh_segment;
-      };
+    let viewed : List (ℕ × Undo) → Bool → Held = λ (us : List (ℕ × Undo)) (place : Bool).
+    let v = the_view t in
+    record v {
+      state = record v.state { undo = us };
+      room = record v.room { process = has_place t.processes && (place && (is_some t.fresh_undo && is_some t.fresh_descriptors)) };
     } in
     (λ i. viewed (entries i) (puts.place i))
     ∙ ap (λ (m : Held). record m { state = with_undo m.state pid (subtracted (undo_of old.state pid) (c.args.set.0, c.args.num) c.args.sem_op) }) c.self.view_is

@@ -13,12 +13,12 @@ returns-clause-state c =
     let t = c.self.inside in
     (λ i. let s : State = record (state_in t) {
       mq = c.sweep.ensures.objects i;
-      named_sem = c.sweep-2.ensures.objects i;
-      shm = c.sweep-3.ensures.objects i;
+      psem = c.sweep-2.ensures.objects i;
+      pshm = c.sweep-3.ensures.objects i;
     } in s)
     ∙ (λ i. let s : State = record (state_in t) {
-      mq = still_open names.Queue (map item_row (c.items.ensures i)) t.mq.objects;
-      named_sem = still_open names.Semaphore (map item_row (c.items-2.ensures i)) t.named_sem.objects;
-      shm = still_open names.Segment (map item_row (c.items-3.ensures i)) t.shm.objects;
+      mq = still_open names.Mq (map item_row (c.items.ensures i)) t.mq.objects;
+      psem = still_open names.Psem (map item_row (c.items-2.ensures i)) t.psem.objects;
+      pshm = still_open names.Pshm (map item_row (c.items-3.ensures i)) t.pshm.objects;
     } in s)
     ∙ ap (λ (m : Held). swept m.state) c.self.view_is

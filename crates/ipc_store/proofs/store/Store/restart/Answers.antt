@@ -34,7 +34,7 @@ returns-in-Err-Stopped-clause-any_moment g c = λ base at.
 pub returns-in-Err-Stopped-clause-at_end : goal.returns-in-Err-Stopped-clause-at_end
 returns-in-Err-Stopped-clause-at_end g c = λ is.
     let all = c.in_default.ensures.records ∙ ap (λ (x : List ℕ). x ++ record_bytes Restart) c.requires.empty in
-    let goes : c.step.new.self.stopped ≡ false = c.step.ensures.goes_on ∙ c.requires.goes_on in
+    let goes : c.step.new.self.stopped ≡ false = c.step.ensures.running ∙ c.requires.running in
     let why = ⊎_elim (λ stopped. absurd (never (sym stopped ∙ goes))) (λ end. end)
     (c.commit.ensures.stopped.0 (c.in-Err-Stopped.is ∙ ap Err c.in-Err-Stopped.field-0-is)) in (
       subst IsLast c.step.ensures.checkpoint why.0,

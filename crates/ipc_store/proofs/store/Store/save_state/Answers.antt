@@ -32,7 +32,7 @@ returns-clause-any_moment g c = rw (sym c.self.view_is) (λ base pending at.
 
 pub save-requires-clause-old_fits : goal.save-requires-clause-old_fits
 save-requires-clause-old_fits g c = λ objects saved.
-    let found = c.self.invariant.2 (ap (λ v. v.stopped) c.self.view_is ∙ c.requires.goes_on) saved.honest in
+    let found = c.self.invariant.2 (ap (λ v. v.stopped) c.self.view_is ∙ c.requires.running) saved.honest in
     kept-fits _ _ _ _ found.0 _ found.1.1.device c.self.invariant.0 objects saved
 
 pub returns-clause-matches : goal.returns-clause-matches

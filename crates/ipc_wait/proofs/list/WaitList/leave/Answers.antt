@@ -1,6 +1,6 @@
 use Rattle.std.proofs.Common.{◌≡◌, None, sym, ap, ◌∙◌}
 use Rattle.std.specs.List.{position}
-use Rattle.ipc_wait.specs.Waits.{call_of, next_deadline, is_of}
+use Rattle.ipc_wait.specs.Waits.{waiting_call_of, next_deadline, is_of}
 use Rattle.ipc_wait.specs.Relations.{is_pid}
 use Rattle.ipc_wait.proofs.Lists.{Leaves, leaves, find-position_none, filter-none}
 use Rattle.ipc_wait.proofs.Index.{index-missing, index-leave}
@@ -8,13 +8,13 @@ use Rattle.ipc_wait.proofs.list.WaitList.leave.Given.{Over}
 use Rattle.ipc_wait.proofs.list.WaitList.leave.Goals as goal
 
 -- the index does not have the process
-missing : (g : Over) (c : goal.After-from_residual g) → call_of c.args.pid c.self.inside.calls.items ≡ None
+missing : (g : Over) (c : goal.After-from_residual g) → waiting_call_of c.args.pid c.self.inside.calls.items ≡ None
 missing g c =
     index-missing c.self.inside.calls.items c.self.inside.pids.items c.args.pid c.self.invariant.2
     (ap (position (is_pid c.args.pid)) (sym c.deref.ensures.value) ∙ sym c.place_in.ensures ∙ c.in_err-index.was)
 
 -- nor have the calls
-nowhere : (g : Over) (c : goal.After-from_residual-in_err-place g) → call_of c.args.pid c.self.inside.calls.items ≡ None
+nowhere : (g : Over) (c : goal.After-from_residual-in_err-place g) → waiting_call_of c.args.pid c.self.inside.calls.items ≡ None
 nowhere g c =
     find-position_none (is_of c.args.pid) c.self.inside.calls.items
     (ap (position (is_of c.args.pid)) (sym c.deref-2.ensures.value) ∙ sym c.place_of.ensures ∙ c.in_err-place.was)

@@ -1,7 +1,0 @@
-use Rattle.ipc_image.specs.Saved.{named_sem_numbers}
-use Rattle.ipc_image.proofs.named_sem.NamedEntryNamedSemStored.read.Goals as goal
-
-pub returns-in_err-numbers-clause-damaged : goal.returns-in_err-numbers-clause-damaged
-returns-in_err-numbers-clause-damaged c is e fits same =
-    let none = rw c.in_err-numbers.ensures.ok_part at c.take_fields.ensures.none in
-    none (named_sem_numbers e) e.name fits.1.0 same

@@ -1,0 +1,9 @@
+use Rattle.std.proofs.Common.{ℕ, sym, subst}
+use Rattle.ipc_state.specs.Directory.{ArePositive}
+use Rattle.ipc_state.specs.Named.{Named}
+use Rattle.ipc_state.proofs.CallerLemmas.{psem-positive}
+use Rattle.posix_calls.proofs.psem.open.Goals as goal
+
+pub seek-requires : goal.seek-requires
+seek-requires c =
+    subst (λ (o : Named ℕ). ArePositive o.entries) (sym c.psems.ensures.objects) (psem-positive c.args.state.now.limits c.args.state.now.state c.requires.sound)
