@@ -25,14 +25,14 @@ use Rattle.ipc_state.specs.Sound.{HasSoundParts, FitsBody}
 use Rattle.ipc_state.specs.State.{State, is_process, is_waiting, undo_of, without_waiting}
 use Rattle.ipc_state.specs.Touching.{object_of, is_there, IsAsBefore}
 use Rattle.ipc_state.specs.Waiting.{PlainWaiting, IsSoundWaiting}
-use Rattle.ipc_state.proofs.CallerLemmas.{HasSameProcesses, same-connected, same-processes, without_waiting-sound}
+use Rattle.ipc_state.proofs.CallerLemmas.{HasSameProcesses, same-connected, same-processes, without_waiting-sound, same-objects}
 use Rattle.posix_mq.specs.declared.queue.Registration.{Registration}
 use Rattle.posix_mq.specs.Queue.{Queue as Mq}
 use Rattle.ipc_engine.specs.Event.{PlainOutcome}
 use Rattle.ipc_engine.specs.Settling.{touched_by}
 use Rattle.ipc_engine.specs.Step.{Step, silent, after, answered, notices, replied, tried, can_resume, resumed, resumed_first, settle_within, settle}
 use Rattle.ipc_engine.proofs.Lists.{found-all, nothing-passes, nothing-found}
-use Rattle.ipc_engine.proofs.Tries.{HasEnded, same-objects, tried-ended, waited-ended}
+use Rattle.ipc_engine.proofs.Tries.{HasEnded, tried-ended, waited-ended}
 use Rattle.ipc_engine.proofs.Weights.{weight_to, weight_to-append, replied-weighs, held, notes, notes-same, IsLight}
 
 -- who waits tells nothing of the objects

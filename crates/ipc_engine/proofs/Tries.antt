@@ -13,16 +13,14 @@ use Rattle.ipc_state.specs.declared.parked.Awaited.{Awaited}
 use Rattle.ipc_state.specs.declared.parked.Awaited.TheVariants as awaited
 use Rattle.ipc_state.specs.declared.parked.Object.{Object}
 use Rattle.ipc_state.specs.declared.named.NamedEntry.{NamedEntry}
-use Rattle.ipc_state.specs.declared.processes.Process.{Process}
 use Rattle.posix_mq.specs.Queue.{Queue as Mq}
 use Rattle.ipc_state.specs.Finish.{Finish, Tried, Finishes, Waits, IfFinishes, has_to_wait, refused}
 use Rattle.ipc_state.specs.Named.{Named}
-use Rattle.ipc_state.specs.Numbered.{Numbered}
 use Rattle.ipc_state.specs.Opening.{descriptor_at}
 use Rattle.ipc_state.specs.State.{State, cred_of, is_waiting}
 use Rattle.ipc_state.specs.Touching.{object_of, object_on, is_there, IsAsBefore}
 use Rattle.ipc_state.specs.Waiting.{awaited_by}
-use Rattle.ipc_state.proofs.CallerLemmas.{IsGood, refused-good}
+use Rattle.ipc_state.proofs.CallerLemmas.{IsGood, refused-good, same-objects}
 use Rattle.posix_calls.specs.Calls as posix
 use Rattle.posix_calls.specs.Registrations.{own}
 use Rattle.posix_calls.proofs.CallerLemmas as posixly
@@ -33,13 +31,6 @@ use Rattle.ipc_engine.specs.Settling.{touched_by}
 use Rattle.ipc_engine.specs.Step.{tried}
 
 -- ---- objects
-
--- the same processes have the same objects
-pub same-objects : (s t : State) (pid : ℕ) (on : Awaited) → t.processes ≡ s.processes → object_of t pid on ≡ object_of s pid on
-same-objects s t pid (awaited.MsgQueue id) same = refl
-same-objects s t pid (awaited.Semset id) same = refl
-same-objects s t pid (awaited.Descriptor fd) same =
-    ap (λ (ps : Numbered Process). option_map (λ (d : Descriptor). object_on d.on) (descriptor_at ps.entries pid fd)) same
 
 -- what is there is an object
 pub there-object : (s : State) (pid : ℕ) (on : Awaited) → is_there pid on s ≡ true → None ≢ object_of s pid on
@@ -55,18 +46,10 @@ there-object s pid (awaited.Descriptor fd) there = by_found (descriptor_at s.pro
 waits-touched : (s : State) (pid : ℕ) (call : PlainSysv) (on : Awaited) → awaited_by (Sysv call) ≡ Some on → touched call ≡ object_of s pid on
 waits-touched s pid =
     by-waiting (λ call. (on : Awaited) → awaited_by (Sysv call) ≡ Some on → touched call ≡ object_of s pid on)
-    (λ id flags mtype text on is. on_queue id on is)
-    (λ id flags size mtype on is. on_queue id on is)
-    (λ id timeout operations on is. on_set id on is)
+    (λ id flags mtype text on is. let same : awaited.MsgQueue (record { 0 = id }) ≡ on = cc in ap (object_of s pid) same)
+    (λ id flags size mtype on is. let same : awaited.MsgQueue (record { 0 = id }) ≡ on = cc in ap (object_of s pid) same)
+    (λ id timeout operations on is. let same : awaited.Semset (record { 0 = id }) ≡ on = cc in ap (object_of s pid) same)
     (λ call other on is. let both = sym is ∙ other.never in cc)
-  where
-    on_queue : (id : ℕ) (on : Awaited) → Some (awaited.MsgQueue (record { 0 = id })) ≡ Some on
-        → object_of s pid (awaited.MsgQueue (record { 0 = id })) ≡ object_of s pid on
-    on_queue id on is = let same : awaited.MsgQueue (record { 0 = id }) ≡ on = cc in ap (object_of s pid) same
-
-    on_set : (id : ℕ) (on : Awaited) → Some (awaited.Semset (record { 0 = id })) ≡ Some on
-        → object_of s pid (awaited.Semset (record { 0 = id })) ≡ object_of s pid on
-    on_set id on is = let same : awaited.Semset (record { 0 = id }) ≡ on = cc in ap (object_of s pid) same
 
 posix-touched : (s : State) (pid : ℕ) (call : PlainPosix) (on : Awaited) → awaited_by (Posix call) ≡ Some on
     → posix.touched s pid call ≡ object_of s pid on

@@ -14,7 +14,7 @@ use Rattle.std.specs.Option.{option_copied_mut, IsSome}
 use Rattle.ipc_base.specs.Table.{keys_of, value_at, without as without_value, EachValue}
 use Rattle.std.specs.FinMap as fin
 use Rattle.sem_undo.specs.Undo.{Key, Undo, cleared}
-use Rattle.ipc_base.proofs.CallerLemmas.{nobody, own, rising-bounds, each-at, each-with, each-without, keys_of-with_value}
+use Rattle.ipc_base.proofs.CallerLemmas.{at-with, nobody, own, twice, rising-bounds, each-at, each-with, each-without, keys_of-with_value}
 use Rattle.ipc_state.specs.Directory.{ArePositive}
 use Rattle.ipc_state.proofs.Directories.{named-positive}
 use Rattle.ipc_state.specs.Lends.{HasPutObject}
@@ -72,16 +72,17 @@ use Rattle.ipc_state.proofs.Naming.{entry-named, have-names}
 use Rattle.ipc_state.proofs.Adjusting.{HasAll, moved, has-new, has-with, has-adjusted, adjusted-by, exit-length, undone-keeps, all-undone-keeps}
 use Rattle.ipc_state.proofs.Adjusting.{each-moved, each-cleared, each-dropped, none-at, without-same, push-same, each-pushed, seen-keys}
 pub use Rattle.ipc_state.proofs.EntryKeys.{All-seen}
-pub use Rattle.ipc_state.proofs.Ending.{HasSameProcesses, IsGood, Ends, same-processes, same-but-table, same-connected, answered}
-pub use Rattle.ipc_state.proofs.Ending.{as_before, by-finish, ended-good, read, refused-good}
+pub use Rattle.ipc_state.proofs.Ending.{HasSameProcesses, IsGood, as_before, by-finish, refused-good, same-processes, same-but-table, same-connected}
+pub use Rattle.ipc_state.proofs.Ending.{same-objects}
 pub use Rattle.ipc_state.proofs.Elsewhere.{before-then, elsewhere-closed, elsewhere-mq, elsewhere-new_mq, elsewhere-table, elsewhere-unlinked}
 pub use Rattle.ipc_state.proofs.Elsewhere.{elsewhere-psem, elsewhere-new_psem, elsewhere-new_segment, elsewhere-segment}
 pub use Rattle.ipc_state.proofs.Elsewhere.{elsewhere-unlinked_pshm, elsewhere-unlinked_psem}
 pub use Rattle.ipc_state.proofs.Numbering.{neither}
-pub use Rattle.ipc_state.proofs.Steps.{Passed, Runs, Shows, blocked-seen, blocked-then, is_blocked, ok-same, orstop-passed, passed, shows, stays-stopped}
-pub use Rattle.ipc_state.proofs.Steps.{if_some-runs, orelse-runs, refuse-runs, stop-passed, test-runs, then-runs, waits-blocked}
-pub use Rattle.ipc_state.proofs.Steps.{AtEnd, after, after-attempt, after-orelse, after-orstop, after-refuse, after-stop, after-then, at-failure, at-some, at-value}
-pub use Rattle.ipc_state.proofs.Steps.{by-if_some, by-test}
+pub use Rattle.ipc_state.proofs.Steps.{AtEnd, after, after-orelse, after-orstop, after-refuse, after-stop, after-then, at-all, at-failure, at-halt, at-some}
+pub use Rattle.ipc_state.proofs.Steps.{at-value, by-if_some, by-test, may-wait, ok-same}
+pub use Rattle.ipc_state.proofs.Steps.{HasFound, Tested, finishes, has-found, is_blocked, tested, waits-as-tested, waits-blocked, waits-for}
+pub use Rattle.ipc_state.proofs.Steps.{Answered, ends-as, ends-stopped, said, waits-on}
+pub use Rattle.ipc_state.proofs.Steps.{AreAlike, alike-waits, orelse-alike, past-alike, same-alike, then-alike}
 pub use Rattle.ipc_state.proofs.SoundQueues.{queue-numbers, sent-sound, taken-sound, changed-sound}
 pub use Rattle.ipc_state.proofs.SoundSets.{with_value-sound, with_values-sound, carried-sound, changed_set-sound}
 
@@ -614,7 +615,7 @@ module _ {X : Type 0} (o : HeldObjects X) (s : Keyed X) (id : ℕ) (e : Entry X)
     lent-object q is = cc
 
   -- with other permissions
-  pub put-perm : (perm : Perm) (new : HeldObjects X)
+  put-perm : (perm : Perm) (new : HeldObjects X)
       → ((f : Entry X) → entry_of o.objects id ≡ Some f → new ≡ record o { objects = with_entry o.objects id (permitting f perm) })
       → new.objects ≡ with_entry s id (permitting e perm)
   put-perm perm new put =
@@ -634,3 +635,34 @@ module _ {X : Type 0} (o : HeldObjects X) (s : Keyed X) (id : ℕ) (e : Entry X)
     -- the directory of the keys stays
     pub put-keys : new.keys ≡ o.keys
     put-keys = ap (λ (n : HeldObjects X). n.keys) (put e is-held)
+
+-- ---- an object that was given other permissions, and then lent
+
+module _ {X : Type 0} (o : HeldObjects X) (s : Keyed X) (id : ℕ) (e : Entry X) (same : o.objects ≡ s) (there : entry_of s id ≡ Some e) (perm : Perm)
+    (mid : HeldObjects X)
+    (put : (f : Entry X) → entry_of o.objects id ≡ Some f → mid ≡ record o { objects = with_entry o.objects id (permitting f perm) }) where
+  permits : mid.objects ≡ with_entry s id (permitting e perm)
+  permits = put-perm o s id e same there perm mid put
+
+  permitted : entry_of (with_entry s id (permitting e perm)) id ≡ Some (permitting e perm)
+  permitted = at-with s.entries id (permitting e perm) e there
+
+  module _ (r : Option (MutBor X)) (got : option_copied_mut r ≡ option_map (λ (f : Entry X). f.object) (entry_of mid.objects id)) where
+    pub permitted-lent : IsSome r
+    permitted-lent = is-lent mid _ id _ permits permitted r got
+
+    pub permitted-object : (q : MutBor X) → r ≡ Some q → q.now ≡ e.object
+    permitted-object q is = lent-object mid _ id _ permits permitted r got q is
+
+  -- what is left in its place has both
+  module _ (left : X) (new : HeldObjects X) (puts : HasPutObject mid id left new) where
+    pub permitted-put : new.objects ≡ with_entry s id (holding (permitting e perm) left)
+    permitted-put =
+        put-object mid _ id _ permits permitted left new puts
+        ∙ ap (λ (es : List (ℕ × Entry X)). let n : Keyed X = record { next = s.next; entries = es } in n)
+        (twice s.entries id (permitting e perm) (holding (permitting e perm) left))
+
+    pub permitted-keys : new.keys ≡ o.keys
+    permitted-keys =
+        put-keys mid _ id _ permits permitted left new puts
+        ∙ ap (λ (h : HeldObjects X). h.keys) (put e (ap (λ (k : Keyed X). entry_of k id) same ∙ there))

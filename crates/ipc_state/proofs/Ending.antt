@@ -7,20 +7,19 @@ use Rattle.ipc_base.specs.declared.errno.Errno.{Errno}
 use Rattle.ipc_base.specs.declared.identity.Cred.{Cred}
 use Rattle.ipc_base.specs.declared.limits.Limits.{Limits}
 use Rattle.ipc_base.specs.Table.{keys_of, value_at}
-use Rattle.ipc_wire.specs.Reply.{PlainBody}
+use Rattle.ipc_state.specs.declared.descriptors.Descriptor.{Descriptor}
 use Rattle.ipc_state.specs.declared.parked.Awaited.{Awaited}
 use Rattle.ipc_state.specs.declared.parked.Awaited.TheVariants as awaited
 use Rattle.ipc_state.specs.declared.parked.Object.{Object}
 use Rattle.ipc_state.specs.declared.processes.Process.{Process}
 use Rattle.ipc_state.specs.Descriptors.{Table}
-use Rattle.ipc_state.specs.Finish.{Finish, IfFinishes, Attempt, Fails, Blocks, Done, ended, done, done_firing, refused, answer}
+use Rattle.ipc_state.specs.Finish.{Finish, IfFinishes, Attempt, Fails, Blocks, Done, ended, done_firing, refused}
 use Rattle.ipc_state.specs.Numbered.{Numbered, entry_of}
-use Rattle.ipc_state.specs.Opening.{with_table}
+use Rattle.ipc_state.specs.Opening.{descriptor_at, with_table}
 use Rattle.ipc_state.specs.Sound.{HasSoundParts, FitsBody}
 use Rattle.ipc_state.specs.State.{State, cred_of, is_process, is_waiting}
-use Rattle.ipc_state.specs.Touching.{object_of, is_there, IsAsBefore}
+use Rattle.ipc_state.specs.Touching.{object_of, object_on, is_there, IsAsBefore}
 use Rattle.ipc_state.proofs.SoundOpening as opening
-use Rattle.ipc_state.proofs.Steps.{AtEnd, at-value}
 
 pub as_before : (pid : ℕ) (on : Awaited) (s : State) → IsAsBefore pid on s s
 as_before pid (awaited.MsgQueue id) s = refl
@@ -85,6 +84,13 @@ same-but-table before after pid table put =
 pub same-connected : (before after : State) (pid : ℕ) → HasSameProcesses before after → is_process after pid ≡ is_process before pid
 same-connected before after pid same = same_keys before.processes.entries after.processes.entries pid same.pids
 
+-- and has the same objects, if the descriptors are the same
+pub same-objects : (s t : State) (pid : ℕ) (on : Awaited) → t.processes ≡ s.processes → object_of t pid on ≡ object_of s pid on
+same-objects s t pid (awaited.MsgQueue id) same = refl
+same-objects s t pid (awaited.Semset id) same = refl
+same-objects s t pid (awaited.Descriptor fd) same =
+    ap (λ (ps : Numbered Process). option_map (λ (d : Descriptor). object_on d.on) (descriptor_at ps.entries pid fd)) same
+
 -- What is to be shown of what a call that began in a state leaves and answers, if it may change this object alone: the
 -- state stays sound, the body of the answer fits, and all else that others wait for is as it was.
 pub record IsGood (limits : Limits) (s : State) (touches : Option Object) (f : Finish) : Type 0 where
@@ -96,31 +102,6 @@ pub record IsGood (limits : Limits) (s : State) (touches : Option Object) (f : F
   pub others : HasSoundParts limits s → (pid : ℕ) (on : Awaited) → is_waiting s pid ≡ true → touches ≢ object_of s pid on → is_there pid on s ≡ true
       → IsAsBefore pid on s f.state
 
--- it is shown, if the call is done
-abbrev pub Ends : Limits → State → Option Object → Attempt Done → Type 0
-Ends limits s touches call = AtEnd false (λ (d : Done). IsGood limits s touches (done_firing d.state d.body d.fired)) call
-
--- a call that leaves the state as it is
-unchanged : (limits : Limits) (s : State) (touches : Option Object) (f : Finish) → f.state ≡ s → (HasSoundParts limits s → FitsBody limits f.body)
-    → IsGood limits s touches f
-unchanged limits s touches f same fits =
-    record {
-      state = subst (HasSoundParts limits) (sym same);
-      body = fits;
-      kept = same-processes s f.state (ap (λ (t : State). t.processes) same);
-      clock = ap (λ (t : State). t.clock) same;
-      wait = ap (λ (t : State). t.wait) same;
-      others = λ h pid on waits apart there. subst (IsAsBefore pid on s) (sym same) (as_before pid on s);
-    }
-
-module _ {limits : Limits} {s : State} {touches : Option Object} where
-  pub answered : (t : State) (body : PlainBody) → IsGood limits s touches (done t body) → Ends limits s touches (answer t body)
-  answered t body good = at-value _ good
-
-  -- a call that leaves the state as it is
-  pub read : (body : PlainBody) → (HasSoundParts limits s → FitsBody limits body) → Ends limits s touches (answer s body)
-  read body fits = at-value _ (unchanged limits s touches (done s body) refl fits)
-
 -- what holds of a call that is done, and of one that is refused, holds where it comes to its end
 pub by-finish : (P : Finish → Type 0) (s : State) (a : Attempt Done) → ((d : Done) → a ≡ Ok d → P (done_firing d.state d.body d.fired))
     → ((e : Errno) → P (refused s e)) → IfFinishes P (ended s a)
@@ -130,8 +111,12 @@ by-finish P s (Err Blocks) ends fails = tt
 
 -- a call that is refused changes nothing
 pub refused-good : (limits : Limits) (s : State) (touches : Option Object) (e : Errno) → IsGood limits s touches (refused s e)
-refused-good limits s touches e = unchanged limits s touches (refused s e) refl (λ h. omega arith)
-
-pub ended-good : (limits : Limits) (s : State) (touches : Option Object) (call : Attempt Done) → Ends limits s touches call
-    → IfFinishes (IsGood limits s touches) (ended s call)
-ended-good limits s touches call ends = by-finish (IsGood limits s touches) s call ends.holds (refused-good limits s touches)
+refused-good limits s touches e =
+    record {
+      state = λ h. h;
+      body = λ h. omega arith;
+      kept = same-processes s s refl;
+      clock = refl;
+      wait = refl;
+      others = λ h pid on waits apart there. as_before pid on s;
+    }

@@ -16,10 +16,10 @@ use Rattle.ipc_state.specs.declared.parked.Awaited.{Awaited}
 use Rattle.ipc_state.specs.declared.parked.Awaited.TheVariants as awaited
 use Rattle.ipc_state.specs.Descriptors.{Table}
 use Rattle.ipc_state.specs.Named.{nameless, unnamed, with_object, without_name}
-use Rattle.ipc_state.specs.Numbered.{Numbered, entry_of, with_entry}
+use Rattle.ipc_state.specs.Numbered.{entry_of, with_entry}
 use Rattle.ipc_state.specs.declared.descriptors.Opened.TheVariants as objects
 use Rattle.ipc_keys.specs.declared.check.NameKind.TheVariants as names
-use Rattle.ipc_state.specs.Opening.{deregistered, descriptor_at, is_by, is_by_descriptor, is_on, is_registered, stays, unless_so}
+use Rattle.ipc_state.specs.Opening.{deregistered, is_by, is_by_descriptor, is_on, is_registered, stays, unless_so}
 use Rattle.ipc_state.specs.Sound.{HasSoundParts}
 use Rattle.ipc_state.specs.State.{State, closed, exit, is_process, restart, unlinked, with_descriptors}
 use Rattle.ipc_state.specs.State.{swept, with_mq, without_descriptor, without_process}
@@ -171,12 +171,6 @@ module _ (p : ℕ) where
   none-own (Some r) is = cc
 
   -- ---- objects of one process
-
-  pub same-objects : (s t : State) → t.processes ≡ s.processes → (on : Awaited) → object_of t p on ≡ object_of s p on
-  same-objects s t same (awaited.MsgQueue id) = refl
-  same-objects s t same (awaited.Semset id) = refl
-  same-objects s t same (awaited.Descriptor fd) =
-      ap (λ (ps : Numbered Process). option_map (λ (d : Descriptor). object_on d.on) (descriptor_at ps.entries p fd)) same
 
   -- other descriptors of another process
   pub table-objects : (s : State) (pid : ℕ) (table : Table) → p ≢ pid → (on : Awaited) → object_of (with_descriptors s pid table) p on ≡ object_of s p on

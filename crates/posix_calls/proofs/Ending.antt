@@ -4,12 +4,13 @@ use Rattle.std.proofs.Common.{◌≡◌, ◌≢◌, ℕ, ℤ, ◌≤◌, Bool, t
 use Rattle.std.proofs.Common.{◌++◌, cond, drop, length-append, take}
 use Rattle.std.proofs.lemmas.List.{length-drop, length-replicate, length-take}
 use Rattle.ipc_base.specs.Table.{IsRising, keys_of, value_at}
-use Rattle.std.specs.Prelude.{◌-◌, nat_le, nat_lt, replicate, sum_by, ◌==◌, ◌&&◌, ◌+◌, nat_eq, option_map, option_and_then, unwrap_or, is_some, slice_get, if◌then◌else◌}
+use Rattle.std.specs.Prelude.{◌-◌, nat_le, nat_lt, replicate, sum_by, ◌==◌, ◌+◌}
+use Rattle.std.specs.Prelude.{nat_eq, option_map, option_and_then, unwrap_or, is_some, slice_get, if◌then◌else◌}
 use Rattle.std.specs.Int.RustNames.{bit_and}
 use Rattle.std.specs.Result.{is_ok}
 use Rattle.std.proofs.lemmas.Bool.Decides.{nat_tests}
 use Rattle.std.proofs.lemmas.List.Elements.{All-get_or}
-use Rattle.std.proofs.lemmas.Bool.{eqb-true}
+use Rattle.std.proofs.lemmas.Bool.{and_from, and_parts, eqb-true, not-false, not_from_false}
 use Rattle.std.proofs.lemmas.List.Sums.{sum_by-append, sum_by-cons}
 use Rattle.std.proofs.lemmas.Option.{get_or_from_slice_get, slice_get_within}
 use Rattle.std.specs.Int.{w32, to_be_bytes}
@@ -19,7 +20,7 @@ use Rattle.ipc_base.specs.declared.errno.Errno.TheVariants.{EBADF, EBUSY, EINVAL
 use Rattle.ipc_base.specs.declared.identity.Cred.{Cred}
 use Rattle.ipc_base.specs.declared.limits.Limits.{Limits}
 use Rattle.ipc_base.specs.Numbers.{record_bytes}
-use Rattle.ipc_base.proofs.CallerLemmas.{at-push, at-with, rising-found}
+use Rattle.ipc_base.proofs.CallerLemmas.{at-push, at-with, rising-found, same_key}
 use Rattle.ipc_keys.specs.Names.{check_name}
 use Rattle.ipc_keys.specs.declared.check.NameKind.TheVariants as names
 use Rattle.ipc_wire.specs.Posix.{PlainPosix}
@@ -57,8 +58,8 @@ use Rattle.ipc_state.specs.Sound.{segment_bytes}
 use Rattle.ipc_state.specs.State.{named_in, unlinked_pshm, unlinked_psem, with_psem, with_new_psem, with_new_pshm, with_pshm}
 use Rattle.ipc_state.specs.Touching.{IsAsBefore, object_of, object_on}
 use Rattle.ipc_state.specs.Waiting.{may_wait}
-use Rattle.ipc_state.proofs.CallerLemmas.{IsGood, same-processes, same-but-table, as_before}
-use Rattle.ipc_state.proofs.CallerLemmas.{AtEnd, after, after-refuse, after-then, at-some, at-value, by-if_some, by-test}
+use Rattle.ipc_state.proofs.CallerLemmas.{IsGood, as_before, same-but-table, same-objects, same-processes}
+use Rattle.ipc_state.proofs.CallerLemmas.{AtEnd, after, after-refuse, after-then, at-all, at-some, at-value, by-if_some, by-test}
 use Rattle.ipc_state.proofs.CallerLemmas.{closed-sound, unlinked-sound, with_descriptor-sound, with_descriptor_flags-sound, with_mq-sound, with_new_mq-sound}
 use Rattle.ipc_state.proofs.CallerLemmas.{descriptor-sound, mq-registered, received_mq-sound, sent_mq-sound}
 use Rattle.ipc_state.proofs.CallerLemmas.{elsewhere-psem, elsewhere-new_psem, elsewhere-new_segment, elsewhere-segment}
@@ -75,7 +76,7 @@ use Rattle.posix_calls.specs.Psem.{sem_getvalue, sem_open, sem_post, sem_trywait
 use Rattle.posix_calls.specs.Pshm.{FoundPshm, asked_of_pshm, cut_as, ftruncate, opened_pshm, segment_fields, shm_open, shm_read, shm_stat, shm_unlink}
 use Rattle.posix_calls.specs.Pshm.{shm_write, trunc}
 use Rattle.posix_calls.specs.Registrations.{may_make, own, registrations}
-use Rattle.posix_calls.proofs.Debts.{fewer-arrived, fewer-closed, fewer-given_up, fewer-unlinked, made-one, none-own, of-entry, put-mq, same-objects}
+use Rattle.posix_calls.proofs.Debts.{fewer-arrived, fewer-closed, fewer-given_up, fewer-unlinked, made-one, none-own, of-entry, put-mq}
 use Rattle.posix_calls.proofs.Debts.{table-objects}
 use Rattle.posix_calls.proofs.Reaching.{IsOpen, attributes-ends, has-entry, open-ends, proper-ends, queue-sound, receives, sends, sought-ends}
 use Rattle.posix_calls.proofs.Reaching.{unlinkable-ends, usable-ends}
@@ -85,26 +86,11 @@ use Rattle.posix_calls.proofs.Reaching.{IsOpenPshm, IsOpenPsem, has-sem_entry, l
 same-some : {X : Type 0} {x y : X} → Some x ≡ Some y → x ≡ y
 same-some is = cc
 
-both_true : (a b : Bool) → a && b ≡ true → (a ≡ true) × (b ≡ true)
-both_true true b is = (refl, is)
-both_true false b is = cc
-
-and-true : (a b : Bool) → a ≡ true → b ≡ true → a && b ≡ true
-and-true true b a h = h
-and-true false b a h = cc
-
-not-false : (b : Bool) → not b ≡ false → b ≡ true
-not-false true h = refl
-not-false false h = cc
-
 -- ---- flags
-
-not_true : (b : Bool) → b ≡ false → not b ≡ true
-not_true b is = rw is refl
 
 -- what is kept of the flags of an open has their access mode
 kept-mode : (flags : ℕ) → (access_of flags == 3) ≡ false → not (nat_eq (bit_and (kept_flags flags) 3) 3) ≡ true
-kept-mode flags is = rw (and_assoc 3 flags 2051) (not_true (nat_eq (bit_and flags 3) 3) is)
+kept-mode flags is = rw (and_assoc 3 flags 2051) (not_from_false (nat_eq (bit_and flags 3) 3) is)
 
 -- O_NONBLOCK or nothing leaves the access mode as it is
 set-mode : (old flags : ℕ) → bit_and flags nonblock ≡ flags → bit_and (access_of old + flags) 3 ≡ bit_and old 3
@@ -216,15 +202,12 @@ cut-same f same flags s n e = by_test (has flags trunc)
 on-queue : (s : State) (pid fd : ℕ) (f : Found) → IsOpen s pid fd f → on_descriptor s pid fd ≡ Some (object.Mq f.number)
 on-queue s pid fd f o = ap (option_map (λ (d : Descriptor). object_on d.on)) o.at ∙ ap (λ (on : Opened). Some (object_on on)) o.on
 
-number-same : (n : ℕ) → nat_eq n n ≡ true
-number-same n = grind (arith, nat_tests)
-
 -- a registration by that descriptor
 registers-by : (s : State) (pid fd : ℕ) (f : Found) → IsOpen s pid fd f
     → unwrap_or (option_map (λ (d : Descriptor). is_on (opened.Mq f.number) d.on) (descriptor_at s.processes.entries pid fd)) false ≡ true
 registers-by s pid fd f o =
     ap (λ (r : Option Descriptor). unwrap_or (option_map (λ (d : Descriptor). is_on (opened.Mq f.number) d.on) r) false) o.at
-    ∙ (ap (is_on (opened.Mq f.number)) o.on ∙ number-same f.number)
+    ∙ (ap (is_on (opened.Mq f.number)) o.on ∙ same_key f.number)
 
 module _ (limits : Limits) where
   arrived-sound : (notifies : Bool) (q : Mq) (m : PlainMessage) → IsSoundMq limits (with_message q m) → IsSoundMq limits (arrived notifies q m)
@@ -285,7 +268,7 @@ module _ (limits : Limits) where
               others = λ h p on waits apart there. others h p on apart;
             };
             owes = owes;
-            objects = λ p other on. same-objects p s t same on;
+            objects = λ p other on. same-objects s t p on same;
           })
 
       read-ends : (body : PlainBody) → FitsBody limits body → AtEnd never (Leaves touches) (answer s body)
@@ -308,14 +291,14 @@ module _ (limits : Limits) where
                   others h p on (λ one. let both : true ≡ false = sym waits ∙ (ap (is_waiting s) one ∙ free) in cc) apart;
             };
             owes = λ p. omega (arith, owes p);
-            objects = λ p other on. same-objects p (with_descriptors s pid table) t same on ∙ table-objects p s pid table other on;
+            objects = λ p other on. same-objects (with_descriptors s pid table) t p on same ∙ table-objects p s pid table other on;
           })
 
     -- other flags with the access mode that it had
     keeps-access : {fd : ℕ} (f : Found) (o : IsOpen s pid fd f) (flags : ℕ) → bit_and flags 3 ≡ bit_and o.descriptor.flags 3 → HasSoundParts limits s
         → (d : Descriptor) → descriptor_at s.processes.entries pid fd ≡ Some d → has_access d.on flags ≡ true
     keeps-access {fd} f o flags same h d at =
-        let good = (both_true (is_there_for (named_in s) o.descriptor.on) _ (descriptor-sound limits s pid fd o.descriptor o.at h)).1 in
+        let good = (and_parts (is_there_for (named_in s) o.descriptor.on) _ (descriptor-sound limits s pid fd o.descriptor o.at h)).1 in
         let one : d ≡ o.descriptor = same-some (sym at ∙ o.at) in
         let on : d.on ≡ opened.Mq f.number = ap (λ (e : Descriptor). e.on) one ∙ o.on in
         let was : not (nat_eq (bit_and o.descriptor.flags 3) 3) ≡ true = subst (λ (k : Opened). has_access k o.descriptor.flags ≡ true) o.on good in
@@ -343,7 +326,7 @@ module _ (limits : Limits) where
 
     mq_send-ends : (fd priority : ℕ) (text : List ℕ) → AtEnd false (Leaves (on_descriptor s pid fd)) (mq_send s pid fd priority text)
     mq_send-ends fd priority text =
-        after (sends s pid fd priority text) (λ f ok.
+        after (at-all (sends s pid fd priority text)) (λ f ok.
         let m : PlainMessage = record { priority = priority; text = text } in
         let notifies : Bool = is_to_notify s f.number f.queue in
         put-ends fd f (arrived notifies f.queue m) Empty (firing notifies f.queue) ok.queue
@@ -353,7 +336,7 @@ module _ (limits : Limits) where
 
     mq_receive-ends : (fd size : ℕ) → AtEnd false (Leaves (on_descriptor s pid fd)) (mq_receive s pid fd size)
     mq_receive-ends fd size =
-        after (receives s pid fd size) (λ f ok.
+        after (at-all (receives s pid fd size)) (λ f ok.
         put-ends fd f.0 (received f.0.queue) (message_body f.1) None ok.queue (λ good. received_mq-sound limits f.0.queue good) (λ by. by)
         (λ good. let short = (message-sound f.0.queue f.1 ok.message good).short in let few = good.msgsize.1 in fits_message f.1 (omega (arith, short, few)))
         (λ p. omega arith))
@@ -419,7 +402,7 @@ module _ (limits : Limits) where
           let table = opened_table (descriptors_of t.processes.entries pid) d in
           table-ends (with_descriptor t pid d) (Number (lowest_unused (descriptors_of t.processes.entries pid))) table
           (ap (λ (ps : Numbered Process). with_table ps pid table) same) clock wait
-          (λ h. with_descriptor-sound limits t pid d few (and-true _ _ (there h) access) (sound h)) (omega arith)
+          (λ h. with_descriptor-sound limits t pid d few (and_from _ _ (there h) access) (sound h)) (omega arith)
           (λ h p on other apart. before-then p on s t _ (others h p on) (elsewhere-table t pid table p on other)) owes
 
       -- the queue that the name names, or a new one
@@ -475,7 +458,7 @@ module _ (limits : Limits) where
         by_test false is = let other : n ≢ sem_value_max = λ same. grind (arith, nat_tests) in omega (arith, few, other)
 
     sem_wait-ends : (fd : ℕ) → AtEnd false (Leaves (on_descriptor s pid fd)) (sem_wait s pid fd)
-    sem_wait-ends fd = after (lowers s pid fd) (λ f ok. change-ends fd f (waited f.value) ok.semaphore (λ few. omega (arith, few)))
+    sem_wait-ends fd = after (at-all (lowers s pid fd)) (λ f ok. change-ends fd f (waited f.value) ok.semaphore (λ few. omega (arith, few)))
 
     module _ {never : Bool} where
       sem_post-ends : (fd : ℕ) → AtEnd never (Leaves (on_descriptor s pid fd)) (sem_post s pid fd)

@@ -1,6 +1,6 @@
 -- What it says that a call went on.
 use Rattle.std.proofs.Common.{◌≡◌, ◌≢◌, ℕ, ℤ, pos, negsuc, ◌<◌, ◌≤◌, Bool, true, false, Decides, List, Option, Some, None, refl, sym, ap, subst, ◌∙◌, arith}
-use Rattle.std.specs.Prelude.{Ok, Err, Result, option_map, length, ◌==◌, ◌||◌, min, nat_lt}
+use Rattle.std.specs.Prelude.{Ok, Err, Result, is_some, not, option_map, length, ◌==◌, ◌||◌, min, nat_lt}
 use Rattle.std.specs.Result.{is_ok}
 use Rattle.std.specs.Cmp.Lexicographic.{slice_cmp}
 use Rattle.std.specs.FinMap.{FinMap}
@@ -14,7 +14,7 @@ use Rattle.ipc_state.specs.Directory.{HasNoSpareName}
 use Rattle.ipc_state.specs.Sound.{HasSoundParts, IsSoundMq}
 use Rattle.ipc_state.proofs.CallerLemmas.{empty_mq-sound, mq-sound}
 use Rattle.ipc_state.specs.Finish.{Blocks}
-use Rattle.ipc_state.proofs.CallerLemmas.{AtEnd, after, after-orelse, after-orstop, after-refuse, after-stop, at-failure, at-value, by-if_some}
+use Rattle.ipc_state.proofs.CallerLemmas.{AtEnd, after, after-orelse, after-orstop, after-refuse, after-stop, at-failure, at-value, by-if_some, may-wait}
 use Rattle.ipc_state.specs.Held.{Room}
 use Rattle.posix_calls.specs.Needs.{HasNoSpareNameBut, HasNoSpareNames}
 use Rattle.ipc_base.specs.declared.errno.Errno.{Errno}
@@ -49,7 +49,7 @@ pub record IsOpen (s : State) (pid fd : ℕ) (found : Found) : Type 0 where
   pub flags : descriptor.flags ≡ found.flags
   pub there : mq_object s found.number ≡ Some found.queue
 
-number-is : (on : Opened) (n : ℕ) → mq_number on ≡ Some n → on ≡ opened.Mq n
+pub number-is : (on : Opened) (n : ℕ) → mq_number on ≡ Some n → on ≡ opened.Mq n
 number-is (opened.Mq m) n is = cc
 number-is (opened.Psem m) n is = cc
 number-is (opened.Pshm m) n is = cc
@@ -94,19 +94,22 @@ pub record Sends (s : State) (pid fd priority : ℕ) (text : List ℕ) (found : 
   pub short : nat_lt found.queue.msgsize (length text) ≡ false
   pub room : is_full found.queue ≡ false
 
-pub sends : (s : State) (pid fd priority : ℕ) (text : List ℕ) → AtEnd false (Sends s pid fd priority text) (sendable s pid fd priority text)
+-- a send waits for what a descriptor that is there is open on alone
+pub sends : (s : State) (pid fd priority : ℕ) (text : List ℕ)
+    → AtEnd (not (is_some (descriptor_at s.processes.entries pid fd))) (Sends s pid fd priority text) (sendable s pid fd priority text)
 sends s pid fd priority text =
-    after-refuse EINVAL (λ low. after (opens-to writes s pid fd) (λ f o. after-refuse EMSGSIZE (λ short. after-stop (waits_or_fails f.flags) (λ room.
-    at-value f (record { queue = o; low = low; short = short; room = room })))))
+    after-refuse EINVAL (λ low. after (opens-to writes s pid fd) (λ f o. after-refuse EMSGSIZE (λ short.
+    after-stop (may-wait o.at) (waits_or_fails f.flags) (λ room. at-value f (record { queue = o; low = low; short = short; room = room })))))
 
 -- what holds of a queue from which a message may be received now, and of the message
 pub record Receives (s : State) (pid fd : ℕ) (found : Found × PlainMessage) : Type 0 where
   pub queue : IsOpen s pid fd found.0
   pub message : received_message found.0.queue ≡ Some found.1
 
-pub receives : (s : State) (pid fd size : ℕ) → AtEnd false (Receives s pid fd) (receivable s pid fd size)
+pub receives : (s : State) (pid fd size : ℕ)
+    → AtEnd (not (is_some (descriptor_at s.processes.entries pid fd))) (Receives s pid fd) (receivable s pid fd size)
 receives s pid fd size =
-    after (opens-to reads s pid fd) (λ f o. after-refuse EMSGSIZE (λ _. after-orstop (waits_or_fails f.flags) (λ m is.
+    after (opens-to reads s pid fd) (λ f o. after-refuse EMSGSIZE (λ _. after-orstop (may-wait o.at) (waits_or_fails f.flags) (λ m is.
     at-value (f, m) (record { queue = o; message = is }))))
 
 -- ---- a semaphore that is open
@@ -118,7 +121,7 @@ pub record IsOpenPsem (s : State) (pid fd : ℕ) (found : FoundPsem) : Type 0 wh
   pub on : descriptor.on ≡ opened.Psem found.number
   pub there : psem_value s found.number ≡ Some found.value
 
-semaphore-is : (on : Opened) (n : ℕ) → semaphore_number on ≡ Some n → on ≡ opened.Psem n
+pub semaphore-is : (on : Opened) (n : ℕ) → semaphore_number on ≡ Some n → on ≡ opened.Psem n
 semaphore-is (opened.Mq m) n is = cc
 semaphore-is (opened.Psem m) n is = cc
 semaphore-is (opened.Pshm m) n is = cc
@@ -133,8 +136,9 @@ pub record Lowers (s : State) (pid fd : ℕ) (found : FoundPsem) : Type 0 where
   pub semaphore : IsOpenPsem s pid fd found
   pub some : (found.value == 0) ≡ false
 
-pub lowers : (s : State) (pid fd : ℕ) → AtEnd false (Lowers s pid fd) (lowerable s pid fd)
-lowers s pid fd = after (open_psem-ends s pid fd) (λ f o. after-stop Blocks (λ some. at-value f (record { semaphore = o; some = some })))
+pub lowers : (s : State) (pid fd : ℕ) → AtEnd (not (is_some (descriptor_at s.processes.entries pid fd))) (Lowers s pid fd) (lowerable s pid fd)
+lowers s pid fd =
+    after (open_psem-ends s pid fd) (λ f o. after-stop (may-wait o.at) Blocks (λ some. at-value f (record { semaphore = o; some = some })))
 
 -- the semaphore of a number has an entry
 pub record HasSemEntry (s : State) (n value : ℕ) : Type 0 where

@@ -1,9 +1,13 @@
 pub mod CallerLemmas
+mod Ending
+mod EveryCall
 mod Families
-mod Received
-mod Running
-mod Semops
-mod SetEnds
-pub mod Reaching
-pub mod Trying
-mod Apart
+mod Kept
+mod MsgCalls
+mod Noting
+mod Reaching
+mod SemCalls
+mod SemopCalls
+mod Stopping
+mod Trying
+mod Waits

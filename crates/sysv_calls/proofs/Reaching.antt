@@ -1,10 +1,8 @@
--- What an identifier has for a caller, in what is held and in the definitions.
+-- What the steps of a call find, and what holds where its tests are passed.
 use Rattle.std.proofs.Common.{◌≡◌, ℕ, zero, suc, ℤ, pos, negsuc, ◌*◌, ◌<◌, Bool, true, false, List, [], ◌∷◌, ◌++◌, cond, length}
 use Rattle.std.proofs.Common.{map, arith, Option, Some, None, refl, sym, ap, subst, ◌∙◌}
-use Rattle.std.specs.List.{list_all}
 use Rattle.std.specs.Prelude.{not, is_some, nat_eq, nat_le, nat_lt, int_lt, ◌≤◌, ◌==◌, slice_get, sum_by, All, if◌then◌else◌, Ok, Err}
-use Rattle.std.proofs.lemmas.Bool.{eqb-true, leb-true, ltb-false, ltb-true}
-use Rattle.std.proofs.lemmas.Bool.Decides.{nat_tests}
+use Rattle.std.proofs.lemmas.Bool.{eqb-true, leb-true, lt-ltb, ltb-false, ltb-true, not-false}
 use Rattle.std.proofs.lemmas.List.Elements.{All-weaker}
 use Rattle.std.proofs.lemmas.List.Sums.{AllPass-from_list_all, sum_by-cons}
 use Rattle.std.proofs.lemmas.List.Concat.{length-flat_map}
@@ -16,10 +14,8 @@ use Rattle.ipc_base.specs.declared.limits.Limits.{Limits}
 use Rattle.ipc_base.specs.Limits.{ArePassed}
 use Rattle.ipc_base.specs.Table.{value_at}
 use Rattle.ipc_base.proofs.CallerLemmas.{passed-bounds}
-use Rattle.ipc_base.specs.declared.errno.Errno.{Errno}
-use Rattle.ipc_base.specs.declared.errno.Errno.TheVariants.{EACCES, EEXIST, EFBIG, ENOENT, EINVAL, EAGAIN, ENOMSG, E2BIG, ERANGE}
+use Rattle.ipc_base.specs.declared.errno.Errno.TheVariants.{EACCES, EEXIST, EFBIG, ENOENT, EINVAL, EAGAIN, ENOMSG, EPERM, E2BIG, ERANGE}
 use Rattle.ipc_base.specs.declared.identity.Cred.{Cred}
-use Rattle.ipc_perm.specs.declared.perm.Perm.{Perm}
 use Rattle.ipc_state.specs.declared.keyed.Entry.{Entry}
 use Rattle.ipc_perm.specs.Perm.{may}
 use Rattle.sysv_msg.specs.Queue.{Queue, PlainMessage, is_allowed, pick, full}
@@ -34,50 +30,42 @@ use Rattle.ipc_state.specs.Lends.{HasPutObject}
 use Rattle.ipc_state.specs.Tables.{HeldObjects}
 use Rattle.ipc_state.proofs.CallerLemmas.{put-keys}
 use Rattle.ipc_state.specs.State.{State, semset_of}
-use Rattle.ipc_state.specs.Finish.{Attempt, Halt, Fails, refuse, if_some, ◌orelse◌, ◌orstop◌, ◌>>◌, ◌>>=◌}
-use Rattle.ipc_state.proofs.CallerLemmas.{ok-same, orstop-passed, passed, stop-passed}
-use Rattle.sysv_calls.specs.Access.{read, write, has, gone, is_exclusive, may_make, reached, accessible, owned, removed, sought}
-use Rattle.sysv_calls.specs.Msg.{except, waits_or, is_too_long, message_at, sendable, receivable}
+use Rattle.ipc_state.specs.Finish.{Attempt, Halt}
+use Rattle.ipc_state.specs.Sound.{IsSoundMessage}
+use Rattle.ipc_state.proofs.CallerLemmas.{AtEnd, after, after-orelse, after-orstop, after-refuse, after-stop, at-failure, at-halt, at-value, by-if_some}
+use Rattle.ipc_state.proofs.CallerLemmas.{may-wait}
+use Rattle.sysv_calls.specs.Access.{read, write, has, gone, accessible, owned, removed, sought}
+use Rattle.sysv_calls.specs.Msg.{except, waits_or, sendable, receivable, is_too_long, message_at}
 use Rattle.sysv_calls.specs.Needs.{Has, Nothing, SetPlace, set_place}
-use Rattle.sysv_calls.specs.Sem.{are_values, count_of, semaphore, settable}
-use Rattle.sysv_calls.specs.Semop.{Passes, are_within, asked, decided, held_by, operable, performable, tried_list}
+use Rattle.sysv_calls.specs.Sem.{count_of, semaphore, settable}
+use Rattle.sysv_calls.specs.Relations.{Passes}
+use Rattle.sysv_calls.specs.Semop.{decided, held_by, operable, performable, stopped_by}
 use Rattle.ipc_state.specs.Steps.{seen}
 
-module _ {X : Type 0} where
-  -- what is reached is there
-  pub reached-there : (again : Bool) (id : ℕ) (refusal : Errno) (refuses : Perm → Bool) (s : Keyed X) (e : Entry X)
-      → reached again s id refusal refuses ≡ Ok e → entry_of s id ≡ Some e
-  reached-there again id refusal refuses s e is = by_entry (entry_of s id) is
-    where
-      by_test : (b : Bool) (f : Entry X) → (refuse refusal b >> Ok f) ≡ Ok e → Some f ≡ Some e
-      by_test true f is = cc
-      by_test false f is = cc
+module _ {X : Type 0} {never : Bool} where
+  pub accessible-ends : (again : Bool) (o : Keyed X) (cred : Cred) (id access : ℕ)
+      → AtEnd never (λ (e : Entry X). entry_of o id ≡ Some e) (accessible again o cred id access)
+  accessible-ends again o cred id access = after-orelse (gone again) (λ e there. after-refuse EACCES (λ _. at-value e there))
 
-      by_entry : (r : Option (Entry X)) → (r orelse gone again >>= (λ f. refuse refusal (refuses f.perm) >> Ok f)) ≡ Ok e → r ≡ Some e
-      by_entry None is = cc
-      by_entry (Some f) is = by_test (refuses f.perm) f is
+  pub owned-ends : (o : Keyed X) (cred : Cred) (id : ℕ) → AtEnd never (λ (e : Entry X). entry_of o id ≡ Some e) (owned o cred id)
+  owned-ends o cred id = after-orelse EINVAL (λ e there. after-refuse EPERM (λ _. at-value e there))
 
   -- what is left is all but that
-  pub removed-is : (s : Keyed X) (cred : Cred) (id : ℕ) (left : Keyed X) → removed s cred id ≡ Ok left → without_entry s id ≡ left
-  removed-is s cred id left is = by_attempt (owned s cred id) is
-    where
-      by_attempt : (a : Attempt (Entry X)) → (a >>= (λ e. Ok (without_entry s id))) ≡ Ok left → without_entry s id ≡ left
-      by_attempt (Ok e) is = cc
-      by_attempt (Err e) is = cc
+  pub removed-ends : (o : Keyed X) (cred : Cred) (id : ℕ) → AtEnd never (λ (left : Keyed X). without_entry o id ≡ left) (removed o cred id)
+  removed-ends o cred id = after (owned-ends o cred id) (λ e _. at-value (without_entry o id) refl)
 
-  -- where a get finds nothing, no object has the key
-  pub sought-none : (s : Keyed X) (key : ℤ) (flags : ℕ) → sought s key flags ≡ Ok None → keyed s key ≡ None
-  sought-none s key flags is = by_key (keyed s key) is
-    where
-      by_found : (b : Bool) (id : ℕ) → (refuse EEXIST b >> Ok (Some id)) ≡ Ok None → Some id ≡ None
-      by_found true id is = cc
-      by_found false id is = cc
+  -- if a get finds nothing, no object has the key
+  pub sought-ends : (o : Keyed X) (key : ℤ) (flags : ℕ) → AtEnd never (λ (found : Option ℕ). found ≡ None → keyed o key ≡ None) (sought o key flags)
+  sought-ends o key flags =
+      by-if_some {o = keyed o key} (λ id _. after-refuse EEXIST (λ _. at-value (Some id) (λ is. cc)))
+      (λ none. after-refuse ENOENT (λ _. at-value None (λ _. none)))
 
-      by_key : (o : Option ℕ) → if_some o (λ id. refuse EEXIST (is_exclusive flags) >> Ok (Some id)) (refuse ENOENT (not
-          (may_make key flags)) >> Ok None) ≡ Ok None
-          → o ≡ None
-      by_key None is = refl
-      by_key (Some id) is = by_found (is_exclusive flags) id is
+module _ {X : Type 0} (o : Keyed X) (cred : Cred) (id : ℕ) (e : Entry X) where
+  pub accessible-there : (access : ℕ) → accessible false o cred id access ≡ Ok e → entry_of o id ≡ Some e
+  accessible-there access is = (accessible-ends {never = true} false o cred id access).holds e is
+
+  pub owned-there : owned o cred id ≡ Ok e → entry_of o id ≡ Some e
+  owned-there is = (owned-ends {never = true} o cred id).holds e is
 
 -- what is there stays as it is when more comes
 pub there-append : {X : Type 0} (es more : List (ℕ × X)) (n : ℕ) → is_some (value_at nat_eq es n) ≡ true → value_at nat_eq (es ++ more) n ≡ value_at nat_eq es n
@@ -90,132 +78,110 @@ there-append (e ∷ es) more n is = by_test (nat_eq e.0 n) is (there-append es m
     by_test true is rest = refl
     by_test false is rest = rest is
 
--- ---- what it says that a call went on
+-- ---- what holds where the tests of a call are passed
 
--- what holds of a message that may be sent now, and of the queue
+-- of a message that may be sent now, and of the queue
 pub record Sends (limits : Limits) (s : State) (id : ℕ) (mtype : ℤ) (text : List ℕ) (e : Entry Queue) : Type 0 where
-  pub above : not (int_lt (pos 0) mtype) ≡ false
-  pub short : nat_lt limits.msgmax (length text) ≡ false
+  pub message : IsSoundMessage limits (record { mtype = mtype; text = text })
   pub there : entry_of s.msg id ≡ Some e
   pub room : full e.object (length text) ≡ false
 
-pub sends : (limits : Limits) (s : State) (cred : Cred) (again : Bool) (id flags : ℕ) (mtype : ℤ) (text : List ℕ) (e : Entry Queue)
-    → sendable limits s cred again id flags mtype text ≡ Ok e → Sends limits s id mtype text e
-sends limits s cred again id flags mtype text e is =
-    let a = stop-passed (Fails EINVAL) (not (int_lt (pos 0) mtype)) _ e is in
-    let b = stop-passed (Fails EINVAL) (nat_lt limits.msgmax (length text)) _ e a.1 in
-    let c = passed (accessible again s.msg cred id write) _ e b.1 in
-    let d = stop-passed (waits_or flags EAGAIN) (full c.value.object (length text)) _ e c.rest in
-    let last : Ok c.value ≡ Ok e = d.1 in
-    let same : c.value ≡ e = cc in
-    record {
-      above = a.0;
-      short = b.0;
-      there = reached-there again id EACCES (λ perm. not (may cred perm write)) s.msg c.value c.was ∙ ap (λ (f : Entry Queue). Some f) same;
-      room = subst (λ (f : Entry Queue). full f.object (length text) ≡ false) same d.0;
-    }
+-- a send waits for a queue that is there alone
+pub sends : (limits : Limits) (s : State) (cred : Cred) (again : Bool) (id flags : ℕ) (mtype : ℤ) (text : List ℕ)
+    → AtEnd (not (is_some (entry_of s.msg id))) (Sends limits s id mtype text) (sendable limits s cred again id flags mtype text)
+sends limits s cred again id flags mtype text =
+    after-refuse EINVAL {b = not (int_lt (pos 0) mtype)} (λ above. after-refuse EINVAL {b = nat_lt limits.msgmax (length text)} (λ short.
+    after (accessible-ends again s.msg cred id write) (λ e there. after-stop (may-wait there) (waits_or flags EAGAIN) (λ room.
+    at-value e (record {
+      message = record { above = not-false (int_lt (pos 0) mtype) above; short = ltb-false limits.msgmax (length text) short };
+      there = there;
+      room = room;
+    })))))
 
--- what holds of a queue from which a message may be received now, and of its place
+-- of a queue from which a message may be received now, and of its place
 pub record Receives (s : State) (id : ℕ) (found : Entry Queue × ℕ) : Type 0 where
   pub there : entry_of s.msg id ≡ Some found.0
   pub inside : found.1 < length found.0.object.messages
 
-pub receives : (s : State) (cred : Cred) (again : Bool) (id flags size : ℕ) (mtype : ℤ) (found : Entry Queue × ℕ)
-    → receivable s cred again id flags size mtype ≡ Ok found → Receives s id found
-receives s cred again id flags size mtype found is =
-    let a = stop-passed (Fails EINVAL) (nat_lt last_number size) _ found is in
-    let b = passed (accessible again s.msg cred id read) _ found a.1 in
-    let c = passed (pick b.value.object.messages mtype (has flags except) orstop waits_or flags ENOMSG) _ found b.rest in
-    let d = stop-passed (Fails E2BIG) (is_too_long flags size (length (message_at b.value.object c.value).text)) _ found c.rest in
-    let there = reached-there again id EACCES (λ perm. not (may cred perm read)) s.msg b.value b.was in
-    let picked = orstop-passed (pick b.value.object.messages mtype (has flags except)) (waits_or flags ENOMSG) c.value c.was in
+pub receives : (s : State) (cred : Cred) (again : Bool) (id flags size : ℕ) (mtype : ℤ)
+    → AtEnd (not (is_some (entry_of s.msg id))) (Receives s id) (receivable s cred again id flags size mtype)
+receives s cred again id flags size mtype =
+    after-refuse EINVAL {b = nat_lt last_number size} (λ _. after (accessible-ends again s.msg cred id read) (λ e there.
+    let ms = e.object.messages in
     let none : PlainMessage = record { mtype = pos 0; text = [] } in
-    let ms = b.value.object.messages in
-    let inside = (position-Some (is_allowed ms mtype (has flags except)) ms c.value none picked).0 in
-    let last : Ok (b.value, c.value) ≡ Ok found = d.1 in
-    let same : (b.value, c.value) ≡ found = cc in
-    subst (Receives s id) same (record { there = there; inside = inside })
+    after-orstop (may-wait there) (waits_or flags ENOMSG) {o = pick ms mtype (has flags except)} (λ at picked.
+    after-refuse E2BIG {b = is_too_long flags size (length (message_at e.object at).text)} (λ _.
+    at-value (e, at) (record { there = there; inside = (position-Some (is_allowed ms mtype (has flags except)) ms at none picked).0 })))))
 
--- what holds of a semaphore that was found
+-- of a semaphore that was found
 pub record IsFound (s : State) (id num : ℕ) (found : Entry Set × Semaphore) : Type 0 where
   pub there : semset_of s id ≡ Some found.0
   pub at : slice_get found.0.object.semaphores num ≡ Some found.1
 
-pub semaphore-there : (s : State) (cred : Cred) (id num access : ℕ) (found : Entry Set × Semaphore) → semaphore s cred id num access ≡ Ok found
-    → IsFound s id num found
-semaphore-there s cred id num access found is =
-    let a = passed (semset_of s id orelse EINVAL) _ found is in
-    let b = passed (slice_get a.value.object.semaphores num orelse EINVAL) _ found a.rest in
-    let c = stop-passed (Fails EACCES) (not (may cred a.value.perm access)) _ found b.rest in
-    let last : Ok (a.value, b.value) ≡ Ok found = c.1 in
-    let same : (a.value, b.value) ≡ found = cc in
-    subst (IsFound s id num) same (record {
-      there = orstop-passed (semset_of s id) (Fails EINVAL) a.value a.was;
-      at = orstop-passed (slice_get a.value.object.semaphores num) (Fails EINVAL) b.value b.was;
-    })
+pub semaphore-ends : {never : Bool} (s : State) (cred : Cred) (id num access : ℕ) → AtEnd never (IsFound s id num) (semaphore s cred id num access)
+semaphore-ends s cred id num access =
+    after-orelse EINVAL (λ e there. after-orelse EINVAL (λ x at. after-refuse EACCES (λ _. at-value (e, x) (record { there = there; at = at }))))
 
--- what holds of a set of which all values may be set
+-- of a set of which all values may be set
 pub record IsSettable (s : State) (id : ℕ) (to : List ℕ) (e : Entry Set) : Type 0 where
   pub there : semset_of s id ≡ Some e
   pub count : length to ≡ length e.object.semaphores
   pub values : All (λ v. v ≤ most_value) to
 
-not-false : (b : Bool) → not b ≡ false → b ≡ true
-not-false true h = refl
-not-false false h = cc
-
-pub settable-there : (s : State) (cred : Cred) (id : ℕ) (values : List ℕ) (e : Entry Set) → settable s cred id values ≡ Ok e → IsSettable s id values e
-settable-there s cred id values e is =
-    let a = passed (semset_of s id orelse EINVAL) _ e is in
-    let b = stop-passed (Fails EINVAL) (not (length values == length a.value.object.semaphores)) _ e a.rest in
-    let c = stop-passed (Fails EACCES) (not (may cred a.value.perm write)) _ e b.1 in
-    let d = stop-passed (Fails ERANGE) (not (are_values values)) _ e c.1 in
-    let last : Ok a.value ≡ Ok e = d.1 in
-    let same : a.value ≡ e = cc in
-    subst (IsSettable s id values) same (record {
-      there = orstop-passed (semset_of s id) (Fails EINVAL) a.value a.was;
-      count = eqb-true _ _ (not-false _ b.0);
+pub settable-ends : {never : Bool} (s : State) (cred : Cred) (id : ℕ) (values : List ℕ) → AtEnd never (IsSettable s id values) (settable s cred id values)
+settable-ends s cred id values =
+    after-orelse EINVAL (λ e there. after-refuse EINVAL (λ count. after-refuse EACCES (λ _. after-refuse ERANGE (λ few. at-value e (record {
+      there = there;
+      count = eqb-true _ _ (not-false _ count);
       values = All-weaker (λ v. nat_le v most_value ≡ true) (λ v. v ≤ most_value) (λ v is. leb-true v most_value is) values
-          (AllPass-from_list_all (λ v. nat_le v most_value) values (not-false _ d.0));
-    })
+          (AllPass-from_list_all (λ v. nat_le v most_value) values (not-false _ few));
+    })))))
 
--- what holds of a list of operations that can be performed, of its set, and of the values after it
+-- of a set of which operations may be tried
+record IsOperable (limits : Limits) (s : State) (id : ℕ) (ops : List Operation) (e : Entry Set) : Type 0 where
+  few : length ops ≤ limits.semopm
+  there : semset_of s id ≡ Some e
+  within : All (λ o. o.num < length e.object.semaphores) ops
+
+operable-ends : {never : Bool} (limits : Limits) (s : State) (cred : Cred) (again : Bool) (id : ℕ) (ops : List Operation)
+    → AtEnd never (IsOperable limits s id ops) (operable limits s cred again id ops)
+operable-ends limits s cred again id ops =
+    after-refuse EINVAL {b = length ops == 0} (λ _. after-orelse (gone again) (λ e there. after-refuse E2BIG {b = nat_lt limits.semopm (length ops)} (λ few.
+    after-refuse EFBIG (λ within. after-refuse EACCES (λ _. at-value e (record {
+      few = ltb-false limits.semopm (length ops) few;
+      there = there;
+      within = All-weaker (λ o. nat_lt o.num (length e.object.semaphores) ≡ true) (λ o. o.num < length e.object.semaphores)
+          (λ o is. ltb-true o.num (length e.object.semaphores) is) ops
+          (AllPass-from_list_all (λ o. nat_lt o.num (length e.object.semaphores)) ops (not-false _ within));
+    }))))))
+
+-- of a list of operations that can be performed, of its set, and of the values after it
 pub record Operates (limits : Limits) (s : State) (pid id : ℕ) (ops : List Operation) (found : Entry Set × List ℕ) : Type 0 where
   pub few : length ops ≤ limits.semopm
   pub there : semset_of s id ≡ Some found.0
   pub within : All (λ o. o.num < length found.0.object.semaphores) ops
   pub done : (after : ℕ → ℤ) × (outcome (values_of found.0.object) (held_by s pid id) ops ≡ IsDone found.1 after)
 
-decided-done : (ops : List Operation) (r : Outcome) (values : List ℕ) → decided ops r ≡ Ok values → (after : ℕ → ℤ) × (r ≡ IsDone values after)
-decided-done ops (IsDone v after) values is = let same : v ≡ values = cc in (after, ap (λ (l : List ℕ). IsDone l after) same)
-decided-done ops (Stops at) values is = cc
-decided-done ops (IsRefused e) values is = cc
+decided-ends : {never : Bool} (ops : List Operation) (r : Outcome) → never ≡ false
+    → AtEnd never (λ (values : List ℕ). (after : ℕ → ℤ) × (r ≡ IsDone values after)) (decided ops r)
+decided-ends ops (IsDone values after) may = at-value values (after, refl)
+decided-ends ops (Stops at) may = at-halt may (stopped_by (slice_get ops at))
+decided-ends ops (IsRefused e) may = at-failure e
 
-pub operates : (limits : Limits) (s : State) (cred : Cred) (pid : ℕ) (again : Bool) (id : ℕ) (ops : List Operation) (found : Entry Set × List ℕ)
-    → performable limits s cred pid again id ops ≡ Ok found → Operates limits s pid id ops found
-operates limits s cred pid again id ops found is =
-    let t = passed (tried_list limits s cred pid again id ops) _ found is in
-    let o = passed (operable limits s cred again id ops) _ t.value t.was in
-    let d = passed (decided ops t.value.1) _ found t.rest in
-    let some = stop-passed (Fails EINVAL) (length ops == 0) _ o.value o.was in
-    let e = passed (semset_of s id orelse gone again) _ o.value some.1 in
-    let b = stop-passed (Fails E2BIG) (nat_lt limits.semopm (length ops)) _ o.value e.rest in
-    let c = stop-passed (Fails EFBIG) (not (are_within (length e.value.object.semaphores) ops)) _ o.value b.1 in
-    let f = stop-passed (Fails EACCES) (not (list_all (λ x. may cred e.value.perm (asked x)) ops)) _ o.value c.1 in
-    let meets : Entry Set → Outcome = λ x. outcome (values_of x.object) (held_by s pid id) ops in
-    let set : e.value ≡ o.value = ok-same f.1 in
-    let pair : Entry Set → Entry Set × Outcome = λ x. (x, meets x) in
-    let tried : pair e.value ≡ t.value = ◌∙◌ {b = pair o.value} (ap pair set) (ok-same o.rest) in
-    let ends : Entry Set × Outcome → Entry Set × List ℕ = λ p. (p.0, d.value) in
-    let whole : ends (pair e.value) ≡ found = ◌∙◌ {b = ends t.value} (ap ends tried) (ok-same d.rest) in
-    subst (Operates limits s pid id ops) whole (record {
-      few = ltb-false limits.semopm (length ops) b.0;
-      there = orstop-passed (semset_of s id) (Fails (gone again)) e.value e.was;
-      within = All-weaker (λ o. nat_lt o.num (length e.value.object.semaphores) ≡ true) (λ o. o.num < length e.value.object.semaphores)
-          (λ o is. ltb-true o.num (length e.value.object.semaphores) is) ops
-          (AllPass-from_list_all (λ o. nat_lt o.num (length e.value.object.semaphores)) ops (not-false _ c.0));
-      done = decided-done ops (meets e.value) d.value (◌∙◌ {b = decided ops t.value.1} (ap (λ (p : Entry Set × Outcome). decided ops p.1) tried) d.was);
-    })
+pub operates : (limits : Limits) (s : State) (cred : Cred) (pid : ℕ) (again : Bool) (id : ℕ) (ops : List Operation)
+    → AtEnd (not (is_some (semset_of s id))) (Operates limits s pid id ops) (performable limits s cred pid again id ops)
+operates limits s cred pid again id ops =
+    after (after {P = Met} (operable-ends limits s cred again id ops) (λ e ok. at-value _ (ok, refl))) (λ found ok.
+    after (decided-ends ops found.1 (may-wait ok.0.there)) (λ values done. at-value (found.0, values) (record {
+      few = ok.0.few;
+      there = ok.0.there;
+      within = ok.0.within;
+      done = (done.0, sym ok.1 ∙ done.1);
+    })))
+  where
+    -- the set, and what the operations meet there
+    Met : Entry Set × Outcome → Type 0
+    Met found = IsOperable limits s id ops found.0 × (found.1 ≡ outcome (values_of found.0.object) (held_by s pid id) ops)
 
 -- such a list has no more than a buffer has room for
 pub operates-passes : (limits : Limits) (s : State) (pid id : ℕ) (ops : List Operation) (found : Entry Set × List ℕ) → ArePassed limits
@@ -242,22 +208,16 @@ pub other-seen : {X Y Z : Type 0} (f : X → Y) (g : X → Z) (a : Attempt X) (h
 other-seen f g (Ok x) h is = cc
 other-seen f g (Err k) h is = cc
 
-counted-is : (limits : Limits) (k n : ℕ) → count_of limits (pos k) ≡ Some n → n ≡ k
-counted-is limits k n is = by_test (nat_le k limits.semmsl) is
+-- a number that is within a limit
+pub within-limit : (k most n : ℕ) → (if nat_le k most then Some k else None) ≡ Some n → (n ≡ k) × (k ≤ most)
+within-limit k most n is = by_test (nat_le k most) refl is
   where
-    by_test : (b : Bool) → (if b then Some k else None) ≡ Some n → n ≡ k
-    by_test true is = cc
-    by_test false is = cc
-
-pub counted-few : (limits : Limits) (k n : ℕ) → count_of limits (pos k) ≡ Some n → k ≤ limits.semmsl
-counted-few limits k n is = by_test (nat_le k limits.semmsl) refl is
-  where
-    by_test : (b : Bool) → nat_le k limits.semmsl ≡ b → (if b then Some k else None) ≡ Some n → k ≤ limits.semmsl
-    by_test true few is = leb-true k limits.semmsl few
+    by_test : (b : Bool) → nat_le k most ≡ b → (if b then Some k else None) ≡ Some n → (n ≡ k) × (k ≤ most)
+    by_test true few is = (cc, leb-true k most few)
     by_test false few is = cc
 
 pub count-few : (limits : Limits) (nsems : ℤ) (n : ℕ) → count_of limits nsems ≡ Some n → n ≤ limits.semmsl
-count-few limits (pos k) n is = subst (λ (m : ℕ). m ≤ limits.semmsl) (sym (counted-is limits k n is)) (counted-few limits k n is)
+count-few limits (pos k) n is = let c = within-limit k limits.semmsl n is in omega (arith, c.0, c.1)
 count-few limits (negsuc k) n is = cc
 
 -- each value of a semaphore takes two bytes
@@ -274,24 +234,15 @@ values-length xs =
 
 -- ---- places
 
-pub not-above : (n most : ℕ) → n ≤ most → nat_lt most n ≡ false
-not-above n most h = grind (arith, nat_tests)
-
-pub not-none : (n : ℕ) → 0 < n → (n == 0) ≡ false
-not-none n h = grind (arith, nat_tests)
-
 -- a set of as many semaphores as one may have has a place, if one was reserved
 pub has-set_place : (limits : Limits) (s : State) (room : Room) (key nsems : ℤ) (n : ℕ) → limits.semmsl ≤ 64 → count_of limits nsems ≡ Some n → 0 < n
     → Has s room (set_place key nsems) → HasSemsetPlace s room key n
 has-set_place limits s room key (pos zero) n most is some has =
-    let none : n ≡ 0 = counted-is limits zero n is in absurd (omega (arith, none, some))
+    absurd (omega (arith, (within-limit zero limits.semmsl n is).0, some))
 has-set_place limits s room key (pos (suc k)) n most is some has =
-    let same : n ≡ suc k = counted-is limits (suc k) n is in
-    let few : suc k ≤ limits.semmsl = counted-few limits (suc k) n is in
-    let inside : nat_lt k 64 ≡ true = below k 64 (omega (arith, few, most)) in
+    let same : n ≡ suc k = (within-limit (suc k) limits.semmsl n is).0 in
+    let few : suc k ≤ limits.semmsl = (within-limit (suc k) limits.semmsl n is).1 in
+    let inside : nat_lt k 64 ≡ true = lt-ltb k 64 (omega (arith, few, most)) in
     subst (λ (m : ℕ). HasSemsetPlace s room key m) (sym same)
     (subst (λ (b : Bool). Has s room (if b then SetPlace key (suc k) else Nothing)) inside has)
-  where
-    below : (a b : ℕ) → a < b → nat_lt a b ≡ true
-    below a b h = grind (arith, nat_tests)
 has-set_place limits s room key (negsuc k) n most is some has = cc

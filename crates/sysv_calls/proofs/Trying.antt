@@ -1,165 +1,128 @@
 -- What comes of a call that may wait, by what its tests answered.
-use Rattle.std.proofs.Common.{◌≡◌, ℕ, ℤ, ◌<◌, ◌≤◌, Bool, true, false, List, length, Some, sym, ap, subst, ◌∙◌, arith}
-use Rattle.std.specs.Prelude.{nat_lt, is_some, take, ◌||◌, ◌+◌, Result, Ok, Err}
-use Rattle.std.proofs.lemmas.Bool.{ltb-false}
+use Rattle.std.proofs.Common.{◌≡◌, ◌∙◌, ℕ, ℤ, ◌<◌, ◌≤◌, Bool, true, false, List, length, Some, sym, ap, subst, arith}
+use Rattle.std.specs.Prelude.{Ok, Result, ◌+◌, is_some, nat_lt, take}
+use Rattle.std.proofs.lemmas.Bool.{ltb-false, or_parts}
+use Rattle.ipc_base.specs.declared.flags.MsgFlags.{MsgFlags}
 use Rattle.ipc_base.specs.declared.identity.Cred.{Cred}
+use Rattle.ipc_base.specs.declared.identity.Id.{Id}
 use Rattle.ipc_base.specs.declared.limits.Limits.{Limits}
 use Rattle.ipc_base.specs.Limits.{ArePassed}
 use Rattle.ipc_base.proofs.CallerLemmas.{passed-bounds}
-use Rattle.ipc_wire.specs.Request.{PlainSysv}
-use Rattle.ipc_wire.specs.Request as requests
 use Rattle.ipc_wire.specs.Reply.{PlainBody}
-use Rattle.ipc_wire.specs.declared.reply.Body.TheVariants.{Empty, Message}
+use Rattle.ipc_wire.specs.declared.reply.Body.TheVariants.{Empty, Message as Received}
 use Rattle.sysv_msg.specs.Queue.{Queue, byte_count, full, most_messages, sent, taken}
+use Rattle.sysv_msg.specs.declared.message.Message.{Message}
 use Rattle.sysv_sem.specs.Set.{Set}
+use Rattle.ipc_state.specs.declared.answers.Halt.{Halt as Stops}
+use Rattle.ipc_state.specs.declared.operations.Operations.{Operations}
 use Rattle.ipc_state.specs.declared.keyed.Entry.{Entry}
+use Rattle.ipc_state.specs.declared.parked.ParkedSysv.{ParkedSysv}
+use Rattle.ipc_state.specs.declared.parked.ParkedSysv.TheVariants as parked
+use Rattle.ipc_state.specs.Finish.{Finishes, done}
 use Rattle.ipc_state.specs.Keyed.{holding}
-use Rattle.ipc_state.specs.Finish.{Attempt, Done, Halt, Finishes, answer, done, ended, has_to_wait, ◌>>=◌}
 use Rattle.ipc_state.specs.Sound.{HasSoundParts}
 use Rattle.ipc_state.specs.State.{State, cred_of, is_process, msg_queue_of, with_msg_queue}
-use Rattle.ipc_state.proofs.CallerLemmas.{queue-sound}
-use Rattle.ipc_state.proofs.CallerLemmas.{Shows, passed, shows, stays-stopped}
+use Rattle.ipc_state.specs.Steps.{attempted}
+use Rattle.ipc_state.specs.Waiting.{parked_sysv}
+use Rattle.ipc_state.proofs.CallerLemmas.{Answered, HasFound, Tested, ends-as, finishes, has-found, queue-sound, said, tested}
 use Rattle.sysv_calls.specs.Calls.{attempt, definition_of}
 use Rattle.sysv_calls.specs.Msg.{message_at, receivable, sendable}
-use Rattle.sysv_calls.specs.Semop.{IsReady, Passes, operated, operations_of, performable}
-use Rattle.ipc_state.specs.Steps.{attempted, plain_halt}
+use Rattle.sysv_calls.specs.Relations.{IsReady, Passes}
 use Rattle.sysv_calls.specs.Seen.{place_in}
-use Rattle.ipc_state.specs.declared.answers.Halt.{Halt as Stops}
-use Rattle.ipc_state.proofs.CallerLemmas.{is_blocked}
-use Rattle.sysv_calls.proofs.CallerLemmas.{by-waiting, waits-as-tested}
-use Rattle.sysv_calls.proofs.Reaching.{Sends, Receives, sends, receives, operates, operates-passes}
+use Rattle.sysv_calls.specs.Semop.{operated, operations_of, performable}
+use Rattle.sysv_calls.proofs.Reaching.{Receives, Sends, Operates, operates, operates-passes, receives, sends}
+
+-- a call is told by its tests
+call-tested : (limits : Limits) (s : State) (pid : ℕ) (again : Bool) (call : ParkedSysv)
+    → Tested s (definition_of limits s pid again (parked_sysv call)) (place_in limits s (cred_of s pid) pid again call)
+call-tested limits s pid again (parked.Msgsnd id flags m) = tested s _ _ _
+call-tested limits s pid again (parked.Msgrcv id flags size mtype) = tested s _ _ _
+call-tested limits s pid again (parked.Semop id timeout operations) = tested s _ _ _
 
 -- a queue that is not full has places
 has_places : (q : Queue) (n most : ℕ) → q.qbytes ≤ most → most ≤ most_messages → full q n ≡ false → length q.messages < most_messages
 has_places q n most few places is =
     let bytes : Bool = nat_lt q.qbytes (byte_count q.messages + n) in
     let count : Bool = nat_lt q.qbytes (length q.messages + 1) in
-    let last : count ≡ false = second bytes count is in
-    omega (arith, ltb-false q.qbytes (length q.messages + 1) last)
-  where
-    second : (a b : Bool) → a || b ≡ false → b ≡ false
-    second true b is = cc
-    second false b is = is
-
--- stopped by its tests, a call ends so
-stopped : (limits : Limits) (s : State) (pid : ℕ) (again : Bool) (call : PlainSysv) (h : Halt) → place_in limits s (cred_of s pid) pid again call ≡ Err h
-    → definition_of limits s pid again call ≡ Err h
-stopped limits s pid again call h =
-    by-waiting (λ c. place_in limits s (cred_of s pid) pid again c ≡ Err h → definition_of limits s pid again c ≡ Err h)
-    (λ id flags mtype text is. stays-stopped (λ (e : Entry Queue). 0) _ (sendable limits s (cred_of s pid) again id flags mtype text) h is)
-    (λ id flags size mtype is. stays-stopped (λ (found : Entry Queue × ℕ). found.1) _ (receivable s (cred_of s pid) again id flags size mtype) h is)
-    (λ id timeout operations is.
-    stays-stopped (λ (found : Entry Set × List ℕ). 0) _ (performable limits s (cred_of s pid) pid again id (operations_of operations)) h is)
-    (λ c other is. let both = sym (other.untested limits s (cred_of s pid) pid again) ∙ is in cc) call
+    omega (arith, ltb-false q.qbytes (length q.messages + 1) (or_parts bytes count is).1)
 
 -- the tests of a call answered so
-pub record Tested (limits : Limits) (s : State) (pid : ℕ) (again : Bool) (call : PlainSysv) (r : Result ℕ Stops) : Type 0 where
-  pub place : place_in limits s (cred_of s pid) pid again call ≡ attempted r
+pub record IsAnswered (limits : Limits) (s : State) (pid : ℕ) (again : Bool) (call : ParkedSysv) (r : Result ℕ Stops) : Type 0 where
+  pub is : Answered s (λ (c : ParkedSysv). definition_of limits s pid again (parked_sysv c)) (place_in limits s (cred_of s pid) pid again) call r
 
-pub tested : (limits : Limits) (s : State) (pid : ℕ) (again : Bool) (cred : Cred) → cred ≡ cred_of s pid → (call : PlainSysv) (r : Result ℕ Stops)
-    → attempted r ≡ place_in limits s cred pid again call → Tested limits s pid again call r
-tested limits s pid again cred same call r answers =
-    record { place = sym (answers ∙ ap (λ (c : Cred). place_in limits s c pid again call) same) }
+pub is-answered : (limits : Limits) (s : State) (pid : ℕ) (again : Bool) (cred : Cred) → cred ≡ cred_of s pid → (call : ParkedSysv) (r : Result ℕ Stops)
+    → attempted r ≡ place_in limits s cred pid again call → IsAnswered limits s pid again call r
+is-answered limits s pid again cred same call r told =
+    record { is = record { tests = call-tested limits s pid again call; told = told ∙ ap (λ (c : Cred). place_in limits s c pid again call) same } }
 
-module _ {limits : Limits} {s : State} {pid : ℕ} {again : Bool} {call : PlainSysv} {r : Result ℕ Stops} (tests : Tested limits s pid again call r) where
-  pub waits-on : is_blocked (attempted r) ≡ has_to_wait (attempt limits s pid again call)
-  waits-on = sym (waits-as-tested limits s pid again call ∙ ap is_blocked tests.place)
+-- it may go on
+module _ {limits : Limits} {s : State} {pid : ℕ} {again : Bool} {call : ParkedSysv} {r : Result ℕ Stops} (tests : IsAnswered limits s pid again call r)
+    {at : ℕ} (was : r ≡ Ok at) where
+  -- a send
+  module _ {id : Id} {flags : MsgFlags} {m : Message} (is : call ≡ parked.Msgsnd id flags m) where
+    send : HasFound (λ (e : Entry Queue). 0) (Sends limits s id.0 m.mtype m.text.items)
+        (sendable limits s (cred_of s pid) again id.0 flags.0 m.mtype m.text.items) at
+    send = has-found (sends limits s (cred_of s pid) again id.0 flags.0 m.mtype m.text.items) (said tests.is was _ is)
 
-  pub ends-stopped : (h : Stops) → r ≡ Err h → ended s (Err (plain_halt h)) ≡ attempt limits s pid again call
-  ends-stopped h was = sym (ap (ended s) (stopped limits s pid again call (plain_halt h) (tests.place ∙ ap attempted was)))
+    pub sends-there : is_some (msg_queue_of s id.0) ≡ true
+    sends-there = ap is_some send.holds.there
 
-  -- what the tests found of a call that may go on
-  passed-place : {at : ℕ} → r ≡ Ok at → (c : PlainSysv) → c ≡ call → place_in limits s (cred_of s pid) pid again c ≡ Ok at
-  passed-place was c is = ap (place_in limits s (cred_of s pid) pid again) is ∙ (tests.place ∙ ap attempted was)
-
-  -- a send that may go on
-  module _ {at : ℕ} (was : r ≡ Ok at) {id flags : ℕ} {mtype : ℤ} {text : List ℕ} (is : requests.Msgsnd id flags mtype text ≡ call) where
-    shown-send : Shows (λ (e : Entry Queue). 0) (sendable limits s (cred_of s pid) again id flags mtype text) at
-    shown-send = shows (λ (e : Entry Queue). 0) _ at (passed-place was (requests.Msgsnd id flags mtype text) is)
-
-    may_send : Sends limits s id mtype text shown-send.value
-    may_send = sends limits s (cred_of s pid) again id flags mtype text shown-send.value shown-send.was
-
-    pub sends-there : is_some (msg_queue_of s id) ≡ true
-    sends-there = ap is_some may_send.there
-
-    pub sends-room : HasSoundParts limits s → ArePassed limits → (e : Entry Queue) → msg_queue_of s id ≡ Some e → length e.object.messages < most_messages
+    pub sends-room : HasSoundParts limits s → ArePassed limits → (e : Entry Queue) → msg_queue_of s id.0 ≡ Some e → length e.object.messages < most_messages
     sends-room sound passed e there =
-        let one : shown-send.value ≡ e = cc (may_send.there) in
-        let room = subst (λ (f : Entry Queue). full f.object (length text) ≡ false) one may_send.room in
+        let one : send.value ≡ e = cc (send.holds.there) in
         let most = (passed-bounds limits passed).msgmnb in
-        has_places e.object (length text) limits.msgmnb (queue-sound limits s id e there sound).qbytes (omega (arith, most)) room
+        has_places e.object (length m.text.items) limits.msgmnb (queue-sound limits s id.0 e there sound).qbytes (omega (arith, most))
+        (subst (λ (f : Entry Queue). full f.object (length m.text.items) ≡ false) one send.holds.room)
 
-    pub sends-finish : (t : State)
-        → ((e : Entry Queue) → msg_queue_of s id ≡ Some e → t ≡ with_msg_queue s id (holding e (sent e.object (record { mtype = mtype; text = text }) pid s.clock)))
-        → Finishes (done t Empty) ≡ attempt limits s pid again call
+    pub sends-finish : (t : State) → ((e : Entry Queue) → msg_queue_of s id.0 ≡ Some e
+        → t ≡ with_msg_queue s id.0 (holding e (sent e.object (record { mtype = m.mtype; text = m.text.items }) pid s.clock)))
+        → Finishes (done t Empty) ≡ attempt limits s pid again (parked_sysv call)
     sends-finish t left =
-        let next : Entry Queue → Attempt Done =
-        λ (e : Entry Queue). answer (with_msg_queue s id (holding e (sent e.object (record { mtype = mtype; text = text }) pid s.clock))) Empty in
-        let ends : ended s (next shown-send.value) ≡ attempt limits s pid again (requests.Msgsnd id flags mtype text) =
-        sym (ap (λ (a : Attempt (Entry Queue)). ended s (a >>= next)) shown-send.was) in
-        subst (λ (w : PlainSysv). Finishes (done t Empty) ≡ attempt limits s pid again w) is
-        (ap (λ (u : State). Finishes (done u Empty)) (left shown-send.value may_send.there) ∙ ends)
+        ends-as tests.is _ is _ (finishes send s _ (done t Empty) (ap (λ (u : State). done u Empty) (left send.value send.holds.there)))
 
-  -- a receive that may go on
-  module _ {at : ℕ} (was : r ≡ Ok at) {id flags size : ℕ} {mtype : ℤ} (is : requests.Msgrcv id flags size mtype ≡ call) where
-    shown-receive : Shows (λ (found : Entry Queue × ℕ). found.1) (receivable s (cred_of s pid) again id flags size mtype) at
-    shown-receive = shows (λ (found : Entry Queue × ℕ). found.1) _ at (passed-place was (requests.Msgrcv id flags size mtype) is)
+  -- a receive
+  module _ {id : Id} {flags : MsgFlags} {size : ℕ} {mtype : ℤ} (is : call ≡ parked.Msgrcv id flags size mtype) where
+    receive : HasFound (λ (found : Entry Queue × ℕ). found.1) (Receives s id.0) (receivable s (cred_of s pid) again id.0 flags.0 size mtype) at
+    receive = has-found (receives s (cred_of s pid) again id.0 flags.0 size mtype) (said tests.is was _ is)
 
-    may_receive : Receives s id shown-receive.value
-    may_receive = receives s (cred_of s pid) again id flags size mtype shown-receive.value shown-receive.was
+    pub receives-there : is_some (msg_queue_of s id.0) ≡ true
+    receives-there = ap is_some receive.holds.there
 
-    pub receives-there : is_some (msg_queue_of s id) ≡ true
-    receives-there = ap is_some may_receive.there
-
-    pub receives-inside : (e : Entry Queue) → msg_queue_of s id ≡ Some e → at < length e.object.messages
+    pub receives-inside : (e : Entry Queue) → msg_queue_of s id.0 ≡ Some e → at < length e.object.messages
     receives-inside e there =
-        let one : shown-receive.value.0 ≡ e = cc (may_receive.there) in
-        let inside = subst (λ (f : Entry Queue). shown-receive.value.1 < length f.object.messages) one may_receive.inside in
-        subst (λ (n : ℕ). n < length e.object.messages) shown-receive.is inside
+        let one : receive.value.0 ≡ e = cc (receive.holds.there) in
+        let inside = receive.holds.inside in
+        let place = receive.is in
+        omega (arith, inside, place, ap (λ (f : Entry Queue). length f.object.messages) one)
 
     pub receives-finish : (t : State) (body : PlainBody)
-        → ((e : Entry Queue) → msg_queue_of s id ≡ Some e → t ≡ with_msg_queue s id (holding e (taken e.object at pid s.clock)))
-        → ((e : Entry Queue) → msg_queue_of s id ≡ Some e → body ≡ Message (message_at e.object at).mtype (take size (message_at e.object at).text))
-        → Finishes (done t body) ≡ attempt limits s pid again call
+        → ((e : Entry Queue) → msg_queue_of s id.0 ≡ Some e → t ≡ with_msg_queue s id.0 (holding e (taken e.object at pid s.clock)))
+        → ((e : Entry Queue) → msg_queue_of s id.0 ≡ Some e
+        → body ≡ Received (message_at e.object at).mtype (take size (message_at e.object at).text))
+        → Finishes (done t body) ≡ attempt limits s pid again (parked_sysv call)
     receives-finish t body left says =
-        let e : Entry Queue = shown-receive.value.0 in
-        let next : Entry Queue × ℕ → Attempt Done =
-        λ (found : Entry Queue × ℕ). answer (with_msg_queue s id (holding found.0 (taken found.0.object found.1 pid s.clock)))
-        (Message (message_at found.0.object found.1).mtype (take size (message_at found.0.object found.1).text)) in
-        let ends : ended s (next shown-receive.value) ≡ attempt limits s pid again (requests.Msgrcv id flags size mtype) =
-        sym (ap (λ (a : Attempt (Entry Queue × ℕ)). ended s (a >>= next)) shown-receive.was) in
-        subst (λ (w : PlainSysv). Finishes (done t body) ≡ attempt limits s pid again w) is
-        ((λ i. Finishes (done (left e may_receive.there i) (says e may_receive.there i)))
-        ∙ (ap (λ (n : ℕ). ended s (next (e, n))) (sym shown-receive.is) ∙ ends))
+        let e : Entry Queue = receive.value.0 in
+        ends-as tests.is _ is _ (finishes receive s _ (done t body) ((λ i. done (left e receive.holds.there i) (says e receive.holds.there i))
+        ∙ (λ i. done (with_msg_queue s id.0 (holding e (taken e.object (sym receive.is i) pid s.clock)))
+        (Received (message_at e.object (sym receive.is i)).mtype (take size (message_at e.object (sym receive.is i)).text)))))
 
-  -- a list of operations that may be performed
-  module _ {at : ℕ} (was : r ≡ Ok at) {id timeout : ℕ} {operations : List ℕ} (is : requests.Semop id timeout operations ≡ call)
-      (checked : ArePassed limits) where
-    shown-operate : Shows (λ (found : Entry Set × List ℕ). 0) (performable limits s (cred_of s pid) pid again id (operations_of operations)) at
-    shown-operate = shows (λ (found : Entry Set × List ℕ). 0) _ at (passed-place was (requests.Semop id timeout operations) is)
+  -- a list of operations, whose bytes are lent
+  module _ {id : Id} {timeout : ℕ} {operations : Operations} (is : call ≡ parked.Semop id timeout operations) (checked : ArePassed limits)
+      (bytes : List ℕ) (same : bytes ≡ operations.bytes.items) where
+    operate : HasFound (λ (found : Entry Set × List ℕ). 0) (Operates limits s pid id.0 (operations_of operations.bytes.items))
+        (performable limits s (cred_of s pid) pid again id.0 (operations_of operations.bytes.items)) at
+    operate = has-found (operates limits s (cred_of s pid) pid again id.0 (operations_of operations.bytes.items)) (said tests.is was _ is)
 
-    may_operate : Passes limits s pid id (operations_of operations) shown-operate.value
-    may_operate =
-        operates-passes limits s pid id (operations_of operations) shown-operate.value checked
-        (operates limits s (cred_of s pid) pid again id (operations_of operations) shown-operate.value shown-operate.was)
+    passes : Passes limits s pid id.0 (operations_of bytes) operate.value
+    passes =
+        subst (λ (l : List ℕ). Passes limits s pid id.0 (operations_of l) operate.value) (sym same)
+        (operates-passes limits s pid id.0 (operations_of operations.bytes.items) operate.value checked operate.holds)
 
-    -- the bytes of the operations, as they are lent
-    module _ (bytes : List ℕ) (same : bytes ≡ operations) where
-      pub operates-ready : is_process s pid ≡ true → IsReady limits s pid id (operations_of bytes)
-      operates-ready process =
-          subst (λ (l : List ℕ). IsReady limits s pid id (operations_of l)) (sym same)
-          (record { passed = checked; process = process; found = (shown-operate.value, may_operate) })
+    pub operates-ready : is_process s pid ≡ true → IsReady limits s pid id.0 (operations_of bytes)
+    operates-ready process = record { passed = checked; process = process; found = (operate.value, passes) }
 
-      pub operates-finish : (t : State)
-          → ((found : Entry Set × List ℕ) → Passes limits s pid id (operations_of bytes) found → t ≡ operated s pid id (operations_of bytes) found)
-          → Finishes (done t Empty) ≡ attempt limits s pid again call
-      operates-finish t left =
-          let found : Entry Set × List ℕ = shown-operate.value in
-          let next : Entry Set × List ℕ → Attempt Done = λ f. answer (operated s pid id (operations_of operations) f) Empty in
-          let ends : ended s (next found) ≡ attempt limits s pid again (requests.Semop id timeout operations) =
-          sym (ap (λ (a : Attempt (Entry Set × List ℕ)). ended s (a >>= next)) shown-operate.was) in
-          let leaves : t ≡ operated s pid id (operations_of operations) found =
-          subst (λ (l : List ℕ). Passes limits s pid id (operations_of l) found → t ≡ operated s pid id (operations_of l) found) same (left found)
-          may_operate in
-          subst (λ (w : PlainSysv). Finishes (done t Empty) ≡ attempt limits s pid again w) is (ap (λ (u : State). Finishes (done u Empty)) leaves ∙ ends)
+    pub operates-finish : (t : State) → ((found : Entry Set × List ℕ) → Passes limits s pid id.0 (operations_of bytes) found
+        → t ≡ operated s pid id.0 (operations_of bytes) found) → Finishes (done t Empty) ≡ attempt limits s pid again (parked_sysv call)
+    operates-finish t left =
+        ends-as tests.is _ is _ (finishes operate s _ (done t Empty) (ap (λ (u : State). done u Empty) (left operate.value passes
+        ∙ ap (λ (l : List ℕ). operated s pid id.0 (operations_of l) operate.value) same)))

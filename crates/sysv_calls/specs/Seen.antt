@@ -6,12 +6,13 @@ use Rattle.ipc_base.specs.declared.identity.Cred.{Cred}
 use Rattle.ipc_base.specs.declared.identity.Id.{Id}
 use Rattle.ipc_base.specs.declared.limits.Limits.{Limits}
 use Rattle.ipc_wire.specs.Request.{PlainSysv}
-use Rattle.ipc_wire.specs.Request as requests
 use Rattle.ipc_state.specs.Finish.{Attempt, Fails, Tried, Finishes, Waits, finish_of}
 use Rattle.ipc_state.specs.Steps.{seen}
 use Rattle.ipc_state.specs.Held.{Held}
 use Rattle.ipc_state.specs.State.{State}
 use Rattle.ipc_state.specs.Waiting.{parked_sysv}
+use Rattle.ipc_state.specs.declared.parked.ParkedSysv.{ParkedSysv}
+use Rattle.ipc_state.specs.declared.parked.ParkedSysv.TheVariants as parked
 use Rattle.sysv_calls.specs.Msg.{sendable, receivable}
 use Rattle.sysv_calls.specs.Semop.{operations_of, performable}
 use Rattle.sysv_calls.specs.declared.waiting.Tried.{Tried as Comes}
@@ -34,14 +35,13 @@ unit_of left (Err e) = Err (Fails e)
 
 -- the tests of a call that may wait: if it may go on now, the place of the message that a receive takes, and 0 for any
 -- other
-abbrev pub place_in : Limits → State → Cred → ℕ → Bool → PlainSysv → Attempt ℕ
-place_in limits s cred pid again (requests.Msgsnd id flags mtype text) =
-    seen (λ e. 0) (sendable limits s cred again id flags mtype text)
-place_in limits s cred pid again (requests.Msgrcv id flags size mtype) =
-    seen (λ found. found.1) (receivable s cred again id flags size mtype)
-place_in limits s cred pid again (requests.Semop id timeout operations) =
-    seen (λ found. 0) (performable limits s cred pid again id (operations_of operations))
-place_in limits s cred pid again call = Ok 0
+abbrev pub place_in : Limits → State → Cred → ℕ → Bool → ParkedSysv → Attempt ℕ
+place_in limits s cred pid again (parked.Msgsnd id flags message) =
+    seen (λ e. 0) (sendable limits s cred again id.0 flags.0 message.mtype message.text.items)
+place_in limits s cred pid again (parked.Msgrcv id flags size mtype) =
+    seen (λ found. found.1) (receivable s cred again id.0 flags.0 size mtype)
+place_in limits s cred pid again (parked.Semop id timeout operations) =
+    seen (λ found. 0) (performable limits s cred pid again id.0 (operations_of operations.bytes.items))
 
 -- what came of a call that may wait and left this state
 abbrev pub tried_of : State → Comes → Tried

@@ -1,31 +1,26 @@
 -- semop(2), in this server's profile: a list of operations is performed whole or not at all. Refusals stand in the
 -- order in which they are tested. A list of which an operation cannot proceed waits, and is tried again by all rules of
 -- a new one. And how many lists wait for a semaphore, which GETNCNT and GETZCNT of semctl(2) tell.
-use Rattle.std.specs.Prelude.{ℕ, ℤ, pos, ◌-ℤ◌, Bool, true, false, not, ◌&&◌, List, map, length}
-use Rattle.std.specs.Prelude.{nat_eq, nat_lt, ◌==◌, int_lt}
-use Rattle.std.specs.Prelude.{◌≡◌, ◌<◌, ◌≤◌, slice_get, slice_index_or, take, if◌then◌else◌}
-use Rattle.std.specs.Prelude.{Ok, Err, Option, Some, None, All}
-use Rattle.std.specs.FinMap as fin
+use Rattle.std.specs.Prelude.{ℕ, ℤ, pos, Bool, true, false, not, ◌&&◌, List, map, length}
+use Rattle.std.specs.Prelude.{nat_eq, nat_lt, ◌==◌, int_lt, slice_get, if◌then◌else◌, Ok, Err, Option, Some, None}
 use Rattle.std.specs.List.{fold, filter, list_all}
 use Rattle.std.specs.Ordering.{int_eq}
 use Rattle.ipc_base.specs.declared.errno.Errno.TheVariants.{E2BIG, EACCES, EAGAIN, EFBIG, EINVAL}
 use Rattle.ipc_base.specs.declared.identity.Cred.{Cred}
 use Rattle.ipc_base.specs.declared.limits.Limits.{Limits}
-use Rattle.ipc_base.specs.Limits.{ArePassed}
-use Rattle.ipc_base.specs.Table.{value_at}
 use Rattle.ipc_perm.specs.Perm.{may}
 use Rattle.ipc_wire.specs.declared.reply.Body.TheVariants.{Empty, Number}
 use Rattle.ipc_wire.specs.declared.sixes.SemBuf.{SemBuf}
 use Rattle.ipc_wire.specs.Request.{PlainKind, Sysv}
 use Rattle.ipc_wire.specs.Request as requests
 use Rattle.ipc_wire.specs.Sixes.{operations_in}
-use Rattle.sem_undo.specs.Undo.{Undo, adjustment, subtracted, is_adjustment, most_rows}
+use Rattle.sem_undo.specs.Undo.{Undo, adjustment, subtracted}
 use Rattle.sysv_sem.specs.declared.operation.Operation.{Operation}
 use Rattle.sysv_sem.specs.Operation.{Outcome, Done as IsDone, Blocks as Stops, Fails as IsRefused, has_undo, outcome}
 use Rattle.sysv_sem.specs.Set.{Set, values_of, carried}
 use Rattle.ipc_state.specs.declared.keyed.Entry.{Entry}
 use Rattle.ipc_state.specs.Keyed.{holding}
-use Rattle.ipc_state.specs.State.{State, cred_of, is_process, semset_of, undo_of, with_semset, with_undo}
+use Rattle.ipc_state.specs.State.{State, cred_of, semset_of, undo_of, with_semset, with_undo}
 use Rattle.ipc_state.specs.Waiting.{PlainWaiting}
 use Rattle.ipc_state.specs.Finish.{Halt, Fails, Blocks, Attempt, Done, answer, refuse, ◌orelse◌, ◌>>◌, ◌>>=◌}
 use Rattle.sysv_calls.specs.Access.{gone, read, write}
@@ -100,31 +95,7 @@ operated s pid id ops found =
     with_undo (with_semset s id (holding found.0 (carried found.0.object found.1 ops (record { 0 = pid }) s.clock))) pid
     (fold (noted id) (undo_of s pid) ops)
 
--- there are no more than a buffer has room for, their set is there, and they can be performed
-pub record Passes (limits : Limits) (s : State) (pid id : ℕ) (ops : List Operation) (found : Entry Set × List ℕ)
-    : Type 0 where
-  pub few : length ops ≤ 32
-  pub there : semset_of s id ≡ Some found.0
-  pub within : All (λ o. o.num < length found.0.object.semaphores) ops
-  pub done : (after : ℕ → ℤ) × (outcome (values_of found.0.object) (held_by s pid id) ops ≡ IsDone found.1 after)
-
--- they can be performed for a process that is there, under limits that passed their check
-pub record IsReady (limits : Limits) (s : State) (pid id : ℕ) (ops : List Operation) : Type 0 where
-  pub passed : ArePassed limits
-  pub process : is_process s pid ≡ true
-  pub found : (found : Entry Set × List ℕ) × Passes limits s pid id ops found
-
--- an operation can be noted: its adjustment is one, and there is room for it
-pub record CanNote (id : ℕ) (undo : Undo) (o : Operation) : Type 0 where
-  pub range : is_adjustment (adjustment undo (id, o.num) -ℤ o.sem_op) ≡ true
-  pub few : fin.get undo (id, o.num) ≡ None → fin.len undo < most_rows
-
--- each can be noted after those before it, for a process that has adjustments
-pub record CanBeNoted (s : State) (pid id : ℕ) (ops : List Operation) : Type 0 where
-  pub there : value_at nat_eq s.undo pid ≡ Some (undo_of s pid)
-  pub each : (k : ℕ) (d : Operation) → k < length ops → has_undo (slice_index_or ops k d) ≡ true
-      → CanNote id (fold (noted id) (undo_of s pid) (take k ops)) (slice_index_or ops k d)
-
+-- semop(2)
 abbrev pub semop : Limits → State → Cred → ℕ → Bool → ℕ → List ℕ → Attempt Done
 semop limits s cred pid again id bytes = do
   found ← performable limits s cred pid again id (operations_of bytes)

@@ -17,7 +17,7 @@ ghost use Rattle.ipc_state.specs.Waiting.{parked_kind};
 ghost use Rattle.ipc_state.specs.Steps.{attempted, plain_halt, seen};
 ghost use Rattle.sysv_calls.specs.Semop as defined;
 ghost use Rattle.sysv_calls.specs.Semop.{operation_of, operations_of, held_by, noted};
-ghost use Rattle.sysv_calls.specs.Semop.{CanBeNoted, CanNote, IsReady, Passes};
+ghost use Rattle.sysv_calls.specs.Relations.{CanBeNoted, CanNote, IsReady, Passes};
 
 use crate::access::gone;
 use crate::sem::semaphore;

@@ -75,7 +75,7 @@ pub fn has_to_wait(state: &State, pid: Pid, call: &ParkedSysv) -> bool
 /// Whether a call may go on now, and then the place of the message that a receive takes; for a send that is 0.
 fn ready(state: &State, cred: Cred, pid: Pid, again: bool, call: &ParkedSysv) -> Result<usize, Halt>
     ensures tests { attempted result
-        ≡ place_in state.now.limits state.now.state cred pid.0 again (parked_sysv call.now) }
+        ≡ place_in state.now.limits state.now.state cred pid.0 again call.now }
     ensures passed { OnOk result (ArePassed state.now.limits) }
 {
     match call {

@@ -1,27 +1,18 @@
-use Rattle.std.proofs.Common.{◌≡◌, ◌≤◌, ℕ, arith, not, List, false, Some, refl, sym, ap, ◌∙◌}
+use Rattle.std.proofs.Common.{◌≡◌, false, Some, refl, sym, ap, ◌∙◌}
 use Rattle.std.specs.Prelude.{Ok, nat_lt}
-use Rattle.std.proofs.lemmas.Bool.Decides.{nat_tests}
-use Rattle.ipc_base.proofs.CallerLemmas.{at-with, twice}
+use Rattle.std.proofs.lemmas.Bool.{le-ltb}
 use Rattle.ipc_base.specs.declared.limits.Limits.{Limits}
-use Rattle.ipc_base.specs.declared.errno.Errno.TheVariants.{EPERM}
-use Rattle.ipc_perm.specs.declared.perm.Perm.{Perm}
-use Rattle.ipc_perm.specs.Perm.{owns}
 use Rattle.ipc_wire.specs.declared.reply.Body.TheVariants.{Empty}
 use Rattle.sysv_msg.specs.Queue.{Queue, changed}
-use Rattle.ipc_state.specs.declared.keyed.Entry.{Entry}
 use Rattle.ipc_state.specs.Finish.{Finishes, done}
 use Rattle.ipc_state.specs.Keyed.{Keyed, holding, permitting}
 use Rattle.ipc_state.specs.Numbered.{entry_of, with_entry}
-use Rattle.ipc_state.proofs.CallerLemmas.{is-lent, lent-object, put-perm, put-object, put-keys}
-use Rattle.ipc_state.specs.Tables.{HeldObjects}
+use Rattle.ipc_state.proofs.CallerLemmas.{permitted-keys, permitted-lent, permitted-object, permitted-put}
 use Rattle.sysv_calls.specs.Access.{owned}
 use Rattle.sysv_calls.specs.Seen.{attempt_of}
-use Rattle.sysv_calls.proofs.Reaching.{reached-there, told}
+use Rattle.sysv_calls.proofs.Reaching.{owned-there, told}
 use Rattle.sysv_calls.proofs.msg.msgctl_set.Goals.{After-get_mut}
 use Rattle.sysv_calls.proofs.msg.msgctl_set.Goals as goal
-
-not_above : (n most : ℕ) → n ≤ most → nat_lt most n ≡ false
-not_above n most h = grind (arith, nat_tests)
 
 -- the queue of a caller that owns it
 owns_it : (c : After-get_mut) → owned c.args.state.now.state.msg c.args.cred c.args.id.0 ≡ Ok c.in_ok-perm.field-0.now
@@ -30,22 +21,13 @@ owns_it c =
     (attempt_of c.owned.result) c.owned.ensures ∙ ap attempt_of c.in_ok-perm.was
 
 has : (c : After-get_mut) → entry_of c.args.state.now.state.msg c.args.id.0 ≡ Some c.in_ok-perm.field-0.now
-has c = reached-there false c.args.id.0 EPERM (λ perm. not (owns c.args.cred perm)) c.args.state.now.state.msg c.in_ok-perm.field-0.now (owns_it c)
-
--- the same with other permissions
-permits : (c : After-get_mut) → c.set_perm.new.self.objects
-    ≡ with_entry c.args.state.now.state.msg c.args.id.0 (permitting c.in_ok-perm.field-0.now c.owned_by.result)
-permits c = put-perm c.msg_mut-queues.result.now c.args.state.now.state.msg c.args.id.0 c.in_ok-perm.field-0.now c.msg_mut-queues.ensures.queues (has c)
-    c.owned_by.result c.set_perm.new.self c.set_perm.ensures
-
-next : (c : After-get_mut) → entry_of (with_entry c.args.state.now.state.msg c.args.id.0 (permitting c.in_ok-perm.field-0.now c.owned_by.result)) c.args.id.0
-    ≡ Some (permitting c.in_ok-perm.field-0.now c.owned_by.result)
-next c = at-with c.args.state.now.state.msg.entries c.args.id.0 (permitting c.in_ok-perm.field-0.now c.owned_by.result) _ (has c)
+has c = owned-there c.args.state.now.state.msg c.args.cred c.args.id.0 c.in_ok-perm.field-0.now (owns_it c)
 
 pub unwrap-requires : goal.unwrap-requires
 unwrap-requires c =
     let g = (goal.at.unwrap-requires c).After-get_mut in
-    is-lent c.set_perm.new.self _ c.args.id.0 _ (permits g) (next g) c.get_mut.result c.get_mut.ensures.object
+    permitted-lent c.msg_mut-queues.result.now c.args.state.now.state.msg c.args.id.0 c.in_ok-perm.field-0.now c.msg_mut-queues.ensures.queues (has g)
+    c.owned_by.result c.set_perm.new.self c.set_perm.ensures c.get_mut.result c.get_mut.ensures.object
 
 pub returns-clause-finish : goal.returns-clause-finish
 returns-clause-finish c =
@@ -56,24 +38,21 @@ returns-clause-finish c =
     let left = c.set.new.self in
     let within : nat_lt old.limits.msgmnb c.args.qbytes ≡ false =
     ap (λ (l : Limits). nat_lt l.msgmnb c.args.qbytes) (sym c.limits.ensures.limits)
-    ∙ not_above c.args.qbytes c.limits.result.now.msgmnb c.if-qbytes-limits.false in
-    let object = lent-object c.set_perm.new.self _ id _ (permits g) (next g) c.get_mut.result c.get_mut.ensures.object c.unwrap.result c.unwrap.ensures in
-    let puts = put-object c.set_perm.new.self _ id _ (permits g) (next g) left (c.get_mut.follows.lender left) (c.get_mut.follows.holds left) in
+    ∙ le-ltb c.limits.result.now.msgmnb c.args.qbytes c.if-qbytes-limits.false in
+    let object = permitted-object c.msg_mut-queues.result.now old.state.msg id e c.msg_mut-queues.ensures.queues (has g) c.owned_by.result
+    c.set_perm.new.self c.set_perm.ensures c.get_mut.result c.get_mut.ensures.object c.unwrap.result c.unwrap.ensures in
+    let puts = permitted-put c.msg_mut-queues.result.now old.state.msg id e c.msg_mut-queues.ensures.queues (has g) c.owned_by.result
+    c.set_perm.new.self c.set_perm.ensures left (c.get_mut.follows.lender left) (c.get_mut.follows.holds left) in
     let sets : left ≡ changed e.object c.args.qbytes old.state.clock =
     c.set.ensures ∙ (λ i. changed (object i) c.args.qbytes (c.clock-now.ensures i)) in
-    let entry : Perm → Queue → Entry Queue = λ (p : Perm) (q : Queue). holding (permitting e p) q in
     ap (λ (m : Keyed Queue). Finishes (done (record old.state { msg = m }) Empty))
-    (puts
-    ∙ (ap (λ (es : List (ℕ × Entry Queue)). let n : Keyed Queue = record { next = old.state.msg.next; entries = es } in n)
-    (twice old.state.msg.entries id (permitting e c.owned_by.result) (entry c.owned_by.result left))
-    ∙ (λ i. with_entry old.state.msg id (entry (c.owned_by.ensures.perm i) (sets i)))))
+    (puts ∙ (λ i. with_entry old.state.msg id (holding (permitting e (c.owned_by.ensures.perm i)) (sets i))))
     ∙ rw (owns_it g) (rw within refl)
 
 pub returns-clause-keys : goal.returns-clause-keys
 returns-clause-keys c =
     let g = (goal.at.returns-clause-keys c).After-get_mut in
     let left = c.set.new.self in
-    let there = ap (λ (t : Keyed Queue). entry_of t c.args.id.0) c.msg_mut-queues.ensures.queues ∙ has g in
-    put-keys c.set_perm.new.self _ c.args.id.0 _ (permits g) (next g) left (c.get_mut.follows.lender left) (c.get_mut.follows.holds left)
-    ∙ (ap (λ (h : HeldObjects Queue). h.keys) (c.set_perm.ensures c.in_ok-perm.field-0.now there)
-    ∙ c.msg_mut-queues.ensures.keys)
+    permitted-keys c.msg_mut-queues.result.now c.args.state.now.state.msg c.args.id.0 c.in_ok-perm.field-0.now c.msg_mut-queues.ensures.queues (has g)
+    c.owned_by.result c.set_perm.new.self c.set_perm.ensures left (c.get_mut.follows.lender left) (c.get_mut.follows.holds left)
+    ∙ c.msg_mut-queues.ensures.keys

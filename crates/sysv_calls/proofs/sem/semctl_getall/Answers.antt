@@ -1,11 +1,9 @@
-use Rattle.std.proofs.Common.{◌≡◌, ◌∙◌, ◌++◌, [], ℕ, List, map, not, false, length, refl, ap, sym, arith, rules}
+use Rattle.std.proofs.Common.{◌≡◌, ◌∙◌, ◌++◌, [], ℕ, List, map, false, length, refl, ap, sym, arith, rules}
 use Rattle.std.specs.Global.{Vec}
 use Rattle.std.specs.Prelude.{vec_len, vec_capacity, Ok}
 use Rattle.std.proofs.lemmas.Simd.{map-map}
 use Rattle.ipc_base.specs.Numbers.{record_bytes}
-use Rattle.ipc_base.specs.declared.errno.Errno.TheVariants.{EACCES}
 use Rattle.ipc_base.specs.declared.field.Field.TheVariants.{U16}
-use Rattle.ipc_perm.specs.Perm.{may}
 use Rattle.ipc_wire.specs.declared.reply.Body.TheVariants.{Record}
 use Rattle.sysv_sem.specs.declared.set.Semaphore.{Semaphore}
 use Rattle.sysv_sem.specs.Set.{Set, values_of}
@@ -14,7 +12,7 @@ use Rattle.ipc_state.specs.Keyed.{Keyed}
 use Rattle.ipc_state.proofs.CallerLemmas.{set-sound}
 use Rattle.sysv_calls.specs.Access.{read, accessible}
 use Rattle.sysv_calls.specs.Seen.{attempt_of}
-use Rattle.sysv_calls.proofs.Reaching.{reached-there, told}
+use Rattle.sysv_calls.proofs.Reaching.{accessible-there, told}
 use Rattle.sysv_calls.proofs.sem.semctl_getall.Goals.{After-semaphores}
 use Rattle.sysv_calls.proofs.sem.semctl_getall.Goals as goal
 
@@ -34,7 +32,7 @@ push_values-requires c =
     let limits = c.args.state.now.limits in
     let s = c.args.state.now.state in
     let e = c.in_ok-entry.entry.now in
-    let there = reached-there false c.args.id.0 EACCES (λ perm. not (may c.args.cred perm read)) s.semset e (reads g) in
+    let there = accessible-there s.semset c.args.cred c.args.id.0 e read (reads g) in
     let few = (set-sound limits s c.args.id.0 e there c.requires.sound).few in
     let len : vec_len c.take_spare-body.result ≡ length c.take_spare-body.result.items = search rules in
     let all = ap length c.semaphores.ensures.semaphores in

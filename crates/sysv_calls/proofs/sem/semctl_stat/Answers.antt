@@ -1,13 +1,11 @@
-use Rattle.std.proofs.Common.{ap, ◌∙◌, not, false, arith}
+use Rattle.std.proofs.Common.{ap, ◌∙◌, false, arith}
 use Rattle.ipc_base.proofs.CallerLemmas.{passed-bounds}
-use Rattle.ipc_base.specs.declared.errno.Errno.TheVariants.{EACCES}
-use Rattle.ipc_perm.specs.Perm.{may}
 use Rattle.sysv_sem.specs.Set.{Set}
 use Rattle.ipc_state.specs.Keyed.{Keyed}
 use Rattle.ipc_state.proofs.CallerLemmas.{set-sound}
 use Rattle.sysv_calls.specs.Access.{read, accessible}
 use Rattle.sysv_calls.specs.Seen.{attempt_of}
-use Rattle.sysv_calls.proofs.Reaching.{reached-there, told}
+use Rattle.sysv_calls.proofs.Reaching.{accessible-there, told}
 use Rattle.sysv_calls.proofs.sem.semctl_stat.Goals as goal
 
 pub push_set-requires-clause-few : goal.push_set-requires-clause-few
@@ -17,5 +15,5 @@ push_set-requires-clause-few c =
     let e = c.in_ok-entry.entry.now in
     let is = told (λ (t : Keyed Set). accessible false t c.args.cred c.args.id.0 read) c.semset.result.now.objects s.semset c.semset.ensures.sets
     (attempt_of c.accessible.result) c.accessible.ensures ∙ ap attempt_of c.in_ok-entry.was in
-    let there = reached-there false c.args.id.0 EACCES (λ perm. not (may c.args.cred perm read)) s.semset e is in
+    let there = accessible-there s.semset c.args.cred c.args.id.0 e read is in
     omega (arith, (set-sound limits s c.args.id.0 e there c.requires.sound).few, (passed-bounds limits c.semset.ensures.passed).semmsl)

@@ -1,15 +1,15 @@
-use Rattle.std.proofs.Common.{◌≡◌, ◌≢◌, ◌∙◌, ◌<◌, true, List, ℕ, length, None, ap, sym, arith, take, pos}
+use Rattle.std.proofs.Common.{◌≡◌, ◌∙◌, ◌<◌, List, ℕ, length, ap, sym, arith, take, pos, true}
 use Rattle.std.specs.Prelude.{Ok, Err}
 use Rattle.ipc_base.specs.declared.identity.Cred.{Cred}
 use Rattle.ipc_wire.specs.Sixes.{bytes_of}
-use Rattle.ipc_state.specs.Finish.{Attempt}
-use Rattle.ipc_state.specs.State.{cred_of}
 use Rattle.sysv_sem.specs.declared.operation.Operation.{Operation}
 use Rattle.sysv_sem.specs.declared.operation.Trial.{Trial}
 use Rattle.sysv_sem.specs.declared.operation.Trial.TheVariants as trial
-use Rattle.ipc_state.specs.Steps.{attempted, plain_halt, seen}
+use Rattle.ipc_state.specs.Finish.{Attempt}
+use Rattle.ipc_state.specs.State.{cred_of}
+use Rattle.ipc_state.specs.Steps.{attempted, plain_halt}
 use Rattle.sysv_calls.specs.Semop.{is_of, operations_of, stopping, tried_list}
-use Rattle.sysv_calls.proofs.Semops.{Stopped, Tried, at-front, front-inside, stopped, stopping-none, trial-found, tried-inside}
+use Rattle.sysv_calls.proofs.Stopping.{Tried, at-front, front-inside, met, stopper, stops, stops-within}
 use Rattle.sysv_calls.proofs.semop.is_stopping.Goals.{After-try_operations, In-Ok-Blocks}
 use Rattle.sysv_calls.proofs.semop.is_stopping.Goals as goal
 
@@ -23,17 +23,18 @@ abbrev now : After-try_operations → Tried
 now c = tried c (cred_of c.args.state.now.state c.args.pid.0)
 
 -- what the tests came to, as this process
-met : (c : After-try_operations) (a : Attempt Trial) → attempted c.try_operations.result ≡ a → a ≡ seen trial-found (now c)
-met c a is = sym is ∙ c.try_operations.ensures.tests ∙ ap (λ (cred : Cred). seen trial-found (tried c cred)) c.cred_of-cred.ensures
+meets : (c : After-try_operations) (a : Attempt Trial) → attempted c.try_operations.result ≡ a → a ≡ met (now c)
+meets c a is = sym is ∙ c.try_operations.ensures.tests ∙ ap (λ (cred : Cred). met (tried c cred)) c.cred_of-cred.ensures
 
-module _ (c : After-try_operations) (at : ℕ) (is : attempted c.try_operations.result ≡ Ok (trial.Blocks at)) where
-  stop : Stopped (operations c) (now c) at
-  stop = stopped (operations c) (now c) at (sym (met c (Ok (trial.Blocks at)) is))
+-- and so what stops the list
+comes : (c : After-try_operations) (a : Attempt Trial) → attempted c.try_operations.result ≡ a
+    → is_of c.args.zero c.args.num (stopper (operations c) a) ≡ is_of c.args.zero c.args.num (stopping (operations c) (now c))
+comes c a is = ap (is_of c.args.zero c.args.num) (ap (stopper (operations c)) (meets c a is) ∙ stops (operations c) (now c))
 
-  inside : at < length (operations c)
-  inside =
-      tried-inside c.args.state.now.limits c.args.state.now.state (cred_of c.args.state.now.state c.args.pid.0) c.args.pid.0 true c.args.id.0
-      (operations c) at stop
+inside : (c : After-try_operations) (at : ℕ) → attempted c.try_operations.result ≡ Ok (trial.Blocks at) → at < length (operations c)
+inside c at is =
+    stops-within c.args.state.now.limits c.args.state.now.state (cred_of c.args.state.now.state c.args.pid.0) c.args.pid.0 true c.args.id.0
+    (operations c) at (sym (meets c (Ok (trial.Blocks at)) is))
 
 blocks : (c : In-Ok-Blocks) → attempted c.try_operations.result ≡ Ok (trial.Blocks c.in-Ok-Blocks.at)
 blocks c = ap attempted c.in-Ok-Blocks.is ∙ ap (λ (t : Trial). Ok t) c.in-Ok-Blocks.field-0-is
@@ -61,24 +62,18 @@ returns-in-Ok-Blocks c =
     let is = blocks g.In-Ok-Blocks in
     let none : Operation = record { num = 0; sem_op = pos 0; flags = record { 0 = 0 } } in
     c.is_of.ensures
-    ∙ ap (is_of c.args.zero c.args.num) (sym (at-front (operations t) c.try_operations.new.all at none c.in-Ok-Blocks.ensures.operations (inside t at is)))
-    ∙ ap (λ (u : Tried). is_of c.args.zero c.args.num (stopping (operations t) u)) (sym (stop t at is).is)
-
--- nothing stops it
-others : (c : After-try_operations) (a : Attempt Trial) → attempted c.try_operations.result ≡ a → ((at : ℕ) → a ≢ Ok (trial.Blocks at))
-    → is_of c.args.zero c.args.num None ≡ is_of c.args.zero c.args.num (stopping (operations c) (now c))
-others c a is other = ap (is_of c.args.zero c.args.num) (sym (stopping-none (operations c) (now c) a (met c a is) other))
+    ∙ ap (is_of c.args.zero c.args.num) (sym (at-front (operations t) c.try_operations.new.all at c.in-Ok-Blocks.ensures.operations (inside t at is) none))
+    ∙ comes t (Ok (trial.Blocks at)) is
 
 pub returns-in-Ok-Done : goal.returns-in-Ok-Done
 returns-in-Ok-Done c =
-    others (goal.at.returns-in-Ok-Done c).After-try_operations (Ok trial.Done)
-    (ap attempted c.in-Ok-Done.is ∙ ap (λ (t : Trial). Ok t) c.in-Ok-Done.field-0-is) (λ at e. cc)
+    comes (goal.at.returns-in-Ok-Done c).After-try_operations (Ok trial.Done)
+    (ap attempted c.in-Ok-Done.is ∙ ap (λ (t : Trial). Ok t) c.in-Ok-Done.field-0-is)
 
 pub returns-in-Ok-Fails : goal.returns-in-Ok-Fails
 returns-in-Ok-Fails c =
-    others (goal.at.returns-in-Ok-Fails c).After-try_operations (Ok (trial.Fails c.in-Ok-Fails.field-0-0))
-    (ap attempted c.in-Ok-Fails.is ∙ ap (λ (t : Trial). Ok t) c.in-Ok-Fails.field-0-is) (λ at e. cc)
+    comes (goal.at.returns-in-Ok-Fails c).After-try_operations (Ok (trial.Fails c.in-Ok-Fails.field-0-0))
+    (ap attempted c.in-Ok-Fails.is ∙ ap (λ (t : Trial). Ok t) c.in-Ok-Fails.field-0-is)
 
 pub returns-in-Err : goal.returns-in-Err
-returns-in-Err c =
-    others (goal.at.returns-in-Err c).After-try_operations (Err (plain_halt c.in-Err.field-0)) (ap attempted c.in-Err.is) (λ at e. cc)
+returns-in-Err c = comes (goal.at.returns-in-Err c).After-try_operations (Err (plain_halt c.in-Err.field-0)) (ap attempted c.in-Err.is)

@@ -3,7 +3,7 @@ use Rattle.sem_undo.specs.Undo.{subtracted}
 use Rattle.sysv_sem.specs.Operation.{has_undo}
 use Rattle.ipc_state.specs.Held.{Held}
 use Rattle.ipc_state.specs.State.{State, undo_of, with_undo}
-use Rattle.sysv_calls.proofs.Semops.{undo-kept}
+use Rattle.sysv_calls.proofs.Noting.{undo-kept}
 use Rattle.sysv_calls.proofs.semop.note_operation.Goals as goal
 
 pub returns-else-contains : goal.returns-else-contains

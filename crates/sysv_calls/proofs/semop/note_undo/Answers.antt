@@ -6,8 +6,9 @@ use Rattle.sem_undo.specs.Undo.{Undo}
 use Rattle.sysv_sem.specs.declared.operation.Operation.{Operation}
 use Rattle.ipc_state.specs.Held.{Held}
 use Rattle.ipc_state.specs.State.{State, undo_of, with_undo}
-use Rattle.sysv_calls.specs.Semop.{noted, CanNote}
-use Rattle.sysv_calls.proofs.Semops.{undo-again, undo-kept, undo-now, undo-there}
+use Rattle.sysv_calls.specs.Relations.{CanNote}
+use Rattle.sysv_calls.specs.Semop.{noted}
+use Rattle.sysv_calls.proofs.Noting.{undo-again, undo-kept, undo-now, undo-there}
 use Rattle.sysv_calls.proofs.semop.note_undo.Goals as goal
 
 abbrev none : Operation

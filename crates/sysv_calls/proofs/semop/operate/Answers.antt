@@ -12,9 +12,10 @@ use Rattle.ipc_state.specs.Keyed.{holding}
 use Rattle.ipc_state.specs.Numbered.{with_entry}
 use Rattle.ipc_state.specs.State.{undo_of, with_undo}
 use Rattle.ipc_state.proofs.CallerLemmas.{lent-object, put-object}
-use Rattle.sysv_calls.specs.Semop.{held_by, noted, operation_of, operations_of, CanBeNoted, Passes}
+use Rattle.sysv_calls.specs.Relations.{CanBeNoted, Passes}
+use Rattle.sysv_calls.specs.Semop.{held_by, noted, operation_of, operations_of}
 use Rattle.sysv_calls.proofs.Reaching.{keys-kept}
-use Rattle.sysv_calls.proofs.Semops.{ready-noted}
+use Rattle.sysv_calls.proofs.Noting.{ready-noted}
 use Rattle.sysv_calls.proofs.semop.operate.Goals.{After-unwrap-set}
 use Rattle.sysv_calls.proofs.semop.operate.Goals as goal
 
@@ -32,8 +33,8 @@ module _ (c : After-unwrap-set) (found : Entry Set × List ℕ)
     (p : Passes c.args.state.now.limits c.args.state.now.state c.args.pid.0 c.args.id.0 (operations c) found) where
   object : c.unwrap-set.result.now ≡ found.0.object
   object =
-      lent-object c.semset_mut.result.now c.args.state.now.state.semset c.args.id.0 found.0 c.semset_mut.ensures.sets p.there c.get_mut.result c.get_mut.ensures.object
-      c.unwrap-set.result c.unwrap-set.ensures
+      lent-object c.semset_mut.result.now c.args.state.now.state.semset c.args.id.0 found.0 c.semset_mut.ensures.sets p.there c.get_mut.result
+      c.get_mut.ensures.object c.unwrap-set.result c.unwrap-set.ensures
 
   -- the list passes there
   passes : outcome (values_of c.unwrap-set.result.now) (held_by c.args.state.now.state c.args.pid.0 c.args.id.0) (take c.len.result c.put_operations.new.all)
@@ -52,7 +53,7 @@ note_undo-requires c =
     let g = (goal.at.note_undo-requires c).After-unwrap-set in
     let s = c.args.state.now.state in
     let can = ready-noted c.args.state.now.limits s c.args.pid.0 c.args.id.0 (operations g) c.subtracted_adds_up.ensures.there
-    c.subtracted_adds_up.ensures.others c.requires.sound c.requires.ready in
+    c.requires.sound c.requires.ready in
     subst (λ (ops : List Operation). CanBeNoted (record s { semset = (c.get_mut.follows.lender c.carry.new.self).objects }) c.args.pid.0 c.args.id.0 ops)
     (sym (front g)) (record { there = can.there; each = can.each })
 
@@ -64,7 +65,8 @@ returns-clause-state c found p =
     let id = c.args.id.0 in
     let e = found.0 in
     let left = c.carry.new.self in
-    let puts = put-object c.semset_mut.result.now s.semset id e c.semset_mut.ensures.sets p.there left (c.get_mut.follows.lender left) (c.get_mut.follows.holds left) in
+    let puts = put-object c.semset_mut.result.now s.semset id e c.semset_mut.ensures.sets p.there left (c.get_mut.follows.lender left)
+    (c.get_mut.follows.holds left) in
     let sets : left ≡ carried e.object found.1 (operations g) c.args.pid s.clock =
     c.carry.ensures (held_by s pid id) p.done.0 found.1 (passes g found p ∙ p.done.1)
     ∙ (λ i. carried (object g found p i) found.1 (front g i) c.args.pid (c.clock-now.ensures i)) in

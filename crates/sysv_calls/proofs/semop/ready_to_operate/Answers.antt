@@ -1,13 +1,15 @@
 use Rattle.std.proofs.Common.{◌≡◌, ◌∙◌, ◌<◌, List, ℕ, length, ap, sym, arith, rules, take, pos}
 use Rattle.std.specs.Prelude.{Ok, Err}
 use Rattle.ipc_wire.specs.Sixes.{bytes_of}
-use Rattle.ipc_state.specs.Finish.{Attempt, Halt}
 use Rattle.sysv_sem.specs.declared.operation.Operation.{Operation}
 use Rattle.sysv_sem.specs.declared.operation.Trial.{Trial}
 use Rattle.sysv_sem.specs.declared.operation.Trial.TheVariants as trial
+use Rattle.sysv_sem.specs.Set.{Set}
+use Rattle.ipc_state.specs.declared.keyed.Entry.{Entry}
+use Rattle.ipc_state.specs.Finish.{Attempt, Halt, ◌>>=◌}
 use Rattle.ipc_state.specs.Steps.{attempted, plain_halt, seen}
-use Rattle.sysv_calls.specs.Semop.{operations_of, stopped_by, tried_list}
-use Rattle.sysv_calls.proofs.Semops.{Tried, at-front, front-inside, performs-done, performs-not, performs-refused, performs-stopped, stopped, trial-found, tried-inside}
+use Rattle.sysv_calls.specs.Semop.{operations_of, performable, stopped_by, tried_list}
+use Rattle.sysv_calls.proofs.Stopping.{Tried, at-front, front-inside, settled, settles, stops-within}
 use Rattle.sysv_calls.proofs.semop.ready_to_operate.Goals.{After-try_operations, In-Blocks}
 use Rattle.sysv_calls.proofs.semop.ready_to_operate.Goals as goal
 
@@ -17,14 +19,17 @@ operations c = operations_of (bytes_of c.args.operations.now)
 abbrev tried : After-try_operations → Tried
 tried c = tried_list c.args.state.now.limits c.args.state.now.state c.args.cred c.args.pid.0 c.args.again c.args.id.0 (operations c)
 
--- what the tests came to
-met : (c : After-try_operations) (a : Attempt Trial) → attempted c.try_operations.result ≡ a → seen trial-found (tried c) ≡ a
-met c a is = sym c.try_operations.ensures.tests ∙ is
-
 inside : (c : After-try_operations) (at : ℕ) → attempted c.try_operations.result ≡ Ok (trial.Blocks at) → at < length (operations c)
 inside c at is =
-    tried-inside c.args.state.now.limits c.args.state.now.state c.args.cred c.args.pid.0 c.args.again c.args.id.0 (operations c) at
-    (stopped (operations c) (tried c) at (met c (Ok (trial.Blocks at)) is))
+    stops-within c.args.state.now.limits c.args.state.now.state c.args.cred c.args.pid.0 c.args.again c.args.id.0 (operations c) at
+    (sym c.try_operations.ensures.tests ∙ is)
+
+-- what becomes of the list, by what the tests came to
+comes : (c : After-try_operations) (a : Attempt Trial) → attempted c.try_operations.result ≡ a
+    → (a >>= settled (operations c)) ≡ seen (λ (found : Entry Set × List ℕ). tt) (performable c.args.state.now.limits c.args.state.now.state
+    c.args.cred c.args.pid.0 c.args.again c.args.id.0 (operations c))
+comes c a is =
+    ap (λ (b : Attempt Trial). b >>= settled (operations c)) (sym is ∙ c.try_operations.ensures.tests) ∙ settles (operations c) (tried c)
 
 blocks : (c : In-Blocks) → attempted c.try_operations.result ≡ Ok (trial.Blocks c.in-Blocks.at)
 blocks c = ap attempted c.in_ok-try_operations.was ∙ ap (λ (t : Trial). Ok t) c.in-Blocks.is
@@ -46,15 +51,15 @@ offset_bounds-all-at c =
 
 pub returns-in_err-try_operations-clause-tests : goal.returns-in_err-try_operations-clause-tests
 returns-in_err-try_operations-clause-tests c =
-    let t = (goal.at.returns-in_err-try_operations-clause-tests c).After-try_operations in
     let h = c.in_err-try_operations.field-0.0 in
     let from : c.from_residual.result ≡ Err h = search rules in
-    ap attempted from ∙ performs-not (operations t) (tried t) (plain_halt h) (met t (Err (plain_halt h)) (ap attempted c.in_err-try_operations.was))
+    ap attempted from
+    ∙ comes (goal.at.returns-in_err-try_operations-clause-tests c).After-try_operations (Err (plain_halt h)) (ap attempted c.in_err-try_operations.was)
 
 pub returns-in-Done-clause-tests : goal.returns-in-Done-clause-tests
 returns-in-Done-clause-tests c =
-    let t = (goal.at.returns-in-Done-clause-tests c).After-try_operations in
-    performs-done (operations t) (tried t) (met t (Ok trial.Done) (ap attempted c.in_ok-try_operations.was ∙ ap (λ (t : Trial). Ok t) c.in-Done.is))
+    comes (goal.at.returns-in-Done-clause-tests c).After-try_operations (Ok trial.Done)
+    (ap attempted c.in_ok-try_operations.was ∙ ap (λ (t : Trial). Ok t) c.in-Done.is)
 
 pub returns-in-Blocks-clause-tests : goal.returns-in-Blocks-clause-tests
 returns-in-Blocks-clause-tests c =
@@ -63,12 +68,10 @@ returns-in-Blocks-clause-tests c =
     let at = c.in-Blocks.at in
     let is = blocks g.In-Blocks in
     let none : Operation = record { num = 0; sem_op = pos 0; flags = record { 0 = 0 } } in
-    let one = at-front (operations t) c.try_operations.new.all at none c.in_ok-try_operations.ensures.operations (inside t at is) in
-    ap (λ (h : Halt). Err h) (c.stopped_by.ensures ∙ ap stopped_by (sym one))
-    ∙ performs-stopped (operations t) (tried t) at (met t (Ok (trial.Blocks at)) is)
+    let one = at-front (operations t) c.try_operations.new.all at c.in_ok-try_operations.ensures.operations (inside t at is) none in
+    ap (λ (h : Halt). Err h) (c.stopped_by.ensures ∙ ap stopped_by (sym one)) ∙ comes t (Ok (trial.Blocks at)) is
 
 pub returns-in-Fails-clause-tests : goal.returns-in-Fails-clause-tests
 returns-in-Fails-clause-tests c =
-    let t = (goal.at.returns-in-Fails-clause-tests c).After-try_operations in
-    performs-refused (operations t) (tried t) c.in-Fails.errno
-    (met t (Ok (trial.Fails c.in-Fails.errno)) (ap attempted c.in_ok-try_operations.was ∙ ap (λ (t : Trial). Ok t) c.in-Fails.is))
+    comes (goal.at.returns-in-Fails-clause-tests c).After-try_operations (Ok (trial.Fails c.in-Fails.errno))
+    (ap attempted c.in_ok-try_operations.was ∙ ap (λ (t : Trial). Ok t) c.in-Fails.is)

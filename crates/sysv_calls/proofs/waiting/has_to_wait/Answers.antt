@@ -1,17 +1,17 @@
 use Rattle.std.proofs.Common.{◌≡◌, ◌∙◌, sym, true, false}
 use Rattle.ipc_state.specs.Finish.{has_to_wait}
-use Rattle.ipc_state.specs.Waiting.{parked_sysv}
-use Rattle.sysv_calls.specs.Calls.{attempt}
 use Rattle.ipc_state.specs.Steps.{attempted}
-use Rattle.ipc_state.proofs.CallerLemmas.{is_blocked}
-use Rattle.sysv_calls.proofs.Trying.{tested, waits-on}
+use Rattle.ipc_state.specs.Waiting.{parked_sysv}
+use Rattle.ipc_state.proofs.CallerLemmas.{is_blocked, waits-on}
+use Rattle.sysv_calls.specs.Calls.{attempt}
+use Rattle.sysv_calls.proofs.Trying.{is-answered}
 use Rattle.sysv_calls.proofs.waiting.has_to_wait.Goals.{After-ready}
 use Rattle.sysv_calls.proofs.waiting.has_to_wait.Goals as goal
 
 by_tests : (c : After-ready) → is_blocked (attempted c.ready.result)
     ≡ has_to_wait (attempt c.args.state.now.limits c.args.state.now.state c.args.pid.0 true (parked_sysv c.args.call.now))
-by_tests c = waits-on (tested c.args.state.now.limits c.args.state.now.state c.args.pid.0 true c.cred.result c.cred.ensures (parked_sysv c.args.call.now)
-    c.ready.result c.ready.ensures.tests)
+by_tests c = waits-on (is-answered c.args.state.now.limits c.args.state.now.state c.args.pid.0 true c.cred.result c.cred.ensures c.args.call.now
+    c.ready.result c.ready.ensures.tests).is
 
 pub returns-in-Err-Blocks : goal.returns-in-Err-Blocks
 returns-in-Err-Blocks c =

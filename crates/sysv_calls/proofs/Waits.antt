@@ -1,0 +1,181 @@
+-- Whether a call has to wait depends on the limits, who makes it and its own object alone; and after a receive, which takes a
+-- message away, each other receive that had to wait has to wait on.
+use Rattle.std.proofs.Common.{◌≡◌, ◌∙◌, ℕ, ℤ, Bool, true, false, not, List, length, Option, Some, None, refl, sym, ap, subst}
+use Rattle.std.specs.Prelude.{Ok, nat_eq, nat_lt}
+use Rattle.std.proofs.lemmas.Bool.{eqb-false, eqb-true}
+use Rattle.std.proofs.lemmas.Option.{none-some}
+use Rattle.ipc_base.specs.declared.errno.Errno.TheVariants.{E2BIG, EACCES, EINVAL, ENOMSG}
+use Rattle.ipc_base.specs.declared.identity.Cred.{Cred}
+use Rattle.ipc_base.specs.declared.limits.Limits.{Limits}
+use Rattle.ipc_base.proofs.CallerLemmas.{at-with, other-with}
+use Rattle.ipc_perm.specs.Perm.{may}
+use Rattle.ipc_wire.specs.declared.reply.Body.TheVariants.{Empty}
+use Rattle.ipc_wire.specs.Request.{PlainSysv, Sysv}
+use Rattle.ipc_wire.specs.Request as requests
+use Rattle.sysv_msg.specs.Queue.{Queue, pick, taken}
+use Rattle.sysv_msg.proofs.CallerLemmas.{pick-removed}
+use Rattle.sysv_sem.specs.declared.operation.Operation.{Operation}
+use Rattle.sysv_sem.specs.Operation.{outcome}
+use Rattle.sysv_sem.specs.Set.{values_of}
+use Rattle.ipc_state.specs.declared.keyed.Entry.{Entry}
+use Rattle.ipc_state.specs.declared.parked.Awaited.{Awaited}
+use Rattle.ipc_state.specs.declared.parked.Awaited.TheVariants as awaited
+use Rattle.ipc_state.specs.Finish.{Attempt, Finish, Finishes, Halt, IfFinishes, done_firing, has_to_wait, refuse, ◌orelse◌, ◌orstop◌, ◌>>◌, ◌>>=◌}
+use Rattle.ipc_state.specs.Keyed.{Keyed, holding}
+use Rattle.ipc_state.specs.Numbered.{entry_of, last_number}
+use Rattle.ipc_state.specs.State.{State, cred_of, semset_of, with_msg_queue}
+use Rattle.ipc_state.specs.Touching.{IsAsBefore, is_there}
+use Rattle.ipc_state.specs.Waiting.{awaited_by}
+use Rattle.ipc_state.proofs.CallerLemmas.{AreAlike, after, alike-waits, at-all, at-value, by-finish, is_blocked, orelse-alike, past-alike, same-alike}
+use Rattle.ipc_state.proofs.CallerLemmas.{then-alike, waits-as-tested, waits-for}
+use Rattle.sysv_calls.specs.Access.{accessible, gone, has, read, write}
+use Rattle.sysv_calls.specs.Calls.{attempt}
+use Rattle.sysv_calls.specs.Msg.{except, is_too_long, message_at, msgrcv, receivable, sendable, waits_or}
+use Rattle.sysv_calls.specs.Semop.{held_by, operable, operations_of, performable, tried_list}
+use Rattle.sysv_calls.proofs.Families.{by-waiting}
+use Rattle.sysv_calls.proofs.Reaching.{Receives, operates, receives, sends}
+
+-- ---- on what a call waits
+
+-- what holds of that on which it waits holds of this
+as-awaited : (P : Awaited → Type 0) {this on : Awaited} → Some this ≡ Some on → P on → P this
+as-awaited P {this} {on} is = let same : this ≡ on = cc in subst P (sym same)
+
+-- the same object for the same caller
+accessible-alike : {X : Type 0} (o p : Keyed X) (c d : Cred) (again other : Bool) (id access : ℕ) → d ≡ c → entry_of p id ≡ entry_of o id
+    → AreAlike (accessible other p d id access) (accessible again o c id access)
+accessible-alike o p c d again other id access who same =
+    subst (λ (b : Cred). AreAlike (accessible other p b id access) (accessible again o c id access)) (sym who)
+    (orelse-alike (gone other) (gone again) same (λ e _. same-alike refl))
+
+-- two states that have the same caller and the same object make the same call wait, whether it waited before or not
+module _ (limits : Limits) (s t : State) (pid : ℕ) (again other : Bool) where
+  abbrev IsAlike : PlainSysv → Type 0
+  IsAlike call = (on : Awaited) → awaited_by (Sysv call) ≡ Some on → cred_of t pid ≡ cred_of s pid → IsAsBefore pid on s t
+      → has_to_wait (attempt limits t pid other call) ≡ has_to_wait (attempt limits s pid again call)
+
+  alike-send : (id flags : ℕ) (mtype : ℤ) (text : List ℕ) → IsAlike (requests.Msgsnd id flags mtype text)
+  alike-send id flags mtype text on is who alike =
+      let same : AreAlike (sendable limits t (cred_of t pid) other id flags mtype text) (sendable limits s (cred_of s pid) again id flags mtype text) =
+      past-alike _ (past-alike _ (then-alike
+      (accessible-alike s.msg t.msg (cred_of s pid) (cred_of t pid) again other id write who (as-awaited (λ (o : Awaited). IsAsBefore pid o s t) is alike))
+      (λ e. same-alike refl))) in
+      alike-waits s t _ _ same
+
+  alike-receive : (id flags size : ℕ) (mtype : ℤ) → IsAlike (requests.Msgrcv id flags size mtype)
+  alike-receive id flags size mtype on is who alike =
+      let same : AreAlike (receivable t (cred_of t pid) other id flags size mtype) (receivable s (cred_of s pid) again id flags size mtype) =
+      past-alike _ (then-alike
+      (accessible-alike s.msg t.msg (cred_of s pid) (cred_of t pid) again other id read who (as-awaited (λ (o : Awaited). IsAsBefore pid o s t) is alike))
+      (λ e. same-alike refl)) in
+      alike-waits s t _ _ same
+
+  operable-alike : (id : ℕ) (ops : List Operation) → cred_of t pid ≡ cred_of s pid → semset_of t id ≡ semset_of s id
+      → AreAlike (operable limits t (cred_of t pid) other id ops) (operable limits s (cred_of s pid) again id ops)
+  operable-alike id ops who same =
+      subst (λ (b : Cred). AreAlike (operable limits t b other id ops) (operable limits s (cred_of s pid) again id ops)) (sym who)
+      (past-alike _ (orelse-alike (gone other) (gone again) same (λ e _. same-alike refl)))
+
+  alike-semop : (id timeout : ℕ) (operations : List ℕ) → IsAlike (requests.Semop id timeout operations)
+  alike-semop id timeout operations on is who alike =
+      let ops = operations_of operations in
+      let as_before : IsAsBefore pid (awaited.Semset (record { 0 = id })) s t = as-awaited (λ (o : Awaited). IsAsBefore pid o s t) is alike in
+      let held : held_by t pid id ≡ held_by s pid id = λ i num. as_before.1 pid num i in
+      let met : AreAlike (tried_list limits t (cred_of t pid) pid other id ops) (tried_list limits s (cred_of s pid) pid again id ops) =
+      then-alike (operable-alike id ops who as_before.0) (λ e. same-alike (λ i. Ok (e, outcome (values_of e.object) (held i) ops))) in
+      let same : AreAlike (performable limits t (cred_of t pid) pid other id ops) (performable limits s (cred_of s pid) pid again id ops) =
+      then-alike met (λ found. same-alike refl) in
+      alike-waits s t _ _ same
+
+  pub waits-alike : (call : PlainSysv) → IsAlike call
+  waits-alike call = by-waiting IsAlike alike-send alike-receive alike-semop (λ call none on is. absurd (none-some on (sym none.never ∙ is))) call
+
+-- what waits on an object finds it there
+module _ (limits : Limits) (s : State) (pid : ℕ) (again : Bool) where
+  abbrev IsThere : PlainSysv → Type 0
+  IsThere call = (on : Awaited) → awaited_by (Sysv call) ≡ Some on → has_to_wait (attempt limits s pid again call) ≡ true → is_there pid on s ≡ true
+
+  pub waits-there : (call : PlainSysv) → IsThere call
+  waits-there =
+      by-waiting IsThere
+      (λ id flags mtype text on is waits. as-awaited IsFound (sym is) (waits-for s _ _ (sends limits s (cred_of s pid) again id flags mtype text) waits))
+      (λ id flags size mtype on is waits. as-awaited IsFound (sym is) (waits-for s _ _ (receives s (cred_of s pid) again id flags size mtype) waits))
+      (λ id timeout operations on is waits.
+      as-awaited IsFound (sym is) (waits-for s _ _ (operates limits s (cred_of s pid) pid again id (operations_of operations)) waits))
+      (λ call none on is. absurd (none-some on (sym none.never ∙ is)))
+    where
+      IsFound : Awaited → Type 0
+      IsFound on = is_there pid on s ≡ true
+
+-- ---- receives
+
+-- what is blocked on an entry is blocked on another with the same permissions, if its last steps are
+still-blocked : (b1 b2 : Bool) (e f : Entry Queue) (k : Entry Queue → Attempt (Entry Queue × ℕ)) → (is_blocked (k e) ≡ true → is_blocked (k f) ≡ true)
+    → is_blocked (refuse EINVAL b1 >> (refuse EACCES b2 >> Ok e >>= k)) ≡ true → is_blocked (refuse EINVAL b1 >> (refuse EACCES b2 >> Ok f >>= k)) ≡ true
+still-blocked true b2 e f k still is = cc
+still-blocked false true e f k still is = cc
+still-blocked false false e f k still is = still is
+
+-- if none is picked where none was
+still-none : {X : Type 0} (o p : Option ℕ) (h : Halt) (long other : ℕ → Bool) (x y : ℕ → X) → (o ≡ None → p ≡ None)
+    → is_blocked (o orstop h >>= (λ at. refuse E2BIG (long at) >> Ok (x at))) ≡ true
+    → is_blocked (p orstop h >>= (λ at. refuse E2BIG (other at) >> Ok (y at))) ≡ true
+still-none None p h long other x y fewer is = rw (fewer refl) is
+still-none {X} (Some at) p h long other x y fewer is = absurd (by_test (long at) is)
+  where
+    by_test : (b : Bool) → is_blocked {X = X} (refuse E2BIG b >> Ok (x at)) ≡ true → ⊥
+    by_test true is = cc
+    by_test false is = cc
+
+-- after a receive has come to its end, each other receive that had to wait has to wait on
+pub received-waits : (limits : Limits) (s : State) (pid : ℕ) (again : Bool) (id flags size : ℕ) (mtype : ℤ) (f : Finish)
+    → attempt limits s pid again (requests.Msgrcv id flags size mtype) ≡ Finishes f
+    → (other other_id other_flags other_size : ℕ) (other_type : ℤ)
+    → has_to_wait (attempt limits s other true (requests.Msgrcv other_id other_flags other_size other_type)) ≡ true
+    → has_to_wait (attempt limits f.state other true (requests.Msgrcv other_id other_flags other_size other_type)) ≡ true
+received-waits limits s pid again id flags size mtype f is other n flags' size' mtype' waits =
+    subst (IfFinishes P) is (by-finish P s (msgrcv s (cred_of s pid) pid again id flags size mtype)
+    (after {P = λ d. P (done_firing d.state d.body d.fired)} (at-all (receives s (cred_of s pid) again id flags size mtype))
+    (λ found ok. at-value _ (still found ok))).holds (λ e. waits))
+  where
+    P : Finish → Type 0
+    P g = has_to_wait (attempt limits g.state other true (requests.Msgrcv n flags' size' mtype')) ≡ true
+
+    -- the tests of the other
+    mine : Entry Queue → Attempt (Entry Queue × ℕ)
+    mine e = pick e.object.messages mtype' (has flags' except) orstop waits_or flags' ENOMSG
+        >>= (λ at. refuse E2BIG (is_too_long flags' size' (length (message_at e.object at).text)) >> Ok (e, at))
+
+    IsBlocked : Option (Entry Queue) → Type 0
+    IsBlocked o = is_blocked (refuse EINVAL (nat_lt last_number size')
+        >> ((o orelse gone true >>= (λ e. refuse EACCES (not (may (cred_of s other) e.perm read)) >> Ok e)) >>= mine)) ≡ true
+
+    still : (found : Entry Queue × ℕ) → Receives s id found
+        → has_to_wait (attempt limits (with_msg_queue s id (holding found.0 (taken found.0.object found.1 pid s.clock))) other true
+        (requests.Msgrcv n flags' size' mtype')) ≡ true
+    still found ok = by_id (nat_eq n id) refl
+      where
+        e : Entry Queue
+        e = found.0
+
+        new : Entry Queue
+        new = holding e (taken e.object found.1 pid s.clock)
+
+        t : State
+        t = with_msg_queue s id new
+
+        tests : State → Attempt (Entry Queue × ℕ)
+        tests u = receivable u (cred_of s other) true n flags' size' mtype'
+
+        on_same : n ≡ id → IsBlocked (entry_of t.msg n)
+        on_same same =
+            let before : IsBlocked (Some e) = subst IsBlocked (ap (entry_of s.msg) same ∙ ok.there) (sym (waits-as-tested s (tests s) _) ∙ waits) in
+            subst IsBlocked (sym (ap (entry_of t.msg) same ∙ at-with s.msg.entries id new e ok.there))
+            (still-blocked (nat_lt last_number size') (not (may (cred_of s other) e.perm read)) e new mine
+            (still-none _ _ (waits_or flags' ENOMSG) _ _ _ _ (pick-removed e.object.messages mtype' (has flags' except) found.1)) before)
+
+        by_id : (b : Bool) → nat_eq n id ≡ b → P (record { state = t; errno = None; body = Empty; fired = None })
+        by_id true is = waits-as-tested t (tests t) _ ∙ on_same (eqb-true n id is)
+        by_id false is =
+            waits-alike limits s t other true true (requests.Msgrcv n flags' size' mtype') (awaited.MsgQueue (record { 0 = n })) refl refl
+            (other-with s.msg.entries id n new (eqb-false n id is)) ∙ waits
