@@ -1,15 +1,13 @@
--- A request is served: the replies have room, the hub's connections go on, and they match the clients of the definitions.
-use Rattle.std.proofs.Common.{◌≡◌, ◌≢◌, ℕ, ◌+◌, ◌<◌, ◌≤◌, ◌^◌, Bool, true, false, List, [], ◌∷◌, Option, Some, None}
-use Rattle.std.proofs.Common.{refl, sym, ap, ◌∙◌, subst, arith, ◌⊎◌, inl, inr, ◌++◌, length}
-use Rattle.std.specs.Prelude.{nat_eq, if◌then◌else◌}
+-- A request is served: the replies have room, and the hub's connections go on.
+use Rattle.std.proofs.Common.{◌≡◌, ◌≢◌, ℕ, ◌+◌, ◌<◌, ◌≤◌, ◌^◌, true, false, List, [], Option, Some, None}
+use Rattle.std.proofs.Common.{refl, sym, ap, ◌∙◌, subst, arith, ◌⊎◌, inl, inr, length}
+use Rattle.std.specs.Prelude.{nat_eq}
 use Rattle.std.proofs.lemmas.Bool.{cases_eq}
 use Rattle.std.proofs.lemmas.Bool.Decides.{nat_tests}
-use Rattle.std.proofs.lemmas.List.{length-append}
 use Rattle.ipc_hub.proofs.Rows.{same_value, process_of}
 use Rattle.ipc_base.specs.Limits.{ArePassed, longest_reply}
-use Rattle.ipc_base.specs.Table.{value_at, with_value, keys_of, EachValue, ArePaired}
-use Rattle.ipc_base.specs.declared.limits.Limits.{Limits}
-use Rattle.ipc_base.proofs.CallerLemmas.{choice, at-with, other-with, keys_of-with_value, each-at, each-by_key, paired-with, paired-weaker}
+use Rattle.ipc_base.specs.Table.{value_at, with_value, keys_of, EachValue}
+use Rattle.ipc_base.proofs.CallerLemmas.{choice, test_cases, at-with, other-with, keys_of-with_value, each-at, each-by_key}
 use Rattle.ipc_state.specs.State.{is_process}
 use Rattle.ipc_engine.specs.Bytes.{IsGreeted, bytes_to, owed}
 use Rattle.ipc_engine.specs.Event.{PlainEvent, PlainOutcome}
@@ -18,30 +16,17 @@ use Rattle.ipc_engine.specs.Step.{Step, step}
 use Rattle.ipc_engine.specs.View.{reply_of}
 use Rattle.ipc_wire.proofs.CallerLemmas.{length-reply_bytes}
 use Rattle.ipc_engine.proofs.CallerLemmas.{owed-none, unanswered-waits}
-use Rattle.ipc_hub.specs.Clients.{accepted, Client, Clients, client_at, last_reply, welcomed, serve, accept, with_client, with_frame}
+use Rattle.ipc_hub.specs.Hub.{last_reply, greeted as as_greeted, told as as_told}
 use Rattle.ipc_hub.specs.View.{ConnectionView, HubView, kept}
-use Rattle.ipc_hub.specs.Relations.Delivery.{last_frames, owed_to, unanswered_of, pushed, put_all, given, answered, with_answer, IsShort}
+use Rattle.ipc_hub.specs.Relations.Delivery.{last_frames, owed_to, unanswered_of, pushed, hears, put_all, answered, with_answer, view_endpoint}
 use Rattle.ipc_hub.specs.Relations.Rows.{Table, process_in}
 use Rattle.ipc_hub.specs.Relations.Delivery.{HaveSpace, HasSpaceToGreet, HasSpaceToAnswer}
 use Rattle.ipc_hub.specs.Relations.Invariant.{AreApart, AreOwn, IsSoundConnection, IsSoundIn, HubInvariant, Continues}
-use Rattle.ipc_hub.specs.Relations.Matches.{ClientMatches, HubMatches, IsAhead}
-use Rattle.ipc_hub.proofs.Deliveries.{push-matches, matches-later, accept-matches}
-use Rattle.ipc_hub.proofs.Keeping.{owing, owing-some, owing-none, kept-owing, kept-pushed, length-pushed, heard, nothing, length-heard, owing-have_space}
+use Rattle.ipc_hub.proofs.Keeping.{owing, owing-some, owing-none, kept-owing, kept-pushed, length-pushed, nothing, length-heard, owing-have_space}
 use Rattle.ipc_hub.proofs.Keeping.{quiet-kept, delivery-goes-on, process-with}
-use Rattle.ipc_hub.proofs.Ending.{client-there}
 use Rattle.ipc_hub.proofs.Requests.{Asks, last-fits, last-is, last-sent, asked-owes, connected-above, connected-below, next-above, step-short}
 
 -- ---- the connection that asked
-
--- When it is told the reply to its request: with no process, it is given it, and else it is as it was.
-pub by-answer : (r : Option PlainOutcome) (v : ConnectionView) (P : ConnectionView → Type 0) → (v.process ≡ None → P (given r v))
-    → ((pid : ℕ) → v.process ≡ Some pid → P v) → P (answered r v)
-by-answer r v P = by_process v.process
-  where
-    by_process : (p : Option ℕ) → (p ≡ None → P (given r (record v { process = p })))
-        → ((pid : ℕ) → p ≡ Some pid → P (record v { process = p })) → P (answered r (record v { process = p }))
-    by_process None none same = none refl
-    by_process (Some pid) none same = same pid refl
 
 module _ (h : HubView) (conn : ℕ) (v : ConnectionView) (e : PlainEvent) (inv : HubInvariant h) (found : value_at nat_eq h.connections conn ≡ Some v)
     (live : v.ended ≡ false) (space : owed_to h.limits h.state v.process + longest_reply h.limits + last_frames ≤ v.outbox.free)
@@ -67,18 +52,23 @@ module _ (h : HubView) (conn : ℕ) (v : ConnectionView) (e : PlainEvent) (inv :
   by-told : (P : ConnectionView → Type 0)
       → ((o : PlainOutcome) → v.process ≡ None → last_reply now.outcomes ≡ Some o → P (pushed (reply_of o) v))
       → ((pid : ℕ) → IsFresh pid → P (record v { process = Some pid })) → ((pid : ℕ) → v.process ≡ Some pid → P v) → P told
-  by-told P none new same = by-answer (last_reply now.outcomes) v P (λ is. greeted is (a.greets is)) same
+  by-told P none new same = by_process v.process (λ is. greeted is (a.greets is)) same
     where
+      by_process : (p : Option ℕ) → (p ≡ None → P (as_greeted view_endpoint 0 (last_reply now.outcomes) v)) → ((pid : ℕ) → p ≡ Some pid → P v)
+          → P (as_told view_endpoint 0 p (last_reply now.outcomes) v)
+      by_process None first second = first refl
+      by_process (Some pid) first second = second pid refl
+
       fresh : v.process ≡ None → (g : IsGreeted h.state now) → nat_eq g.reply.pid 0 ≡ false
           → (g.reply.pid ≡ 0) ⊎ ((g.reply.pid ≡ h.state.processes.next) × (is_process now.state g.reply.pid ≡ true)) → IsFresh g.reply.pid
       fresh is g t (inl zero) = absurd (grind (arith, nat_tests, t, zero))
       fresh is g t (inr new) =
           (is, new.0, new.1, subst (λ (os : List PlainOutcome). 0 < bytes_to g.reply.pid os) (sym g.last) (last-sent g.front g.reply))
 
-      greeted : v.process ≡ None → IsGreeted h.state now → P (given (last_reply now.outcomes) v)
+      greeted : v.process ≡ None → IsGreeted h.state now → P (as_greeted view_endpoint 0 (last_reply now.outcomes) v)
       greeted is g =
           let last : last_reply now.outcomes ≡ Some g.reply = ap last_reply g.last ∙ last-is g.front g.reply in
-          subst (λ (r : Option PlainOutcome). P (given r v)) (sym last)
+          subst (λ (r : Option PlainOutcome). P (as_greeted view_endpoint 0 r v)) (sym last)
           (choice P (nat_eq g.reply.pid 0) (pushed (reply_of g.reply) v) (record v { process = Some g.reply.pid }) (λ _. none g.reply is last)
           (λ t. new g.reply.pid (fresh is g t g.process)))
 
@@ -102,12 +92,9 @@ module _ (h : HubView) (conn : ℕ) (v : ConnectionView) (e : PlainEvent) (inv :
 
   fresh-owes : (pid : ℕ) → IsFresh pid → debt (Some pid) ≤ longest_reply h.limits
   fresh-owes pid new =
-      let none : owed h.limits h.state pid ≡ 0 = owed-none h.limits h.state pid sound (by_test (is_process h.state pid) (fresh-nobodys pid new)) in
+      let none : owed h.limits h.state pid ≡ 0 = owed-none h.limits h.state pid sound
+      (elim (test_cases (is_process h.state pid)) [ inl is ↦ absurd (fresh-nobodys pid new is) | inr not ↦ not ]) in
       omega (arith, none, asked-owes h.limits h.state e pid sound (fresh-above pid new), owing-some now.outcomes (owed_to h.limits now.state) pid)
-    where
-      by_test : (b : Bool) → (b ≡ true → ⊥) → b ≡ false
-      by_test true never = absurd (never refl)
-      by_test false never = refl
 
   -- it has room for what it is sent, and is owed then
   told-kept : IsSoundConnection h.limits debt told
@@ -128,10 +115,10 @@ module _ (h : HubView) (conn : ℕ) (v : ConnectionView) (e : PlainEvent) (inv :
       (omega (arith, asked-owes h.limits h.state e pid sound above, space, owes, less, owing-some now.outcomes (owed_to h.limits now.state) pid)))
 
   -- If it keeps no frame after its replies, it kept none before, and its request is the one that is not answered yet.
-  pub told-none : kept (heard now.outcomes told).outbox ≡ []
+  pub told-none : kept (hears now.outcomes told).outbox ≡ []
       → (length (kept v.outbox) ≡ 0) × (unanswered_of h.state v.process ≡ 0) × (0 < unanswered_of now.state told.process)
   told-none =
-      by-told (λ (w : ConnectionView). kept (heard now.outcomes w).outbox ≡ [] → (length (kept v.outbox) ≡ 0)
+      by-told (λ (w : ConnectionView). kept (hears now.outcomes w).outbox ≡ [] → (length (kept v.outbox) ≡ 0)
       × (unanswered_of h.state v.process ≡ 0) × (0 < unanswered_of now.state w.process))
       (λ o none last empty.
       let w : ConnectionView = pushed (reply_of o) v in
@@ -222,58 +209,3 @@ module _ (h : HubView) (conn : ℕ) (v : ConnectionView) (e : PlainEvent) (inv :
       delivery-goes-on (record h { connections = table }) new now.outcomes (rw state own) (rw state each-now) (rw rising inv.rising) limits
       (rows ∙ rw found refl) in
       record { limits = goes.limits; numbers = goes.numbers ∙ rising; invariant = goes.invariant }
-
--- ---- the clients
-
-told-matches : (confirmed accepted mark : ℕ) (r : Option PlainOutcome) (v : ConnectionView) (c : Client) → confirmed < mark → accepted ≤ mark
-    → ((o : PlainOutcome) → r ≡ Some o → IsShort o) → ClientMatches confirmed accepted v c
-    → ClientMatches confirmed mark (answered r v) (welcomed mark r c)
-told-matches confirmed accepted mark r v c later le short m =
-    subst (λ (p : Option ℕ). ClientMatches confirmed mark (answered r (record v { process = p })) (welcomed mark r c)) (sym m.process)
-    (by_process c.process r short
-    (record { process = refl; input = m.input; ended = m.ended; kept = m.kept; visible = m.visible; seen = m.seen; frames = m.frames }))
-  where
-    by_process : (p : Option ℕ) (r : Option PlainOutcome) → ((o : PlainOutcome) → r ≡ Some o → IsShort o)
-        → ClientMatches confirmed accepted (record v { process = p }) (record c { process = p })
-        → ClientMatches confirmed mark (answered r (record v { process = p })) (welcomed mark r (record c { process = p }))
-    by_process (Some pid) r short was = matches-later confirmed accepted mark _ _ le was
-    by_process None None short was = matches-later confirmed accepted mark _ _ le was
-    by_process None (Some o) short was = by_test (nat_eq o.pid 0)
-      where
-        m' : ClientMatches confirmed mark (record v { process = None }) (record c { process = None })
-        m' = matches-later confirmed accepted mark _ _ le was
-
-        by_test : (b : Bool) → ClientMatches confirmed mark
-            (if b then pushed (reply_of o) (record v { process = None }) else record v { process = Some o.pid })
-            (if b then with_frame (record c { process = None }) mark o else record c { process = Some o.pid })
-        by_test true = push-matches confirmed accepted mark _ _ o later le (short o refl) was
-        by_test false =
-            record { process = refl; input = m'.input; ended = m'.ended; kept = m'.kept; visible = m'.visible; seen = m'.seen; frames = m'.frames }
-
--- an event of a connection
-pub serve-matches : (limits : Limits) (confirmed : ℕ) (old new : HubView) (h : Clients) (conn : ℕ) (v : ConnectionView) (c : Client) (e : PlainEvent)
-    → HubMatches limits confirmed old h → value_at nat_eq old.connections conn ≡ Some v → client_at h conn ≡ Some c
-    → ArePassed old.limits → IsSound old.limits old.state
-    → new.limits ≡ old.limits → new.state ≡ (step old.limits old.state e).state
-    → new.connections ≡ put_all (step old.limits old.state e).outcomes (with_answer (step old.limits old.state e).outcomes conn old.connections)
-    → IsAhead limits confirmed new (serve limits h conn c e)
-serve-matches limits confirmed old new h conn v c e m found here passed sound same state rows =
-    let mark : ℕ = length (h.events ++ e ∷ []) in
-    let more : mark ≡ accepted h + 1 = omega (arith, length-append h.events (e ∷ [])) in
-    let was : Step = step old.limits old.state e in
-    let mine = client-there limits confirmed old h conn v c m found here in
-    let at : was ≡ step limits h.state e = λ i. step (m.same i) (m.state i) e in
-    let last : Option PlainOutcome = last_reply was.outcomes in
-    let d : Client = welcomed mark last c in
-    let table : Table = with_value nat_eq old.connections conn (answered last v) in
-    let clients : List (ℕ × Client) = with_value nat_eq h.clients conn d in
-    let told : with_answer was.outcomes conn old.connections ≡ table = rw found refl in
-    let paired : ArePaired (ClientMatches confirmed mark) table clients =
-    paired-with (ClientMatches confirmed mark) old.connections h.clients conn (answered last v) d
-    (paired-weaker (ClientMatches confirmed (accepted h)) (ClientMatches confirmed mark) old.connections h.clients m.clients
-    (λ x y. matches-later confirmed (accepted h) mark x y (omega (arith, more))))
-    (told-matches confirmed (accepted h) mark last v c (omega (arith, m.known, more)) (omega (arith, more))
-    (λ o is. (last-fits old.limits old.state e o passed sound is).0) mine) in
-    subst (λ (s : Step). IsAhead limits confirmed new (accept limits (with_client h conn (welcomed mark (last_reply s.outcomes) c)) e)) at
-    (accept-matches limits confirmed mark old new h e table clients m (omega arith) paired same state (rows ∙ ap (put_all was.outcomes) told)
-    (step-short old.limits old.state e passed sound))

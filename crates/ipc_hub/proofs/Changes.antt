@@ -7,7 +7,7 @@ use Rattle.std.proofs.lemmas.Bool.{cases_eq}
 use Rattle.std.proofs.lemmas.List.{length-append, drop_all, drop-drop, drop-append-le, length-drop}
 use Rattle.std.proofs.lemmas.List.Elements.{All-weaker, All-cons, All-head, All-tail, All-push}
 use Rattle.ipc_base.specs.Limits.{longest_reply}
-use Rattle.ipc_base.specs.Table.{value_at, with_entry, with_value, without, keys_of, seen_as, ArePaired, IsRising}
+use Rattle.ipc_base.specs.Table.{value_at, with_entry, without, keys_of, seen_as, ArePaired, IsRising}
 use Rattle.ipc_base.specs.declared.limits.Limits.{Limits}
 use Rattle.ipc_base.proofs.CallerLemmas.{nobody, each-entry, each-without, each-seen, entry-at, entry-other, rising-entry, rising-without, rising-gone}
 use Rattle.ipc_base.proofs.CallerLemmas.{value_at-without, paired-entry, paired-without, paired-seen, at-map, keys-map, choice}
@@ -23,7 +23,7 @@ use Rattle.ipc_hub.specs.Relations.Delivery.{owed_to, released, consumed, failed
 use Rattle.ipc_hub.specs.Relations.Invariant.{IsSoundConnection, IsSoundIn, IsNew, HubInvariant, StoredInvariant, IsNobodys}
 use Rattle.ipc_hub.specs.Relations.Matches.{IsFrame, ClientMatches, HubMatches, AreFrames}
 use Rattle.ipc_hub.proofs.Deliveries.{IsOf, all-confirmed, confirmed-short, consumed-bytes, consumed-shown, consumed-all, table-matches, frames-later}
-use Rattle.ipc_hub.proofs.Keeping.{table-invariant, changed-keys, changed-invariant, at-changed}
+use Rattle.ipc_hub.proofs.Keeping.{table-invariant, by-changed, changed-keys, changed-invariant, at-changed}
 use Rattle.ipc_hub.proofs.Ending.{change-matches, pair-at}
 use Rattle.std.proofs.lemmas.Bool.Decides.{nat_tests}
 use Rattle.std.proofs.lemmas.Grind.{flat_map-append}
@@ -255,13 +255,9 @@ consumed-output table conn n =
 
 pub consumed-others : (table : Table) (conn n other : ℕ) → other ≢ conn
     → output_in (changed (consumed n) conn table) other ≡ output_in table other
-consumed-others table conn n other apart = by_value (value_at nat_eq table conn)
-  where
-    by_value : (r : Option ConnectionView)
-        → output_in (elim r as (λ _. Table) [ None ↦ table | Some c ↦ with_value nat_eq table conn (consumed n c) ]) other ≡ output_in table other
-    by_value None = refl
-    by_value (Some c) =
-        ap (λ (r : Option ConnectionView). unwrap_or (option_map (λ c. c.outbox.visible) r) []) (other-with table conn other (consumed n c) apart)
+consumed-others table conn n other apart =
+    by-changed (λ (t : Table). output_in t other ≡ output_in table other) (consumed n) conn table (λ _. refl) (λ v _.
+    ap (λ (r : Option ConnectionView). unwrap_or (option_map (λ c. c.outbox.visible) r) []) (other-with table conn other (consumed n v) apart))
 
 -- ---- what is seen
 

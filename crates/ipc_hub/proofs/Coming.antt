@@ -10,14 +10,16 @@ use Rattle.ipc_disk.specs.Medium.{Medium}
 use Rattle.ipc_store.specs.Histories.{Takes}
 use Rattle.ipc_store.specs.View.{StoreView}
 use Rattle.ipc_store.proofs.CallerLemmas.{Takes-both}
-use Rattle.ipc_hub.specs.Clients.{Clients, accepted, tick, feed, leave, hangup}
+use Rattle.ipc_hub.specs.Hub.{accepted, leave}
+use Rattle.ipc_hub.specs.Clients.{Clients, client_endpoint, tick, feed, hangup}
 use Rattle.ipc_hub.specs.View.{ConnectionView, HubView, StoredHub, HasNoFrame, connection_of, ended_of, kept}
 use Rattle.ipc_hub.specs.Relations.Delivery.{released}
 use Rattle.ipc_hub.specs.Relations.Invariant.{HasPassed, SameButSeen}
-use Rattle.ipc_hub.specs.Relations.Matches.{HubMatches, StoredMatches, Simulates, TakesIn, Comes, Accepts, Pends}
-use Rattle.ipc_hub.specs.Relations.Requests.{exit_of}
+use Rattle.ipc_hub.specs.Relations.Matches.{HubMatches, StoredMatches, TakesIn, Comes, Accepts, Pends}
+use Rattle.ipc_hub.specs.Relations.Requests.{Left, exit_of}
 use Rattle.ipc_hub.specs.Relations.Rows.{Table, hub_view, stored_view, process_in, is_open_in}
 use Rattle.ipc_hub.proofs.Changes.{without-matches, process-matches}
+use Rattle.ipc_hub.proofs.Deliveries.{left-matches}
 use Rattle.ipc_hub.proofs.Ending.{leave-adds}
 
 -- ---- the same connections, or all that they keep is seen
@@ -97,20 +99,20 @@ module _ {D : Type 0} (medium : D → Medium) (limits : Limits) where
       let now : Clients = tick limits h moment in
       let later : mid.store.confirmed < accepted now = omega (arith, came.matches.counts, some) in
       let took = takes limits mid.store.confirmed now (record { matches = came.matches.hub; later = later }) in
-      (took.0, comes-further old mid new h now (feed limits h conn bytes moment took.0) came took.1.matches took.2)
+      (took.0, comes-further old mid new h now (feed limits h conn bytes moment took.0) came took.1.ahead.matches took.1.accepts)
 
   -- time passed, and the client has gone
   pub comes-gone : (old : StoredHub D) (mid new : StoreView D) (table left after : Table) (conn moment : ℕ) (process : Option ℕ) (h : Clients)
       → left ≡ without nat_eq table conn → process ≡ process_in table conn → Comes medium limits old (stored_view mid table) h (tick limits h moment)
-      → Simulates (hub_view mid.machine left) (hub_view new.machine after) (λ limits h. leave limits h process moment)
+      → Left (hub_view mid.machine left) (hub_view new.machine after) process moment
       → Pends medium mid (exit_of process moment) new → Comes medium limits old (stored_view new after) h (hangup limits h conn moment)
   comes-gone old mid new table left after conn moment process h gone mine came leaves pends =
       let now : Clients = tick limits h moment in
       let gone_now : Clients = record now { clients = without nat_eq now.clients conn } in
       let m : HubMatches limits mid.confirmed (hub_view mid.machine left) gone_now =
       without-matches limits mid.confirmed (hub_view mid.machine table) (hub_view mid.machine left) now conn came.matches.hub refl refl gone in
-      let done = comes-further old (stored_view mid table) (stored_view new after) h now (leave limits gone_now process moment) came
-      (leaves limits mid.confirmed gone_now m)
-      (record { events = exit_of process moment; adds = leave-adds limits gone_now process moment; pends = pends }) in
-      subst (λ (p : Option ℕ). Comes medium limits old (stored_view new after) h (leave limits gone_now p moment))
+      let done = comes-further old (stored_view mid table) (stored_view new after) h now (leave client_endpoint limits gone_now process moment) came
+      (left-matches (hub_view mid.machine left) (hub_view new.machine after) process moment leaves limits mid.confirmed gone_now m)
+      (record { events = exit_of process moment; adds = leave-adds client_endpoint limits gone_now process moment; pends = pends }) in
+      subst (λ (p : Option ℕ). Comes medium limits old (stored_view new after) h (leave client_endpoint limits gone_now p moment))
       (mine ∙ process-matches limits mid.confirmed (hub_view mid.machine table) now conn came.matches.hub) done

@@ -1,5 +1,5 @@
 -- A commit of the store: the frames that waited are seen, or it has failed and they are dropped.
-use Rattle.std.proofs.Common.{◌≡◌, ℕ, ◌+◌, ◌-◌, ◌<◌, ◌≤◌, ◌^◌, Bool, true, false, [], ◌∷◌, ◌⊎◌, inl, inr, Ok, Err, refl, sym, ap, ◌∙◌, arith}
+use Rattle.std.proofs.Common.{◌≡◌, ℕ, ◌+◌, ◌-◌, ◌<◌, ◌≤◌, ◌^◌, Bool, true, false, [], ◌⊎◌, inl, inr, Ok, Err, refl, sym, ap, ◌∙◌, arith}
 use Rattle.std.specs.Prelude.{if◌then◌else◌, ⊤, Result, OnOk, OnErr, IfErr}
 use Rattle.ipc_base.specs.declared.limits.Limits.{Limits}
 use Rattle.ipc_base.specs.Table.{keys_of, seen_as, EachValue}
@@ -18,6 +18,7 @@ use Rattle.ipc_hub.specs.Relations.Faults.{Fails, Halts}
 use Rattle.ipc_hub.specs.Relations.Invariant.{IsSoundIn, HubInvariant, StoredInvariant}
 use Rattle.ipc_hub.specs.Relations.Matches.{Adds, StoredMatches}
 use Rattle.ipc_hub.specs.Relations.Rows.{Table, hub_view, stored_view}
+use Rattle.ipc_hub.proofs.Keeping.{each-weaker}
 use Rattle.ipc_hub.proofs.Changes.{released-invariant, release-matches, fail-matches}
 
 -- a store of which events are left has not stopped
@@ -48,11 +49,7 @@ adds-both n first next fits = record {
 
 -- each connection has room for an EIO frame
 pub spare : (h : HubView) → HubInvariant h → EachValue HasSpare h.connections
-spare h inv = by_rows h.connections inv.each
-  where
-    by_rows : (es : Table) → EachValue (IsSoundIn h) es → EachValue HasSpare es
-    by_rows [] each = tt
-    by_rows (e ∷ es) each = (each.0.spare, by_rows es each.1)
+spare h inv = each-weaker (IsSoundIn h) HasSpare h.connections (λ v k. k.spare) inv.each
 
 -- A commit or a save of the store is done or has failed, and the connections were told of it.
 module _ {D : Type 0} (old new : StoreView D) (before after : Table) (same : new.machine ≡ old.machine) (goes : old.stopped ≡ false) where

@@ -1,26 +1,35 @@
 -- The frames of a client, all confirmed or some consumed, and replies that are delivered: the connections match the clients
 -- of the definitions as they did before.
-use Rattle.std.proofs.Common.{◌≡◌, ℕ, ◌+◌, ◌-◌, ◌<◌, ◌≤◌, true, List, [], ◌∷◌, ◌++◌, length, drop, refl, sym, ap, ◌∙◌, arith, inl, inr, false, subst}
+use Rattle.std.proofs.Common.{◌≡◌, ℕ, ◌+◌, ◌-◌, ◌<◌, ◌≤◌, true, false, List, [], ◌∷◌, ◌++◌}
+use Rattle.std.proofs.Common.{length, drop, Option, Some, None, refl, sym, ap, subst, ◌∙◌, arith, inl, inr}
 use Rattle.std.proofs.Common.{append_assoc, append-nil}
 use Rattle.std.specs.Prelude.{nat_le, All, if◌then◌else◌}
 use Rattle.std.proofs.Math.Seq.{drop-append-add}
+use Rattle.std.proofs.lemmas.Grind.{flat_map-append}
 use Rattle.std.proofs.lemmas.List.{length-append, drop_all, drop-append-le}
 use Rattle.std.proofs.lemmas.List.Elements.{All-head, All-tail, All-weaker, All-push}
 use Rattle.std.proofs.lemmas.Bool.Decides.{nat_tests}
-use Rattle.ipc_base.proofs.CallerLemmas.{choice, test_cases, paired-seen, paired-weaker}
-use Rattle.ipc_hub.specs.Clients.{Frame, all_bytes, confirmed_bytes, consumed_from, accepted, Client, Clients, with_frame, is_for, delivered, deliver_all}
-use Rattle.ipc_hub.specs.Clients.{accept}
-use Rattle.ipc_hub.specs.Relations.Matches.{IsFrame, AreFrames, ClientMatches, HubMatches, IsAhead}
-use Rattle.std.proofs.lemmas.Grind.{flat_map-append}
-use Rattle.ipc_base.specs.Table.{seen_as, ArePaired}
+use Rattle.ipc_base.specs.Limits.{ArePassed}
+use Rattle.ipc_base.specs.Table.{ArePaired}
 use Rattle.ipc_base.specs.declared.limits.Limits.{Limits}
+use Rattle.ipc_base.proofs.CallerLemmas.{choice, test_cases}
 use Rattle.ipc_wire.specs.Reply.{reply_bytes}
-use Rattle.ipc_engine.specs.Event.{PlainEvent, PlainOutcome}
-use Rattle.ipc_engine.specs.Step.{Step, step}
+use Rattle.ipc_state.specs.Sound.{FitsBody}
+use Rattle.ipc_state.specs.State.{State}
+use Rattle.ipc_engine.specs.Event.{PlainEvent, PlainOutcome, Exit}
+use Rattle.ipc_engine.specs.Sound.{IsSound}
+use Rattle.ipc_engine.specs.Step.{step}
 use Rattle.ipc_engine.specs.View.{reply_of}
+use Rattle.ipc_engine.proofs.CallerLemmas.{step-fits}
+use Rattle.ipc_hub.specs.Hub.{Hub, accepted, accept, leave}
+use Rattle.ipc_hub.specs.Clients.{Frame, Client, Clients, client_endpoint, all_bytes, confirmed_bytes, consumed_from}
+use Rattle.ipc_hub.specs.Relations.Delivery.{view_endpoint, IsShort}
+use Rattle.ipc_hub.specs.Relations.Matches.{IsFrame, AreFrames, ClientMatches, HubMatches, Simulates}
+use Rattle.ipc_hub.specs.Relations.Requests.{Happened, Left}
+use Rattle.ipc_hub.specs.Relations.Rows.{Becomes, Table, hub_of}
 use Rattle.ipc_hub.specs.View.{ConnectionView, HubView}
-use Rattle.ipc_hub.specs.Relations.Rows.{Table}
-use Rattle.ipc_hub.specs.Relations.Delivery.{pushed, put_for, put_all, IsShort, AllShort}
+use Rattle.ipc_hub.proofs.Kept.{CanPush, IsKept, Passes, Related, accept-kept}
+use Rattle.ipc_hub.proofs.Requests.{fits-short}
 
 -- a frame is a reply, and belongs to one of so many events
 abbrev pub IsOf : ℕ → Frame → Type 0
@@ -105,19 +114,34 @@ not_yet confirmed (g ∷ gs) f later = ap (λ (bytes : List ℕ). if nat_le g.ma
 pub frames-later : (accepted mark : ℕ) (frames : List Frame) → accepted ≤ mark → AreFrames accepted frames → AreFrames mark frames
 frames-later accepted mark frames le = All-weaker (IsOf accepted) (IsOf mark) (λ f is. (omega (arith, is.0, le), is.1)) frames
 
--- more events were accepted
-pub matches-later : (confirmed accepted mark : ℕ) (v : ConnectionView) (c : Client) → accepted ≤ mark → ClientMatches confirmed accepted v c
-    → ClientMatches confirmed mark v c
-matches-later confirmed accepted mark v c le m =
-    let all = frames-later accepted mark c.frames le m.frames in
-    record { process = m.process; input = m.input; ended = m.ended; kept = m.kept; visible = m.visible; seen = m.seen; frames = all }
+-- ---- the hub over connections, and the hub over clients
+
+-- after so many events
+abbrev pub Matching : ℕ → List PlainEvent → ConnectionView → Client → Type 0
+Matching confirmed es v c = ClientMatches confirmed (length es) v c
+
+pub matching-kept : (confirmed : ℕ) → IsKept view_endpoint client_endpoint (Matching confirmed)
+matching-kept confirmed =
+    record {
+      process = λ es v c m. m.process;
+      input = λ es v c m. m.input;
+      ended = λ es v c m. m.ended;
+      joins = λ es v c pid m.
+          record { process = refl; input = m.input; ended = m.ended; kept = m.kept; visible = m.visible; seen = m.seen; frames = m.frames };
+      keeps = λ es v c bytes m.
+          record { process = m.process; input = refl; ended = m.ended; kept = m.kept; visible = m.visible; seen = m.seen; frames = m.frames };
+      ends = λ es v c m. record { process = refl; input = refl; ended = refl; kept = m.kept; visible = m.visible; seen = m.seen; frames = m.frames };
+      later = λ es e v c m.
+          let all = frames-later (length es) (length (es ++ e ∷ [])) c.frames (omega (arith, length-append es (e ∷ []))) m.frames in
+          record { process = m.process; input = m.input; ended = m.ended; kept = m.kept; visible = m.visible; seen = m.seen; frames = all };
+    }
 
 -- a reply was put into the outbox: the client has a frame more
-pub push-matches : (confirmed accepted mark : ℕ) (v : ConnectionView) (c : Client) (o : PlainOutcome) → confirmed < mark → accepted ≤ mark → IsShort o
-    → ClientMatches confirmed accepted v c → ClientMatches confirmed mark (pushed (reply_of o) v) (with_frame c mark o)
-push-matches confirmed accepted mark v c o later le short m =
+pub matching-push : (confirmed : ℕ) (es : List PlainEvent) (o : PlainOutcome) → confirmed < length es → IsShort o
+    → CanPush view_endpoint client_endpoint (Matching confirmed) es o
+matching-push confirmed es o later short mark v c m =
     let bytes : List ℕ = reply_bytes (reply_of o) in
-    let f : Frame = record { mark = mark; bytes = bytes } in
+    let f : Frame = record { mark = length es; bytes = bytes } in
     let here : c.consumed ≤ length (all_bytes c.frames) = omega (arith, m.seen, confirmed-short confirmed c.frames) in
     record {
       process = m.process;
@@ -130,52 +154,55 @@ push-matches confirmed accepted mark v c o later le short m =
           ∙ ap (drop c.consumed) (sym (flat_map-append (λ (g : Frame). g.bytes) c.frames (f ∷ [])));
       visible = m.visible ∙ ap (drop c.consumed) (sym (not_yet confirmed c.frames f later));
       seen = omega (arith, m.seen, ap length (not_yet confirmed c.frames f later));
-      frames = All-push (IsOf mark) c.frames f
-          (frames-later accepted mark c.frames le m.frames) (omega arith, (reply_of o, (refl, short)));
+      frames = All-push (IsOf (length es)) c.frames f m.frames (omega arith, (reply_of o, (refl, short)));
     }
 
--- a reply for one process
-put-matches : (confirmed accepted mark : ℕ) (v : ConnectionView) (c : Client) (o : PlainOutcome) → confirmed < mark → accepted ≤ mark → IsShort o
-    → ClientMatches confirmed accepted v c → ClientMatches confirmed mark (put_for o v) (delivered mark o c)
-put-matches confirmed accepted mark v c o later le short m =
-    choice (ClientMatches confirmed mark (put_for o v)) (is_for o.pid c.process) (with_frame c mark o) c
-    (λ t. rw (ap (is_for o.pid) m.process ∙ t) (push-matches confirmed accepted mark v c o later le short m))
-    (λ t. rw (ap (is_for o.pid) m.process ∙ t) (matches-later confirmed accepted mark v c le m))
+-- ---- hubs that match
 
--- all replies of an event
-pub put-pairs : (confirmed accepted mark : ℕ) (os : List PlainOutcome) (table : Table) (clients : List (ℕ × Client))
-    → confirmed < mark → accepted ≤ mark → AllShort os
-    → ArePaired (ClientMatches confirmed accepted) table clients
-    → ArePaired (ClientMatches confirmed mark) (put_all os table) (deliver_all mark clients os)
-put-pairs confirmed accepted mark [] table clients later le short paired =
-    paired-weaker (ClientMatches confirmed accepted) (ClientMatches confirmed mark) table clients paired
-    (λ v c m. matches-later confirmed accepted mark v c le m)
-put-pairs confirmed accepted mark (o ∷ os) table clients later le short paired =
-    put-pairs confirmed mark mark os (seen_as (put_for o) table) (seen_as (delivered mark o) clients) later (omega arith) short.1
-    (paired-seen (ClientMatches confirmed accepted) (ClientMatches confirmed mark) table clients (put_for o) (delivered mark o) paired
-    (λ v c m. put-matches confirmed accepted mark v c o later le short.0 m))
+-- the events are those at the beginning, and then those that came
+abbrev pub Since : List PlainEvent → List PlainEvent → State → List PlainEvent → Type 0
+Since base ds s es = es ≡ base ++ ds
 
--- an event that was accepted, with these connections and clients before its replies
-pub accept-matches : (limits : Limits) (confirmed base : ℕ) (old new : HubView) (h : Clients) (e : PlainEvent) (table : Table)
-    (clients : List (ℕ × Client)) → HubMatches limits confirmed old h → base ≤ length (h.events ++ e ∷ []) → ArePaired
-    (ClientMatches confirmed base) table clients
-    → new.limits ≡ old.limits → new.state ≡ (step old.limits old.state e).state
-    → new.connections ≡ put_all (step old.limits old.state e).outcomes table → AllShort (step old.limits old.state e).outcomes
-    → IsAhead limits confirmed new (accept limits (record h { clients = clients }) e)
-accept-matches limits confirmed base old new h e table clients m le paired same state connections short =
-    let mark : ℕ = length (h.events ++ e ∷ []) in
-    let more : mark ≡ accepted h + 1 = omega (arith, length-append h.events (e ∷ [])) in
-    let was : Step = step old.limits old.state e in
-    let now : Step = step limits h.state e in
-    let at : was ≡ now = λ i. step (m.same i) (m.state i) e in
-    let put = put-pairs confirmed base mark was.outcomes table clients (omega (arith, m.known, more)) le short paired in
+abbrev pub AreMatched : ℕ → List PlainEvent → Hub ConnectionView → Clients → Type 0
+AreMatched confirmed base = Related view_endpoint client_endpoint (Matching confirmed) (Since base)
+
+pub as-related : {limits : Limits} {confirmed : ℕ} {v : HubView} {h : Clients} → HubMatches limits confirmed v h → AreMatched confirmed h.events (hub_of v) h
+as-related {h} m = record { state = m.state; clients = m.clients; known = sym (append-nil h.events) }
+
+pub as-matches : {limits : Limits} {confirmed : ℕ} {old new : HubView} {g : Hub ConnectionView} (h : Clients) {next : Clients}
+    → HubMatches limits confirmed old h → Becomes old new g → AreMatched confirmed h.events g next → HubMatches limits confirmed new next
+as-matches {g} h m b r =
     record {
-      matches = record {
-        same = same ∙ m.same;
-        state = state ∙ ap (λ (s : Step). s.state) at;
-        clients = rw connections
-            (subst (λ (s : Step). ArePaired (ClientMatches confirmed mark) (put_all was.outcomes table) (deliver_all mark clients s.outcomes)) at put);
-        known = omega (arith, m.known, more);
-      };
-      later = omega (arith, m.known, more);
+      same = b.limits ∙ m.same;
+      state = b.state ∙ r.state;
+      clients = rw b.rows r.clients;
+      known = omega (arith, m.known, ap length r.known, length-append h.events g.events);
     }
+
+-- under the limits that the code's hub has
+pub under-own : {limits : Limits} {confirmed : ℕ} {v : HubView} {h : Clients} → HubMatches limits confirmed v h → HubMatches v.limits confirmed v h
+under-own m = record { same = refl; state = m.state; clients = m.clients; known = m.known }
+
+-- any event passes in a sound state: its replies are short
+pub all-pass : (limits : Limits) (confirmed : ℕ) (v : HubView) (h : Clients) → ArePassed limits → IsSound limits h.state → confirmed ≤ accepted h
+    → (e : PlainEvent) → Passes view_endpoint client_endpoint (Matching confirmed) (matching-kept confirmed) (Since h.events) limits (hub_of v) h e
+all-pass limits confirmed v h passed sound known e = (
+  refl,
+  All-weaker (λ (o : PlainOutcome). FitsBody limits o.body) (CanPush view_endpoint client_endpoint (Matching confirmed) (h.events ++ e ∷ []))
+      (λ o fits. matching-push confirmed (h.events ++ e ∷ []) o (omega (arith, known, length-append h.events (e ∷ []))) (fits-short limits o passed fits))
+      (step limits h.state e).outcomes (step-fits limits h.state e sound),
+)
+
+-- an event that has come is accepted
+pub happened-matches : (limits : Limits) (confirmed : ℕ) (old new : HubView) (e : PlainEvent) → Happened old new e → (h : Clients)
+    → HubMatches limits confirmed old h → HubMatches limits confirmed new (accept client_endpoint limits h e)
+happened-matches limits confirmed old new e is h m =
+    rw (sym m.same) (as-matches h (under-own m) is.becomes
+    (accept-kept view_endpoint client_endpoint (Matching confirmed) (matching-kept confirmed) (Since h.events) old.limits e
+    (all-pass old.limits confirmed old h is.passed (rw (sym m.state) is.sound) m.known e) (as-related m)))
+
+-- a process that has left leaves
+pub left-matches : (old new : HubView) (process : Option ℕ) (moment : ℕ) → Left old new process moment
+    → Simulates old new (λ limits h. leave client_endpoint limits h process moment)
+left-matches old new None moment same limits confirmed h m = subst (λ (v : HubView). HubMatches limits confirmed v h) (sym same) m
+left-matches old new (Some pid) moment is limits confirmed h m = happened-matches limits confirmed old new (Exit pid moment) is h m

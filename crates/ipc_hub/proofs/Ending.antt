@@ -1,48 +1,37 @@
--- The server ends a connection: it matches the client of the definitions before and after, step by step over its rows.
-use Rattle.std.proofs.Common.{◌≡◌, ℕ, ◌≤◌, true, [], ◌∷◌, ◌++◌, Option, Some, None, refl, sym, ◌∙◌, subst, append-nil, arith, false}
+-- The server ends a connection: what it is then, step by step over its rows, and what is the definitions' end of it.
+use Rattle.std.proofs.Common.{◌≡◌, ◌≤◌, ℕ, true, false, [], ◌++◌, Option, Some, None, refl, sym, ◌∙◌, subst, append-nil, arith}
 use Rattle.std.proofs.Common.{ap, ◌⊎◌, inl, inr}
 use Rattle.std.specs.Prelude.{nat_eq, IfSome}
-use Rattle.std.proofs.lemmas.List.{length-append}
-use Rattle.ipc_hub.proofs.Rows.{same_value, process_of}
 use Rattle.ipc_base.specs.Table.{value_at, with_value, keys_of}
 use Rattle.ipc_base.specs.declared.errno.Errno.TheVariants.{EPROTO}
 use Rattle.ipc_base.specs.declared.limits.Limits.{Limits}
 use Rattle.ipc_base.proofs.CallerLemmas.{paired-at, paired-none, paired-with, each-at, at-with}
-use Rattle.ipc_engine.specs.Event.{Exit}
-use Rattle.ipc_engine.specs.View.{reply_of}
-use Rattle.ipc_hub.specs.Clients.{accepted, Client, Clients, client_at, with_client, refusal, over, leave, break_off}
-use Rattle.ipc_hub.specs.View.{ConnectionView, HubView, HasNoFrame}
-use Rattle.ipc_hub.specs.Relations.Delivery.{pushed, closed, last_frame, owed_to}
-use Rattle.ipc_hub.specs.Relations.Matches.{ClientMatches, HubMatches, IsAhead, Simulates, SimulatesAt}
-use Rattle.ipc_hub.specs.Relations.Requests.{exit_of}
-use Rattle.ipc_hub.proofs.Deliveries.{push-matches, table-matches}
-use Rattle.ipc_hub.proofs.Keeping.{with_connection, changed-invariant, changed-keys, change-nobodys, connected-in, kept-pushed, live-at, pushed-frame}
 use Rattle.ipc_wire.proofs.CallerLemmas.{first_short, length-reply_bytes}
 use Rattle.ipc_engine.specs.Engine.{Machine}
-use Rattle.ipc_hub.specs.Relations.Rows.{Table, hub_view, changed, process_in, is_open_in}
+use Rattle.ipc_engine.specs.View.{reply_of}
+use Rattle.ipc_hub.specs.Hub.{Endpoint, Hub, accepted, client_at, with_client, refusal, leave, break_off}
+use Rattle.ipc_hub.specs.Clients.{Client, Clients}
+use Rattle.ipc_hub.specs.View.{ConnectionView, HubView, HasNoFrame}
+use Rattle.ipc_hub.specs.Relations.Delivery.{pushed, closed, last_frame, owed_to, view_endpoint}
 use Rattle.ipc_hub.specs.Relations.Invariant.{IsSoundIn, HubInvariant, Continues, IsConnected, IsNobodys, LeavesOthers}
-
-pub ended-matches : (confirmed accepted : ℕ) (v : ConnectionView) (c : Client) → ClientMatches confirmed accepted v c
-    → ClientMatches confirmed accepted (closed v) (over c)
-ended-matches confirmed accepted v c m =
-    record { process = refl; input = refl; ended = refl; kept = m.kept; visible = m.visible; seen = m.seen; frames = m.frames }
-
-pub leave-later : (limits : Limits) (h : Clients) (p : Option ℕ) (moment : ℕ) → (accepted h) ≤ accepted (leave limits h p moment)
-leave-later limits h None moment = omega arith
-leave-later limits h (Some pid) moment = omega (arith, length-append h.events (Exit pid moment ∷ []))
+use Rattle.ipc_hub.specs.Relations.Matches.{ClientMatches, HubMatches}
+use Rattle.ipc_hub.specs.Relations.Requests.{Left, exit_of}
+use Rattle.ipc_hub.specs.Relations.Rows.{Becomes, Table, hub_of, hub_view, changed, process_in, is_open_in}
+use Rattle.ipc_hub.proofs.Deliveries.{table-matches}
+use Rattle.ipc_hub.proofs.Keeping.{change-invariant, changed-invariant, changed-keys, change-nobodys, connected-in, kept-pushed, live-at, pushed-frame}
+use Rattle.ipc_hub.proofs.Rows.{same_value, process_of}
 
 -- the event of a process that leaves is the last one
-pub leave-adds : (limits : Limits) (h : Clients) (p : Option ℕ) (moment : ℕ) → (leave limits h p moment).events ≡ h.events ++ exit_of p moment
-leave-adds limits h None moment = sym (append-nil h.events)
-leave-adds limits h (Some pid) moment = refl
+pub leave-adds : {E : Type 0} (kind : Endpoint E) (limits : Limits) (h : Hub E) (p : Option ℕ) (moment : ℕ)
+    → (leave kind limits h p moment).events ≡ h.events ++ exit_of p moment
+leave-adds kind limits h None moment = sym (append-nil h.events)
+leave-adds kind limits h (Some pid) moment = refl
 
--- the client that a connection matches
-pub client-there : (limits : Limits) (confirmed : ℕ) (old : HubView) (h : Clients) (conn : ℕ) (v : ConnectionView) (c : Client)
-    → HubMatches limits confirmed old h → value_at nat_eq old.connections conn ≡ Some v → client_at h conn ≡ Some c
-    → ClientMatches confirmed (accepted h) v c
-client-there limits confirmed old h conn v c m found here =
-    let at = paired-at (ClientMatches confirmed (accepted h)) old.connections h.clients conn v m.clients found in
-    subst (ClientMatches confirmed (accepted h) v) (same_value at.0 c (sym at.1.0 ∙ here)) at.1.1
+-- a hub of which the process of a connection has left
+left-becomes : (old new : HubView) (p : Option ℕ) (moment : ℕ) → Left old new p moment → Becomes old new (leave view_endpoint old.limits (hub_of old) p moment)
+left-becomes old new None moment same =
+    record { limits = ap (λ (v : HubView). v.limits) same; state = ap (λ (v : HubView). v.state) same; rows = ap (λ (v : HubView). v.connections) same }
+left-becomes old new (Some pid) moment is = is.becomes
 
 -- a connection and its client
 pub record Pair (confirmed : ℕ) (old : HubView) (h : Clients) (conn : ℕ) : Type 0 where
@@ -72,30 +61,6 @@ pub change-matches : (limits : Limits) (confirmed : ℕ) (old new : HubView) (h 
 change-matches limits confirmed old new h conn v c m same state rows is =
     table-matches limits confirmed confirmed old new h (with_value nat_eq old.connections conn v) (with_value nat_eq h.clients conn c) m same state rows m.known
     (paired-with (ClientMatches confirmed (accepted h)) old.connections h.clients conn v c m.clients is)
-
--- the process leaves, and an EPROTO frame is the last
-pub end-matches : (limits : Limits) (confirmed : ℕ) (old left new : HubView) (h : Clients) (conn serial moment : ℕ) (v : ConnectionView) (c : Client)
-    → IsAhead limits confirmed old h → value_at nat_eq old.connections conn ≡ Some v → client_at h conn ≡ Some c
-    → (HubMatches limits confirmed (with_connection old conn (closed v)) (with_client h conn (over c))
-    → HubMatches limits confirmed left (leave limits (with_client h conn (over c)) v.process moment))
-    → new.limits ≡ left.limits → new.state ≡ left.state
-    → new.connections ≡ with_value nat_eq left.connections conn (pushed (reply_of (refusal serial EPROTO)) (closed v))
-    → IsAhead limits confirmed new (break_off limits h conn c serial moment)
-end-matches limits confirmed old left new h conn serial moment v c ahead found here leaves same state rows =
-    let m = ahead.matches in
-    let mine : ClientMatches confirmed (accepted h) v c = client-there limits confirmed old h conn v c m found here in
-    let is : ClientMatches confirmed (accepted h) (closed v) (over c) = ended-matches confirmed (accepted h) v c mine in
-    let h1 : Clients = with_client h conn (over c) in
-    let went : Clients = leave limits h1 c.process moment in
-    let le = leave-later limits h1 c.process moment in
-    let gone : HubMatches limits confirmed left went = rw mine.process at
-    (leaves (change-matches limits confirmed old (with_connection old conn (closed v)) h conn (closed v) (over c) m refl refl refl is)) in
-    record {
-      matches = change-matches limits confirmed left new went conn (pushed (reply_of (refusal serial EPROTO)) (closed v)) _ gone same state rows
-          (push-matches confirmed (accepted h) (accepted went) (closed v) (over c) (refusal serial EPROTO) (omega (arith, ahead.later, le)) le
-          (omega arith) is);
-      later = omega (arith, ahead.later, le);
-    }
 
 -- ---- the steps, over the table
 
@@ -144,31 +109,33 @@ module _ (engine : Machine) (table : Table) (conn : ℕ) (inv : HubInvariant (hu
       abbrev last : ConnectionView → ConnectionView
       last = pushed (reply_of (refusal serial EPROTO))
 
+      put : changed last conn after ≡ with_value nat_eq after conn (last (closed v))
+      put = rw here refl
+
       pub last-goes-on : Continues (hub_view engine table) (hub_view left (changed last conn after))
       last-goes-on =
           let long = length-reply_bytes (reply_of (refusal serial EPROTO)) in
+          let owes : Option ℕ → ℕ = owed_to left.limits left.state in
           record {
             limits = continues.limits;
             numbers = changed-keys last conn after ∙ continues.numbers ∙ ap keys_of is ∙ changed-keys closed conn table;
-            invariant = changed-invariant (hub_view left after) conn last continues.invariant (λ w is k.
-                let same : w ≡ closed v = same_value w (closed v) (sym is ∙ here) in
-                let free = ap (λ (c : ConnectionView). c.outbox.free) same in
-                let over = ap (λ (c : ConnectionView). c.ended) same in (
-                  λ pid mine. mine,
-                  kept-pushed left.limits (owed_to left.limits left.state) (owed_to left.limits left.state) (refusal serial EPROTO) w k
-                      (omega (arith, kept.last (live-at table conn live).1.1, free, long))
-                      (λ live'. let never : true ≡ false = sym over ∙ live' in cc),
-                ));
+            invariant = rw put (change-invariant (hub_view left after) conn (closed v) (last (closed v)) continues.invariant here (λ pid mine. mine)
+                (kept-pushed left.limits owes owes (refusal serial EPROTO) (closed v)
+                (each-at (IsSoundIn (hub_view left after)) after conn (closed v) continues.invariant.each here)
+                (omega (arith, kept.last (live-at table conn live).1.1, long)) (λ never. cc)));
           }
 
-      pub last-ends : (moment : ℕ) (process : Option ℕ) → process ≡ process_in table conn
-          → Simulates (hub_view engine gone) (hub_view left after) (λ limits h. leave limits h process moment) → (client : Client)
-          → SimulatesAt conn client (hub_view engine table) (hub_view left (changed last conn after))
-          (λ limits h. break_off limits h conn client serial moment)
-      last-ends moment process had leaves client limits confirmed h ahead there =
-          end-matches limits confirmed (hub_view engine table) (hub_view left after) (hub_view left (changed last conn after)) h conn serial moment v client
-          ahead found there
-          (λ m. rw (had ∙ ap process_of found) at (leaves limits confirmed (with_client h conn (over client)) (rw is (rw found m)))) refl refl (rw here refl)
+      pub last-ends : (moment : ℕ) (process : Option ℕ) → process ≡ process_in table conn → Left (hub_view engine gone) (hub_view left after) process moment
+          → (c : ConnectionView) → value_at nat_eq table conn ≡ Some c
+          → Becomes (hub_view engine table) (hub_view left (changed last conn after))
+          (break_off view_endpoint engine.limits (hub_of (hub_view engine table)) conn c serial moment)
+      last-ends moment process had gone-now c there =
+          let same : v ≡ c = same_value v c (sym found ∙ there) in
+          let put-out : gone ≡ with_value nat_eq table conn (closed v) = is ∙ rw found refl in
+          let b = rw (put-out, had ∙ ap process_of found) at (left-becomes (hub_view engine gone) (hub_view left after) process moment gone-now) in
+          subst (λ (w : ConnectionView). Becomes (hub_view engine table) (hub_view left (changed last conn after))
+          (break_off view_endpoint engine.limits (hub_of (hub_view engine table)) conn w serial moment)) same
+          (record { limits = b.limits; state = b.state; rows = put ∙ ap (λ (t : Table). with_value nat_eq t conn (last (closed v))) b.rows })
 
       pub last-answers : HasNoFrame (hub_view left (changed last conn after)) conn → ⊥
       last-answers = pushed-frame left after conn (reply_of (refusal serial EPROTO)) (closed v) here

@@ -1,12 +1,12 @@
 -- What holds of the hub's connections goes on holding when replies are put into their outboxes.
 use Rattle.std.proofs.Common.{◌≡◌, ◌≢◌, ℕ, ◌+◌, ◌≤◌, ◌^◌, true, false, List, [], ◌∷◌, ◌++◌, length, Option, Some, None}
 use Rattle.std.proofs.Common.{refl, sym, ap, subst, ◌∙◌, arith, ◌⊎◌, inl, inr}
-use Rattle.std.specs.Prelude.{nat_eq, ◌==◌, if◌then◌else◌, option_map, option_and_then, not, unwrap_or, Bool, IfSome}
+use Rattle.std.specs.Prelude.{nat_eq, ◌==◌, if◌then◌else◌, option_map, not, unwrap_or, IfSome}
 use Rattle.std.proofs.lemmas.Bool.{cases_eq}
 use Rattle.std.proofs.lemmas.List.{length-append}
 use Rattle.ipc_base.specs.Table.{value_at, with_value, keys_of, seen_as, EachValue, IsRising}
 use Rattle.ipc_base.specs.declared.limits.Limits.{Limits}
-use Rattle.ipc_base.proofs.CallerLemmas.{choice, each-seen, each-at, each-by_key, each-with, at-map, keys-map, at-with, other-with, keys_of-with_value}
+use Rattle.ipc_base.proofs.CallerLemmas.{choice, test_cases, each-seen, each-at, each-by_key, each-with, at-map, keys-map, at-with, other-with, keys_of-with_value}
 use Rattle.ipc_wire.specs.Reply.{reply_bytes}
 use Rattle.ipc_wire.specs.Reply.{PlainReply}
 use Rattle.ipc_wire.proofs.CallerLemmas.{length-reply_bytes}
@@ -18,17 +18,18 @@ use Rattle.ipc_engine.specs.View.{reply_of}
 use Rattle.ipc_engine.specs.Engine.{Machine}
 use Rattle.ipc_engine.proofs.CallerLemmas.{owed-most}
 use Rattle.ipc_state.specs.State.{State, is_process}
-use Rattle.ipc_hub.specs.Clients.{accepted, Clients, accept, is_for}
+use Rattle.ipc_hub.specs.Hub.{is_for}
 use Rattle.ipc_hub.specs.View.{ConnectionView, HubView, HasNoFrame, kept}
-use Rattle.ipc_hub.specs.Relations.Matches.{HubMatches}
-use Rattle.ipc_hub.proofs.Deliveries.{accept-matches}
+use Rattle.ipc_hub.proofs.Kept.{both_choose, heard-none}
 use Rattle.ipc_hub.proofs.Requests.{quiet-owes, step-short}
-use Rattle.ipc_hub.proofs.Rows.{process_of, for-one, same-changed}
+use Rattle.ipc_hub.proofs.Rows.{process_of, for-one}
 use Rattle.ipc_base.specs.Limits.{ArePassed, longest_reply}
-use Rattle.ipc_hub.specs.Relations.Delivery.{last_frame, last_frames, owed_to, pushed, put_for, put_all}
+use Rattle.ipc_hub.specs.Relations.Delivery.{last_frame, last_frames, owed_to, pushed, hears, put_for, put_all, view_endpoint}
 use Rattle.ipc_hub.specs.Relations.Delivery.{AllShort, HasSpaceIn, HasSpaceFor, HasSpaceForAll, HaveSpace}
 use Rattle.ipc_hub.specs.Relations.Rows.{Table, hub_view, changed, process_in, is_open_in}
-use Rattle.ipc_hub.specs.Relations.Invariant.{AreApart, AreOwn, IsSoundConnection, IsSoundIn, HubInvariant, Continues, HasPassed, LeavesOthers, IsNobodys, IsConnected}
+use Rattle.ipc_hub.specs.Relations.Requests.{Happened}
+use Rattle.ipc_hub.specs.Relations.Invariant.{AreApart, AreOwn, IsSoundConnection, IsSoundIn, HubInvariant}
+use Rattle.ipc_hub.specs.Relations.Invariant.{Continues, HasPassed, LeavesOthers, IsNobodys, IsConnected}
 
 -- ---- one connection
 
@@ -63,7 +64,8 @@ kept-owing limits f g v p k live space =
     }
 
 -- the same, whether or not the connection has ended
-pub kept-less : (limits : Limits) (f g : Option ℕ → ℕ) (v : ConnectionView) → IsSoundConnection limits f v → g v.process ≤ f v.process → IsSoundConnection limits g v
+pub kept-less : (limits : Limits) (f g : Option ℕ → ℕ) (v : ConnectionView) → IsSoundConnection limits f v → g v.process ≤ f v.process
+    → IsSoundConnection limits g v
 kept-less limits f g v k le =
     record { input = k.input; last = λ live. omega (arith, k.last live, le); over = k.over; spare = k.spare; size = k.size }
 
@@ -103,11 +105,8 @@ pushed-some reply v none = omega (arith, ap length none, length-pushed reply v, 
 
 -- a connection that goes on has a process or none; what is for its process has room
 live-for : (limits : Limits) (f : Option ℕ → ℕ) (v : ConnectionView) (pid : ℕ) → IsSoundConnection limits f v → v.process ≡ Some pid → v.ended ≡ false
-live-for limits f v pid k some = by_end v.ended refl
-  where
-    by_end : (b : Bool) → v.ended ≡ b → v.ended ≡ false
-    by_end true ended = let never : None ≡ Some pid = sym (k.over ended) ∙ some in cc
-    by_end false live = live
+live-for limits f v pid k some =
+    elim (test_cases v.ended) [ inl ended ↦ let never : None ≡ Some pid = sym (k.over ended) ∙ some in cc | inr live ↦ live ]
 
 -- a reply that was on its way has come
 put-kept : (limits : Limits) (f : Option ℕ → ℕ) (o : PlainOutcome) (os : List PlainOutcome) (v : ConnectionView)
@@ -119,17 +118,9 @@ put-kept limits f o os v k =
     kept-pushed limits (owing (o ∷ os) f) (owing os f) o v k (omega (arith, space)) (λ _. omega (arith, space)))
     (λ is. kept-less limits (owing (o ∷ os) f) (owing os f) v k (omega arith))
 
-put-process : (o : PlainOutcome) (r : Option ConnectionView)
-    → option_and_then (λ (v : ConnectionView). v.process) (option_map (put_for o) r) ≡ option_and_then (λ (v : ConnectionView). v.process) r
-put-process o None = refl
-put-process o (Some v) =
-    choice (λ (w : ConnectionView). w.process ≡ v.process) (is_for o.pid v.process) (pushed (reply_of o) v) v (λ _. refl) (λ _. refl)
-
-put-none : (o : PlainOutcome) (v : ConnectionView) → v.process ≡ None → put_for o v ≡ v
-put-none o v none = rw none refl
-
 -- the replies that are on their way have room
-pub owing-space : (limits : Limits) (f : Option ℕ → ℕ) (os : List PlainOutcome) (v : ConnectionView) → IsSoundConnection limits (owing os f) v → HasSpaceForAll os v
+pub owing-space : (limits : Limits) (f : Option ℕ → ℕ) (os : List PlainOutcome) (v : ConnectionView) → IsSoundConnection limits (owing os f) v
+    → HasSpaceForAll os v
 owing-space limits f os v k pid some =
     omega (arith, k.last (live-for limits (owing os f) v pid k some), ap (owing os f) some, owing-some os f pid)
 
@@ -147,13 +138,8 @@ space-rest o os v space =
     (λ is pid mine. let this : (pid == o.pid) ≡ true = rw mine at is in let all = rw this at (space pid mine) in omega (arith, all))
     (λ is pid mine. omega (arith, space pid mine))
 
--- a connection that has heard some replies
-abbrev pub heard : List PlainOutcome → ConnectionView → ConnectionView
-heard [] v = v
-heard (o ∷ os) v = heard os (put_for o v)
-
 pub heard-kept : (limits : Limits) (f : Option ℕ → ℕ) (os : List PlainOutcome) (v : ConnectionView) → IsSoundConnection limits (owing os f) v
-    → IsSoundConnection limits f (heard os v)
+    → IsSoundConnection limits f (hears os v)
 heard-kept limits f [] v k = k
 heard-kept limits f (o ∷ os) v k = heard-kept limits f os (put_for o v) (put-kept limits f o os v k)
 
@@ -163,7 +149,7 @@ put-same o v =
     choice (λ (w : ConnectionView). (w.process ≡ v.process) × (w.ended ≡ v.ended)) (is_for o.pid v.process) (pushed (reply_of o) v) v
     (λ _. (refl, refl)) (λ _. (refl, refl))
 
-pub heard-same : (os : List PlainOutcome) (v : ConnectionView) → ((heard os v).process ≡ v.process) × ((heard os v).ended ≡ v.ended)
+pub heard-same : (os : List PlainOutcome) (v : ConnectionView) → ((hears os v).process ≡ v.process) × ((hears os v).ended ≡ v.ended)
 heard-same [] v = (refl, refl)
 heard-same (o ∷ os) v =
     let rest = heard-same os (put_for o v) in
@@ -174,24 +160,24 @@ nothing p = 0
 
 length-put : (o : PlainOutcome) (v : ConnectionView)
     → length (kept (put_for o v).outbox) ≡ length (kept v.outbox) + (if is_for o.pid v.process then length (reply_bytes (reply_of o)) else 0)
-length-put o v = by_test (is_for o.pid v.process)
-  where
-    by_test : (b : Bool) → length (kept (if b then pushed (reply_of o) v else v).outbox)
-        ≡ length (kept v.outbox) + (if b then length (reply_bytes (reply_of o)) else 0)
-    by_test true = length-pushed (reply_of o) v
-    by_test false = omega arith
+length-put o v =
+    both_choose (λ (w : ConnectionView) (n : ℕ). length (kept w.outbox) ≡ length (kept v.outbox) + n) (is_for o.pid v.process) (is_for o.pid v.process)
+    (pushed (reply_of o) v) v (length (reply_bytes (reply_of o))) 0 refl (length-pushed (reply_of o) v) (omega arith)
 
 pub length-heard : (os : List PlainOutcome) (v : ConnectionView)
-    → length (kept (heard os v).outbox) ≡ length (kept v.outbox) + owing os nothing v.process
+    → length (kept (hears os v).outbox) ≡ length (kept v.outbox) + owing os nothing v.process
 length-heard [] v = omega arith
 length-heard (o ∷ os) v =
     omega (arith, length-heard os (put_for o v), length-put o v, ap (owing os nothing) (put-same o v).0)
 
 -- ---- all connections
 
+pub each-weaker : (P Q : ConnectionView → Type 0) (table : Table) → ((v : ConnectionView) → P v → Q v) → EachValue P table → EachValue Q table
+each-weaker P Q [] does each = tt
+each-weaker P Q (e ∷ es) does each = (does e.1 each.0, each-weaker P Q es does each.1)
+
 pub first-each : (o : PlainOutcome) (os : List PlainOutcome) (table : Table) → EachValue (HasSpaceForAll (o ∷ os)) table → EachValue (HasSpaceIn o) table
-first-each o os [] each = tt
-first-each o os (e ∷ es) each = (space-first o os e.1 each.0, first-each o os es each.1)
+first-each o os table = each-weaker (HasSpaceForAll (o ∷ os)) (HasSpaceIn o) table (space-first o os)
 
 pub rest-space : (o : PlainOutcome) (os : List PlainOutcome) (table : Table) → HaveSpace (o ∷ os) table → HaveSpace os (seen_as (put_for o) table)
 rest-space o os table space =
@@ -204,52 +190,41 @@ rest-space o os table space =
 -- the replies that are on their way have room in each connection
 pub owing-have_space : (limits : Limits) (f : Option ℕ → ℕ) (os : List PlainOutcome) (table : Table) → AllShort os
     → EachValue (IsSoundConnection limits (owing os f)) table → HaveSpace os table
-owing-have_space limits f os table short each = record { short = short; each = by_rows table each }
-  where
-    by_rows : (es : Table) → EachValue (IsSoundConnection limits (owing os f)) es → EachValue (HasSpaceForAll os) es
-    by_rows [] all = tt
-    by_rows (e ∷ es) all = (owing-space limits f os e.1 all.0, by_rows es all.1)
+owing-have_space limits f os table short each =
+    record { short = short; each = each-weaker (IsSoundConnection limits (owing os f)) (HasSpaceForAll os) table (owing-space limits f os) each }
 
 pub put-each : (limits : Limits) (f : Option ℕ → ℕ) (os : List PlainOutcome) (table : Table) → EachValue (IsSoundConnection limits (owing os f)) table
     → EachValue (IsSoundConnection limits f) (put_all os table)
-put-each limits f [] table each = each
-put-each limits f (o ∷ os) table each =
-    put-each limits f os (seen_as (put_for o) table)
-    (each-seen (IsSoundConnection limits (owing (o ∷ os) f)) (IsSoundConnection limits (owing (o ∷ os) f)) (IsSoundConnection limits (owing os f)) table (put_for o) each each
-    (λ v k _. put-kept limits f o os v k))
+put-each limits f os table each =
+    each-seen (IsSoundConnection limits (owing os f)) (IsSoundConnection limits (owing os f)) (IsSoundConnection limits f) table (hears os) each each
+    (λ v k _. heard-kept limits f os v k)
 
 pub put-keys : (os : List PlainOutcome) (table : Table) → keys_of (put_all os table) ≡ keys_of table
-put-keys [] table = refl
-put-keys (o ∷ os) table = put-keys os (seen_as (put_for o) table) ∙ keys-map (put_for o) table
+put-keys os table = keys-map (hears os) table
 
 pub put-processes : (os : List PlainOutcome) (table : Table) (conn : ℕ) → process_in (put_all os table) conn ≡ process_in table conn
-put-processes [] table conn = refl
-put-processes (o ∷ os) table conn =
-    put-processes os (seen_as (put_for o) table) conn
-    ∙ ap process_of (at-map (put_for o) table conn) ∙ put-process o (value_at nat_eq table conn)
+put-processes os table conn = ap process_of (at-map (hears os) table conn) ∙ by_value (value_at nat_eq table conn)
+  where
+    by_value : (r : Option ConnectionView) → process_of (option_map (hears os) r) ≡ process_of r
+    by_value None = refl
+    by_value (Some v) = (heard-same os v).0
+
+-- the replies to come reach the connections that one was put into
+pub put-next : (o : PlainOutcome) (os : List PlainOutcome) (table : Table) → put_all os (seen_as (put_for o) table) ≡ put_all (o ∷ os) table
+put-next o os [] = refl
+put-next o os (e ∷ es) = ap (λ (t : Table). (e.0, hears (o ∷ os) e.1) ∷ t) (put-next o os es)
+
+pub put-nothing : (table : Table) → put_all [] table ≡ table
+put-nothing [] = refl
+put-nothing (e ∷ es) = ap (λ (t : Table). e ∷ t) (put-nothing es)
 
 pub put-apart : (o : PlainOutcome) (table : Table) → AreApart table → AreApart (seen_as (put_for o) table)
 put-apart o table apart conn other pid is too =
     apart conn other pid (sym (put-processes (o ∷ []) table conn) ∙ is) (sym (put-processes (o ∷ []) table other) ∙ too)
 
 pub put-others : (os : List PlainOutcome) (table : Table) → LeavesOthers table (put_all os table)
-put-others [] table conn v is none = is
-put-others (o ∷ os) table conn v is none =
-    put-others os (seen_as (put_for o) table) conn v
-    (at-map (put_for o) table conn ∙ ap (option_map (put_for o)) is ∙ ap Some (put-none o v none)) none
-
-pub put-at : (os : List PlainOutcome) (table : Table) (conn : ℕ) → value_at nat_eq (put_all os table) conn ≡ option_map (heard os) (value_at nat_eq table conn)
-put-at [] table conn = same (value_at nat_eq table conn)
-  where
-    same : (r : Option ConnectionView) → r ≡ option_map (heard []) r
-    same None = refl
-    same (Some v) = refl
-put-at (o ∷ os) table conn =
-    put-at os (seen_as (put_for o) table) conn ∙ ap (option_map (heard os)) (at-map (put_for o) table conn) ∙ both (value_at nat_eq table conn)
-  where
-    both : (r : Option ConnectionView) → option_map (heard os) (option_map (put_for o) r) ≡ option_map (heard (o ∷ os)) r
-    both None = refl
-    both (Some v) = refl
+put-others os table conn v is none =
+    at-map (hears os) table conn ∙ ap (option_map (hears os)) is ∙ ap Some (heard-none view_endpoint 0 os v none)
 
 -- no process is owed more than the most
 owed_to-most : (limits : Limits) (s : State) (p : Option ℕ) → IsSound limits s → owed_to limits s p ≤ most_owed limits
@@ -314,20 +289,6 @@ delivery-goes-on mid new os own each rising same rows =
       };
     }
 
--- an event has come over a hub: its machine took the step, and the replies went where they go
-pub record Happened (old new : HubView) (e : PlainEvent) : Type 0 where
-  pub passed : ArePassed old.limits
-  pub sound : IsSound old.limits old.state
-  pub limits : new.limits ≡ old.limits
-  pub state : new.state ≡ (step old.limits old.state e).state
-  pub rows : new.connections ≡ put_all (step old.limits old.state e).outcomes old.connections
-
-pub happened-matches : (limits : Limits) (confirmed : ℕ) (old new : HubView) (e : PlainEvent) → Happened old new e → (h : Clients)
-    → HubMatches limits confirmed old h → HubMatches limits confirmed new (accept limits h e)
-happened-matches limits confirmed old new e is h m =
-    (accept-matches limits confirmed (accepted h) old new h e old.connections h.clients m (omega (arith, length-append h.events (e ∷ []))) m.clients
-    is.limits is.state is.rows (step-short old.limits old.state e is.passed is.sound)).matches
-
 -- an event by which nobody asks
 module _ (old : HubView) (e : PlainEvent) (sound : IsSound old.limits old.state) (inv : HubInvariant old)
     (none : (pid : ℕ) → asks old.state e pid ≡ false) where
@@ -348,7 +309,7 @@ module _ (old : HubView) (e : PlainEvent) (sound : IsSound old.limits old.state)
 
   -- a connection that kept no frame has room for what its process is owed then, and for a request
   quiet-spacious : (v : ConnectionView) → IsSoundIn old v → ((pid : ℕ) → v.process ≡ Some pid → is_process old.state pid ≡ true) → kept v.outbox ≡ []
-      → v.ended ≡ false → owed_to old.limits after v.process + longest_reply old.limits + last_frames ≤ (heard sent v).outbox.free
+      → v.ended ≡ false → owed_to old.limits after v.process + longest_reply old.limits + last_frames ≤ (hears sent v).outbox.free
   quiet-spacious v k is empty live =
       let more : Option ℕ → ℕ = λ p. owed_to old.limits after p + longest_reply old.limits in
       let less = quiet-less old.limits old.state e sound v.process (λ pid some. (is pid some, none pid)) in
@@ -364,8 +325,8 @@ module _ (old : HubView) (e : PlainEvent) (sound : IsSound old.limits old.state)
         → Continues old new
     quiet-goes-on stay =
         delivery-goes-on old new sent
-        (rw is.state (own-less old.state after old.connections old.connections inv.own (λ conn pid mine. (mine, stay conn pid mine))))
-        (rw is.state quiet-each) inv.rising is.limits is.rows
+        (rw is.becomes.state (own-less old.state after old.connections old.connections inv.own (λ conn pid mine. (mine, stay conn pid mine))))
+        (rw is.becomes.state quiet-each) inv.rising is.becomes.limits is.becomes.rows
 
     pub quiet-passes : HasPassed old new
     quiet-passes =
@@ -379,22 +340,22 @@ module _ (old : HubView) (e : PlainEvent) (sound : IsSound old.limits old.state)
               (spacious conn (value_at nat_eq old.connections conn) refl empty);
         }
       where
-        at : (conn : ℕ) → value_at nat_eq new.connections conn ≡ option_map (heard sent) (value_at nat_eq old.connections conn)
-        at conn = ap (λ (t : Table). value_at nat_eq t conn) is.rows ∙ put-at sent old.connections conn
+        at : (conn : ℕ) → value_at nat_eq new.connections conn ≡ option_map (hears sent) (value_at nat_eq old.connections conn)
+        at conn = ap (λ (t : Table). value_at nat_eq t conn) is.becomes.rows ∙ at-map (hears sent) old.connections conn
 
         still-over : (r : Option ConnectionView) → unwrap_or (option_map (λ (c : ConnectionView). not c.ended) r) false ≡ false
-            → unwrap_or (option_map (λ (c : ConnectionView). not c.ended) (option_map (heard sent) r)) false ≡ false
+            → unwrap_or (option_map (λ (c : ConnectionView). not c.ended) (option_map (hears sent) r)) false ≡ false
         still-over None over = over
         still-over (Some v) over = ap not (heard-same sent v).1 ∙ over
 
         spacious : (conn : ℕ) (r : Option ConnectionView) → value_at nat_eq old.connections conn ≡ r → IfSome r (λ c. kept c.outbox ≡ [])
-            → IfSome (option_map (heard sent) r) (λ c. c.ended ≡ false
+            → IfSome (option_map (hears sent) r) (λ c. c.ended ≡ false
             → owed_to new.limits new.state c.process + longest_reply new.limits + last_frames ≤ c.outbox.free)
         spacious conn None here empty = tt
         spacious conn (Some v) here empty = λ live.
             let space = quiet-spacious v (each-at (IsSoundIn old) old.connections conn v inv.each here)
             (λ pid some. inv.own.connected conn pid (ap process_of here ∙ some)) empty (sym (heard-same sent v).1 ∙ live) in
-            rw is.limits (rw is.state (rw (heard-same sent v).0 space))
+            rw is.becomes.limits (rw is.becomes.state (rw (heard-same sent v).0 space))
 
 -- ---- one connection of the hub is changed
 
@@ -422,48 +383,44 @@ change-invariant h conn was v inv found less kept =
     ])
     (each-with (IsSoundIn h) h.connections conn v inv.each kept) (rw (keys_of-with_value nat_eq h.connections conn v) inv.rising)
 
--- the same, where it is changed if it is there
+-- a connection is changed if it is there
+pub by-changed : (P : Table → Type 0) (see : ConnectionView → ConnectionView) (conn : ℕ) (table : Table) → (value_at nat_eq table conn ≡ None → P table)
+    → ((v : ConnectionView) → value_at nat_eq table conn ≡ Some v → P (with_value nat_eq table conn (see v))) → P (changed see conn table)
+by-changed P see conn table none some = by_value (value_at nat_eq table conn) none some
+  where
+    by_value : (r : Option ConnectionView) → (r ≡ None → P table) → ((v : ConnectionView) → r ≡ Some v → P (with_value nat_eq table conn (see v)))
+        → P (elim r as (λ _. Table) [ None ↦ table | Some c ↦ with_value nat_eq table conn (see c) ])
+    by_value None gone there = gone refl
+    by_value (Some v) gone there = there v refl
+
 pub changed-invariant : (h : HubView) (conn : ℕ) (see : ConnectionView → ConnectionView) → HubInvariant h
     → ((v : ConnectionView) → value_at nat_eq h.connections conn ≡ Some v → IsSoundIn h v
     → ((pid : ℕ) → (see v).process ≡ Some pid → v.process ≡ Some pid) × IsSoundIn h (see v))
     → HubInvariant (record h { connections = changed see conn h.connections })
-changed-invariant h conn see inv kept = by_value (value_at nat_eq h.connections conn) refl
-  where
-    by_value : (r : Option ConnectionView) → value_at nat_eq h.connections conn ≡ r → HubInvariant (record h { connections = changed see conn h.connections })
-    by_value None is = rw is inv
-    by_value (Some v) is =
-        let k = kept v is (each-at (IsSoundIn h) h.connections conn v inv.each is) in
-        rw is (change-invariant h conn v (see v) inv is k.0 k.1)
+changed-invariant h conn see inv kept =
+    by-changed (λ (t : Table). HubInvariant (record h { connections = t })) see conn h.connections (λ _. inv) (λ v is.
+    let k = kept v is (each-at (IsSoundIn h) h.connections conn v inv.each is) in change-invariant h conn v (see v) inv is k.0 k.1)
 
 pub changed-keys : (see : ConnectionView → ConnectionView) (conn : ℕ) (table : Table) → keys_of (changed see conn table) ≡ keys_of table
-changed-keys see conn table = by_value (value_at nat_eq table conn)
-  where
-    by_value : (r : Option ConnectionView)
-        → keys_of (elim r as (λ _. Table) [ None ↦ table | Some c ↦ with_value nat_eq table conn (see c) ]) ≡ keys_of table
-    by_value None = refl
-    by_value (Some c) = keys_of-with_value nat_eq table conn (see c)
+changed-keys see conn table =
+    by-changed (λ (t : Table). keys_of t ≡ keys_of table) see conn table (λ _. refl) (λ v _. keys_of-with_value nat_eq table conn (see v))
 
 pub at-changed : (see : ConnectionView → ConnectionView) (conn : ℕ) (table : Table)
     → value_at nat_eq (changed see conn table) conn ≡ option_map see (value_at nat_eq table conn)
-at-changed see conn table = by_value (value_at nat_eq table conn) refl
-  where
-    by_value : (r : Option ConnectionView) → value_at nat_eq table conn ≡ r → value_at nat_eq (changed see conn table) conn ≡ option_map see r
-    by_value None is = ap (λ (t : Table). value_at nat_eq t conn) (sym (same-changed see table conn (sym is))) ∙ is
-    by_value (Some v) is = rw is (at-with table conn (see v) v is)
+at-changed see conn table =
+    by-changed (λ (t : Table). value_at nat_eq t conn ≡ option_map see (value_at nat_eq table conn)) see conn table (λ none. rw none refl)
+    (λ v is. rw is (at-with table conn (see v) v is))
 
 -- a connection that goes on is there
 pub live-at : (table : Table) (conn : ℕ) → is_open_in table conn ≡ true
     → (v : ConnectionView) × ((value_at nat_eq table conn ≡ Some v) × (v.ended ≡ false))
 live-at table conn live = by_value (value_at nat_eq table conn) refl live
   where
-    by_end : (b : Bool) → not b ≡ true → b ≡ false
-    by_end true never = cc
-    by_end false _ = refl
-
     by_value : (r : Option ConnectionView) → value_at nat_eq table conn ≡ r → unwrap_or (option_map (λ (c : ConnectionView). not c.ended) r) false ≡ true
         → (v : ConnectionView) × ((value_at nat_eq table conn ≡ Some v) × (v.ended ≡ false))
     by_value None is never = cc
-    by_value (Some v) is live = (v, (is, by_end v.ended live))
+    by_value (Some v) is live =
+        (v, (is, elim (test_cases v.ended) [ inl over ↦ let never : false ≡ true = rw over at live in cc | inr open_still ↦ open_still ]))
 
 -- one that has a reply more keeps a frame
 pub pushed-frame : (engine : Machine) (table : Table) (conn : ℕ) (reply : PlainReply) (v : ConnectionView) → value_at nat_eq table conn ≡ Some v

@@ -1,12 +1,12 @@
 -- Lives of the server: what each leaves, and the history that the machine has after all of them.
-use Rattle.std.proofs.Common.{◌≡◌, ℕ, ◌≤◌, List, [], ◌∷◌, ◌++◌, length, drop, Option, Some, None, inl, inr, refl, sym, ap, subst, ◌∙◌, arith}
+use Rattle.std.proofs.Common.{◌≡◌, ℕ, ◌≤◌, List, [], ◌∷◌, ◌++◌, length, drop, Some, None, inl, inr, refl, sym, ap, subst, ◌∙◌, arith}
 use Rattle.std.proofs.Common.{append-nil, append_assoc}
-use Rattle.std.specs.Prelude.{All, nat_le, option_map, unwrap_or}
+use Rattle.std.specs.Prelude.{All, nat_le}
 use Rattle.std.proofs.lemmas.List.{length-append, length-drop, append_cancel_left}
 use Rattle.std.proofs.lemmas.List.Elements.{All-nil, All-cons, All-append, All-head, All-tail, All-take, All-weaker}
 use Rattle.std.proofs.lemmas.Bool.Decides.{nat_tests}
 use Rattle.ipc_base.specs.declared.limits.Limits.{Limits}
-use Rattle.ipc_base.proofs.CallerLemmas.{each-at, test_cases, paired-at, paired-none}
+use Rattle.ipc_base.proofs.CallerLemmas.{each-at, test_cases}
 use Rattle.ipc_disk.specs.Medium.{Image, Medium}
 use Rattle.ipc_state.specs.State.{State, restart}
 use Rattle.ipc_engine.proofs.CallerLemmas.{restart-is}
@@ -21,11 +21,14 @@ use Rattle.ipc_hub.specs.Lives.HubCall.{Serves, Still, Fails}
 use Rattle.ipc_hub.specs.Lives.Serving.{New, Call, Look}
 use Rattle.ipc_hub.specs.Lives.Lives.{First, Next}
 use Rattle.ipc_hub.specs.Lives.IsHistory.{None as no_life, More as life_more}
-use Rattle.ipc_hub.specs.View.{ConnectionView, HubView, StoredHub, connection_of, output_of}
+use Rattle.ipc_hub.specs.View.{ConnectionView, HubView, StoredHub}
 use Rattle.ipc_hub.specs.Relations.Matches.{AreFrames, ClientMatches, HubMatches}
 use Rattle.ipc_hub.proofs.Changes.{has-bytes}
 use Rattle.ipc_hub.proofs.Deliveries.{IsOf}
-use Rattle.ipc_hub.proofs.Replying.{IsTold, Says, answer-more, told-call, told-fail}
+use Rattle.ipc_hub.proofs.Ending.{pair-at}
+use Rattle.ipc_hub.proofs.Framed.{Says}
+use Rattle.ipc_hub.proofs.Rows.{same_value}
+use Rattle.ipc_hub.proofs.Replying.{IsTold, answer-more, told-call, told-fail}
 use Rattle.ipc_hub.specs.Replies.{IsAnswer}
 use Rattle.std.proofs.Math.Seq.{take-append_seam}
 use Rattle.std.specs.Prelude.{take}
@@ -83,38 +86,27 @@ shown-confirmed confirmed accepted v c frames others m first output =
 -- frames that an output shows are of confirmed events
 shows-confirmed : (limits : Limits) (confirmed : ℕ) (v : HubView) (h : Clients) (conn : ℕ) (frames : List Frame) → HubMatches limits confirmed v h
     → Shows v h conn frames → All (IsWithin confirmed) frames
-shows-confirmed limits confirmed v h conn frames m s = by_value (connection_of v conn) refl
-  where
-    some_same : (c d : Client) → Some c ≡ Some d → c ≡ d
-    some_same c d is = cc
-
-    by_value : (r : Option ConnectionView) → connection_of v conn ≡ r → All (IsWithin confirmed) frames
-    by_value None none =
-        let nobody = paired-none (ClientMatches confirmed (length h.events)) v.connections h.clients conn m.clients none in
-        absurd (let never : Some s.client ≡ None = sym s.found ∙ nobody in cc)
-    by_value (Some w) is =
-        let partner = paired-at (ClientMatches confirmed (length h.events)) v.connections h.clients conn w m.clients is in
-        let same : partner.0 ≡ s.client = some_same partner.0 s.client (sym partner.1.0 ∙ s.found) in
-        let seen : output_of v conn ≡ w.outbox.visible =
-        ap (λ (r : Option ConnectionView). unwrap_or (option_map (λ (c : ConnectionView). c.outbox.visible) r) []) is in
-        let output : w.outbox.visible ≡ drop s.client.consumed (all_bytes frames) = sym seen ∙ s.output in
-        shown-confirmed confirmed (length h.events) w s.client frames s.others
-        (subst (ClientMatches confirmed (length h.events) w) same partner.1.1) s.first output
+shows-confirmed limits confirmed v h conn frames m s =
+    elim (pair-at limits confirmed v h conn m) [
+      | inl none ↦ absurd (let never : Some s.client ≡ None = sym s.found ∙ none.1 in cc)
+      | inr p ↦
+          let output : p.v.outbox.visible ≡ drop s.client.consumed (all_bytes frames) = rw p.at at s.output in
+          shown-confirmed confirmed (length h.events) p.v s.client frames s.others
+          (subst (ClientMatches confirmed (length h.events) p.v) (same_value p.c s.client (sym p.here ∙ s.found)) p.mine) s.first output
+    ]
 
 -- frames that an output shows are answers, as all of the client are
 first-say : (limits : Limits) (base : State) (h : Clients) (frames : List Frame) (conn : ℕ) (v : HubView) → IsTold limits base h
     → Shows v h conn frames → All (IsAnswer limits base h.events) frames
 first-say limits base h frames conn v told s =
     let says : All (IsAnswer limits base h.events) s.client.frames =
-    each-at (Says limits base h.events) h.clients conn s.client told.each s.found in
+    each-at (Says (IsAnswer limits base) h.events) h.clients conn s.client told.each s.found in
     let split : take (length frames) s.client.frames ≡ frames = ap (take (length frames)) (sym s.first) ∙ take-append_seam frames s.others in
     subst (All (IsAnswer limits base h.events)) split (All-take (IsAnswer limits base h.events) (length frames) s.client.frames says)
 
--- two facts of each frame make a third
-both-hold : (P Q R : Frame → Type 0) → ((f : Frame) → P f → Q f → R f) → (fs : List Frame) → All P fs → All Q fs → All R fs
-both-hold P Q R does [] ps qs = All-nil R
-both-hold P Q R does (f ∷ fs) ps qs =
-    All-cons R f fs (does f (All-head P f fs ps) (All-head Q f fs qs)) (both-hold P Q R does fs (All-tail P f fs ps) (All-tail Q f fs qs))
+-- the event of a frame lasts, and the frame is an answer
+abbrev Lasts : Limits → State → ℕ → List PlainEvent → Frame → Type 0
+Lasts limits base confirmed events f = (f.mark ≤ confirmed) × IsAnswer limits base events f
 
 -- ---- a life
 
@@ -130,9 +122,8 @@ record Lived {D : Type 0} (medium : D → Medium) (limits : Limits) (kept : List
   confirmed : ℕ
   matches : HubMatches limits confirmed v.hub h
   within : confirmed ≤ v.store.confirmed
-  lasts : All (IsWithin v.store.confirmed) seen
   told : IsTold limits (state_after limits kept) h
-  answers : All (IsAnswer limits (state_after limits kept) h.events) seen
+  shown : All (Lasts limits (state_after limits kept) v.store.confirmed h.events) seen
 
 module _ {D : Type 0} (medium : D → Medium) (law : (d : D) (image : Image) → (medium d).images_since (medium d).moment image → (medium d).images_now image)
     (limits : Limits) where
@@ -200,11 +191,11 @@ module _ {D : Type 0} (medium : D → Medium) (law : (d : D) (image : Image) →
         confirmed = shown.0;
         matches = shown.1;
         within = shown.2;
-        lasts = All-weaker (IsWithin old.store.confirmed) (IsWithin new.store.confirmed) (λ f is. omega (arith, is, more)) seen so_far.lasts;
         told = told-after (state_after limits kept) old new h next so_far.told call;
-        answers = subst (λ (es : List PlainEvent). All (IsAnswer limits (state_after limits kept) es) seen) (sym t.2)
-            (All-weaker (IsAnswer limits (state_after limits kept) h.events) (IsAnswer limits (state_after limits kept) (h.events ++ t.0))
-            (answer-more limits (state_after limits kept) h.events t.0) seen so_far.answers);
+        shown = subst (λ (es : List PlainEvent). All (Lasts limits (state_after limits kept) new.store.confirmed es) seen) (sym t.2)
+            (All-weaker (Lasts limits (state_after limits kept) old.store.confirmed h.events)
+            (Lasts limits (state_after limits kept) new.store.confirmed (h.events ++ t.0))
+            (λ f is. (omega (arith, is.0, more), answer-more limits (state_after limits kept) h.events t.0 f is.1)) seen so_far.shown);
       }
 
   -- all calls of a life
@@ -221,14 +212,15 @@ module _ {D : Type 0} (medium : D → Medium) (law : (d : D) (image : Image) →
     confirmed = hub.store.confirmed;
     matches = matches.hub;
     within = omega arith;
-    lasts = All-nil (IsWithin hub.store.confirmed);
     told = record { state = state ∙ sym (restart-is limits (state_after limits kept)); each = tt };
-    answers = All-nil (IsAnswer limits (state_after limits kept) (Restart ∷ []));
+    shown = All-nil (Lasts limits (state_after limits kept) hub.store.confirmed (Restart ∷ []));
   }
   lived kept opened next then seen keeps under state (Call last _ now _ _ serving call) =
       lived-call kept last next now then seen (lived kept opened last now seen keeps under state serving) call
   lived kept opened last now _ keeps under state (Look _ _ seen frames conn serving shows) =
       let so_far = lived kept opened last now seen keeps under state serving in
+      let within = shows-confirmed limits so_far.confirmed last.hub now conn frames so_far.matches shows in
+      let says = first-say limits (state_after limits kept) now frames conn last.hub so_far.told shows in
       record {
         history = so_far.history;
         keeps = so_far.keeps;
@@ -238,13 +230,9 @@ module _ {D : Type 0} (medium : D → Medium) (law : (d : D) (image : Image) →
         confirmed = so_far.confirmed;
         matches = so_far.matches;
         within = so_far.within;
-        lasts = All-append (IsWithin last.store.confirmed) frames seen
-            (All-weaker (IsWithin so_far.confirmed) (IsWithin last.store.confirmed) (λ f is. omega (arith, is, so_far.within)) frames
-            (shows-confirmed limits so_far.confirmed last.hub now conn frames so_far.matches shows))
-            so_far.lasts;
         told = so_far.told;
-        answers = All-append (IsAnswer limits (state_after limits kept) now.events) frames seen
-            (first-say limits (state_after limits kept) now frames conn last.hub so_far.told shows) so_far.answers;
+        shown = All-append (Lasts limits (state_after limits kept) last.store.confirmed now.events) frames seen
+            (λ k d inside. let here = within k d inside in (omega (arith, here, so_far.within), says k d inside)) so_far.shown;
       }
 
 -- ---- lives
@@ -291,13 +279,12 @@ module _ {D : Type 0} (medium : D → Medium) (law : (d : D) (image : Image) →
             (append_assoc h.confirmed f.kept f.lost ∙ ap (λ (es : List PlainEvent). h.confirmed ++ es) f.prefix
             ∙ sym (append_assoc h.confirmed h.waiting t.0) ∙ ap (λ (es : List PlainEvent). es ++ t.0) l.events ∙ sym t.2)
             most
-            (both-hold (IsWithin last.store.confirmed) (IsAnswer limits (state_after limits has.history) now.events)
-            (λ f. (f.mark ≤ length kept) × IsAnswer limits (state_after limits has.history) then.events f)
-            (λ f is says. (
-              omega (arith, is, most),
+            (All-weaker (Lasts limits (state_after limits has.history) last.store.confirmed now.events)
+            (Lasts limits (state_after limits has.history) (length kept) then.events) (λ f is. (
+              omega (arith, is.0, most),
               subst (λ (es : List PlainEvent). IsAnswer limits (state_after limits has.history) es f) (sym t.2)
-                  (answer-more limits (state_after limits has.history) now.events t.0 f says),
-            )) seen l.lasts l.answers);
+                  (answer-more limits (state_after limits has.history) now.events t.0 f is.1),
+            )) seen l.shown);
         under = f.under ∙ l.under;
         state = f.state ∙ ap (λ (k : Limits). restart (state_after k (acknowledged h ++ f.kept))) l.under
             ∙ ap (λ (es : List PlainEvent). restart (state_after limits es)) all;

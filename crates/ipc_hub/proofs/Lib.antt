@@ -1,3 +1,4 @@
+pub mod Kept
 pub mod Buffers
 pub mod Rows
 pub mod Deliveries
@@ -6,6 +7,7 @@ pub mod Ending
 pub mod Requests
 pub mod Answering
 pub mod Pieces
+pub mod Framed
 pub mod Unmarked
 pub mod Taking
 pub mod Receiving

@@ -1,7 +1,8 @@
 -- Bytes taken in at once, and in pieces.
 use Rattle.std.proofs.Common.{◌≡◌, ℕ, zero, suc, Bool, true, false, ◌&&◌, List, [], ◌∷◌, ◌++◌, length, drop, Option, Some, None, refl, sym, ap, ◌∙◌}
 use Rattle.std.proofs.Common.{◌⊎◌, inl, inr, subst, arith, append_assoc, append-nil}
-use Rattle.std.specs.Prelude.{nat_eq, if◌then◌else◌, option_map}
+use Rattle.std.specs.Prelude.{nat_eq, option_map}
+use Rattle.ipc_base.specs.declared.errno.Errno.TheVariants.{ENOMEM}
 use Rattle.ipc_base.specs.declared.limits.Limits.{Limits}
 use Rattle.ipc_wire.specs.Request.{PlainRequest}
 use Rattle.ipc_wire.specs.Stream.{first, Ending, Stream, stream_of, continued}
@@ -12,22 +13,24 @@ use Rattle.ipc_base.specs.Table.{value_at, with_value}
 use Rattle.ipc_engine.specs.Event.{PlainEvent, PlainOutcome, Exit}
 use Rattle.ipc_engine.specs.Step.{step}
 use Rattle.ipc_engine.specs.Engine.{event_takes_memory}
-use Rattle.ipc_hub.specs.Clients.{Client, Clients, client_at, with_client, with_frame, delivered, deliver, deliver_all, is_for, leave, over, break_off}
-use Rattle.ipc_hub.specs.Clients.{refuse, event_of, last_reply, greeted, welcomed, serve, on_request, unless_ended, on_requests, on_ending, first_of, take_in}
-use Rattle.ipc_hub.specs.Clients.{fitted, arriving}
+use Rattle.ipc_hub.specs.Hub.{accepted, client_at, with_client, refusal, heard}
+use Rattle.ipc_hub.specs.Hub.{is_for, leave, break_off, refuse, event_of, last_reply, told}
+use Rattle.ipc_hub.specs.Hub.{welcomed, serve, on_event, on_request, unless_ended, on_requests, on_ending, on_stream, first_of, fitted}
+use Rattle.ipc_hub.specs.Clients.{Client, Clients, client_endpoint as kind, with_frame, over, take_in, arriving}
+use Rattle.ipc_hub.proofs.Kept.{heard-none}
 use Rattle.ipc_base.proofs.CallerLemmas.{choice, test_cases, at-with, twice, own, at-map}
 
 -- ---- a connection that has ended, and one that has not
 
-pub ended-stays : (h : Clients) (conn : ℕ) (act : Client → Clients) (c : Client) → client_at h conn ≡ Some c → c.ended ≡ true → unless_ended h conn act ≡ h
+pub ended-stays : (h : Clients) (conn : ℕ) (act : Client → Clients) (c : Client) → client_at h conn ≡ Some c → c.ended ≡ true → unless_ended kind h conn act ≡ h
 ended-stays h conn act c here over = rw here (rw over refl)
 
-pub acts : (h : Clients) (conn : ℕ) (act : Client → Clients) (c : Client) → client_at h conn ≡ Some c → c.ended ≡ false → unless_ended h conn act ≡ act c
+pub acts : (h : Clients) (conn : ℕ) (act : Client → Clients) (c : Client) → client_at h conn ≡ Some c → c.ended ≡ false → unless_ended kind h conn act ≡ act c
 acts h conn act c here live = rw here (rw live refl)
 
 -- nothing happens on a connection that has ended, or is not there
 abbrev pub IsOver : Clients → ℕ → Type 0
-IsOver h conn = (act : Client → Clients) → unless_ended h conn act ≡ h
+IsOver h conn = (act : Client → Clients) → unless_ended kind h conn act ≡ h
 
 -- the client of a connection that goes on
 pub record Live (h : Clients) (conn : ℕ) : Type 0 where
@@ -47,6 +50,13 @@ over_or_live h conn = by_client (client_at h conn) refl
           | inr live ↦ inr (record { c = c; here = is; live = live })
         ]
 
+-- the client with the bytes that it keeps taken out, and the hub
+abbrev pub bare : Client → Client
+bare c = record c { input = [] }
+
+abbrev pub emptied : Clients → ℕ → Client → Clients
+emptied h conn c = with_client h conn (bare c)
+
 -- ---- the bytes kept are out of the way while requests are answered
 
 -- the client at a number keeps no bytes
@@ -61,70 +71,53 @@ put-keeps (e ∷ es) k d none x is =
       | inr f ↦ put-keeps es k d none x (rw f at (rw f at is))
     ]
 
-delivered-keeps : (mark : ℕ) (o : PlainOutcome) (r : Option Client) → ((c : Client) → r ≡ Some c → c.input ≡ [])
-    → (d : Client) → option_map (delivered mark o) r ≡ Some d → d.input ≡ []
-delivered-keeps mark o None none d is = cc
-delivered-keeps mark o (Some c) none d is =
-    let same : d ≡ delivered mark o c = cc in
-    ap (λ (x : Client). x.input) same
-    ∙ choice (λ (x : Client). x.input ≡ []) (is_for o.pid c.process) (with_frame c mark o) c (λ _. none c refl) (λ _. none c refl)
+-- replies leave the bytes, and whether it has ended
+pub heard-same : (mark : ℕ) (os : List PlainOutcome) (c : Client) → ((heard kind mark os c).input ≡ c.input) × ((heard kind mark os c).ended ≡ c.ended)
+heard-same mark [] c = (refl, refl)
+heard-same mark (o ∷ os) c =
+    choice (λ (d : Client). ((heard kind mark os d).input ≡ c.input) × ((heard kind mark os d).ended ≡ c.ended))
+    (is_for o.pid c.process) (with_frame c mark o) c
+    (λ _. heard-same mark os (with_frame c mark o)) (λ _. heard-same mark os c)
 
-delivers-keep : (mark conn : ℕ) (os : List PlainOutcome) (clients : List (ℕ × Client))
-    → ((c : Client) → value_at nat_eq clients conn ≡ Some c → c.input ≡ [])
-    → (c : Client) → value_at nat_eq (deliver_all mark clients os) conn ≡ Some c → c.input ≡ []
-delivers-keep mark conn [] clients none = none
-delivers-keep mark conn (o ∷ os) clients none =
-    delivers-keep mark conn os (deliver mark clients o)
-    (λ c is. delivered-keeps mark o (value_at nat_eq clients conn) none c (sym (at-map (delivered mark o) clients conn) ∙ is))
+delivers-keep : (mark : ℕ) (os : List PlainOutcome) (r : Option Client) → ((c : Client) → r ≡ Some c → c.input ≡ []) → (d : Client)
+    → option_map (heard kind mark os) r ≡ Some d → d.input ≡ []
+delivers-keep mark os None none d is = cc
+delivers-keep mark os (Some c) none d is =
+    let same : d ≡ heard kind mark os c = cc in ap (λ (x : Client). x.input) same ∙ (heard-same mark os c).0 ∙ none c refl
 
--- a client without a process hears no reply
-delivers-none : (mark conn : ℕ) (os : List PlainOutcome) (clients : List (ℕ × Client)) (c : Client) → value_at nat_eq clients conn ≡ Some c
-    → c.process ≡ None → value_at nat_eq (deliver_all mark clients os) conn ≡ Some c
-delivers-none mark conn [] clients c here none = here
-delivers-none mark conn (o ∷ os) clients c here none =
-    let same : delivered mark o c ≡ c = rw none refl in
-    delivers-none mark conn os (deliver mark clients o) c
-    (at-map (delivered mark o) clients conn ∙ ap (option_map (delivered mark o)) here ∙ ap Some same) none
-
-welcome-keeps : (mark : ℕ) (reply : Option PlainOutcome) (c : Client) → c.input ≡ [] → (welcomed mark reply c).input ≡ []
-welcome-keeps mark reply c none = by_process c.process
-  where
-    by_reply : (r : Option PlainOutcome) → (greeted mark r c).input ≡ []
-    by_reply None = none
-    by_reply (Some o) = choice (λ (x : Client). x.input ≡ []) (nat_eq o.pid 0) (with_frame c mark o) (record c { process = Some o.pid }) (λ _. none) (λ _. none)
-
-    by_process : (p : Option ℕ) → (elim p as (λ _. Client) [ None ↦ greeted mark reply c | Some pid ↦ c ]).input ≡ []
-    by_process None = by_reply reply
-    by_process (Some pid) = none
+welcome-keeps : (mark : ℕ) (p : Option ℕ) (reply : Option PlainOutcome) (c : Client) → c.input ≡ [] → (told kind mark p reply c).input ≡ []
+welcome-keeps mark (Some pid) reply c none = none
+welcome-keeps mark None None c none = none
+welcome-keeps mark None (Some o) c none =
+    choice (λ (x : Client). x.input ≡ []) (nat_eq o.pid 0) (with_frame c mark o) (record c { process = Some o.pid }) (λ _. none) (λ _. none)
 
 length-fitted : (n : ℕ) (xs : List Bool) → length (fitted n xs) ≡ n
 length-fitted zero xs = refl
 length-fitted (suc n) xs = ap suc (length-fitted n (drop 1 xs))
 
 module _ (limits : Limits) where
-  event-keeps : (h : Clients) (conn serial : ℕ) (c : Client) (e : PlainEvent) (b : Bool) → c.input ≡ []
-      → KeepsNone (if b then refuse h conn c serial else serve limits h conn c e) conn
-  event-keeps h conn serial c e true none = put-keeps h.clients conn _ none
-  event-keeps h conn serial c e false none =
+  serve-keeps : (h : Clients) (conn : ℕ) (c : Client) (e : PlainEvent) → c.input ≡ [] → KeepsNone (serve kind limits h conn c e) conn
+  serve-keeps h conn c e none d is =
       let mark : ℕ = length (h.events ++ e ∷ []) in
-      let d : Client = welcomed mark (last_reply (step limits h.state e).outcomes) c in
-      delivers-keep mark conn (step limits h.state e).outcomes (with_value nat_eq h.clients conn d)
-      (put-keeps h.clients conn d (welcome-keeps mark (last_reply (step limits h.state e).outcomes) c none))
+      let os : List PlainOutcome = (step limits h.state e).outcomes in
+      let w : Client = welcomed kind mark (last_reply os) c in
+      delivers-keep mark os (value_at nat_eq (with_value nat_eq h.clients conn w) conn)
+      (put-keeps h.clients conn w (welcome-keeps mark c.process (last_reply os) c none)) d
+      (sym (at-map (heard kind mark os) (with_value nat_eq h.clients conn w) conn) ∙ is)
+
+  event-keeps : (h : Clients) (conn serial moment : ℕ) (c : Client) (refused : Bool) (made : Option PlainEvent) → c.input ≡ []
+      → KeepsNone (on_event kind limits h conn c serial moment refused made) conn
+  event-keeps h conn serial moment c refused None none = put-keeps _ conn _ refl
+  event-keeps h conn serial moment c refused (Some e) none =
+      choice (λ (t : Clients). KeepsNone t conn) (refused && event_takes_memory limits h.state e) (refuse kind h conn c serial) (serve kind limits h conn c e)
+      (λ _. put-keeps h.clients conn (with_frame c (accepted h) (refusal serial ENOMEM)) none) (λ _. serve-keeps h conn c e none)
 
   pub request-keeps : (h : Clients) (conn moment : ℕ) (c : Client) (request : PlainRequest) (refused : Bool) → c.input ≡ []
-      → KeepsNone (on_request limits h conn c moment request refused) conn
-  request-keeps h conn moment c request refused none = by_event (event_of c.process request moment)
-    where
-      by_event : (e : Option PlainEvent)
-          → KeepsNone (elim e as (λ _. Clients) [
-            | None ↦ break_off limits h conn c request.serial moment
-            | Some e' ↦ if refused && event_takes_memory limits h.state e' then refuse h conn c request.serial else serve limits h conn c e'
-          ]) conn
-      by_event None = put-keeps _ conn _ refl
-      by_event (Some e) = event-keeps h conn request.serial c e (refused && event_takes_memory limits h.state e) none
+      → KeepsNone (on_request kind limits h conn c moment request refused) conn
+  request-keeps h conn moment c request refused = event-keeps h conn request.serial moment c refused (event_of c.process request moment)
 
   unless-keeps : (h : Clients) (conn : ℕ) (act : Client → Clients) → KeepsNone h conn
-      → ((c : Client) → client_at h conn ≡ Some c → KeepsNone (act c) conn) → KeepsNone (unless_ended h conn act) conn
+      → ((c : Client) → client_at h conn ≡ Some c → KeepsNone (act c) conn) → KeepsNone (unless_ended kind h conn act) conn
   unless-keeps h conn act all does =
       elim (over_or_live h conn) [
         | inl done ↦ subst (λ (t : Clients). KeepsNone t conn) (sym (done act)) all
@@ -132,89 +125,84 @@ module _ (limits : Limits) where
       ]
 
   pub requests-keep : (h : Clients) (conn moment : ℕ) (requests : List PlainRequest) (refused : List Bool) → KeepsNone h conn
-      → KeepsNone (on_requests limits h conn moment requests refused) conn
+      → KeepsNone (on_requests kind limits h conn moment requests refused) conn
   requests-keep h conn moment [] refused all = all
   requests-keep h conn moment (r ∷ rs) refused all =
-      requests-keep (unless_ended h conn (λ c. on_request limits h conn c moment r (first_of refused))) conn moment rs (drop 1 refused)
-      (unless-keeps h conn (λ c. on_request limits h conn c moment r (first_of refused)) all
+      requests-keep (unless_ended kind h conn (λ c. on_request kind limits h conn c moment r (first_of refused))) conn moment rs (drop 1 refused)
+      (unless-keeps h conn (λ c. on_request kind limits h conn c moment r (first_of refused)) all
       (λ c is. request-keeps h conn moment c r (first_of refused) (all c is)))
 
   -- ---- requests one after the other
 
   pub requests-append : (h : Clients) (conn moment : ℕ) (rs qs : List PlainRequest) (xs ys : List Bool) → length xs ≡ length rs
-      → on_requests limits h conn moment (rs ++ qs) (xs ++ ys) ≡ on_requests limits (on_requests limits h conn moment rs xs) conn moment qs ys
+      → on_requests kind limits h conn moment (rs ++ qs) (xs ++ ys) ≡ on_requests kind limits (on_requests kind limits h conn moment rs xs) conn moment qs ys
   requests-append h conn moment [] qs [] ys same = refl
   requests-append h conn moment [] qs (x ∷ xs) ys same = cc
   requests-append h conn moment (r ∷ rs) qs [] ys same = cc
   requests-append h conn moment (r ∷ rs) qs (x ∷ xs) ys same =
-      requests-append (unless_ended h conn (λ c. on_request limits h conn c moment r x)) conn moment rs qs xs ys (omega (arith, same))
+      requests-append (unless_ended kind h conn (λ c. on_request kind limits h conn c moment r x)) conn moment rs qs xs ys (omega (arith, same))
 
   -- answers that are missing are no, and those too many are not looked at
   pub requests-fitted : (h : Clients) (conn moment : ℕ) (rs : List PlainRequest) (xs : List Bool)
-      → on_requests limits h conn moment rs (fitted (length rs) xs) ≡ on_requests limits h conn moment rs xs
+      → on_requests kind limits h conn moment rs (fitted (length rs) xs) ≡ on_requests kind limits h conn moment rs xs
   requests-fitted h conn moment [] xs = refl
   requests-fitted h conn moment (r ∷ rs) xs =
-      requests-fitted (unless_ended h conn (λ c. on_request limits h conn c moment r (first_of xs))) conn moment rs (drop 1 xs)
+      requests-fitted (unless_ended kind h conn (λ c. on_request kind limits h conn c moment r (first_of xs))) conn moment rs (drop 1 xs)
 
-  pub requests-over : (h : Clients) (conn moment : ℕ) (rs : List PlainRequest) (xs : List Bool) → IsOver h conn → on_requests limits h conn moment rs xs ≡ h
+  pub requests-over : (h : Clients) (conn moment : ℕ) (rs : List PlainRequest) (xs : List Bool) → IsOver h conn
+      → on_requests kind limits h conn moment rs xs ≡ h
   requests-over h conn moment [] xs over = refl
   requests-over h conn moment (r ∷ rs) xs over =
-      ap (λ (t : Clients). on_requests limits t conn moment rs (drop 1 xs)) (over (λ c. on_request limits h conn c moment r (first_of xs)))
+      ap (λ (t : Clients). on_requests kind limits t conn moment rs (drop 1 xs)) (over (λ c. on_request kind limits h conn c moment r (first_of xs)))
       ∙ requests-over h conn moment rs (drop 1 xs) over
 
-  pub ending-over : (h : Clients) (conn moment : ℕ) (ending : Ending) → IsOver h conn → on_ending limits h conn moment ending ≡ h
+  pub ending-over : (h : Clients) (conn moment : ℕ) (ending : Ending) → IsOver h conn → on_ending kind limits h conn moment ending ≡ h
   ending-over h conn moment (Rest bytes) over = over (λ c. with_client h conn (record c { input = bytes }))
-  ending-over h conn moment (Broken serial) over = over (λ c. break_off limits h conn c serial moment)
+  ending-over h conn moment (Broken serial) over = over (λ c. break_off kind limits h conn c serial moment)
 
-  -- how a stream goes on with a client of which the requests so far are answered
-  abbrev pub after_stream : Clients → ℕ → ℕ → Stream → List Bool → Clients
-  after_stream h conn moment s refused = on_ending limits (on_requests limits h conn moment s.requests refused) conn moment s.ending
-
-  after_stream-over : (h : Clients) (conn moment : ℕ) (s : Stream) (refused : List Bool) → IsOver h conn → after_stream h conn moment s refused ≡ h
-  after_stream-over h conn moment s refused done =
-      ap (λ (t : Clients). on_ending limits t conn moment s.ending) (requests-over h conn moment s.requests refused done)
+  stream-over : (h : Clients) (conn moment : ℕ) (s : Stream) (refused : List Bool) → IsOver h conn → on_stream kind limits h conn moment s refused ≡ h
+  stream-over h conn moment s refused done =
+      ap (λ (t : Clients). on_ending kind limits t conn moment s.ending) (requests-over h conn moment s.requests refused done)
       ∙ ending-over h conn moment s.ending done
 
-  -- the hub with the bytes kept by a client taken out
-  abbrev pub emptied : Clients → ℕ → Client → Clients
-  emptied h conn c = with_client h conn (record c { input = [] })
-
   pub take_in-acts : (h : Clients) (conn moment : ℕ) (c : Client) (bytes : List ℕ) (refused : List Bool) → client_at h conn ≡ Some c → c.ended ≡ false
-      → take_in limits h conn bytes moment refused ≡ after_stream (emptied h conn c) conn moment (stream_of (c.input ++ bytes)) refused
+      → take_in limits h conn bytes moment refused ≡ on_stream kind limits (emptied h conn c) conn moment (stream_of (c.input ++ bytes)) refused
   take_in-acts h conn moment c bytes refused here live =
-      acts h conn (λ d. after_stream (emptied h conn d) conn moment (stream_of (d.input ++ bytes)) refused) c here live
+      acts h conn (λ d. on_stream kind limits (emptied h conn d) conn moment (stream_of (d.input ++ bytes)) refused) c here live
 
   -- a client without a process stays as it is when a process leaves
   left_at : (h : Clients) (conn moment : ℕ) (c : Client) (p : Option ℕ) → client_at h conn ≡ Some c → c.process ≡ None
-      → client_at (leave limits h p moment) conn ≡ Some c
+      → client_at (leave kind limits h p moment) conn ≡ Some c
   left_at h conn moment c None here none = here
   left_at h conn moment c (Some pid) here none =
-      delivers-none (length (h.events ++ Exit pid moment ∷ [])) conn (step limits h.state (Exit pid moment)).outcomes h.clients c here none
+      let heard-it : Client → Client = heard kind (length (h.events ++ Exit pid moment ∷ [])) (step limits h.state (Exit pid moment)).outcomes in
+      at-map heard-it h.clients conn ∙ ap (option_map heard-it) here ∙ ap Some (heard-none kind _ (step limits h.state (Exit pid moment)).outcomes c none)
 
   -- a stream that broke: the connection is over
-  broken-over : (h : Clients) (conn moment serial : ℕ) → IsOver (on_ending limits h conn moment (Broken serial)) conn
+  broken-over : (h : Clients) (conn moment serial : ℕ) → IsOver (on_ending kind limits h conn moment (Broken serial)) conn
   broken-over h conn moment serial act =
-      let does : Client → Clients = λ d. break_off limits h conn d serial moment in
+      let does : Client → Clients = λ d. break_off kind limits h conn d serial moment in
       elim (over_or_live h conn) [
-        | inl done ↦ subst (λ (t : Clients). unless_ended t conn act ≡ t) (sym (done does)) (done act)
+        | inl done ↦ subst (λ (t : Clients). unless_ended kind t conn act ≡ t) (sym (done does)) (done act)
         | inr l ↦
             let gone : Client = over l.c in
-            let left : Clients = leave limits (with_client h conn gone) l.c.process moment in
+            let left : Clients = leave kind limits (with_client h conn gone) l.c.process moment in
             let there : client_at left conn ≡ Some gone =
             left_at (with_client h conn gone) conn moment gone l.c.process (at-with h.clients conn gone l.c l.here) refl in
-            subst (λ (t : Clients). unless_ended t conn act ≡ t) (sym (acts h conn does l.c l.here l.live))
+            subst (λ (t : Clients). unless_ended kind t conn act ≡ t) (sym (acts h conn does l.c l.here l.live))
             (ended-stays (does l.c) conn act _ (at-with left.clients conn _ gone there) refl)
       ]
 
   -- the rest of a stream that did not break, with more bytes
   rest-more : (h : Clients) (conn moment : ℕ) (bytes more : List ℕ) (refused : List Bool) → KeepsNone h conn
-      → take_in limits (on_ending limits h conn moment (Rest bytes)) conn more moment refused ≡ after_stream h conn moment (stream_of (bytes ++ more)) refused
+      → take_in limits (on_ending kind limits h conn moment (Rest bytes)) conn more moment refused
+      ≡ on_stream kind limits h conn moment (stream_of (bytes ++ more)) refused
   rest-more h conn moment bytes more refused none =
       elim (over_or_live h conn) [
         | inl done ↦
             ap (λ (t : Clients). take_in limits t conn more moment refused) (ending-over h conn moment (Rest bytes) done)
-            ∙ done (λ d. after_stream (emptied h conn d) conn moment (stream_of (d.input ++ more)) refused)
-            ∙ sym (after_stream-over h conn moment (stream_of (bytes ++ more)) refused done)
+            ∙ done (λ d. on_stream kind limits (emptied h conn d) conn moment (stream_of (d.input ++ more)) refused)
+            ∙ sym (stream-over h conn moment (stream_of (bytes ++ more)) refused done)
         | inr l ↦
             let kept : Client = record (l.c) { input = bytes } in
             let bare : Client = record (l.c) { input = [] } in
@@ -225,23 +213,23 @@ module _ (limits : Limits) where
             ap (λ (t : Clients). take_in limits t conn more moment refused)
             (acts h conn (λ d. with_client h conn (record d { input = bytes })) l.c l.here l.live)
             ∙ take_in-acts (with_client h conn kept) conn moment kept more refused (at-with h.clients conn kept l.c l.here) l.live
-            ∙ ap (λ (t : Clients). after_stream t conn moment (stream_of (bytes ++ more)) refused) back
+            ∙ ap (λ (t : Clients). on_stream kind limits t conn moment (stream_of (bytes ++ more)) refused) back
       ]
 
   goes-on : (h : Clients) (conn moment : ℕ) (rs : List PlainRequest) (ending : Ending) (more : List ℕ) (xs ys : List Bool) → KeepsNone h conn
       → length xs ≡ length rs
-      → take_in limits (on_ending limits (on_requests limits h conn moment rs xs) conn moment ending) conn more moment ys
-      ≡ after_stream h conn moment (continued rs ending more) (xs ++ ys)
+      → take_in limits (on_ending kind limits (on_requests kind limits h conn moment rs xs) conn moment ending) conn more moment ys
+      ≡ on_stream kind limits h conn moment (continued rs ending more) (xs ++ ys)
   goes-on h conn moment rs (Rest bytes) more xs ys none same =
-      rest-more (on_requests limits h conn moment rs xs) conn moment bytes more ys (requests-keep h conn moment rs xs none)
-      ∙ ap (λ (t : Clients). on_ending limits t conn moment (stream_of (bytes ++ more)).ending)
+      rest-more (on_requests kind limits h conn moment rs xs) conn moment bytes more ys (requests-keep h conn moment rs xs none)
+      ∙ ap (λ (t : Clients). on_ending kind limits t conn moment (stream_of (bytes ++ more)).ending)
       (sym (requests-append h conn moment rs (stream_of (bytes ++ more)).requests xs ys same))
   goes-on h conn moment rs (Broken serial) more xs ys none same =
-      let now : Clients = on_requests limits h conn moment rs xs in
-      broken-over now conn moment serial (λ d. after_stream (emptied (on_ending limits now conn moment (Broken serial)) conn d) conn moment
+      let now : Clients = on_requests kind limits h conn moment rs xs in
+      broken-over now conn moment serial (λ d. on_stream kind limits (emptied (on_ending kind limits now conn moment (Broken serial)) conn d) conn moment
       (stream_of (d.input ++ more)) ys)
-      ∙ ap (λ (t : Clients). on_ending limits t conn moment (Broken serial))
-      (sym (ap (λ (qs : List PlainRequest). on_requests limits h conn moment qs (xs ++ ys)) (sym (append-nil rs))
+      ∙ ap (λ (t : Clients). on_ending kind limits t conn moment (Broken serial))
+      (sym (ap (λ (qs : List PlainRequest). on_requests kind limits h conn moment qs (xs ++ ys)) (sym (append-nil rs))
       ∙ requests-append h conn moment rs [] xs ys same))
 
   -- bytes taken in in two pieces are taken in at once
@@ -258,9 +246,9 @@ module _ (limits : Limits) where
             let came : arriving (client_at h conn) bytes ≡ s.requests = rw l.here (rw l.live refl) in
             ap (λ (t : Clients). take_in limits t conn more moment ys)
             (take_in-acts h conn moment l.c bytes xs l.here l.live
-            ∙ ap (λ (t : Clients). on_ending limits t conn moment s.ending) (sym (requests-fitted bare conn moment s.requests xs)))
+            ∙ ap (λ (t : Clients). on_ending kind limits t conn moment s.ending) (sym (requests-fitted bare conn moment s.requests xs)))
             ∙ goes-on bare conn moment s.requests s.ending more zs ys (put-keeps h.clients conn _ refl) (length-fitted (length s.requests) xs)
-            ∙ ap (λ (t : Stream). after_stream bare conn moment t (zs ++ ys))
+            ∙ ap (λ (t : Stream). on_stream kind limits bare conn moment t (zs ++ ys))
             (sym (pieces (l.c.input ++ bytes) more) ∙ ap stream_of (append_assoc l.c.input bytes more))
             ∙ sym (take_in-acts h conn moment l.c (bytes ++ more) (zs ++ ys) l.here l.live)
             ∙ ap (λ (rs : List PlainRequest). take_in limits h conn (bytes ++ more) moment (fitted (length rs) xs ++ ys)) (sym came)
@@ -275,7 +263,7 @@ module _ (limits : Limits) where
         | inr l ↦
             let e : Client = record (l.c) { input = [] } in
             take_in-acts h conn moment l.c [] [] l.here l.live
-            ∙ ap (λ (t : Stream). after_stream (emptied h conn l.c) conn moment t [])
+            ∙ ap (λ (t : Stream). on_stream kind limits (emptied h conn l.c) conn moment t [])
             (ap stream_of (append-nil l.c.input) ∙ stream_begun l.c.input More (partial l.c l.here))
             ∙ acts (emptied h conn l.c) conn (λ d. with_client (emptied h conn l.c) conn (record d { input = l.c.input })) e
             (at-with h.clients conn e l.c l.here) l.live

@@ -1,14 +1,16 @@
 -- A connection has received bytes, and a whole frame was taken off it: what the hub is then, and what is done next.
-use Rattle.std.proofs.Common.{◌≡◌, ℕ, ◌<◌, ◌≤◌, true, List, [], ◌∷◌, ◌++◌, length, Option, Some, refl, sym, ap, ◌∙◌, subst, arith, inl, inr}
+use Rattle.std.proofs.Common.{◌≡◌, ℕ, ◌<◌, ◌≤◌, Bool, false, true, List, [], ◌∷◌, ◌++◌, length, Option, Some, refl, sym, ap, ◌∙◌, subst}
+use Rattle.std.proofs.Common.{arith, inl, inr}
 use Rattle.std.specs.Prelude.{nat_eq, option_map, not, IfSome}
-use Rattle.ipc_base.specs.Table.{value_at, keys_of}
+use Rattle.std.proofs.lemmas.List.{drop_all, length-append}
+use Rattle.ipc_base.specs.Table.{value_at, with_value, keys_of}
 use Rattle.ipc_base.specs.declared.errno.Errno.TheVariants.{ENOMEM}
 use Rattle.ipc_base.specs.declared.limits.Limits.{Limits}
-use Rattle.ipc_base.proofs.CallerLemmas.{at-with}
-use Rattle.ipc_wire.specs.Stream.{first}
-use Rattle.ipc_wire.specs.Stream.PlainFrame.{More}
-use Rattle.ipc_wire.proofs.CallerLemmas.{first_short, length-reply_bytes}
-use Rattle.ipc_disk.specs.Medium.{Image, Medium}
+use Rattle.ipc_base.proofs.CallerLemmas.{at-map, at-with, each-at, paired-at}
+use Rattle.ipc_wire.specs.Stream.{PlainFrame, first}
+use Rattle.ipc_wire.specs.Stream.PlainFrame.{More, Whole, Fault}
+use Rattle.ipc_wire.proofs.CallerLemmas.{first_short, length-reply_bytes, whole_last}
+use Rattle.ipc_disk.specs.Medium.{Medium}
 use Rattle.ipc_store.specs.View.{StoreView}
 use Rattle.ipc_state.specs.State.{State}
 use Rattle.ipc_engine.specs.Event.{PlainEvent, PlainOutcome}
@@ -16,20 +18,24 @@ use Rattle.ipc_engine.specs.Step.{Step, step}
 use Rattle.ipc_engine.specs.View.{reply_of}
 use Rattle.ipc_hub.specs.declared.serving.Asked.{Asked}
 use Rattle.ipc_hub.specs.declared.serving.Asked.TheVariants as asks
-use Rattle.ipc_hub.specs.Clients.{Client, Clients, last_reply, refusal, break_off, refuse, over as over-client, with_client}
+use Rattle.ipc_hub.specs.Hub.{Hub, accepted, with_client, refusal, last_reply, break_off, on_event}
+use Rattle.ipc_hub.specs.Clients.{client_endpoint}
 use Rattle.ipc_hub.specs.View.{ConnectionView, HubView, HasNoFrame, kept as outbox_kept}
-use Rattle.ipc_hub.specs.Relations.Rows.{Table, hub_view, changed, process_in, is_open_in}
-use Rattle.ipc_hub.specs.Relations.Delivery.{last_frame, owed_to, unanswered_of, pushed, put_all, answered as answered-by, with_answer, HasSpaceToAnswer}
-use Rattle.ipc_hub.specs.Relations.Invariant.{AreApart, IsSoundConnection, Continues}
-use Rattle.ipc_hub.specs.Relations.Matches.{IsAhead, SimulatesAt, Pends, Accepts}
-use Rattle.ipc_hub.specs.Relations.Requests.{Steps, ComesTo, exit_of, taken_off, Received, Took, Waits}
-use Rattle.ipc_hub.proofs.Rows.{same_value, process_of}
-use Rattle.ipc_hub.proofs.Keeping.{at-changed, changed-invariant, changed-keys, heard, heard-same, pushed-frame, kept-pushed, put-at}
+use Rattle.ipc_hub.specs.Relations.Rows.{Becomes, Table, hub_of, hub_view, stored_view, changed, process_in, is_open_in}
+use Rattle.ipc_hub.specs.Relations.Delivery.{closed, last_frame, owed_to, unanswered_of, pushed}
+use Rattle.ipc_hub.specs.Relations.Delivery.{put_all, hears, answered as answered-by, with_answer, HasSpaceToAnswer}
+use Rattle.ipc_hub.specs.Relations.Delivery.{view_endpoint}
+use Rattle.ipc_hub.specs.Relations.Invariant.{AreApart, IsSoundConnection, IsSoundIn, Continues}
+use Rattle.ipc_hub.specs.Relations.Matches.{ClientMatches, Follows, Pends, TakesIn}
+use Rattle.ipc_hub.specs.Relations.Requests.{IsRequest, Steps, ComesTo, exit_of, taken_off, Received, Took, Waits}
+use Rattle.ipc_hub.proofs.Rows.{process_of}
+use Rattle.ipc_hub.proofs.Deliveries.{Matching, Since, matching-kept, matching-push, as-related, as-matches, all-pass, under-own}
+use Rattle.ipc_hub.proofs.Keeping.{at-changed, change-invariant, changed-keys, heard-same, pushed-frame, kept-pushed}
+use Rattle.ipc_hub.proofs.Kept.{comes_of, frame-kept}
 use Rattle.ipc_hub.proofs.Ending.{leave-adds}
 use Rattle.ipc_hub.proofs.Requests.{Asks, request-asks}
-use Rattle.ipc_hub.proofs.Answering.{answer-space, answer-apart, answer-goes-on, told-none, serve-matches}
-use Rattle.ipc_hub.proofs.Taking.{Open, bare, mine, emptied_hub, bare-here, emptied-matches, refused-matches}
-use Rattle.ipc_hub.proofs.Taking.{more-taken, fault-taken, served-taken, broken-taken, refused-taken, same-accepts}
+use Rattle.ipc_hub.proofs.Answering.{answer-space, answer-apart, answer-goes-on, told-none}
+use Rattle.ipc_hub.proofs.Taking.{Law, IsLast, taken, same-pends}
 
 -- ---- bytes come, and a whole frame is taken off
 
@@ -46,10 +52,6 @@ still-kept medium old new limits owed v bytes moment asks.Served k comes = (othe
 still-kept medium old new limits owed v bytes moment (asks.NoMemory n) k comes = (other-input limits owed v [] k (first_short [] (omega arith)), refl)
 still-kept medium old new limits owed v bytes moment (asks.Broken n) k comes = (other-input limits owed v [] k (first_short [] (omega arith)), refl)
 
--- what a crash may leave now is among what it may leave since now
-abbrev Law : {D : Type 0} → (D → Medium) → Type 0
-Law {D} medium = (d : D) (image : Image) → (medium d).images_since (medium d).moment image → (medium d).images_now image
-
 none-of : (xs : List ℕ) → length xs ≡ 0 → xs ≡ []
 none-of [] none = refl
 none-of (x ∷ xs) none = absurd (omega (arith, none))
@@ -61,15 +63,61 @@ goes-further old mid new limits numbers g = record { limits = g.limits ∙ limit
 module _ {D : Type 0} {medium : D → Medium} {old new : StoreView D} {before after : Table} {conn : ℕ} {next : List ℕ} {moment : ℕ}
     {asked : Asked} (r : Received medium old new before after conn next moment asked) where
   -- the connection as it is now
-  abbrev then : ConnectionView
-  then = taken_off asked (record (r.was) { input = r.was.input ++ next })
+  abbrev now_there : ConnectionView
+  now_there = taken_off asked (record (r.was) { input = r.was.input ++ next })
 
-  found' : value_at nat_eq after conn ≡ Some then
-  found' = ap (λ (t : Table). value_at nat_eq t conn) r.table ∙ at-with before conn then r.was r.found
+  found' : value_at nat_eq after conn ≡ Some now_there
+  found' = ap (λ (t : Table). value_at nat_eq t conn) r.table ∙ at-with before conn now_there r.was r.found
 
-  opened : {limits : Limits} {confirmed : ℕ} {h : Clients} → IsAhead limits confirmed (hub_view old.machine before) h
-      → Open limits confirmed (hub_view old.machine before) h conn r.was
-  opened ahead = record { ahead = ahead; found = r.found; live = r.live }
+  -- ---- what is done is what the definitions say, over connections and so over clients
+
+  abbrev was-hub : Hub ConnectionView
+  was-hub = hub_of (hub_view old.machine before)
+
+  -- a store and connections are what the definitions make of them, and the events wait
+  pub record Leads (store : StoreView D) (last : Table) (made : Hub ConnectionView) : Type 0 where
+    pub becomes : Becomes (hub_view old.machine before) (hub_view store.machine last) made
+    pub pends : Pends medium old made.events store
+
+  pub frame-taken : (f : PlainFrame) (refused : Bool) → first (r.was.input ++ next) ≡ f → (store : StoreView D) (last : Table)
+      → Leads store last (comes_of view_endpoint old.machine.limits was-hub conn moment r.was next f refused)
+      → TakesIn medium (stored_view old before) (stored_view store last) conn next moment
+  frame-taken f refused is store last leads limits confirmed h ahead =
+      let m = ahead.matches in
+      let p = paired-at (ClientMatches confirmed (accepted h)) before h.clients conn r.was m.clients r.found in
+      let front : first (p.0.input ++ next) ≡ f = ap (λ (i : List ℕ). first (i ++ next)) (sym p.1.1.input) ∙ is in
+      let last_of = subst (λ (i : List ℕ). (g : PlainFrame) → first (i ++ next) ≡ g → IsLast (i ++ next) g) p.1.1.input ends in
+      let made : Hub ConnectionView = comes_of view_endpoint old.machine.limits was-hub conn moment r.was next f refused in
+      let both = frame-kept view_endpoint client_endpoint (Matching confirmed) (matching-kept confirmed) (Since h.events) old.machine.limits conn moment
+      r.was p.0 next (all-pass old.machine.limits confirmed (hub_view old.machine before) h r.passed (rw (sym m.state) r.sound) m.known)
+      (λ es more serial error which. matching-push confirmed es (refusal serial error) (omega (arith, ahead.later, more)) (omega arith))
+      (as-related m) p.1.1 f refused in (
+        refused ∷ [],
+        subst (Follows medium limits confirmed (stored_view old before) (stored_view store last) h)
+            (sym (taken limits h conn moment p.0 next p.1.0 (sym p.1.1.ended ∙ r.live) f refused front (last_of f front)))
+            (rw (sym m.same) (record {
+              ahead = record {
+                matches = as-matches h (under-own m) leads.becomes both;
+                later = omega (arith, ahead.later, ap length both.known, length-append h.events made.events);
+              };
+              accepts = record { events = made.events; adds = both.known; pends = leads.pends };
+            })),
+      )
+    where
+      ends : (g : PlainFrame) → first (r.was.input ++ next) ≡ g → IsLast (r.was.input ++ next) g
+      ends More at = tt
+      ends (Fault serial) at = tt
+      ends (Whole used request) at =
+          drop_all used (r.was.input ++ next) (omega (arith, whole_last r.was.input next used request r.partial r.few at))
+
+  pub asked-taken : {made : Option PlainEvent} (a : IsRequest (first (r.was.input ++ next)) r.was.process moment made) (refused : Bool) (store : StoreView D)
+      (last : Table) → Leads store last (on_event view_endpoint old.machine.limits (with_client was-hub conn (record (r.was) { input = [] })) conn
+      (record (r.was) { input = [] }) a.request.serial moment refused made)
+      → TakesIn medium (stored_view old before) (stored_view store last) conn next moment
+  asked-taken a refused store last leads =
+      frame-taken (Whole a.used a.request) refused a.whole store last
+      (subst (λ (m : Option PlainEvent). Leads store last (on_event view_endpoint old.machine.limits
+      (with_client was-hub conn (record (r.was) { input = [] })) conn (record (r.was) { input = [] }) a.request.serial moment refused m)) (sym a.event) leads)
 
 -- ---- no whole frame yet
 
@@ -79,10 +127,14 @@ module _ {D : Type 0} {medium : D → Medium} {old new : StoreView D} {before af
   more-took =
       record {
         continues = rw r.comes.1 (record { limits = refl; numbers = r.numbers; invariant = r.still });
-        bytes = λ limits confirmed h ahead. more-taken (opened r ahead) next moment (IsAhead limits confirmed (hub_view new.machine after))
-            (Accepts medium old new h) (hub_view new.machine after)
-            (ap (λ (s : StoreView D). s.machine.limits) r.comes.1) (ap (λ (s : StoreView D). s.machine.state) r.comes.1) r.table r.comes.0
-            (λ now stay is. (is, same-accepts medium law old new h now stay r.comes.1));
+        bytes = frame-taken r More false r.comes.0 new after (record {
+          becomes = record {
+            limits = ap (λ (s : StoreView D). s.machine.limits) r.comes.1;
+            state = ap (λ (s : StoreView D). s.machine.state) r.comes.1;
+            rows = r.table;
+          };
+          pends = same-pends medium law old new r.comes.1;
+        });
         answers = λ none. record {
           empty = rw r.found (rw (found' r) at none);
           event = inl (
@@ -129,14 +181,19 @@ module _ {D : Type 0} {medium : D → Medium} {old new : StoreView D} {before af
     told : last ≡ put_all now.outcomes (with_answer now.outcomes conn after)
     told = answered ∙ ap (λ (os : List PlainOutcome). put_all os (with_answer os conn after)) steps.outcomes
 
+    rows : last ≡ put_all now.outcomes (with_value nat_eq (with_value nat_eq before conn bare-now) conn (answered-by (last_reply now.outcomes) bare-now))
+    rows =
+        told ∙ ap (put_all now.outcomes) (rw (found' r) refl)
+        ∙ ap (λ (t : Table). put_all now.outcomes (with_value nat_eq t conn (answered-by (last_reply now.outcomes) bare-now))) r.table
+
     -- the connection that asked
     abbrev asked_one : ConnectionView
     asked_one = answered-by (last_reply now.outcomes) bare-now
 
-    found-now : value_at nat_eq last conn ≡ Some (heard now.outcomes asked_one)
+    found-now : value_at nat_eq last conn ≡ Some (hears now.outcomes asked_one)
     found-now =
-        ap (λ (t : Table). value_at nat_eq t conn) told ∙ put-at now.outcomes (with_answer now.outcomes conn after) conn
-        ∙ ap (option_map (heard now.outcomes)) (at-changed (answered-by (last_reply now.outcomes)) conn after
+        ap (λ (t : Table). value_at nat_eq t conn) told ∙ at-map (hears now.outcomes) (with_answer now.outcomes conn after) conn
+        ∙ ap (option_map (hears now.outcomes)) (at-changed (answered-by (last_reply now.outcomes)) conn after
         ∙ ap (option_map (answered-by (last_reply now.outcomes))) (found' r))
 
     -- if it keeps no frame, the reply is still to come
@@ -160,13 +217,10 @@ module _ {D : Type 0} {medium : D → Medium} {old new : StoreView D} {before af
           continues = goes-further (hub_view old.machine before) mid (hub_view new.machine last) refl r.numbers
               (answer-goes-on mid conn bare-now e r.still (found' r) r.live r.space r.passed steps.sound made
               (hub_view new.machine last) steps.limits steps.state told);
-          bytes = λ limits confirmed h ahead.
-              let o = opened r ahead in
-              served-taken o next moment (IsAhead limits confirmed (hub_view new.machine last)) (Accepts medium old new h) r.comes.1.0 r.partial r.few e refl (
-                serve-matches limits confirmed mid (hub_view new.machine last) (emptied_hub o) conn bare-now (bare o) e
-                    (emptied-matches o mid refl refl r.table).matches (found' r) (bare-here o) r.passed steps.sound steps.limits steps.state told,
-                record { events = e ∷ []; adds = refl; pends = steps.pends },
-              );
+          bytes = asked-taken r r.comes.1.0 false new last (record {
+            becomes = record { limits = steps.limits; state = steps.state; rows = rows };
+            pends = steps.pends;
+          });
           answers = served-waits;
         }
 
@@ -186,28 +240,27 @@ module _ {D : Type 0} {medium : D → Medium} {old new : StoreView D} {before af
   pub refused-took : Took medium old new before (changed nack conn after) conn next moment
   refused-took =
       let long = length-reply_bytes (reply_of (refusal serial ENOMEM)) in
-      let same = r.comes.same in
-      let last : Table = changed nack conn after in
+      let put : changed nack conn after ≡ with_value nat_eq after conn (nack bare-n) = rw (found' r) refl in
+      let owes : Option ℕ → ℕ = owed_to old.machine.limits old.machine.state in
       record {
-        continues = rw same (record {
+        continues = rw r.comes.same (record {
           limits = refl;
           numbers = changed-keys nack conn after ∙ r.numbers;
-          invariant = changed-invariant (hub_view old.machine after) conn nack r.still (λ v is k.
-              let free = ap (λ (c : ConnectionView). c.outbox.free) (same_value v bare-n (sym is ∙ found' r)) in
-              let owes = ap (λ (c : ConnectionView). owed_to old.machine.limits old.machine.state c.process) (same_value v bare-n (sym is ∙ found' r)) in (
-                λ pid mine. mine,
-                kept-pushed old.machine.limits (owed_to old.machine.limits old.machine.state) (owed_to old.machine.limits old.machine.state)
-                    (refusal serial ENOMEM) v k (omega (arith, r.space, free, long)) (λ _. omega (arith, r.space, free, owes, long)),
-              ));
+          invariant = rw put (change-invariant (hub_view old.machine after) conn bare-n (nack bare-n) r.still (found' r) (λ pid mine. mine)
+              (kept-pushed old.machine.limits owes owes (refusal serial ENOMEM) bare-n
+              (each-at (IsSoundIn (hub_view old.machine after)) after conn bare-n r.still.each (found' r)) (omega (arith, r.space, long))
+              (λ _. omega (arith, r.space, long))));
         });
-        bytes = λ limits confirmed h ahead.
-            let o = opened r ahead in
-            refused-taken o next moment (IsAhead limits confirmed (hub_view new.machine last)) (Accepts medium old new h) r.comes.made r.partial r.few
-            r.comes.event refl r.comes.takes (
-              refused-matches o (hub_view old.machine after) (hub_view new.machine last) r.comes.made.request.serial (emptied-matches o _ refl refl r.table)
-                  (ap (λ (s : StoreView D). s.machine.limits) same) (ap (λ (s : StoreView D). s.machine.state) same) (rw r.comes.serial (rw (found' r) refl)),
-              same-accepts medium law old new h (refuse (emptied_hub o) conn (bare o) r.comes.made.request.serial) refl same,
-            );
+        bytes = asked-taken r r.comes.made true new (changed nack conn after) (rw r.comes.takes (record {
+          becomes = record {
+            limits = ap (λ (s : StoreView D). s.machine.limits) r.comes.same;
+            state = ap (λ (s : StoreView D). s.machine.state) r.comes.same;
+            rows = put ∙ ap (λ (t : Table). with_value nat_eq t conn (nack bare-n)) r.table
+                ∙ ap (λ (n : ℕ). with_value nat_eq (with_value nat_eq before conn bare-n) conn (pushed (reply_of (refusal n ENOMEM)) bare-n))
+                (sym r.comes.serial);
+          };
+          pends = same-pends medium law old new r.comes.same;
+        }));
         answers = λ none. absurd (pushed-frame new.machine after conn (reply_of (refusal serial ENOMEM)) bare-n (found' r) none);
       }
 
@@ -215,37 +268,33 @@ module _ {D : Type 0} {medium : D → Medium} {old new : StoreView D} {before af
 
 module _ {D : Type 0} {medium : D → Medium} {old new : StoreView D} {before after : Table} {conn : ℕ} {next : List ℕ}
     {moment serial : ℕ} (r : Received medium old new before after conn next moment (asks.Broken serial)) where
+  abbrev bare-b : ConnectionView
+  bare-b = record (r.was) { input = [] }
+
   pub broken-live : is_open_in after conn ≡ true
   broken-live = rw (found' r) (ap not r.live)
 
   pub broken-took : (store : StoreView D) (last : Table) → Continues (hub_view new.machine after) (hub_view store.machine last)
-      → ((client : Client) → SimulatesAt conn client (hub_view new.machine after) (hub_view store.machine last)
-      (λ limits h. break_off limits h conn client serial moment))
+      → ((c : ConnectionView) → value_at nat_eq after conn ≡ Some c → Becomes (hub_view new.machine after) (hub_view store.machine last)
+      (break_off view_endpoint new.machine.limits (hub_of (hub_view new.machine after)) conn c serial moment))
       → Pends medium new (exit_of (process_in after conn) moment) store → (HasNoFrame (hub_view store.machine last) conn → ⊥)
       → Took medium old store before last conn next moment
   broken-took store last goes ends went some =
+      let is = ends bare-b (found' r) in
+      let from : Leads r store last (break_off view_endpoint old.machine.limits (with_client (was-hub r) conn bare-b) conn bare-b serial moment) =
+      subst (λ (t : Table). Leads r store last (break_off view_endpoint old.machine.limits (record (was-hub r) { clients = t }) conn bare-b serial moment))
+      r.table (record {
+        becomes = let b = rw r.comes.0 at is in record { limits = b.limits; state = b.state; rows = b.rows };
+        pends =
+            rw (leave-adds view_endpoint old.machine.limits (with_client (record (was-hub r) { clients = after }) conn (closed bare-b)) r.was.process moment)
+            (rw (r.comes.0, ap process_of (found' r)) at went);
+      }) in
       record {
         continues = goes-further (hub_view old.machine before) (hub_view new.machine after) (hub_view store.machine last)
             (ap (λ (s : StoreView D). s.machine.limits) r.comes.0) r.numbers goes;
-        bytes = λ limits confirmed h ahead.
-            let o = opened r ahead in
-            let h' : Clients = emptied_hub o in
-            let client : Client = bare o in
-            let over : IsAhead limits confirmed (hub_view store.machine last) (break_off limits h' conn client serial moment) =
-            ends client limits confirmed h' (subst (λ (s : StoreView D). IsAhead limits confirmed (hub_view s.machine after) h') (sym r.comes.0)
-            (emptied-matches o (hub_view old.machine after) refl refl r.table)) (bare-here o) in
-            let process : process_in after conn ≡ client.process = ap process_of (found' r) ∙ (mine o).process in
-            let adds : Accepts medium old store h (break_off limits h' conn client serial moment) =
-            record {
-              events = exit_of client.process moment;
-              adds = leave-adds limits (with_client h' conn (over-client client)) client.process moment;
-              pends = rw (r.comes.0, process) at went;
-            } in
-            elim r.comes.1 [
-              | inl fault ↦ fault-taken o next moment (IsAhead limits confirmed (hub_view store.machine last)) (Accepts medium old store h) serial fault
-                  (over, adds)
-              | inr asked ↦ broken-taken o next moment (IsAhead limits confirmed (hub_view store.machine last)) (Accepts medium old store h) asked.0 r.partial
-                  r.few refl (rw asked.1 (over, adds))
-            ];
+        bytes = elim r.comes.1 [
+          | inl fault ↦ frame-taken r (Fault serial) false fault store last from
+          | inr asked ↦ asked-taken r asked.0 false store last (rw asked.1 from)
+        ];
         answers = λ none. absurd (some none);
       }

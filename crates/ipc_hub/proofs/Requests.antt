@@ -20,12 +20,13 @@ use Rattle.ipc_engine.specs.Event.{PlainEvent, PlainOutcome, Connect, Call, Inte
 use Rattle.ipc_engine.specs.Step.{step}
 use Rattle.ipc_engine.specs.View.{reply_of}
 use Rattle.ipc_engine.proofs.CallerLemmas.{step-fits, step-owes, hello-greets, connect-stays, call-stays, interrupt-stays}
-use Rattle.ipc_hub.specs.Clients.{event_of, last_reply}
+use Rattle.ipc_hub.specs.Hub.{event_of, last_reply}
 use Rattle.ipc_hub.specs.Relations.Delivery.{IsShort, AllShort}
+use Rattle.ipc_hub.proofs.Kept.{last-of}
 
 -- ---- replies
 
-fits-short : (limits : Limits) (o : PlainOutcome) → ArePassed limits → FitsBody limits o.body → IsShort o
+pub fits-short : (limits : Limits) (o : PlainOutcome) → ArePassed limits → FitsBody limits o.body → IsShort o
 fits-short limits o passed fits = omega (arith, fits, longest_reply-bound limits passed)
 
 all-short : (limits : Limits) → ArePassed limits → (os : List PlainOutcome) → All (λ (o : PlainOutcome). FitsBody limits o.body) os → AllShort os
@@ -38,12 +39,6 @@ all-short limits passed (o ∷ os) all = (
 -- no reply of an event is too long for its length field
 pub step-short : (limits : Limits) (s : State) (e : PlainEvent) → ArePassed limits → IsSound limits s → AllShort (step limits s e).outcomes
 step-short limits s e passed sound = all-short limits passed (step limits s e).outcomes (step-fits limits s e sound)
-
--- what all replies are, the last one is
-last-of : (P : PlainOutcome → Type 0) (os : List PlainOutcome) (o : PlainOutcome) → All P os → last_reply os ≡ Some o → P o
-last-of P [] o all last = cc
-last-of P (p ∷ []) o all last = let same : p ≡ o = cc in subst P same (All-head P p [] all)
-last-of P (p ∷ q ∷ os) o all last = last-of P (q ∷ os) o (All-tail P p (q ∷ os) all) last
 
 -- so it is short, and no longer than the longest one
 pub last-fits : (limits : Limits) (s : State) (e : PlainEvent) (o : PlainOutcome) → ArePassed limits → IsSound limits s

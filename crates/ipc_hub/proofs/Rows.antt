@@ -12,7 +12,7 @@ use Rattle.ipc_base.proofs.CallerLemmas.{first-at, value_at_place, value_nowhere
 use Rattle.ipc_engine.specs.Event.{PlainOutcome}
 use Rattle.ipc_engine.specs.View.{reply_of}
 use Rattle.ipc_hub.specs.declared.connection.Connection.{Connection}
-use Rattle.ipc_hub.specs.Clients.{is_for}
+use Rattle.ipc_hub.specs.Hub.{is_for}
 use Rattle.ipc_hub.specs.View.{ConnectionView}
 use Rattle.ipc_hub.specs.Relations.Delivery.{pushed, put_for}
 use Rattle.ipc_hub.specs.Relations.Invariant.{AreApart}

@@ -1,3 +1,4 @@
+pub mod Hub
 pub mod Clients
 pub mod Unmarked
 pub mod Lives

@@ -7,7 +7,8 @@ ghost use Rattle.ipc_wire.specs.Reply.{plain_reply, reply_bytes, body_bytes};
 ghost use Rattle.ipc_wire.specs.Stream.{first, missing};
 ghost use Rattle.ipc_wire.specs.Stream.PlainFrame.{More};
 ghost use Rattle.ipc_engine.specs.View.{reply_of};
-ghost use Rattle.ipc_hub.specs.Clients.{is_for, refusal as refusal_of};
+ghost use Rattle.ipc_hub.specs.Hub.{is_for};
+ghost use Rattle.ipc_hub.specs.Clients.{refusal as refusal_of};
 
 use crate::outbox::Outbox;
 use ipc_base::{Errno, Pid};

@@ -8,7 +8,7 @@ ghost use Rattle.std.specs.Borrow.{sem};
 ghost use Rattle.ipc_base.specs.Table.{keys_of, value_at, with_entry, without, seen_as, EachValue, IsRising};
 ghost use Rattle.ipc_engine.specs.View.{plain_outcome};
 ghost use Rattle.ipc_hub.specs.declared.connection.Connection.{Connection};
-ghost use Rattle.ipc_hub.specs.Clients.{is_for};
+ghost use Rattle.ipc_hub.specs.Hub.{is_for};
 ghost use Rattle.ipc_hub.specs.Relations.Delivery.{released, failed, consumed, put_for, put_all};
 ghost use Rattle.ipc_hub.specs.Relations.Delivery.{HasSpare, IsShort, HasSpaceIn, HaveSpace, HasSpaceFor};
 ghost use Rattle.ipc_hub.specs.Relations.Invariant.{AreApart};

@@ -1,24 +1,25 @@
 //! Requests become events of the machine, and the replies of every event go to the connections of their processes.
 
 ghost use Rattle.std.specs.Prelude.{◌≡◌, ◌+◌, ◌<◌, ◌≤◌, ◌^◌, true, false, [], ◌∷◌, length, map, take};
-ghost use Rattle.std.specs.Prelude.{nat_eq, option_map, IfSome};
+ghost use Rattle.std.specs.Prelude.{Some, nat_eq, option_map, IfSome};
 ghost use Rattle.ipc_base.specs.Limits.{longest_reply, ArePassed};
 ghost use Rattle.ipc_base.specs.Table.{value_at, keys_of, IsRising};
 ghost use Rattle.ipc_wire.specs.View.{plain_request};
 ghost use Rattle.ipc_wire.specs.Stream.{first};
 ghost use Rattle.ipc_engine.specs.Event.{Tick};
+ghost use Rattle.ipc_engine.specs.Sound.{IsSound};
 ghost use Rattle.ipc_engine.specs.View.{plain_event, plain_outcome, reply_of};
-ghost use Rattle.ipc_hub.specs.Clients.{Client, refusal as refusal_of, event_of as event_made};
-ghost use Rattle.ipc_hub.specs.Clients.{leave as leaves, break_off as breaks_off, tick as ticks};
-ghost use Rattle.ipc_hub.specs.View.{HasNoFrame};
+ghost use Rattle.ipc_hub.specs.Hub.{break_off as breaks_off, event_of as event_made};
+ghost use Rattle.ipc_hub.specs.Clients.{refusal as refusal_of, tick as ticks};
+ghost use Rattle.ipc_hub.specs.View.{ConnectionView, HasNoFrame};
 ghost use Rattle.ipc_hub.specs.Relations.Rows.{pid_of, view_of, table_of, hub_view, stored_view};
-ghost use Rattle.ipc_hub.specs.Relations.Rows.{changed, process_in, is_open_in};
-ghost use Rattle.ipc_hub.specs.Relations.Delivery.{last_frame, closed, pushed, put_all, with_answer};
+ghost use Rattle.ipc_hub.specs.Relations.Rows.{Becomes, changed, hub_of, process_in, is_open_in};
+ghost use Rattle.ipc_hub.specs.Relations.Delivery.{last_frame, closed, pushed, put_all, view_endpoint, with_answer};
 ghost use Rattle.ipc_hub.specs.Relations.Delivery.{HasSpaceToAnswer, HasSpaceFor};
 ghost use Rattle.ipc_hub.specs.Relations.Invariant.{HubInvariant, Continues, HasPassed, IsConnected, IsNobodys};
 ghost use Rattle.ipc_hub.specs.Relations.Invariant.{AreApart, LeavesOthers};
-ghost use Rattle.ipc_hub.specs.Relations.Matches.{Adds, Simulates, SimulatesAt, TakesIn, Pends};
-ghost use Rattle.ipc_hub.specs.Relations.Requests.{ComesTo, exit_of, taken_off, Received, Took};
+ghost use Rattle.ipc_hub.specs.Relations.Matches.{Adds, Simulates, TakesIn, Pends};
+ghost use Rattle.ipc_hub.specs.Relations.Requests.{ComesTo, Left, exit_of, taken_off, Received, Took};
 ghost use Rattle.ipc_image.specs.Records.{HasRecord};
 ghost use Rattle.ipc_store.specs.View.{IsReadyFor};
 
@@ -106,9 +107,8 @@ pub(crate) fn leave<D: SectorDisk>(
     ensures accepts { Pends D.medium store.old (exit_of (pid_of process) moment.0) store.new }
     ensures continues { Continues (hub_view store.old.machine (table_of connections.old))
         (hub_view store.new.machine (table_of connections.new)) }
-    ensures leaves { Simulates (hub_view store.old.machine (table_of connections.old))
-        (hub_view store.new.machine (table_of connections.new))
-        (λ limits h. leaves limits h (pid_of process) moment.0) }
+    ensures leaves { Left (hub_view store.old.machine (table_of connections.old))
+        (hub_view store.new.machine (table_of connections.new)) (pid_of process) moment.0 }
     ensures others { LeavesOthers (table_of connections.old) (table_of connections.new) }
     ensures adds { Adds 1 store.old store.new }
 {
@@ -211,10 +211,11 @@ fn break_off<D: SectorDisk>(
         (exit_of (process_in (table_of connections.old) conn) moment.0) store.new }
     ensures continues { Continues (hub_view store.old.machine (table_of connections.old))
         (hub_view store.new.machine (table_of connections.new)) }
-    ensures ends { (client : Client)
-        → SimulatesAt conn client (hub_view store.old.machine (table_of connections.old))
+    ensures ends { (c : ConnectionView) → value_at nat_eq (table_of connections.old) conn ≡ Some c
+        → Becomes (hub_view store.old.machine (table_of connections.old))
         (hub_view store.new.machine (table_of connections.new))
-        (λ limits h. breaks_off limits h conn client serial moment.0) }
+        (breaks_off view_endpoint store.old.machine.limits
+        (hub_of (hub_view store.old.machine (table_of connections.old))) conn c serial moment.0) }
     ensures answers { ¬ HasNoFrame (hub_view store.new.machine (table_of connections.new)) conn }
     ensures adds { Adds 1 store.old store.new }
 {
@@ -233,6 +234,7 @@ fn receive<D: SectorDisk>(
     moment: Moment,
 ) -> (usize, Asked)
     requires passed { ArePassed store.old.machine.limits }
+    requires sound { IsSound store.old.machine.limits store.old.machine.state }
     requires hub { HubInvariant (hub_view store.old.machine (table_of connections.old)) }
     requires live { is_open_in (table_of connections.old) conn ≡ true }
     requires space { HasSpaceFor (hub_view store.old.machine (table_of connections.old))
@@ -260,6 +262,7 @@ fn take<D: SectorDisk>(
     moment: Moment,
 ) -> usize
     requires passed { ArePassed store.old.machine.limits }
+    requires sound { IsSound store.old.machine.limits store.old.machine.state }
     requires hub { HubInvariant (hub_view store.old.machine (table_of connections.old)) }
     requires space { HasSpaceFor (hub_view store.old.machine (table_of connections.old))
         (longest_reply store.old.machine.limits) conn }

@@ -9,9 +9,9 @@ use Rattle.ipc_wire.specs.Stream.Ending.{Rest, Broken}
 use Rattle.ipc_base.specs.Table.{value_at, with_value, keys_of}
 use Rattle.ipc_engine.specs.Event.{PlainEvent, PlainOutcome, Tick, Exit}
 use Rattle.ipc_engine.specs.Step.{step}
-use Rattle.ipc_hub.specs.Clients.{Client, Clients, client_at, with_client, with_frame, deliver, deliver_all, accept, over, greeted, welcomed, serve}
-use Rattle.ipc_hub.specs.Clients.{last_reply, event_of, leave, break_off, refuse, on_request, unless_ended, first_of}
-use Rattle.ipc_hub.specs.Clients.{on_requests, on_ending, take_in, feed, tick, is_for}
+use Rattle.ipc_hub.specs.Hub.{heard, deliver_all, accept, leave, break_off, refuse, told as as_told, welcomed, serve, is_for}
+use Rattle.ipc_hub.specs.Hub.{last_reply, event_of, on_event, on_request, unless_ended, first_of, on_requests, on_ending}
+use Rattle.ipc_hub.specs.Clients.{Client, Clients, client_at, with_client, client_endpoint as kind, with_frame, over, take_in, feed, tick}
 use Rattle.ipc_hub.specs.View.{StoredHub}
 use Rattle.ipc_hub.specs.Relations.Matches.{StoredMatches}
 use Rattle.ipc_script.specs.declared.report.Opened.{Opened}
@@ -43,54 +43,44 @@ put_like t u n c d like at same =
     ∙ (ap (with_value nat_eq (heads u) n) same
     ∙ (put_same (heads u) n c.consumed (ap (λ (hs : List (ℕ × ℕ)). value_at nat_eq hs n) like ∙ head_at t n c at) ∙ like))
 
-delivered : (b : Bool) (mark : ℕ) (c : Client) (o : PlainOutcome) → (cond b (with_frame c mark o) c).consumed ≡ c.consumed
-delivered true mark c o = refl
-delivered false mark c o = refl
+heard_consumed : (mark : ℕ) (os : List PlainOutcome) (c : Client) → (heard kind mark os c).consumed ≡ c.consumed
+heard_consumed mark [] c = refl
+heard_consumed mark (o ∷ os) c =
+    choice (λ (d : Client). (heard kind mark os d).consumed ≡ c.consumed) (is_for o.pid c.process) (with_frame c mark o) c
+    (λ _. heard_consumed mark os (with_frame c mark o)) (λ _. heard_consumed mark os c)
 
-heads_deliver : (mark : ℕ) (t : List (ℕ × Client)) (o : PlainOutcome) → heads (deliver mark t o) ≡ heads t
-heads_deliver mark [] o = refl
-heads_deliver mark (e ∷ es) o =
-    ap (λ (k : ℕ). (e.0, k) ∷ heads (deliver mark es o)) (delivered (is_for o.pid e.1.process) mark e.1 o)
-    ∙ ap (λ (hs : List (ℕ × ℕ)). (e.0, e.1.consumed) ∷ hs) (heads_deliver mark es o)
+heads_deliver_all : (mark : ℕ) (t : List (ℕ × Client)) (os : List PlainOutcome) → heads (deliver_all kind mark t os) ≡ heads t
+heads_deliver_all mark [] os = refl
+heads_deliver_all mark (e ∷ es) os = λ i. (e.0, heard_consumed mark os e.1 i) ∷ heads_deliver_all mark es os i
 
-heads_deliver_all : (mark : ℕ) (t : List (ℕ × Client)) (os : List PlainOutcome) → heads (deliver_all mark t os) ≡ heads t
-heads_deliver_all mark t [] = refl
-heads_deliver_all mark t (o ∷ os) = heads_deliver_all mark (deliver mark t o) os ∙ heads_deliver mark t o
-
-pub heads_accept : (limits : Limits) (h : Clients) (e : PlainEvent) → heads (accept limits h e).clients ≡ heads h.clients
+pub heads_accept : (limits : Limits) (h : Clients) (e : PlainEvent) → heads (accept kind limits h e).clients ≡ heads h.clients
 heads_accept limits h e = heads_deliver_all (length (h.events ++ e ∷ [])) h.clients (step limits h.state e).outcomes
 
-pub heads_leave : (limits : Limits) (h : Clients) (process : Option ℕ) (moment : ℕ) → heads (leave limits h process moment).clients ≡ heads h.clients
+pub heads_leave : (limits : Limits) (h : Clients) (process : Option ℕ) (moment : ℕ) → heads (leave kind limits h process moment).clients ≡ heads h.clients
 heads_leave limits h None moment = refl
 heads_leave limits h (Some pid) moment = heads_accept limits h (Exit pid moment)
 
-welcomed_consumed : (mark : ℕ) (reply : Option PlainOutcome) (c : Client) → (welcomed mark reply c).consumed ≡ c.consumed
-welcomed_consumed mark reply c = by_process c.process
-  where
-    by_reply : (r : Option PlainOutcome) → (greeted mark r c).consumed ≡ c.consumed
-    by_reply None = refl
-    by_reply (Some o) =
-        choice (λ (d : Client). d.consumed ≡ c.consumed) (nat_eq o.pid 0) (with_frame c mark o) (record c { process = Some o.pid }) (λ _. refl) (λ _. refl)
-
-    by_process : (p : Option ℕ) → (elim p as (λ _. Client) [ None ↦ greeted mark reply c | Some pid ↦ c ]).consumed ≡ c.consumed
-    by_process None = by_reply reply
-    by_process (Some pid) = refl
+told_consumed : (mark : ℕ) (p : Option ℕ) (reply : Option PlainOutcome) (c : Client) → (as_told kind mark p reply c).consumed ≡ c.consumed
+told_consumed mark (Some pid) reply c = refl
+told_consumed mark None None c = refl
+told_consumed mark None (Some o) c =
+    choice (λ (d : Client). d.consumed ≡ c.consumed) (nat_eq o.pid 0) (with_frame c mark o) (record c { process = Some o.pid }) (λ _. refl) (λ _. refl)
 
 module _ (limits : Limits) (conn moment : ℕ) where
   module _ (h : Clients) (c : Client) (at : client_at h conn ≡ Some c) where
-    heads_serve : (e : PlainEvent) → heads (serve limits h conn c e).clients ≡ heads h.clients
+    heads_serve : (e : PlainEvent) → heads (serve kind limits h conn c e).clients ≡ heads h.clients
     heads_serve e =
         let reply = last_reply (step limits h.state e).outcomes in
-        let d : Client = welcomed (length (h.events ++ e ∷ [])) reply c in
-        heads_accept limits (with_client h conn d) e ∙ put_like h.clients h.clients conn c d refl at (welcomed_consumed (length (h.events ++ e ∷ [])) reply c)
+        let d : Client = welcomed kind (length (h.events ++ e ∷ [])) reply c in
+        heads_accept limits (with_client h conn d) e ∙ put_like h.clients h.clients conn c d refl at (told_consumed (length (h.events ++ e ∷ [])) c.process reply c)
 
-    heads_break_off : (serial : ℕ) → heads (break_off limits h conn c serial moment).clients ≡ heads h.clients
+    heads_break_off : (serial : ℕ) → heads (break_off kind limits h conn c serial moment).clients ≡ heads h.clients
     heads_break_off serial =
         let bare : Clients = with_client h conn (over c) in
-        put_like h.clients (leave limits bare c.process moment).clients conn c _
+        put_like h.clients (leave kind limits bare c.process moment).clients conn c _
         (heads_leave limits bare c.process moment ∙ put_like h.clients h.clients conn c (over c) refl at refl) at refl
 
-    heads_refuse : (serial : ℕ) → heads (refuse h conn c serial).clients ≡ heads h.clients
+    heads_refuse : (serial : ℕ) → heads (refuse kind h conn c serial).clients ≡ heads h.clients
     heads_refuse serial = put_like h.clients h.clients conn c _ refl at refl
 
   heads_choice : (h one other : Clients) (b : Bool) → heads one.clients ≡ heads h.clients → heads other.clients ≡ heads h.clients
@@ -98,36 +88,33 @@ module _ (limits : Limits) (conn moment : ℕ) where
   heads_choice h one other true p q = p
   heads_choice h one other false p q = q
 
+  heads_event : (h : Clients) (c : Client) (serial : ℕ) (refused : Bool) (made : Option PlainEvent) → client_at h conn ≡ Some c
+      → heads (on_event kind limits h conn c serial moment refused made).clients ≡ heads h.clients
+  heads_event h c serial refused None at = heads_break_off h c at serial
+  heads_event h c serial refused (Some e) at =
+      heads_choice h (refuse kind h conn c serial) (serve kind limits h conn c e) (refused && event_takes_memory limits h.state e)
+      (heads_refuse h c at serial) (heads_serve h c at e)
+
   heads_request : (h : Clients) (c : Client) (request : PlainRequest) (refused : Bool) → client_at h conn ≡ Some c
-      → heads (on_request limits h conn c moment request refused).clients ≡ heads h.clients
-  heads_request h c request refused at = by_event (event_of c.process request moment)
-    where
-      by_event : (e : Option PlainEvent)
-          → heads (elim e as (λ _. Clients) [
-            | None ↦ break_off limits h conn c request.serial moment
-            | Some e' ↦ if refused && event_takes_memory limits h.state e' then refuse h conn c request.serial else serve limits h conn c e'
-          ]).clients ≡ heads h.clients
-      by_event None = heads_break_off h c at request.serial
-      by_event (Some e) =
-          heads_choice h (refuse h conn c request.serial) (serve limits h conn c e) (refused && event_takes_memory limits h.state e)
-          (heads_refuse h c at request.serial) (heads_serve h c at e)
+      → heads (on_request kind limits h conn c moment request refused).clients ≡ heads h.clients
+  heads_request h c request refused = heads_event h c request.serial refused (event_of c.process request moment)
 
   module _ (act : Client → Clients) (h : Clients) (each : (c : Client) → client_at h conn ≡ Some c → heads (act c).clients ≡ heads h.clients) where
-    tried : (o : Option Client) → client_at h conn ≡ o → heads (unless_ended h conn act).clients ≡ heads h.clients
+    tried : (o : Option Client) → client_at h conn ≡ o → heads (unless_ended kind h conn act).clients ≡ heads h.clients
     tried None e = rw e refl
     tried (Some c) e = rw e (heads_choice h h (act c) c.ended refl (each c e))
 
-    heads_unless : heads (unless_ended h conn act).clients ≡ heads h.clients
+    heads_unless : heads (unless_ended kind h conn act).clients ≡ heads h.clients
     heads_unless = tried (client_at h conn) refl
 
-  heads_requests : (h : Clients) (rs : List PlainRequest) (refused : List Bool) → heads (on_requests limits h conn moment rs refused).clients ≡ heads h.clients
+  heads_requests : (h : Clients) (rs : List PlainRequest) (refused : List Bool) → heads (on_requests kind limits h conn moment rs refused).clients ≡ heads h.clients
   heads_requests h [] refused = refl
   heads_requests h (r ∷ rs) refused =
-      let act : Client → Clients = λ c. on_request limits h conn c moment r (first_of refused) in
-      heads_requests (unless_ended h conn act) rs (drop 1 refused)
+      let act : Client → Clients = λ c. on_request kind limits h conn c moment r (first_of refused) in
+      heads_requests (unless_ended kind h conn act) rs (drop 1 refused)
       ∙ heads_unless act h (λ c at. heads_request h c r (first_of refused) at)
 
-  heads_ending : (h : Clients) (ending : Ending) → heads (on_ending limits h conn moment ending).clients ≡ heads h.clients
+  heads_ending : (h : Clients) (ending : Ending) → heads (on_ending kind limits h conn moment ending).clients ≡ heads h.clients
   heads_ending h (Rest bytes) = heads_unless _ h (λ c at. put_like h.clients h.clients conn c _ refl at refl)
   heads_ending h (Broken serial) = heads_unless _ h (λ c at. heads_break_off h c at serial)
 
@@ -136,7 +123,7 @@ module _ (limits : Limits) (conn moment : ℕ) where
       heads_unless _ h (λ c at.
       let stream = stream_of (c.input ++ bytes) in
       let start : Clients = with_client h conn (record c { input = [] }) in
-      heads_ending (on_requests limits start conn moment stream.requests refused) stream.ending
+      heads_ending (on_requests kind limits start conn moment stream.requests refused) stream.ending
       ∙ (heads_requests start stream.requests refused ∙ put_like h.clients h.clients conn c _ refl at refl))
 
   pub heads_tick : (h : Clients) → heads (tick limits h moment).clients ≡ heads h.clients

@@ -1,17 +1,16 @@
 -- Replies put into the outboxes of their processes.
-use Rattle.std.specs.Prelude.{◌≡◌, ℕ, ◌+◌, ◌-◌, ◌<◌, ◌≤◌, ◌^◌, ◌==◌, true, false}
+use Rattle.std.specs.Prelude.{◌≡◌, ℕ, ◌+◌, ◌-◌, ◌<◌, ◌≤◌, ◌^◌, true, false}
 use Rattle.std.specs.Prelude.{List, [], ◌∷◌, ◌++◌, length, drop}
-use Rattle.std.specs.Prelude.{if◌then◌else◌}
 use Rattle.std.specs.Prelude.{Option, Some, None, IfSome, nat_eq}
 use Rattle.ipc_base.specs.declared.errno.Errno.TheVariants.{EIO}
-use Rattle.ipc_base.specs.Table.{seen_as, value_at, EachValue}
+use Rattle.ipc_base.specs.Table.{value_at, EachValue}
 use Rattle.ipc_base.specs.declared.limits.Limits.{Limits}
 use Rattle.ipc_wire.specs.Reply.{PlainReply, reply_bytes, body_bytes}
 use Rattle.ipc_state.specs.State.{State}
 use Rattle.ipc_engine.specs.Bytes.{bytes_to, owed, unanswered}
 use Rattle.ipc_engine.specs.Event.{PlainOutcome}
 use Rattle.ipc_engine.specs.View.{reply_of}
-use Rattle.ipc_hub.specs.Clients.{is_for, last_reply, refusal}
+use Rattle.ipc_hub.specs.Hub.{Endpoint, delivered, deliver_all, heard, is_for, last_reply, refusal, welcomed}
 use Rattle.ipc_hub.specs.View.{Outgoing, ConnectionView, HubView, kept}
 use Rattle.ipc_hub.specs.Relations.Rows.{Table, changed, process_in}
 
@@ -50,9 +49,21 @@ consumed count c = record c { outbox = less count c.outbox }
 abbrev pub pushed : PlainReply → ConnectionView → ConnectionView
 pushed r c = record c { outbox = with_bytes c.outbox (reply_bytes r) }
 
--- a connection that is over, and gets one more frame
+-- a connection that is over
 abbrev pub closed : ConnectionView → ConnectionView
 closed c = record c { process = None; input = []; ended = true }
+
+-- what a hub does with a connection: a frame is put behind those that it keeps, whatever event it belongs to
+abbrev pub view_endpoint : Endpoint ConnectionView
+view_endpoint = record {
+  process = λ c. c.process;
+  input = λ c. c.input;
+  ended = λ c. c.ended;
+  joined = λ c pid. record c { process = Some pid };
+  keeping = λ c bytes. record c { input = bytes };
+  over = closed;
+  push = λ c mark o. pushed (reply_of o) c;
+}
 
 -- a connection when the disk has failed
 abbrev pub failed : ConnectionView → ConnectionView
@@ -61,23 +72,18 @@ failed c =
 
 -- a reply, if it is for the process of the connection
 abbrev pub put_for : PlainOutcome → ConnectionView → ConnectionView
-put_for o c = if is_for o.pid c.process then pushed (reply_of o) c else c
+put_for = delivered view_endpoint 0
+
+-- a connection that has heard the replies of an event
+abbrev pub hears : List PlainOutcome → ConnectionView → ConnectionView
+hears = heard view_endpoint 0
 
 abbrev pub put_all : List PlainOutcome → Table → Table
-put_all [] table = table
-put_all (o ∷ os) table = put_all os (seen_as (put_for o) table)
+put_all os table = deliver_all view_endpoint 0 table os
 
--- what is done to the connection that has said HELLO, if it had no process
-abbrev pub given : Option PlainOutcome → ConnectionView → ConnectionView
-given None c = c
-given (Some o) c = if o.pid == 0 then pushed (reply_of o) c else record c { process = Some o.pid }
-
+-- a connection that has been told the reply to its request
 abbrev pub answered : Option PlainOutcome → ConnectionView → ConnectionView
-answered reply c = by_process c.process
-  where
-    by_process : Option ℕ → ConnectionView
-    by_process None = given reply c
-    by_process (Some pid) = c
+answered = welcomed view_endpoint 0
 
 -- an EIO frame has room
 abbrev pub HasSpare : ConnectionView → Type 0

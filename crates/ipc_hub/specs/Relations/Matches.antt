@@ -1,7 +1,7 @@
 -- The code's hub matches a hub of the definitions when so many events are confirmed: the state is the same, and each
 -- number has a connection and a client that match.
 use Rattle.std.specs.Prelude.{◌≡◌, ℕ, ◌+◌, ◌<◌, ◌≤◌, ◌^◌, Bool, List, ◌++◌, length, drop}
-use Rattle.std.specs.Prelude.{Some, All}
+use Rattle.std.specs.Prelude.{All}
 use Rattle.ipc_base.specs.declared.limits.Limits.{Limits}
 use Rattle.ipc_base.specs.Table.{ArePaired}
 use Rattle.ipc_wire.specs.Reply.{PlainReply, reply_bytes, body_bytes}
@@ -9,7 +9,7 @@ use Rattle.ipc_disk.specs.Medium.{Medium}
 use Rattle.ipc_engine.specs.Event.{PlainEvent}
 use Rattle.ipc_store.specs.Histories.{Takes}
 use Rattle.ipc_store.specs.View.{StoreView}
-use Rattle.ipc_hub.specs.Clients.{Frame, Client, Clients, accepted, client_at, all_bytes, confirmed_bytes, shown}
+use Rattle.ipc_hub.specs.Clients.{Frame, Client, Clients, accepted, all_bytes, confirmed_bytes, shown}
 use Rattle.ipc_hub.specs.Clients.{take_in, feed}
 use Rattle.ipc_hub.specs.View.{ConnectionView, HubView, StoredHub, kept}
 
@@ -101,17 +101,15 @@ pub record IsAhead (limits : Limits) (confirmed : ℕ) (v : HubView) (h : Client
   pub matches : HubMatches limits confirmed v h
   pub later : confirmed < accepted h
 
--- the same of what an event begins: bytes of a connection are taken in
+-- the hub of the definitions comes to another, which the code's then matches, and its events wait in the store
+pub record Follows {D : Type 0} (medium : D → Medium) (limits : Limits) (confirmed : ℕ) (old new : StoredHub D)
+    (h next : Clients) : Type 0 where
+  pub ahead : IsAhead limits confirmed new.hub next
+  pub accepts : Accepts medium old.store new.store h next
+
+-- bytes of a connection are taken in, some requests in which may have been refused for memory
 abbrev pub TakesIn : {D : Type 0} → (D → Medium) → StoredHub D → StoredHub D → ℕ → List ℕ → ℕ
     → Type 0
 TakesIn medium old new conn bytes moment =
     (limits : Limits) (confirmed : ℕ) (h : Clients) → IsAhead limits confirmed old.hub h
-    → (refused : List Bool) × IsAhead limits confirmed new.hub (take_in limits h conn bytes moment refused)
-    × Accepts medium old.store new.store h (take_in limits h conn bytes moment refused)
-
--- the same of what is done to a connection, which has this client
-abbrev pub SimulatesAt : ℕ → Client → HubView → HubView → (Limits → Clients → Clients) → Type 0
-SimulatesAt conn client old new call =
-    (limits : Limits) (confirmed : ℕ) (h : Clients) → IsAhead limits confirmed old h
-    → client_at h conn ≡ Some client
-    → IsAhead limits confirmed new (call limits h)
+    → (refused : List Bool) × Follows medium limits confirmed old new h (take_in limits h conn bytes moment refused)

@@ -14,10 +14,10 @@ use Rattle.ipc_engine.specs.Step.{step}
 use Rattle.ipc_store.specs.View.{StoreView, IsReadyFor}
 use Rattle.ipc_hub.specs.declared.serving.Asked.{Asked}
 use Rattle.ipc_hub.specs.declared.serving.Asked.TheVariants as asked
-use Rattle.ipc_hub.specs.Clients.{event_of}
-use Rattle.ipc_hub.specs.View.{ConnectionView, HasNoFrame}
-use Rattle.ipc_hub.specs.Relations.Rows.{Table, hub_view, stored_view}
-use Rattle.ipc_hub.specs.Relations.Delivery.{last_frames, unanswered_at, owed_to}
+use Rattle.ipc_hub.specs.Hub.{accept, event_of}
+use Rattle.ipc_hub.specs.View.{ConnectionView, HubView, HasNoFrame}
+use Rattle.ipc_hub.specs.Relations.Rows.{Becomes, Table, hub_of, hub_view, stored_view}
+use Rattle.ipc_hub.specs.Relations.Delivery.{last_frames, unanswered_at, owed_to, view_endpoint}
 use Rattle.ipc_hub.specs.Relations.Invariant.{HubInvariant, Continues}
 use Rattle.ipc_hub.specs.Relations.Matches.{Pends, TakesIn}
 
@@ -25,6 +25,17 @@ use Rattle.ipc_hub.specs.Relations.Matches.{Pends, TakesIn}
 abbrev pub exit_of : Option ℕ → ℕ → List PlainEvent
 exit_of None moment = []
 exit_of (Some pid) moment = Exit pid moment ∷ []
+
+-- An event has come over a hub: its machine, which was sound, took the step, and the replies went where they go.
+pub record Happened (old new : HubView) (e : PlainEvent) : Type 0 where
+  pub passed : ArePassed old.limits
+  pub sound : IsSound old.limits old.state
+  pub becomes : Becomes old new (accept view_endpoint old.limits (hub_of old) e)
+
+-- the process of a connection that is over has left, if it had one
+abbrev pub Left : HubView → HubView → Option ℕ → ℕ → Type 0
+Left old new None moment = new ≡ old
+Left old new (Some pid) moment = Happened old new (Exit pid moment)
 
 -- the machine of a store took a step, and the event is pending
 pub record Steps {D : Type 0} (medium : D → Medium) (old new : StoreView D) (e : PlainEvent) : Type 0 where
@@ -85,6 +96,7 @@ taken_off (asked.Broken serial) c = record c { input = [] }
 pub record Received {D : Type 0} (medium : D → Medium) (old new : StoreView D) (before after : Table) (conn : ℕ)
     (bytes : List ℕ) (moment : ℕ) (asked : Asked) : Type 0 where
   pub passed : ArePassed old.machine.limits
+  pub sound : IsSound old.machine.limits old.machine.state
   pub was : ConnectionView
   pub found : value_at nat_eq before conn ≡ Some was
   pub live : was.ended ≡ false

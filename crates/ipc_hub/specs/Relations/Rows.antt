@@ -1,5 +1,5 @@
 -- The hub as its callers see it, from what its code keeps.
-use Rattle.std.specs.Prelude.{ℕ, Bool, false, not, List, [], map, Option, Some, None, option_map, option_and_then}
+use Rattle.std.specs.Prelude.{◌≡◌, ℕ, Bool, false, not, List, [], map, Option, Some, None, option_map, option_and_then}
 use Rattle.std.specs.Prelude.{unwrap_or, nat_eq}
 use Rattle.ipc_base.specs.declared.identity.Pid.{Pid}
 use Rattle.ipc_base.specs.Table.{value_at, with_value}
@@ -7,6 +7,7 @@ use Rattle.ipc_engine.specs.Engine.{Machine}
 use Rattle.ipc_hub.specs.declared.connection.Connection.{Connection}
 use Rattle.ipc_hub.specs.declared.connections.Connections.{Connections}
 use Rattle.ipc_store.specs.View.{StoreView}
+use Rattle.ipc_hub.specs.Hub.{Hub}
 use Rattle.ipc_hub.specs.View.{ConnectionView, HubView, StoredHub}
 
 -- the connections, by number
@@ -34,6 +35,16 @@ hub_view engine table = record { limits = engine.limits; state = engine.state; c
 -- the same over its store
 abbrev pub stored_view : {D : Type 0} → StoreView D → Table → StoredHub D
 stored_view store table = record { hub = hub_view store.machine table; store = store }
+
+-- the hub over these connections, which keeps no events
+abbrev pub hub_of : HubView → Hub ConnectionView
+hub_of v = record { state = v.state; events = []; clients = v.connections }
+
+-- a hub has become what the definitions make of it
+pub record Becomes (old new : HubView) (made : Hub ConnectionView) : Type 0 where
+  pub limits : new.limits ≡ old.limits
+  pub state : new.state ≡ made.state
+  pub rows : new.connections ≡ made.clients
 
 -- the table in which the connection with a number, if there is one, is seen in another way
 abbrev pub changed : (ConnectionView → ConnectionView) → ℕ → Table → Table

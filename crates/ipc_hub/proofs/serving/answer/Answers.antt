@@ -4,7 +4,7 @@ use Rattle.std.specs.Option.{option_copied}
 use Rattle.ipc_engine.specs.declared.event.Outcome.{Outcome}
 use Rattle.ipc_engine.specs.Event.{PlainOutcome}
 use Rattle.ipc_engine.specs.View.{plain_outcome}
-use Rattle.ipc_hub.specs.Clients.{last_reply}
+use Rattle.ipc_hub.specs.Hub.{last_reply}
 use Rattle.ipc_hub.specs.Relations.Delivery.{answered, with_answer, put_all, HasSpaceToGreet}
 use Rattle.ipc_hub.specs.Relations.Rows.{pid_of, view_of, table_of}
 use Rattle.ipc_base.specs.Table.{keys_of}

@@ -6,7 +6,7 @@ use Rattle.ipc_wire.specs.Stream.{first}
 use Rattle.ipc_wire.specs.Stream.PlainFrame.{Whole}
 use Rattle.ipc_engine.specs.Engine.{event_takes_memory}
 use Rattle.ipc_engine.specs.View.{plain_event}
-use Rattle.ipc_hub.specs.Clients.{event_of}
+use Rattle.ipc_hub.specs.Hub.{event_of}
 use Rattle.ipc_image.specs.Records.{HasRecord}
 use Rattle.ipc_store.proofs.CallerLemmas.{ready-less}
 use Rattle.ipc_hub.specs.Relations.Requests.{Steps}

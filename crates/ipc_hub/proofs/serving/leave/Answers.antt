@@ -7,9 +7,9 @@ use Rattle.ipc_engine.proofs.CallerLemmas.{exit-stays}
 use Rattle.ipc_hub.specs.Relations.Delivery.{put_all}
 use Rattle.ipc_hub.specs.Relations.Invariant.{LeavesOthers}
 use Rattle.ipc_hub.specs.Relations.Matches.{Pends}
-use Rattle.ipc_hub.specs.Relations.Requests.{exit_of}
+use Rattle.ipc_hub.specs.Relations.Requests.{Happened, exit_of}
 use Rattle.ipc_hub.specs.Relations.Rows.{Table, pid_of, table_of, hub_view}
-use Rattle.ipc_hub.proofs.Keeping.{Happened, happened-matches, put-others, quiet-goes-on, quiet-space}
+use Rattle.ipc_hub.proofs.Keeping.{put-others, quiet-goes-on, quiet-space}
 use Rattle.ipc_hub.proofs.Taking.{same-pends}
 use Rattle.ipc_hub.proofs.serving.leave.Given.{Over}
 use Rattle.ipc_hub.proofs.serving.leave.Goals.{After-outcomes, After-deliver}
@@ -31,9 +31,11 @@ happened : (g : Over) (c : After-deliver g) → Happened (hub_view c.args.store.
 happened g c = record {
   passed = rw c.unwrap.ensures at c.step.ensures.passed;
   sound = rw c.unwrap.ensures at c.step.ensures.was_sound;
-  limits = c.step.ensures.limits;
-  state = rw c.unwrap.ensures at c.step.ensures.state;
-  rows = c.deliver.ensures ∙ ap (λ os. put_all os (table_of c.args.connections.now)) (are g c.before);
+  becomes = record {
+    limits = c.step.ensures.limits;
+    state = rw c.unwrap.ensures at c.step.ensures.state;
+    rows = c.deliver.ensures ∙ ap (λ os. put_all os (table_of c.args.connections.now)) (are g c.before);
+  };
 }
 
 pub returns-in-Some-clause-continues : goal.returns-in-Some-clause-continues
@@ -47,9 +49,7 @@ returns-in-Some-clause-continues g c =
     exit-stays machine.limits machine.state gone c.args.moment.0 pid apart (c.requires.hub.own.connected conn pid mine))
 
 pub returns-in-Some-clause-leaves : goal.returns-in-Some-clause-leaves
-returns-in-Some-clause-leaves g c limits confirmed h m =
-    rw c.in-Some.is
-    (happened-matches limits confirmed _ _ (Exit c.in-Some.pid.0 c.args.moment.0) (happened g (goal.at.returns-in-Some-clause-leaves g c).After-deliver) h m)
+returns-in-Some-clause-leaves g c = rw c.in-Some.is (happened g (goal.at.returns-in-Some-clause-leaves g c).After-deliver)
 
 pub returns-in-Some-clause-others : goal.returns-in-Some-clause-others
 returns-in-Some-clause-others g c =
@@ -65,3 +65,6 @@ pub returns-in_default-clause-accepts : goal.returns-in_default-clause-accepts
 returns-in_default-clause-accepts g c =
     subst (λ (p : Option ℕ). Pends g.D.SectorDisk.medium c.args.store.now (exit_of p c.args.moment.0) c.args.store.now) (sym (ap pid_of c.in_default.is))
     (same-pends g.D.SectorDisk.medium g.met.D.SectorDisk.only_now c.args.store.now c.args.store.now refl)
+
+pub returns-in_default-clause-leaves : goal.returns-in_default-clause-leaves
+returns-in_default-clause-leaves g c = rw c.in_default.is refl

@@ -61,6 +61,7 @@ returns-clause-received g c =
     let table = put ∙ ap (with_value nat_eq before c.args.conn) (asked.view ∙ ap (taken_off c.ask-asked.result) filled.view) in
     record {
       passed = c.requires.passed;
+      sound = c.requires.sound;
       was = was;
       found = found;
       live = live;

@@ -95,6 +95,9 @@ take-taken-requires-clause-space g c =
     (subst (λ (m : Machine). HasSpaceFor (hub_view m (table_of c.loop-taken.connections)) c.longest_reply-reply.result c.args.conn)
     c.engine-in-loop-taken.ensures (c.has_space.ensures.0 c.if-not-has_space.false))
 
+pub take-taken-requires-clause-sound : goal.take-taken-requires-clause-sound
+take-taken-requires-clause-sound g c = subst (λ (m : Machine). IsSound m.limits m.state) c.engine.ensures c.limits.ensures.sound
+
 -- no event came, or one to which the reply is still to come
 still-ready : {D : Type 0} (old new : StoreView D) (before after : ℕ)
     → ((new ≡ old) × (before ≡ after)) ⊎ ((before ≡ 0) × (0 < after) × (IsReadyFor old 2 → IsReadyFor new 1))

@@ -6,7 +6,9 @@ use Rattle.ipc_engine.specs.View.{plain_outcome}
 use Rattle.ipc_engine.proofs.CallerLemmas.{tick-stays}
 use Rattle.ipc_hub.specs.Relations.Delivery.{put_all}
 use Rattle.ipc_hub.specs.Relations.Rows.{table_of, hub_view}
-use Rattle.ipc_hub.proofs.Keeping.{Happened, happened-matches, quiet-goes-on, quiet-passes, quiet-space}
+use Rattle.ipc_hub.specs.Relations.Requests.{Happened}
+use Rattle.ipc_hub.proofs.Deliveries.{happened-matches}
+use Rattle.ipc_hub.proofs.Keeping.{quiet-goes-on, quiet-passes, quiet-space}
 use Rattle.ipc_store.proofs.CallerLemmas.{ready-less}
 use Rattle.ipc_hub.proofs.serving.tick.Given.{Over}
 use Rattle.ipc_hub.proofs.serving.tick.Goals.{After-outcomes, After-deliver}
@@ -28,9 +30,11 @@ happened : (g : Over) (c : After-deliver g) → Happened (hub_view c.args.store.
 happened g c = record {
   passed = rw c.unwrap.ensures at c.step.ensures.passed;
   sound = rw c.unwrap.ensures at c.step.ensures.was_sound;
-  limits = c.step.ensures.limits;
-  state = rw c.unwrap.ensures at c.step.ensures.state;
-  rows = c.deliver.ensures ∙ ap (λ os. put_all os (table_of c.args.connections.now)) (are g c.before);
+  becomes = record {
+    limits = c.step.ensures.limits;
+    state = rw c.unwrap.ensures at c.step.ensures.state;
+    rows = c.deliver.ensures ∙ ap (λ os. put_all os (table_of c.args.connections.now)) (are g c.before);
+  };
 }
 
 pub returns-clause-continues : goal.returns-clause-continues

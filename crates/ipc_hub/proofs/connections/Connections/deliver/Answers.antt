@@ -2,7 +2,7 @@ use Rattle.std.proofs.Common.{◌≡◌, ℕ, ◌+◌, ◌<◌, List, ◌∷◌,
 use Rattle.std.specs.Vec.{with_items}
 use Rattle.ipc_base.specs.Table.{keys_of, seen_as, EachValue}
 use Rattle.ipc_base.proofs.CallerLemmas.{keys-map}
-use Rattle.std.proofs.lemmas.List.{drop_more, with_items_is}
+use Rattle.std.proofs.lemmas.List.{drop_all, drop_more, with_items_is}
 use Rattle.ipc_engine.specs.declared.event.Outcome.{Outcome}
 use Rattle.ipc_engine.specs.Event.{PlainOutcome}
 use Rattle.ipc_engine.specs.View.{plain_outcome}
@@ -10,7 +10,7 @@ use Rattle.ipc_hub.specs.declared.connection.Connection.{Connection}
 use Rattle.ipc_hub.specs.Relations.Rows.{Table, rows, table_of}
 use Rattle.ipc_hub.specs.Relations.Delivery.{HasSpaceIn, HaveSpace, put_all, put_for}
 use Rattle.ipc_hub.specs.Relations.Invariant.{AreApart}
-use Rattle.ipc_hub.proofs.Keeping.{first-each, put-apart, rest-space}
+use Rattle.ipc_hub.proofs.Keeping.{first-each, put-apart, put-next, put-nothing, rest-space}
 use Rattle.ipc_hub.proofs.connections.Connections.deliver.Goals as goal
 
 -- the replies that are left begin with this one
@@ -53,6 +53,13 @@ loop-outcome-preserved c =
       apart = subst AreApart (sym put) (put-apart (plain_outcome o) table c.loop-outcome.invariant.apart);
       space = subst (HaveSpace rest) (sym put)
           (rest-space (plain_outcome o) rest table (has os i o table c.loop-outcome-test.true c.outcome-item.is c.loop-outcome.invariant.space));
-      all = ap (put_all rest) put
+      all = ap (put_all rest) put ∙ put-next (plain_outcome o) rest table
           ∙ ap (λ (ps : List PlainOutcome). put_all ps table) (sym (left os i o c.loop-outcome-test.true c.outcome-item.is)) ∙ c.loop-outcome.invariant.all;
     }
+
+pub returns : goal.returns
+returns c =
+    let now = table_of c.loop-outcome.self in
+    sym (put-nothing now)
+    ∙ ap (λ (os : List Outcome). put_all (map plain_outcome os) now) (sym (drop_all c.loop-outcome.outcome-index c.args.outcomes.now c.loop-outcome-test.false))
+    ∙ c.loop-outcome.invariant.all
