@@ -112,7 +112,8 @@ fn at_once(
     requires room { Has (plain_kind request.now.kind) state.old.state state.old.room }
     requires places { length outcomes.old.items + 2 * (length state.old.state.wait + 1) ≤ vec_capacity outcomes.old }
     requires spare { IsSpare state.old.limits spare.old }
-    ensures state { state.new.state ≡ (replied_or_joined state.old.limits pid.0 (plain_request request.now) state.old.state
+    ensures state { state.new.state
+        ≡ (replied_or_joined state.old.limits pid.0 (plain_request request.now) state.old.state
         (tried state.old.limits state.old.state pid.0 false (plain_kind request.now.kind))).state }
     ensures outcomes { map plain_outcome outcomes.new.items ≡ map plain_outcome outcomes.old.items
         ++ (replied_or_joined state.old.limits pid.0 (plain_request request.now) state.old.state
@@ -265,7 +266,8 @@ pub(crate) fn leave(state: &mut State, outcomes: &mut Vec<Outcome>, pid: Pid)
 /// The call of a process that waits, if there is one, ends with EINTR.
 fn end_waiting(state: &mut State, outcomes: &mut Vec<Outcome>, pid: Pid)
     requires place { length outcomes.old.items < vec_capacity outcomes.old }
-    ensures state { state.new.state ≡ (interrupted state.old.state pid.0 (waiting_call_of pid state.old.state.wait)).state }
+    ensures state { state.new.state
+        ≡ (interrupted state.old.state pid.0 (waiting_call_of pid state.old.state.wait)).state }
     ensures outcomes { map plain_outcome outcomes.new.items ≡ map plain_outcome outcomes.old.items
         ++ (interrupted state.old.state pid.0 (waiting_call_of pid state.old.state.wait)).outcomes }
     ensures limits { state.new.limits ≡ state.old.limits }

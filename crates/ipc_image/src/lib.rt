@@ -1,5 +1,18 @@
 //! What the server keeps on a device: how large it must be, its superblock, the records of events, and
 //! the state as objects.
+//!
+//! Words for the state as objects:
+//!
+//! | word | what it is |
+//! |---|---|
+//! | `Thing` | one object of the state that has an object of the device for itself, of any kind |
+//! | `Stored` | the trait of those: their bytes in a window, how they are read back, which numbers their objects have |
+//! | `Entry` | one with a key, beside who may use it; of `ipc_state` |
+//! | `Kind` | the trait of what an `Entry` holds: its own numbers and its parts |
+//! | `Saved` | the trait of what shares an object of the device with others like it, as processes do |
+//! | `Shape` | the form of a `Saved` one: the sizes of its numbers, and how many bytes come after these |
+//! | `Tree` | a value of a `Shape`: the numbers, and the bytes after them |
+//! | `Wide` | the trait of what is read before a save, so that each of its numbers is known to have its place |
 #![tactic(auto)]
 
 mod adjustment_list;

@@ -19,9 +19,9 @@ use Rattle.ipc_hub.specs.Relations.Matches.{Comes, HubMatches, Serves, Simulates
 use Rattle.ipc_server.specs.Acts.{Act, IsAt, IsShown, after, after_one}
 use Rattle.ipc_server.specs.Acts.Act.{Connects, Ticks, Feeds, HangsUp, Releases, Consumes}
 use Rattle.ipc_server.specs.Fault.{of_commit_error}
-use Rattle.ipc_server.specs.Goes.{Steps, Makes, Goes, GoesRound, Sends, Breaks, BreaksOff}
-use Rattle.ipc_server.specs.Goes.Steps.{None as no_step, More as one_step}
-use Rattle.ipc_server.specs.Goes.Sends.{None as no_send, More as one_send}
+use Rattle.ipc_server.specs.Runs.{Steps, CallsMade, RunsCalls, RunsRound, Sends, StopsAt, BreaksOff}
+use Rattle.ipc_server.specs.Runs.Steps.{None as no_step, More as one_step}
+use Rattle.ipc_server.specs.Runs.Sends.{None as no_send, More as one_send}
 
 -- ---- calls, one after another
 
@@ -100,8 +100,8 @@ module _ {D : Type 0} (medium : D → Medium) where
   module _ (moment : ℕ) where
     -- calls, and then others
     pub makes-both : (limits : Limits) (old mid new : StoredHub D) (h : Clients) (acts others : List Act)
-        → Makes medium moment limits old mid h acts → Makes medium moment limits mid new (after limits h acts) others
-        → Makes medium moment limits old new h (acts ++ others)
+        → CallsMade medium moment limits old mid h acts → CallsMade medium moment limits mid new (after limits h acts) others
+        → CallsMade medium moment limits old new h (acts ++ others)
     makes-both limits old mid new h acts others one two = record {
       steps = steps-both medium moment limits old mid h acts new others one.steps two.steps;
       comes = rw (after-both limits h acts others)
@@ -110,21 +110,21 @@ module _ {D : Type 0} (medium : D → Medium) where
 
     -- one call
     pub makes-one : (limits : Limits) (old new : StoredHub D) (h : Clients) (act : Act) → IsAt moment act → IsShown old.hub act
-        → Comes medium limits old new h (after_one limits h act) → Makes medium moment limits old new h (act ∷ [])
+        → Comes medium limits old new h (after_one limits h act) → CallsMade medium moment limits old new h (act ∷ [])
     makes-one limits old new h act is shown comes = record {
       steps = steps-one medium moment limits old new h act is shown (call_serves (after_one limits h act) (client-call limits h act) comes);
       comes = comes;
     }
 
-    pub goes-both : (old mid new : StoredHub D) → Goes medium moment old mid → Goes medium moment mid new → Goes medium moment old new
+    pub goes-both : (old mid new : StoredHub D) → RunsCalls medium moment old mid → RunsCalls medium moment mid new → RunsCalls medium moment old new
     goes-both old mid new one two limits h m =
         let a = one limits h m in
         let b = two limits (after limits h a.0) a.1.comes.matches in
         (a.0 ++ b.0, makes-both limits old mid new h a.0 b.0 a.1 b.1)
 
     -- time passes, and then the other calls are made
-    pub goes-round : (old mid new : StoredHub D) → Serves medium old mid (λ limits h. tick limits h moment) → Goes medium moment mid new
-        → GoesRound medium moment old new
+    pub goes-round : (old mid new : StoredHub D) → Serves medium old mid (λ limits h. tick limits h moment) → RunsCalls medium moment mid new
+        → RunsRound medium moment old new
     goes-round old mid new serves goes limits h m =
         let one = serves limits h m in
         let a = goes limits (tick limits h moment) one.matches in
@@ -132,12 +132,12 @@ module _ {D : Type 0} (medium : D → Medium) where
 
     -- one call that lets time pass
     pub goes-one : (old new : StoredHub D) (act : Act) → IsAt moment act → IsShown old.hub act
-        → Serves medium old new (λ limits h. after_one limits h act) → Goes medium moment old new
+        → Serves medium old new (λ limits h. after_one limits h act) → RunsCalls medium moment old new
     goes-one old new act is shown serves limits h m = (act ∷ [], makes-one limits old new h act is shown (serves limits h m))
 
     -- the hub's events were made to last
     pub goes-released : (old new : StoredHub D) → ((limits : Limits) (h : Clients) → StoredMatches limits old h → StoredMatches limits new h)
-        → Takes medium old.store [] new.store → Goes medium moment old new
+        → Takes medium old.store [] new.store → RunsCalls medium moment old new
     goes-released old new same takes limits h m = (
       Releases ∷ [],
       makes-one limits old new h Releases tt tt (record { matches = same limits h m; events = []; adds = sym (append-nil h.events); takes = takes }),
@@ -159,14 +159,14 @@ module _ {D : Type 0} (medium : D → Medium) where
     comes-none limits hub h m = comes-still limits hub hub h h m refl refl m.hub
 
     pub makes-none : (moment : ℕ) (limits : Limits) (hub : StoredHub D) (h : Clients) → StoredMatches limits hub h
-        → Makes medium moment limits hub hub h []
+        → CallsMade medium moment limits hub hub h []
     makes-none moment limits hub h m = record { steps = no_step; comes = comes-none limits hub h m }
 
-    pub goes-none : (moment : ℕ) (hub : StoredHub D) → Goes medium moment hub hub
+    pub goes-none : (moment : ℕ) (hub : StoredHub D) → RunsCalls medium moment hub hub
     goes-none moment hub limits h m = ([], makes-none moment limits hub h m)
 
     goes-connected : (moment : ℕ) (old new : StoredHub D) (conn : ℕ) → Simulates old.hub new.hub (λ limits h. after_one limits h (Connects conn))
-        → new.store ≡ old.store → Goes medium moment old new
+        → new.store ≡ old.store → RunsCalls medium moment old new
     goes-connected moment old new conn does store limits h m = (
       Connects conn ∷ [],
       makes-one moment limits old new h (Connects conn) tt tt
@@ -176,11 +176,11 @@ module _ {D : Type 0} (medium : D → Medium) where
     -- a connection was made, or refused
     pub goes-asked : (moment : ℕ) (old new : StoredHub D) (conn : ℕ) (result : Result ⊤ ConnectError)
         → OnOk result (Simulates old.hub new.hub (λ limits h. after_one limits h (Connects conn))) → new.store ≡ old.store → OnErr result (new ≡ old)
-        → Goes medium moment old new
+        → RunsCalls medium moment old new
     goes-asked moment old new conn (Ok done) ok store err = goes-connected moment old new conn ok store
     goes-asked moment old new conn (Err refusal) ok store err = rw err (goes-none moment old)
 
-    pub goes-sent : (moment : ℕ) (old new : StoredHub D) → Sends old new → Goes medium moment old new
+    pub goes-sent : (moment : ℕ) (old new : StoredHub D) → Sends old new → RunsCalls medium moment old new
     goes-sent moment old _ no_send = goes-none moment old
     goes-sent moment old new (one_send last _ conn count before within does store) =
         goes-both moment old last new (goes-sent moment old last before)
@@ -194,15 +194,15 @@ module _ {D : Type 0} (medium : D → Medium) where
 
   module _ (counts : D → Counts) (moment : ℕ) where
     -- a call was refused after some steps
-    pub breaks-at : (old mid new : StoredHub D) (error : CommitError) → Goes medium moment old mid → Halts medium counts mid new error
-        → Breaks medium counts moment old new error
+    pub breaks-at : (old mid new : StoredHub D) (error : CommitError) → RunsCalls medium moment old mid → Halts medium counts mid new error
+        → StopsAt medium counts moment old new error
     breaks-at old mid new error goes halts limits h m =
         let a = goes limits h m in
         record { acts = a.0; before = mid; makes = a.1; halted = new; halts = halts; sends = sends-none new }
 
     -- steps broke off after some others
-    pub breaks-later : (old mid new : StoredHub D) (error : CommitError) → Goes medium moment old mid → Breaks medium counts moment mid new error
-        → Breaks medium counts moment old new error
+    pub breaks-later : (old mid new : StoredHub D) (error : CommitError) → RunsCalls medium moment old mid → StopsAt medium counts moment mid new error
+        → StopsAt medium counts moment old new error
     breaks-later old mid new error goes breaks limits h m =
         let a = goes limits h m in
         let b = breaks limits (after limits h a.0) a.1.comes.matches in
@@ -216,8 +216,8 @@ module _ {D : Type 0} (medium : D → Medium) where
         }
 
     -- and then clients were sent something
-    pub breaks-sent : (old mid new : StoredHub D) (error : CommitError) → Breaks medium counts moment old mid error → Sends mid new
-        → Breaks medium counts moment old new error
+    pub breaks-sent : (old mid new : StoredHub D) (error : CommitError) → StopsAt medium counts moment old mid error → Sends mid new
+        → StopsAt medium counts moment old new error
     breaks-sent old mid new error breaks sent limits h m =
         let b = breaks limits h m in
         record {
@@ -230,7 +230,7 @@ module _ {D : Type 0} (medium : D → Medium) where
         }
 
     -- what a turn answers then
-    pub breaks-off : (old new : StoredHub D) (error : CommitError) → Breaks medium counts moment old new error
+    pub breaks-off : (old new : StoredHub D) (error : CommitError) → StopsAt medium counts moment old new error
         → BreaksOff medium counts moment old new (of_commit_error error)
     breaks-off old new commit.Device breaks = breaks
     breaks-off old new commit.Stopped breaks = inr breaks

@@ -5,9 +5,9 @@ use Rattle.std.proofs.lemmas.Bool.Decides.{nat_tests}
 use Rattle.ipc_base.proofs.CallerLemmas.{test_cases}
 use Rattle.ipc_disk.specs.Medium.{Image, Medium}
 use Rattle.ipc_server.specs.Acts.Act.{HangsUp as to_hang_up}
-use Rattle.ipc_server.specs.Goes.{Goes}
-use Rattle.ipc_server.specs.Parts.{Answers, HangsUp, Parts}
-use Rattle.ipc_server.specs.Parts.HangsUp.{None as no_call, More as one_call}
+use Rattle.ipc_server.specs.Runs.{RunsCalls}
+use Rattle.ipc_server.specs.Rounds.{Answers, HangsUp, EndsRound}
+use Rattle.ipc_server.specs.Rounds.HangsUp.{None as no_call, More as one_call}
 use Rattle.ipc_hub.specs.Clients.{hangup}
 use Rattle.ipc_hub.specs.Relations.Matches.{Serves}
 use Rattle.ipc_hub.specs.View.{HubView, StoredHub, is_connected}
@@ -34,23 +34,23 @@ module _ {D : Type 0} (medium : D → Medium) (moment : ℕ) where
   hangs-both old mid new one (one_call last _ conn before serves) = one_call last new conn (hangs-both old mid last one before) serves
 
   module _ (law : (d : D) (image : Image) → (medium d).images_since (medium d).moment image → (medium d).images_now image) where
-    pub hangs-goes : (old new : StoredHub D) → HangsUp medium moment old new → Goes medium moment old new
+    pub hangs-goes : (old new : StoredHub D) → HangsUp medium moment old new → RunsCalls medium moment old new
     hangs-goes old _ no_call = goes-none medium law moment old
     hangs-goes old new (one_call last _ conn before serves) =
         goes-both medium moment old last new (hangs-goes old last before)
         (goes-one medium moment last new (to_hang_up conn moment) refl tt serves)
 
     -- these are calls on a hub
-    pub answers-goes : (old new : StoredHub D) → Answers medium old new → Goes medium moment old new
+    pub answers-goes : (old new : StoredHub D) → Answers medium old new → RunsCalls medium moment old new
     answers-goes old new answers =
         goes-both medium moment old answers.lasting new
         (goes-released medium moment old answers.lasting answers.releases.same answers.releases.takes)
         (goes-sent medium law moment answers.lasting new answers.sends)
 
     -- after others
-    pub goes-answered : (old fed new : StoredHub D) → Goes medium moment old fed → Answers medium fed new → Goes medium moment old new
+    pub goes-answered : (old fed new : StoredHub D) → RunsCalls medium moment old fed → Answers medium fed new → RunsCalls medium moment old new
     goes-answered old fed new goes answers = goes-both medium moment old fed new goes (answers-goes fed new answers)
 
-    pub parts-goes : (old new : StoredHub D) → Parts medium moment old new → Goes medium moment old new
+    pub parts-goes : (old new : StoredHub D) → EndsRound medium moment old new → RunsCalls medium moment old new
     parts-goes old new parts =
         goes-both medium moment old parts.parted new (hangs-goes old parts.parted parts.hangs_up) (answers-goes parts.parted new parts.answers)

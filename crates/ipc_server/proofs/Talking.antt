@@ -8,7 +8,7 @@ use Rattle.ipc_hub.specs.View.{StoredHub}
 use Rattle.ipc_hub.specs.Relations.Matches.{ServesFeed}
 use Rattle.ipc_server.specs.Acts.{Piece, after, all_of, feeds}
 use Rattle.ipc_server.specs.Acts.Act.{Feeds}
-use Rattle.ipc_server.specs.Goes.{Goes, Hears, Tells}
+use Rattle.ipc_server.specs.Runs.{RunsCalls, FeedsInput, WritesOutput}
 use Rattle.ipc_server.proofs.Going.{makes-both, makes-none, makes-one}
 
 -- ---- known bytes
@@ -54,11 +54,11 @@ appends-both (Some zs) (Some mid) (Some all) xs ys one two = two ∙ ap (λ ws. 
 
 -- ---- what a client is sent
 
-pub tells-none : (known : Option (List ℕ)) (shown : List ℕ) → Tells known known shown shown
+pub tells-none : (known : Option (List ℕ)) (shown : List ℕ) → WritesOutput known known shown shown
 tells-none known shown = ([], refl, appends-none known)
 
-pub tells-both : (known mid all : Option (List ℕ)) (shown left less : List ℕ) → Tells known mid shown left → Tells mid all left less
-    → Tells known all shown less
+pub tells-both : (known mid all : Option (List ℕ)) (shown left less : List ℕ) → WritesOutput known mid shown left → WritesOutput mid all left less
+    → WritesOutput known all shown less
 tells-both known mid all shown left less one two = (
   one.0 ++ two.0,
   one.1 ∙ ap (λ xs. one.0 ++ xs) two.1 ∙ sym (append_assoc one.0 two.0 less),
@@ -66,7 +66,7 @@ tells-both known mid all shown left less one two = (
 )
 
 -- a write that failed wrote nothing
-pub tells-kept : (known mid all : Option (List ℕ)) (shown left : List ℕ) → Tells known mid shown left → Keeps mid all → Tells known all shown left
+pub tells-kept : (known mid all : Option (List ℕ)) (shown left : List ℕ) → WritesOutput known mid shown left → Keeps mid all → WritesOutput known all shown left
 tells-kept None mid all shown left one same = (one.0, one.1, tt)
 tells-kept (Some xs) None all shown left one same = absurd one.2
 tells-kept (Some xs) (Some mid) None shown left one same = absurd same
@@ -74,7 +74,7 @@ tells-kept (Some xs) (Some mid) (Some all) shown left one same = (one.0, one.1, 
 
 -- one write, and what it took is consumed
 pub tells-one : (known all : Option (List ℕ)) (shown left : List ℕ) (count : ℕ) → Appends known all (take count shown) → left ≡ drop count shown
-    → Tells known all shown left
+    → WritesOutput known all shown left
 tells-one known all shown left count appends rest =
     (take count shown, sym (take-append-drop count shown) ∙ ap (λ xs. take count shown ++ xs) (sym rest), appends)
 
@@ -87,12 +87,12 @@ pub all-both : (pieces others : List Piece) → all_of (pieces ++ others) ≡ al
 all-both pieces others = flat_map-append (λ p. p.bytes) pieces others
 
 module _ {D : Type 0} (medium : D → Medium) (conn moment : ℕ) where
-  pub hears-goes : (old new : StoredHub D) (there left : Option (List ℕ)) → Hears medium conn moment old new there left → Goes medium moment old new
+  pub hears-goes : (old new : StoredHub D) (there left : Option (List ℕ)) → FeedsInput medium conn moment old new there left → RunsCalls medium moment old new
   hears-goes old new there left hears limits h m =
       let a = hears limits h m in (feeds conn moment a.0, a.1)
 
-  pub hears-both : (old mid new : StoredHub D) (there some left : Option (List ℕ)) → Hears medium conn moment old mid there some
-      → Hears medium conn moment mid new some left → Hears medium conn moment old new there left
+  pub hears-both : (old mid new : StoredHub D) (there some left : Option (List ℕ)) → FeedsInput medium conn moment old mid there some
+      → FeedsInput medium conn moment mid new some left → FeedsInput medium conn moment old new there left
   hears-both old mid new there some left one two limits h m =
       let a = one limits h m in
       let now = after limits h (feeds conn moment a.0) in
@@ -103,15 +103,15 @@ module _ {D : Type 0} (medium : D → Medium) (conn moment : ℕ) where
         rw (all-both a.0 b.0) (consumes-both there some left (all_of a.0) (all_of b.0) a.2 b.2),
       )
 
-  pub hears-kept : (old new : StoredHub D) (there some left : Option (List ℕ)) → Keeps there some → Hears medium conn moment old new some left
-      → Hears medium conn moment old new there left
+  pub hears-kept : (old new : StoredHub D) (there some left : Option (List ℕ)) → Keeps there some → FeedsInput medium conn moment old new some left
+      → FeedsInput medium conn moment old new there left
   hears-kept old new there some left same hears limits h m =
       let a = hears limits h m in (a.0, a.1, kept-consumes there some left (all_of a.0) same a.2)
 
   -- one piece was fed, of which so much was taken
   pub hears-one : (old new : StoredHub D) (bytes : List ℕ) (count : ℕ) (known : Option (List ℕ))
       → ServesFeed medium old new conn (take count bytes) moment
-      → Hears medium conn moment old new (prepend_known bytes known) (prepend_known (drop count bytes) known)
+      → FeedsInput medium conn moment old new (prepend_known bytes known) (prepend_known (drop count bytes) known)
   hears-one old new bytes count known serves limits h m =
       let a = serves limits h m in
       let piece : Piece = record { bytes = take count bytes; refused = a.0 } in (
@@ -121,5 +121,5 @@ module _ {D : Type 0} (medium : D → Medium) (conn moment : ℕ) where
       )
 
   pub hears-none : (law : (d : D) (image : Image) → (medium d).images_since (medium d).moment image → (medium d).images_now image)
-      (hub : StoredHub D) (known : Option (List ℕ)) → Hears medium conn moment hub hub known known
+      (hub : StoredHub D) (known : Option (List ℕ)) → FeedsInput medium conn moment hub hub known known
   hears-none law hub known limits h m = ([], makes-none medium law moment limits hub h m, consumes-none known)

@@ -18,9 +18,9 @@ use Rattle.ipc_server.specs.declared.fault.ServeFault.{ServeFault}
 use Rattle.ipc_server.specs.declared.fault.ServeFault.TheVariants.{Device, Socket, Stopped}
 use Rattle.ipc_server.specs.Acts.{Act, after, after_one}
 use Rattle.ipc_server.specs.Acts.Act.{Ticks, Consumes}
-use Rattle.ipc_server.specs.Goes.{Breaks, BreaksOff, GoesRound, Sends, Steps}
-use Rattle.ipc_server.specs.Goes.Sends.{None as no_send, More as one_send}
-use Rattle.ipc_server.specs.Goes.Steps.{None as no_step, More as one_step}
+use Rattle.ipc_server.specs.Runs.{StopsAt, BreaksOff, RunsRound, Sends, Steps}
+use Rattle.ipc_server.specs.Runs.Sends.{None as no_send, More as one_send}
+use Rattle.ipc_server.specs.Runs.Steps.{None as no_step, More as one_step}
 use Rattle.ipc_server.specs.Served.{Served, StopsShort}
 use Rattle.ipc_server.specs.Served.Served.{None as no_turn, More as one_turn}
 use Rattle.ipc_server.specs.Turns.{Turns}
@@ -63,7 +63,7 @@ module _ {D : Type 0} (medium : D → Medium) (limits : Limits) (opened : StoreV
 
   -- one turn more
   pub turned : (before moment : ℕ) (last next : StoredHub D) (now : Clients) (seen : List Frame) → StoredMatches limits last now
-      → Turns medium limits opened before last now seen → before ≤ moment → GoesRound medium moment last next
+      → Turns medium limits opened before last now seen → before ≤ moment → RunsRound medium moment last next
       → (then : Clients) × StoredMatches limits next then × Turns medium limits opened moment next then seen
   turned before moment last next now seen m turns later goes =
       let a = goes limits now m in (
@@ -110,7 +110,7 @@ module _ {D : Type 0} (medium : D → Medium) (limits : Limits) (opened : StoreV
 
     -- a turn that was broken off
     pub broken : (before moment : ℕ) (last next : StoredHub D) (now : Clients) (seen : List Frame) (error : CommitError) → StoredMatches limits last now
-        → Turns medium limits opened before last now seen → before ≤ moment → Breaks medium counts moment last next error
+        → Turns medium limits opened before last now seen → before ≤ moment → StopsAt medium counts moment last next error
         → (then : Clients) × Turns medium limits opened moment next then seen
     broken before moment last next now seen error m turns later breaks =
         let b = breaks limits now m in

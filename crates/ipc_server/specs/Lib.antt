@@ -1,8 +1,8 @@
 -- What the contracts of a server cite.
 pub mod Acts
 pub mod Fault
-pub mod Goes
-pub mod Parts
+pub mod Runs
+pub mod Rounds
 pub mod Rest
 pub mod Rows
 pub mod Served

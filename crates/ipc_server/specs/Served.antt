@@ -4,14 +4,14 @@ use Rattle.ipc_disk.specs.Counts.{Counts}
 use Rattle.ipc_disk.specs.Medium.{Medium}
 use Rattle.ipc_hub.specs.View.{StoredHub}
 use Rattle.ipc_server.specs.declared.fault.ServeFault.{ServeFault}
-use Rattle.ipc_server.specs.Goes.{BreaksOff, GoesRound}
+use Rattle.ipc_server.specs.Runs.{BreaksOff, RunsRound}
 
 -- So many turns went on, one after another, each at a moment that is not below the one before; the last was at this
 -- moment. After each of them no event waits.
 pub data Served {D : Type 0} (medium : D → Medium) (since : ℕ) (old : StoredHub D) : ℕ → ℕ → StoredHub D → Type 0 where
   None : Served medium since old 0 since old
   More : (count before moment : ℕ) (last next : StoredHub D) → Served medium since old count before last
-      → before ≤ moment → GoesRound medium moment last next → next.store.waiting ≡ 0
+      → before ≤ moment → RunsRound medium moment last next → next.store.waiting ≡ 0
       → Served medium since old (count + 1) moment next
 
 -- Fewer turns than these went on, and this fault broke off the next one.

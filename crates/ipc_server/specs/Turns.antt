@@ -9,7 +9,7 @@ use Rattle.ipc_hub.specs.Lives.{HubCall, Shows}
 use Rattle.ipc_hub.specs.Relations.Matches.{StoredMatches}
 use Rattle.ipc_hub.specs.View.{StoredHub}
 use Rattle.ipc_server.specs.Acts.{Act, after}
-use Rattle.ipc_server.specs.Goes.{Steps}
+use Rattle.ipc_server.specs.Runs.{Steps}
 
 -- The hub of a server over a store that was just opened, and what its turns have made of the clients. A turn is calls
 -- of the hub, as its clause names them; the server may be within one, which has made the first of them. The moments do

@@ -5,7 +5,7 @@ ghost use Rattle.std.specs.Prelude.{length, []};
 ghost use Rattle.std.specs.Prelude.{IfErr, IfOk, OnOk};
 ghost use Rattle.std.specs.Io.KnownBytes.{Keeps, prepend_known};
 ghost use Rattle.ipc_hub.specs.View.{numbers_of, output_of, ended_of};
-ghost use Rattle.ipc_server.specs.Goes.{Goes, Hears, Sends, Tells, Breaks};
+ghost use Rattle.ipc_server.specs.Runs.{RunsCalls, FeedsInput, Sends, WritesOutput, StopsAt};
 ghost use Rattle.ipc_server.specs.Rest.{has_work};
 ghost use Rattle.ipc_server.specs.Rows.{view_of};
 ghost use Rattle.ipc_server.specs.View.{WasRead, WasWritten, is_gone, most_reads};
@@ -160,10 +160,10 @@ impl<S: Read> Client<S> {
         hub: &mut Hub<D>,
         moment: Moment,
     ) -> Result<(), CommitError>
-        ensures hears { OnOk result (Hears D.medium self.old.conn moment.0 hub.old hub.new
+        ensures hears { OnOk result (FeedsInput D.medium self.old.conn moment.0 hub.old hub.new
             (prepend_known self.old.piece.items (S.remaining self.old.socket))
             (prepend_known self.new.piece.items (S.remaining self.new.socket))) }
-        ensures breaks { IfErr result (λ e. Breaks D.medium D.counts moment.0 hub.old hub.new e) }
+        ensures breaks { IfErr result (λ e. StopsAt D.medium D.counts moment.0 hub.old hub.new e) }
         ensures conn { self.new.conn ≡ self.old.conn }
         ensures failed { self.new.failed ≡ self.old.failed }
         ensures numbers { numbers_of hub.new.hub ≡ numbers_of hub.old.hub }
@@ -206,10 +206,10 @@ impl<S: Read> Client<S> {
 
     // Feeds the hub what was read, if there is any.
     fn feed<D: SectorDisk>(&mut self, hub: &mut Hub<D>, moment: Moment) -> Result<(), CommitError>
-        ensures hears { OnOk result (Hears D.medium self.old.conn moment.0 hub.old hub.new
+        ensures hears { OnOk result (FeedsInput D.medium self.old.conn moment.0 hub.old hub.new
             (prepend_known self.old.piece.items (S.remaining self.old.socket))
             (prepend_known self.new.piece.items (S.remaining self.new.socket))) }
-        ensures breaks { IfErr result (λ e. Breaks D.medium D.counts moment.0 hub.old hub.new e) }
+        ensures breaks { IfErr result (λ e. StopsAt D.medium D.counts moment.0 hub.old hub.new e) }
         ensures conn { self.new.conn ≡ self.old.conn }
         ensures failed { self.new.failed ≡ self.old.failed }
         ensures reads { self.new.reads ≡ self.old.reads }
@@ -233,7 +233,7 @@ impl<S: Write> Client<S> {
     pub fn put_out<D: SectorDisk>(&mut self, hub: &mut Hub<D>)
         ensures sends { Sends hub.old hub.new }
         // The socket is written what the client could see, in order, each byte once.
-        ensures tells { Tells (S.contents self.old.socket) (S.contents self.new.socket)
+        ensures tells { WritesOutput (S.contents self.old.socket) (S.contents self.new.socket)
             (output_of hub.old.hub self.old.conn) (output_of hub.new.hub self.old.conn) }
         ensures written { WasWritten hub.new.hub (view_of self.new) }
         ensures same { view_of self.new

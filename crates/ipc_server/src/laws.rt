@@ -9,7 +9,7 @@ ghost use Rattle.ipc_hub.specs.Lives.{Serving};
 ghost use Rattle.ipc_hub.specs.View.{StoredHub};
 ghost use Rattle.ipc_hub.specs.Relations.Matches.{StoredMatches};
 ghost use Rattle.ipc_server.specs.declared.fault.ServeFault.{ServeFault};
-ghost use Rattle.ipc_server.specs.Goes.{GoesRound, Breaks};
+ghost use Rattle.ipc_server.specs.Runs.{RunsRound, StopsAt};
 ghost use Rattle.ipc_server.specs.Served.{Served, StopsShort};
 ghost use Rattle.ipc_server.specs.Turns.{Turns};
 
@@ -26,13 +26,13 @@ pub fn turns_are_calls_on_a_hub<D: SectorDisk>()
     // A turn that went on, as its clause says, is one more of these.
     ensures turn { (limits : Limits) (opened : StoreView D) (before moment : ℕ) (last next : StoredHub D)
         (now : Clients) (seen : List Frame) → Turns D.medium limits opened before last now seen
-        → StoredMatches limits last now → before ≤ moment → GoesRound D.medium moment last next
+        → StoredMatches limits last now → before ≤ moment → RunsRound D.medium moment last next
         → (then : Clients) × StoredMatches limits next then × Turns D.medium limits opened moment next then seen }
     // So is one that the disk has broken off.
     ensures broken { (limits : Limits) (opened : StoreView D) (before moment : ℕ) (last next : StoredHub D)
         (now : Clients) (seen : List Frame) (error : CommitError)
         → Turns D.medium limits opened before last now seen → StoredMatches limits last now → before ≤ moment
-        → Breaks D.medium D.counts moment last next error
+        → StopsAt D.medium D.counts moment last next error
         → (then : Clients) × Turns D.medium limits opened moment next then seen }
     // As many as a server serves for are so many more.
     ensures served { (limits : Limits) (opened : StoreView D) (since moment turns : ℕ) (last next : StoredHub D)

@@ -2,9 +2,9 @@
 
 ghost use Rattle.std.specs.Prelude.{◌≡◌, ◌==◌, ◌&&◌, ℕ, not, true, false, None, IfErr, OnErr, OnOk};
 ghost use Rattle.ipc_hub.specs.View.{StoredHub, is_connected, numbers_of};
-ghost use Rattle.ipc_server.specs.Goes.{Goes, Sends, Breaks};
+ghost use Rattle.ipc_server.specs.Runs.{RunsCalls, Sends, StopsAt};
 ghost use Rattle.ipc_hub.specs.Relations.Faults.{Halts};
-ghost use Rattle.ipc_server.specs.Parts.{Answers, HangsUp, Parts};
+ghost use Rattle.ipc_server.specs.Rounds.{Answers, HangsUp, EndsRound};
 ghost use Rattle.ipc_server.specs.Rest.{has_work};
 ghost use Rattle.ipc_server.specs.Rows.{clients_of, EachBelow, IsServing, KeepsClients, StandsIn, Stays};
 ghost use Rattle.ipc_server.specs.View.{EachClient, HaveOwnNumbers, SomeClient, WasRead, WasWritten};
@@ -27,14 +27,14 @@ pub(crate) fn serve_all<D: SectorDisk, S: Read + Write + Drop>(
     clients: &mut Slab<Client<S>>,
     moment: Moment,
 ) -> Result<(), CommitError>
-    ensures goes { OnOk result (Goes D.medium moment.0 hub.old hub.new) }
+    ensures goes { OnOk result (RunsCalls D.medium moment.0 hub.old hub.new) }
     ensures committed { OnOk result (hub.new.store.waiting ≡ 0) }
-    ensures breaks { IfErr result (λ e. Breaks D.medium D.counts moment.0 hub.old hub.new e) }
+    ensures breaks { IfErr result (λ e. StopsAt D.medium D.counts moment.0 hub.old hub.new e) }
     ensures serving { IsServing hub.old.hub clients.old → IsServing hub.new.hub clients.new }
     ensures read { IsServing hub.old.hub clients.old
         → OnOk result (EachClient WasRead (clients_of clients.new)) }
     ensures parted { IsServing hub.old.hub clients.old → OnOk result ((written : StoredHub D)
-        × (Goes D.medium moment.0 hub.old written) × (Parts D.medium moment.0 written hub.new)
+        × (RunsCalls D.medium moment.0 hub.old written) × (EndsRound D.medium moment.0 written hub.new)
         × EachClient (λ c. is_gone written.hub c ≡ false) (clients_of clients.new)) }
     ensures written { IsServing hub.old.hub clients.old
         → OnOk result (EachClient (WasWritten hub.new.hub) (clients_of clients.new)) }
@@ -55,8 +55,8 @@ fn take_in_all<D: SectorDisk, S: Read>(
     clients: &mut Slab<Client<S>>,
     moment: Moment,
 ) -> Result<(), CommitError>
-    ensures goes { OnOk result (Goes D.medium moment.0 hub.old hub.new) }
-    ensures breaks { IfErr result (λ e. Breaks D.medium D.counts moment.0 hub.old hub.new e) }
+    ensures goes { OnOk result (RunsCalls D.medium moment.0 hub.old hub.new) }
+    ensures breaks { IfErr result (λ e. StopsAt D.medium D.counts moment.0 hub.old hub.new e) }
     ensures numbers { numbers_of hub.new.hub ≡ numbers_of hub.old.hub }
     ensures keeps { KeepsClients clients.old clients.new }
     ensures read { OnOk result (EachBelow clients.new.capacity (λ c. c.over ≡ false → WasRead c)
@@ -128,7 +128,7 @@ fn part_with_gone<D: SectorDisk, S: Drop>(
     moment: Moment,
 ) -> Result<(), CommitError>
     ensures hangs_up { OnOk result (HangsUp D.medium moment.0 hub.old hub.new) }
-    ensures breaks { IfErr result (λ e. Breaks D.medium D.counts moment.0 hub.old hub.new e) }
+    ensures breaks { IfErr result (λ e. StopsAt D.medium D.counts moment.0 hub.old hub.new e) }
     ensures serving { IsServing hub.old.hub clients.old → IsServing hub.new.hub clients.new }
     ensures capacity { clients.new.capacity ≡ clients.old.capacity }
     ensures stands { StandsIn (clients_of clients.old) (clients_of clients.new) }
@@ -150,7 +150,7 @@ fn part_with_gone<D: SectorDisk, S: Drop>(
 // Hangs up a connection.
 fn hang_up<D: SectorDisk>(hub: &mut Hub<D>, conn: u32, moment: Moment) -> Result<(), CommitError>
     ensures hangs_up { OnOk result (HangsUp D.medium moment.0 hub.old hub.new) }
-    ensures breaks { IfErr result (λ e. Breaks D.medium D.counts moment.0 hub.old hub.new e) }
+    ensures breaks { IfErr result (λ e. StopsAt D.medium D.counts moment.0 hub.old hub.new e) }
     ensures leaves { OnOk result ((other : ℕ) → is_connected hub.new.hub other
         ≡ (not (other == conn) && is_connected hub.old.hub other)) }
     ensures stays { OnErr result (numbers_of hub.new.hub ≡ numbers_of hub.old.hub) }

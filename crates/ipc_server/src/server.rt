@@ -4,8 +4,8 @@ ghost use Rattle.std.specs.Prelude.{◌≡◌, ◌≤◌, ◌↔◌, ℕ, Bool, 
 ghost use Rattle.std.specs.Prelude.{IfErr, IfOk, IsTrue, OnOk};
 ghost use Rattle.ipc_wait.specs.Waits.{next_deadline};
 ghost use Rattle.ipc_hub.specs.View.{HasStopped};
-ghost use Rattle.ipc_server.specs.Goes.{Goes, GoesRound, Breaks, BreaksOff};
-ghost use Rattle.ipc_server.specs.Parts.{HasParted};
+ghost use Rattle.ipc_server.specs.Runs.{RunsCalls, RunsRound, StopsAt, BreaksOff};
+ghost use Rattle.ipc_server.specs.Rounds.{HasParted};
 ghost use Rattle.ipc_server.specs.Rest.{IsBusy, longest_wait, until_due};
 ghost use Rattle.ipc_server.specs.Rows.{KeepsClients, KeepsFailed};
 ghost use Rattle.ipc_server.specs.View.{EachClient, HaveConnections, WasRead, WasWritten};
@@ -163,7 +163,7 @@ impl<D: SectorDisk> Server<D> {
     /// the clients have written, makes all of it last at once, writes what the clients may see, and
     /// parts with those that are gone.
     pub fn turn(&mut self, moment: Moment) -> Result<(), ServeFault>
-        ensures ok { OnOk result (GoesRound D.medium moment.0 self.old.hub self.new.hub) }
+        ensures ok { OnOk result (RunsRound D.medium moment.0 self.old.hub self.new.hub) }
         // All of it lasts.
         ensures committed { OnOk result (self.new.hub.store.waiting ≡ 0) }
         // Each client has its connection, and no other connection is there.
@@ -199,7 +199,7 @@ impl<D: SectorDisk> Server<D> {
 
     // What a turn does after the wait.
     fn go_round(&mut self, moment: Moment) -> Result<(), CommitError>
-        ensures goes { OnOk result (GoesRound D.medium moment.0 self.old.hub self.new.hub) }
+        ensures goes { OnOk result (RunsRound D.medium moment.0 self.old.hub self.new.hub) }
         ensures committed { OnOk result (self.new.hub.store.waiting ≡ 0) }
         ensures connected { HaveConnections self.new.hub.hub self.new.clients }
         ensures read { OnOk result (EachClient WasRead self.new.clients) }
@@ -209,7 +209,7 @@ impl<D: SectorDisk> Server<D> {
         ensures parted { OnOk result
             (HasParted D.medium moment.0 self.old.hub self.new.hub self.new.clients) }
         ensures breaks { IfErr result (λ e.
-            Breaks D.medium D.counts moment.0 self.old.hub self.new.hub e) }
+            StopsAt D.medium D.counts moment.0 self.old.hub self.new.hub e) }
     {
         self.hub.tick(moment)?;
         self.crowded = self.admit();
@@ -310,7 +310,7 @@ impl<D: SectorDisk> Server<D> {
     // there may be more. If an accept fails otherwise than that it would block, as without a
     // descriptor, connections may wait still, and the system does not tell of them again.
     fn admit(&mut self) -> bool
-        ensures goes { (moment : ℕ) → Goes D.medium moment self.old.hub self.new.hub }
+        ensures goes { (moment : ℕ) → RunsCalls D.medium moment self.old.hub self.new.hub }
         ensures failed { KeepsFailed self.old.clients self.new.clients }
     {
         if !self.may_accept {
@@ -330,7 +330,7 @@ impl<D: SectorDisk> Server<D> {
 
     // Takes a new connection, or closes it if something that it needs is refused.
     fn take_client(&mut self, socket: UnixStream)
-        ensures goes { (moment : ℕ) → Goes D.medium moment self.old.hub self.new.hub }
+        ensures goes { (moment : ℕ) → RunsCalls D.medium moment self.old.hub self.new.hub }
         ensures failed { KeepsFailed self.old.clients self.new.clients }
     {
         let mut socket = socket;

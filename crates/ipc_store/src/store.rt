@@ -157,8 +157,8 @@ impl<D: SectorDisk> Store<D> {
         ensures err { OnErr result (self.new ≡ self.old) }
         ensures stopped { (result ≡ Err StepError.Stopped)
             ↔ (IsStopped self.old ⊎ (self.old.confirmed + self.old.waiting ≡ 2 ^ 64 - 1)) }
-        ensures memory { event_takes_memory self.old.machine.limits self.old.machine.state (plain_event event.entry) ≡ false
-            → (IsOk result) ⊎ (result ≡ Err StepError.Stopped) }
+        ensures memory { event_takes_memory self.old.machine.limits self.old.machine.state (plain_event event.entry)
+            ≡ false → (IsOk result) ⊎ (result ≡ Err StepError.Stopped) }
     {
         if self.stopped || self.confirmed + self.batch.count() == u64::MAX {
             return Err(StepError::Stopped);

@@ -1,5 +1,5 @@
 use Rattle.std.proofs.Common.{◌≡◌, false}
-use Rattle.ipc_server.specs.Parts.{HangsUp}
+use Rattle.ipc_server.specs.Rounds.{HangsUp}
 use Rattle.ipc_server.specs.Rows.{EachBelow, IsServing, StandsIn, clients_of}
 use Rattle.ipc_server.proofs.rounds.part_with_gone.Given as goal
 

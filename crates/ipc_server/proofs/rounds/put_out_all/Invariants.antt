@@ -1,6 +1,6 @@
 use Rattle.std.proofs.Common.{◌≡◌}
 use Rattle.ipc_hub.specs.View.{numbers_of}
-use Rattle.ipc_server.specs.Goes.{Sends}
+use Rattle.ipc_server.specs.Runs.{Sends}
 use Rattle.ipc_server.specs.Rows.{EachBelow, KeepsClients, Stays, clients_of}
 use Rattle.ipc_server.specs.View.{HaveOwnNumbers, WasWritten}
 use Rattle.ipc_server.proofs.rounds.put_out_all.Given as goal

@@ -1,6 +1,6 @@
 use Rattle.std.proofs.Common.{◌≡◌, ◌<◌, ℕ, Some, false, ◌∙◌}
 use Rattle.std.proofs.lemmas.Result.{err_from_is_err_and, on_ok_weaker, IfErr-weaker}
-use Rattle.ipc_server.specs.Goes.{Goes}
+use Rattle.ipc_server.specs.Runs.{RunsCalls}
 use Rattle.ipc_server.specs.Rows.{IsServing, KeepsClients, clients_of}
 use Rattle.ipc_server.specs.View.{ClientView, WasRead, client_of, is_gone}
 use Rattle.ipc_server.proofs.Going.{goes-both, breaks-at, breaks-later}
@@ -54,7 +54,7 @@ returns-in_err-part_with_gone-clause-serving g c is =
 -- ---- the last answers
 
 -- the first answers are written
-written : (g : Over) (c : goal.After-answer_all-2 g) → Goes g.D.SectorDisk.medium c.args.moment.0 c.args.hub.now c.answer_all.new.hub
+written : (g : Over) (c : goal.After-answer_all-2 g) → RunsCalls g.D.SectorDisk.medium c.args.moment.0 c.args.hub.now c.answer_all.new.hub
 written g c =
     goes-answered g.D.SectorDisk.medium c.args.moment.0 g.met.D.SectorDisk.only_now c.args.hub.now c.take_in_all.new.hub c.answer_all.new.hub
     c.in_ok-take_in_all.ensures.goes c.in_ok-answer_all.ensures.answers

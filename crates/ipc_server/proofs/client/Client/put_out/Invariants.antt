@@ -1,6 +1,6 @@
 use Rattle.std.proofs.Common.{◌≡◌, ◌≢◌, ◌≤◌, ◌-◌, ℕ, true}
 use Rattle.ipc_hub.specs.View.{numbers_of, output_of}
-use Rattle.ipc_server.specs.Goes.{Sends, Tells}
+use Rattle.ipc_server.specs.Runs.{Sends, WritesOutput}
 use Rattle.ipc_server.specs.Rows.{view_of}
 use Rattle.ipc_server.specs.View.{most_writes}
 use Rattle.ipc_server.proofs.client.Client.put_out.Given as goal
@@ -13,7 +13,7 @@ invariant-loop-self g l = record {
   numbers : numbers_of l.hub.hub ≡ numbers_of l.fn.hub.hub;
   others : (other : ℕ) → other ≢ l.fn.self.conn → output_of l.hub.hub other ≡ output_of l.fn.hub.hub other;
   sends : Sends l.fn.hub l.hub;
-  tells : Tells (g.S.Write.contents l.fn.self.socket) (g.S.Write.contents l.self.socket)
+  tells : WritesOutput (g.S.Write.contents l.fn.self.socket) (g.S.Write.contents l.self.socket)
       (output_of l.fn.hub.hub l.fn.self.conn) (output_of l.hub.hub l.fn.self.conn);
 }
 

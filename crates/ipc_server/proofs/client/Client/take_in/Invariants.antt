@@ -1,7 +1,7 @@
 use Rattle.std.proofs.Common.{◌≡◌, ◌≤◌, ◌-◌}
 use Rattle.std.specs.Io.KnownBytes.{prepend_known}
 use Rattle.ipc_hub.specs.View.{numbers_of}
-use Rattle.ipc_server.specs.Goes.{Hears}
+use Rattle.ipc_server.specs.Runs.{FeedsInput}
 use Rattle.ipc_server.specs.View.{most_reads}
 use Rattle.ipc_server.proofs.client.Client.take_in.Given as goal
 
@@ -11,7 +11,7 @@ invariant-loop-self g l = record {
   failed : l.self.failed ≡ l.fn.self.failed;
   reads : l.self.reads ≤ most_reads;
   numbers : numbers_of l.hub.hub ≡ numbers_of l.fn.hub.hub;
-  hears : Hears g.D.SectorDisk.medium l.fn.self.conn l.fn.moment.0 l.fn.hub l.hub
+  hears : FeedsInput g.D.SectorDisk.medium l.fn.self.conn l.fn.moment.0 l.fn.hub l.hub
       (prepend_known l.fn.self.piece.items (g.S.Read.remaining l.fn.self.socket))
       (prepend_known l.self.piece.items (g.S.Read.remaining l.self.socket));
 }

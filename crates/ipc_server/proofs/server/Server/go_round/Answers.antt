@@ -1,7 +1,7 @@
 use Rattle.std.proofs.Common.{ap, refl, sym}
 use Rattle.std.proofs.lemmas.Result.{err_from_is_err_and, on_ok_weaker, IfErr-weaker}
 use Rattle.ipc_server.specs.Acts.Act.{Ticks}
-use Rattle.ipc_server.specs.Goes.{Goes}
+use Rattle.ipc_server.specs.Runs.{RunsCalls}
 use Rattle.ipc_server.proofs.Going.{goes-both, goes-none, goes-one, goes-round, breaks-at, breaks-later}
 use Rattle.ipc_server.proofs.Standing.{keeps-none, serving-kept}
 use Rattle.ipc_server.proofs.server.Server.go_round.Goals as goal
@@ -74,7 +74,7 @@ returns-clause-breaks g c =
     let med = g.D.SectorDisk.medium in
     let moment = c.args.moment.0 in
     -- time has passed, and new connections were taken
-    let begun : Goes med moment c.args.self.now.hub c.self-2.inside.hub =
+    let begun : RunsCalls med moment c.args.self.now.hub c.self-2.inside.hub =
     goes-both med moment c.args.self.now.hub c.tick.new.self c.self-2.inside.hub
     (goes-one med moment c.args.self.now.hub c.tick.new.self (Ticks moment) refl tt (rw (ap (λ v. v.hub) c.self.view_is) at c.in_ok-tick.ensures.ok))
     (rw (ap (λ v. v.hub) c.self-2.view_is) (c.admit-self-inside.ensures.goes c.args.moment.0)) in

@@ -6,7 +6,7 @@ use Rattle.ipc_store.specs.Histories.{Takes}
 use Rattle.ipc_hub.specs.Clients.{Clients, hangup}
 use Rattle.ipc_hub.specs.View.{StoredHub}
 use Rattle.ipc_hub.specs.Relations.Matches.{Serves, StoredMatches}
-use Rattle.ipc_server.specs.Goes.{GoesRound, Sends}
+use Rattle.ipc_server.specs.Runs.{RunsRound, Sends}
 use Rattle.ipc_server.specs.View.{ClientView, EachClient, is_gone}
 
 -- Connections were hung up, one after another, and nothing else was done.
@@ -27,7 +27,7 @@ pub record Answers {D : Type 0} (medium : D → Medium) (old new : StoredHub D) 
   pub sends : Sends lasting new
 
 -- The end of a round: connections were hung up, and the clients were answered.
-pub record Parts {D : Type 0} (medium : D → Medium) (moment : ℕ) (old new : StoredHub D) : Type 0 where
+pub record EndsRound {D : Type 0} (medium : D → Medium) (moment : ℕ) (old new : StoredHub D) : Type 0 where
   pub parted : StoredHub D
   pub hangs_up : HangsUp medium moment old parted
   pub answers : Answers medium parted new
@@ -37,6 +37,6 @@ pub record Parts {D : Type 0} (medium : D → Medium) (moment : ℕ) (old new : 
 pub record HasParted {D : Type 0} (medium : D → Medium) (moment : ℕ) (old new : StoredHub D)
     (left : List (Option ClientView)) : Type 0 where
   pub written : StoredHub D
-  pub goes : GoesRound medium moment old written
+  pub goes : RunsRound medium moment old written
   pub none_gone : EachClient (λ client. is_gone written.hub client ≡ false) left
-  pub parts : Parts medium moment written new
+  pub parts : EndsRound medium moment written new

@@ -28,29 +28,29 @@ pub data Steps {D : Type 0} (medium : D → Medium) (moment : ℕ) (limits : Lim
 
 -- These calls were made, and the hub goes on: it matches what they come to, and its store has taken the events that
 -- they accept.
-pub record Makes {D : Type 0} (medium : D → Medium) (moment : ℕ) (limits : Limits) (old new : StoredHub D) (h : Clients)
+pub record CallsMade {D : Type 0} (medium : D → Medium) (moment : ℕ) (limits : Limits) (old new : StoredHub D) (h : Clients)
     (acts : List Act) : Type 0 where
   pub steps : Steps medium moment limits old h new acts
   pub comes : Comes medium limits old new h (after limits h acts)
 
 -- Some calls were made at one moment.
-abbrev pub Goes : {D : Type 0} → (D → Medium) → ℕ → StoredHub D → StoredHub D → Type 0
-Goes medium moment old new =
+abbrev pub RunsCalls : {D : Type 0} → (D → Medium) → ℕ → StoredHub D → StoredHub D → Type 0
+RunsCalls medium moment old new =
     (limits : Limits) (h : Clients) → StoredMatches limits old h
-    → (acts : List Act) × Makes medium moment limits old new h acts
+    → (acts : List Act) × CallsMade medium moment limits old new h acts
 
 -- Time passed first, up to this moment, and the other calls were made at it.
-abbrev pub GoesRound : {D : Type 0} → (D → Medium) → ℕ → StoredHub D → StoredHub D → Type 0
-GoesRound medium moment old new =
+abbrev pub RunsRound : {D : Type 0} → (D → Medium) → ℕ → StoredHub D → StoredHub D → Type 0
+RunsRound medium moment old new =
     (limits : Limits) (h : Clients) → StoredMatches limits old h
-    → (acts : List Act) × Makes medium moment limits old new h (Ticks moment ∷ acts)
+    → (acts : List Act) × CallsMade medium moment limits old new h (Ticks moment ∷ acts)
 
 -- Pieces of one client were fed at one moment, and they are what was there of its bytes and is no more.
-abbrev pub Hears : {D : Type 0} → (D → Medium) → ℕ → ℕ → StoredHub D → StoredHub D → Option (List ℕ) → Option (List ℕ)
+abbrev pub FeedsInput : {D : Type 0} → (D → Medium) → ℕ → ℕ → StoredHub D → StoredHub D → Option (List ℕ) → Option (List ℕ)
     → Type 0
-Hears medium conn moment old new there left =
+FeedsInput medium conn moment old new there left =
     (limits : Limits) (h : Clients) → StoredMatches limits old h
-    → (pieces : List Piece) × Makes medium moment limits old new h (feeds conn moment pieces)
+    → (pieces : List Piece) × CallsMade medium moment limits old new h (feeds conn moment pieces)
     × Consumes there left (all_of pieces)
 
 -- Clients were sent what they may see, one after another, and nothing else was done.
@@ -60,27 +60,27 @@ pub data Sends {D : Type 0} (old : StoredHub D) : StoredHub D → Type 0 where
       → Simulates last.hub next.hub (λ _ h. consume h conn count) → next.store ≡ last.store → Sends old next
 
 -- A socket was written the first bytes that its client could see, and these alone; the client can see the others still.
-abbrev pub Tells : Option (List ℕ) → Option (List ℕ) → List ℕ → List ℕ → Type 0
-Tells written now shown left = (sent : List ℕ) × (shown ≡ sent ++ left) × Appends written now sent
+abbrev pub WritesOutput : Option (List ℕ) → Option (List ℕ) → List ℕ → List ℕ → Type 0
+WritesOutput written now shown left = (sent : List ℕ) × (shown ≡ sent ++ left) × Appends written now sent
 
 -- A call of the hub met this fault, after some others; then clients were sent what they may see.
-pub record BreaksAt {D : Type 0} (medium : D → Medium) (counts : D → Counts) (moment : ℕ) (limits : Limits)
+pub record StoppedAt {D : Type 0} (medium : D → Medium) (counts : D → Counts) (moment : ℕ) (limits : Limits)
     (old new : StoredHub D) (h : Clients) (error : CommitError) : Type 0 where
   pub acts : List Act
   pub before : StoredHub D
-  pub makes : Makes medium moment limits old before h acts
+  pub makes : CallsMade medium moment limits old before h acts
   pub halted : StoredHub D
   pub halts : Halts medium counts before halted error
   pub sends : Sends halted new
 
-abbrev pub Breaks : {D : Type 0} → (D → Medium) → (D → Counts) → ℕ → StoredHub D → StoredHub D → CommitError → Type 0
-Breaks medium counts moment old new error =
-    (limits : Limits) (h : Clients) → StoredMatches limits old h → BreaksAt medium counts moment limits old new h error
+abbrev pub StopsAt : {D : Type 0} → (D → Medium) → (D → Counts) → ℕ → StoredHub D → StoredHub D → CommitError → Type 0
+StopsAt medium counts moment old new error =
+    (limits : Limits) (h : Clients) → StoredMatches limits old h → StoppedAt medium counts moment limits old new h error
 
 -- A turn was broken off by this fault. It did nothing if the sockets could not be waited for, or if the hub had stopped
 -- before it.
 abbrev pub BreaksOff : {D : Type 0} → (D → Medium) → (D → Counts) → ℕ → StoredHub D → StoredHub D → ServeFault → Type 0
 BreaksOff medium counts moment old new Socket = new ≡ old
-BreaksOff medium counts moment old new Device = Breaks medium counts moment old new commit.Device
+BreaksOff medium counts moment old new Device = StopsAt medium counts moment old new commit.Device
 BreaksOff medium counts moment old new Stopped =
-    (HasStopped old × (new ≡ old)) ⊎ Breaks medium counts moment old new commit.Stopped
+    (HasStopped old × (new ≡ old)) ⊎ StopsAt medium counts moment old new commit.Stopped
