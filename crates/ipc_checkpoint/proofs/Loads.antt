@@ -1,5 +1,5 @@
 -- What is read of a checkpoint, and what no checkpoint has.
-use Rattle.std.proofs.Common.{◌≡◌, ◌≢◌, inl, inr, ℕ, ◌≤◌, List, length, sym, ◌∙◌, ap, subst, arith}
+use Rattle.std.proofs.Common.{◌≡◌, ◌≢◌, inl, inr, ℕ, List, length, sym, ◌∙◌, ap, subst, arith}
 use Rattle.ipc_base.specs.Objects.{PlainObjects, AreObjects}
 use Rattle.ipc_disk.specs.Medium.{Image}
 use Rattle.ipc_disk.specs.Standing.{sectors_for, sector_at, StandsAt}
@@ -7,7 +7,7 @@ use Rattle.ipc_disk.proofs.CallerLemmas.{stands-same}
 use Rattle.ipc_checkpoint.specs.declared.layout.Layout.{Layout}
 use Rattle.ipc_checkpoint.specs.declared.root.Root.{Root}
 use Rattle.ipc_checkpoint.specs.Area.{area_bytes}
-use Rattle.ipc_checkpoint.specs.Checkpoint.{first_of, length_in, Holds, HoldsIn}
+use Rattle.ipc_checkpoint.specs.Checkpoint.{first_of, length_in, Holds}
 use Rattle.ipc_checkpoint.specs.Relations.Root.{IsRead, IsNoRoot}
 use Rattle.ipc_checkpoint.proofs.Objects.{length-area}
 
@@ -23,20 +23,7 @@ no_root layout image (inr (inr (inr long))) epoch objects holds =
 
 module _ (layout : Layout) (image : Image) (root : Root) (read : IsRead layout (sector_at image layout.root) root) (bytes : List ℕ)
     (long : length bytes ≡ root.len) (stands : StandsAt (first_of layout root.live) bytes image) where
-  -- the objects of which these are the bytes are there
-  pub read-holds : (objects : PlainObjects) → AreObjects objects → bytes ≡ area_bytes objects → HoldsIn layout root.live root.epoch objects image
-  read-holds objects are is = record {
-    are = are;
-    areas = read.areas;
-    positive = read.positive;
-    current = read.epoch;
-    live = read.live;
-    long = read.long ∙ sym long ∙ ap length is;
-    room = subst (λ (n : ℕ). sectors_for n ≤ layout.area) (sym long ∙ ap length is) read.room;
-    stands = subst (λ (l : List ℕ). StandsAt (first_of layout root.live) l image) is stands;
-  }
-
-  -- and no others
+  -- other objects are not there
   pub none-there : ((objects : PlainObjects) → AreObjects objects → bytes ≢ area_bytes objects) → (epoch : ℕ) (objects : PlainObjects)
       → Holds layout epoch objects image → ⊥
   none-there none epoch objects holds =

@@ -31,17 +31,6 @@ window_more place count bytes is =
     ∙ ap (λ (l : List ℕ). l ++ drop place (take (place + 512) bytes)) (sym (take-take place (place + 512) bytes (omega arith)))
     ∙ take-append-drop place (take (place + 512) bytes)
 
--- the length of an object's entry
-pub length-entry : (o : ℕ × List ℕ) → length (entry_bytes o) ≡ 16 + length o.1
-length-entry o =
-    omega (
-      arith,
-      length-append (big_bytes 8 o.0) (big_bytes 8 (length o.1) ++ o.1),
-      length-append (big_bytes 8 (length o.1)) o.1,
-      length-bytes_high_first 8 o.0,
-      length-bytes_high_first 8 (length o.1),
-    )
-
 -- its number, its length and its bytes are put
 pub entry-put : (before : List ℕ) (o : ℕ × List ℕ) (n l : List ℕ) (number len : ℕ) → n ≡ big_bytes 8 number → o.0 ≡ number → l ≡ big_bytes 8 len
     → length o.1 ≡ len → ((before ++ n) ++ l) ++ o.1 ≡ before ++ entry_bytes o

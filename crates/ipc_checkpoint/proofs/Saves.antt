@@ -39,10 +39,6 @@ pub Fit-bytes : (area : ℕ) (objects : PlainObjects) → Fit area objects → l
 Fit-bytes area objects fit = omega (arith, length-area objects, length-entries objects, fit)
 
 module _ (layout : Layout) (size : ℕ) (laid : IsLaidOut layout size) where
-  -- an area is within the disk
-  pub area-laid : (area : ℕ) → area < 2 → first_of layout area + layout.area ≤ size
-  area-laid area lt = omega (arith, area-within area layout.area lt, laid.room, laid.within)
-
   -- what is elsewhere is outside each area and is not the root
   elsewhere-area : (area i : ℕ) → area < 2 → IsElsewhere layout i → IsOutside (sectors_of layout area) i
   elsewhere-area area i lt (other, inl low) = inl (omega (arith, low))

@@ -7,6 +7,7 @@ use Rattle.ipc_base.specs.declared.errno.Errno.{Errno}
 use Rattle.ipc_wire.specs.declared.reply.Body.{Body}
 use Rattle.posix_mq.specs.declared.queue.Registration.{Registration}
 use Rattle.ipc_state.specs.Finish.{finish_firing}
+use Rattle.ipc_state.specs.Held.{Held}
 use Rattle.ipc_state.specs.State.{State}
 use Rattle.ipc_engine.specs.declared.event.Outcome.{Outcome}
 use Rattle.ipc_engine.specs.Buffer.{room_in, HasBuffer}
@@ -39,13 +40,18 @@ pub waits-kept : (t s : State) (r : Result (Body (Vec ℕ)) Errno) (fired : Opti
     → t.wait ≡ s.wait
 waits-kept t s r fired same = ap (λ (u : State). u.wait) (sym (finish-state t r fired)) ∙ same
 
+-- another state, and all else is as it was
+abbrev pub with_state : Held → State → Held
+with_state h s = record h { state = s }
+
+-- two steps leave all but the state
+pub held-still : (old mid new : Held) (t u : State) → mid ≡ with_state old t → new ≡ with_state mid new.state → new.state ≡ u → new ≡ with_state old u
+held-still old mid new t u one two is = two ∙ (ap (λ (h : Held). with_state h new.state) one ∙ ap (with_state old) is)
+
 -- the buffer that was taken back is there whatever stands in the replies
 pub buffer-spare : (limits now : Limits) (old new : Vec ℕ) (os us : List Outcome) → now ≡ limits → HasBuffer limits old os
     → max (vec_capacity old) (room_in os) ≤ vec_capacity new → HasBuffer now new us
 buffer-spare limits now old new os us same has back = subst (λ (l : Limits). HasBuffer l new us) (sym same) (omega (arith, has, back))
-
-pub buffer-same : (limits now : Limits) (spare : Vec ℕ) (os : List Outcome) → now ≡ limits → HasBuffer limits spare os → HasBuffer now spare os
-buffer-same limits now spare os same has = subst (λ (l : Limits). HasBuffer l spare os) (sym same) has
 
 -- a step leaves a sound state, told of what is known to be equal
 pub after-sound : (limits now : Limits) (s t : State) (e : PlainEvent) → now ≡ limits → t ≡ (step limits s e).state → IsSound limits s

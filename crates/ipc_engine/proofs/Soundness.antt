@@ -2,14 +2,12 @@
 use Rattle.std.proofs.Common.{◌≡◌, ◌≢◌, ℕ, Bool, true, false, not, cond, List, [], ◌∷◌, length}
 use Rattle.std.proofs.Common.{get_or, Option, Some, None, is_some, unwrap_or}
 use Rattle.std.proofs.Common.{refl, sym, ap, subst, ◌∙◌, arith}
-use Rattle.std.specs.Prelude.{All, option_map, ◌==◌, nat_eq, ◌++◌, if◌then◌else◌}
+use Rattle.std.specs.Prelude.{All, option_map, ◌==◌, nat_eq, ◌++◌}
 use Rattle.std.specs.FinMap as fin
 use Rattle.ipc_base.specs.Table.{value_at}
 use Rattle.sem_undo.specs.Undo.{Key, Undo, adjustment}
 use Rattle.std.proofs.lemmas.Bool.Decides.{nat_tests}
 use Rattle.std.proofs.lemmas.List.Elements.{All-nil, All-cons, All-append, All-filter, All-map, All-push}
-use Rattle.ipc_base.specs.declared.errno.Errno.{Errno}
-use Rattle.ipc_base.specs.declared.errno.Errno.TheVariants.{EALREADY}
 use Rattle.ipc_base.specs.declared.limits.Limits.{Limits}
 use Rattle.ipc_base.specs.declared.identity.Cred.{Cred}
 use Rattle.ipc_base.proofs.CallerLemmas.{choice, other-push, rising-found, value_at-without}
@@ -256,21 +254,6 @@ module _ (limits : Limits) where
   asked-sound s pid request Interrupts h process frame = interrupt-sound s pid request.serial h
   asked-sound s pid request (Sysv call) h process frame = called-sound s pid request h process frame
   asked-sound s pid request (Posix call) h process frame = called-sound s pid request h process frame
-
-  -- a call that is refused changes nothing, and nobody goes on
-  pub refused-replied_or_joined : (s : State) (pid : ℕ) (request : PlainRequest) (e : Errno) → IsSound limits s
-      → replied_or_joined limits pid request s (Finishes (refused s e)) ≡ replied pid request.serial (refused s e)
-  refused-replied_or_joined s pid request e h =
-      ap (λ (t : Step). let u : Step = record { state = t.state; outcomes = (replied pid request.serial (refused s e)).outcomes ++ t.outcomes } in u)
-      (sound-settled s h)
-
-  -- so is a request of a process of which no call waits, if it is refused when it is tried
-  pub refused-called : (s : State) (pid : ℕ) (request : PlainRequest) (e : Errno) → IsSound limits s → is_waiting s pid ≡ false
-      → tried limits s pid false request.kind ≡ Finishes (refused s e) → called limits pid request s ≡ replied pid request.serial (refused s e)
-  refused-called s pid request e h free is =
-      ap (λ (b : Bool).
-      if b then replied pid request.serial (refused s EALREADY) else replied_or_joined limits pid request s (tried limits s pid false request.kind)) free
-      ∙ (ap (replied_or_joined limits pid request s) is ∙ refused-replied_or_joined s pid request e h)
 
   pub step-sound : (s : State) (e : PlainEvent) → IsSound limits s → IsForProcess s e → HasRequest e → IsSound limits (step limits s e).state
   step-sound s (Connect cred serial moment) h is has = connect-sound (due moment s).state cred serial (due-sound s moment h)

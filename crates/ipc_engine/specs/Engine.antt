@@ -1,9 +1,9 @@
 -- What a caller sees of the machine, and what it may ask.
-use Rattle.std.specs.Prelude.{◌≡◌, Bool, true, false, not, ◌&&◌, List}
+use Rattle.std.specs.Prelude.{◌≡◌, Bool, true, false, not, ◌&&◌, if◌then◌else◌, List}
 use Rattle.ipc_base.specs.declared.limits.Limits.{Limits}
 use Rattle.ipc_wire.specs.Spelling.{HasFrame}
 use Rattle.ipc_state.specs.State.{State, is_process, is_waiting, has_all_processes}
-use Rattle.ipc_state.specs.Held.{Room}
+use Rattle.ipc_state.specs.Held.{Ready}
 use Rattle.ipc_engine.specs.Event.{PlainEvent, Connect, Call, Interrupt, Tick, Exit, Restart, PlainOutcome}
 use Rattle.ipc_engine.specs.Reserved.{takes_memory}
 use Rattle.ipc_engine.specs.Step.{due}
@@ -38,6 +38,6 @@ event_takes_memory limits s (Tick moment) = false
 event_takes_memory limits s (Exit pid moment) = false
 event_takes_memory limits s Restart = false
 
--- what a HELLO needs is there
-abbrev pub IsReadyForHello : Limits → State → Room → Type 0
-IsReadyForHello limits s room = has_all_processes limits s ≡ false → room.process ≡ true
+-- what a HELLO needs: nothing if no process can be added
+abbrev pub hello_needs : Limits → State → Ready
+hello_needs limits s = if has_all_processes limits s then Ready.Nothing else Ready.Process

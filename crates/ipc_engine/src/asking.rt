@@ -7,11 +7,12 @@ ghost use Rattle.ipc_wire.specs.Request.{plain_kind};
 ghost use Rattle.ipc_wire.specs.View.{plain_request};
 ghost use Rattle.ipc_state.proofs.CallerLemmas.{IsGood};
 ghost use Rattle.ipc_state.specs.Finish.{finish_firing, refused};
+ghost use Rattle.ipc_state.specs.Held.{left};
 ghost use Rattle.ipc_state.specs.State.{State as PlainState, exit, is_process, is_waiting};
 ghost use Rattle.ipc_state.specs.Waiting.{awaited_by, may_wait};
 ghost use Rattle.ipc_state.specs.Spare.{IsSpare, room_in as room_in_answer};
 ghost use Rattle.ipc_engine.specs.Buffer.{HasBuffer, room_in};
-ghost use Rattle.ipc_engine.specs.Reserved.{Has, IsReserved};
+ghost use Rattle.ipc_engine.specs.Reserved.{IsReserved, needs};
 ghost use Rattle.ipc_engine.specs.Settling.{HaveSameObjects, ReceivesWait};
 ghost use Rattle.ipc_engine.specs.Sound.{IsSound};
 ghost use Rattle.ipc_engine.specs.Step.{after, asked, called, interrupt as interrupt_step, interrupted, joins};
@@ -39,18 +40,16 @@ pub(crate) fn ask(
 )
     requires sound { IsSound state.old.limits state.old.state }
     requires process { is_process state.old.state pid.0 ≡ true }
-    requires room { is_waiting state.old.state pid.0 ≡ false
-        → IsReserved state.old.state state.old.room (plain_request request.now) kept }
-    requires waits { state.old.limits.processes ≤ state.old.room.waits }
+    requires reserved { IsReserved (is_waiting state.old.state pid.0) state.old.ready
+        (plain_request request.now) kept }
+    requires waits { state.old.limits.processes ≤ state.old.waits }
     requires places { length outcomes.old.items + 2 * (length state.old.state.wait + 1) ≤ vec_capacity outcomes.old }
     requires spare { IsSpare state.old.limits spare.old }
-    ensures state { state.new.state ≡ (asked state.old.limits pid.0 (plain_request request.now)
+    ensures state { state.new ≡ left state.old (asked state.old.limits pid.0 (plain_request request.now)
         (plain_request request.now).kind state.old.state).state }
     ensures outcomes { map plain_outcome outcomes.new.items ≡ map plain_outcome outcomes.old.items
         ++ (asked state.old.limits pid.0 (plain_request request.now)
         (plain_request request.now).kind state.old.state).outcomes }
-    ensures limits { state.new.limits ≡ state.old.limits }
-    ensures waits { state.new.room.waits ≡ state.old.room.waits }
     ensures capacity { vec_capacity outcomes.old ≤ vec_capacity outcomes.new }
     ensures buffer { HasBuffer state.old.limits spare.new outcomes.new.items }
 {
@@ -74,17 +73,15 @@ fn make(
 )
     requires sound { IsSound state.old.limits state.old.state }
     requires process { is_process state.old.state pid.0 ≡ true }
-    requires room { is_waiting state.old.state pid.0 ≡ false
-        → IsReserved state.old.state state.old.room (plain_request request.now) kept }
-    requires waits { state.old.limits.processes ≤ state.old.room.waits }
+    requires reserved { IsReserved (is_waiting state.old.state pid.0) state.old.ready
+        (plain_request request.now) kept }
+    requires waits { state.old.limits.processes ≤ state.old.waits }
     requires places { length outcomes.old.items + 2 * (length state.old.state.wait + 1) ≤ vec_capacity outcomes.old }
     requires spare { IsSpare state.old.limits spare.old }
-    ensures state { state.new.state
-        ≡ (called state.old.limits pid.0 (plain_request request.now) state.old.state).state }
+    ensures state { state.new
+        ≡ left state.old (called state.old.limits pid.0 (plain_request request.now) state.old.state).state }
     ensures outcomes { map plain_outcome outcomes.new.items ≡ map plain_outcome outcomes.old.items
         ++ (called state.old.limits pid.0 (plain_request request.now) state.old.state).outcomes }
-    ensures limits { state.new.limits ≡ state.old.limits }
-    ensures waits { state.new.room.waits ≡ state.old.room.waits }
     ensures capacity { vec_capacity outcomes.old ≤ vec_capacity outcomes.new }
     ensures buffer { HasBuffer state.old.limits spare.new outcomes.new.items }
 {
@@ -109,17 +106,15 @@ fn at_once(
     requires process { is_process state.old.state pid.0 ≡ true }
     requires free { is_waiting state.old.state pid.0 ≡ false }
     requires never { may_wait (plain_kind request.now.kind) ≡ false }
-    requires room { Has (plain_kind request.now.kind) state.old.state state.old.room }
+    requires ready { state.old.ready ≡ needs (plain_kind request.now.kind) }
     requires places { length outcomes.old.items + 2 * (length state.old.state.wait + 1) ≤ vec_capacity outcomes.old }
     requires spare { IsSpare state.old.limits spare.old }
-    ensures state { state.new.state
-        ≡ (replied_or_joined state.old.limits pid.0 (plain_request request.now) state.old.state
+    ensures state { state.new
+        ≡ left state.old (replied_or_joined state.old.limits pid.0 (plain_request request.now) state.old.state
         (tried state.old.limits state.old.state pid.0 false (plain_kind request.now.kind))).state }
     ensures outcomes { map plain_outcome outcomes.new.items ≡ map plain_outcome outcomes.old.items
         ++ (replied_or_joined state.old.limits pid.0 (plain_request request.now) state.old.state
         (tried state.old.limits state.old.state pid.0 false (plain_kind request.now.kind))).outcomes }
-    ensures limits { state.new.limits ≡ state.old.limits }
-    ensures waits { state.new.room.waits ≡ state.old.room.waits }
     ensures capacity { vec_capacity outcomes.old ≤ vec_capacity outcomes.new }
     ensures buffer { HasBuffer state.old.limits spare.new outcomes.new.items }
 {
@@ -141,15 +136,15 @@ fn try_once(state: &mut State, outcomes: &mut Vec<Outcome>, pid: Pid, parked: Pa
     requires sound { IsSound state.old.limits state.old.state }
     requires process { is_process state.old.state pid.0 ≡ true }
     requires free { is_waiting state.old.state pid.0 ≡ false }
-    requires waits { state.old.limits.processes ≤ state.old.room.waits }
+    requires waits { state.old.limits.processes ≤ state.old.waits }
     requires places { length outcomes.old.items + 2 * (length state.old.state.wait + 1) ≤ vec_capacity outcomes.old }
-    ensures state { state.new.state ≡ (replied_or_joined state.old.limits pid.0 parked state.old.state
-        (tried state.old.limits state.old.state pid.0 false parked.kind)).state }
+    ensures state { state.new ≡ record state.old {
+      state = (replied_or_joined state.old.limits pid.0 parked state.old.state
+          (tried state.old.limits state.old.state pid.0 false parked.kind)).state;
+    } }
     ensures outcomes { map plain_outcome outcomes.new.items ≡ map plain_outcome outcomes.old.items
         ++ (replied_or_joined state.old.limits pid.0 parked state.old.state
         (tried state.old.limits state.old.state pid.0 false parked.kind)).outcomes }
-    ensures limits { state.new.limits ≡ state.old.limits }
-    ensures waits { state.new.room.waits ≡ state.old.room.waits }
     ensures capacity { vec_capacity outcomes.old ≤ vec_capacity outcomes.new }
 {
     let serial = parked.serial();
@@ -165,14 +160,13 @@ fn try_once(state: &mut State, outcomes: &mut Vec<Outcome>, pid: Pid, parked: Pa
 
 /// A call that cannot go on joins the end of those that wait, unless its deadline is at or before the clock.
 fn join(state: &mut State, outcomes: &mut Vec<Outcome>, pid: Pid, parked: Parked)
-    requires room { length state.old.state.wait < state.old.room.waits }
+    requires room { length state.old.state.wait < state.old.waits }
     requires free { is_waiting state.old.state pid.0 ≡ false }
     requires place { length outcomes.old.items < vec_capacity outcomes.old }
-    ensures state { state.new.state ≡ (joins state.old.state pid.0 parked (awaited_by parked.kind)).state }
+    ensures state { state.new
+        ≡ record state.old { state = (joins state.old.state pid.0 parked (awaited_by parked.kind)).state } }
     ensures outcomes { map plain_outcome outcomes.new.items ≡ map plain_outcome outcomes.old.items
         ++ (joins state.old.state pid.0 parked (awaited_by parked.kind)).outcomes }
-    ensures limits { state.new.limits ≡ state.old.limits }
-    ensures waits { state.new.room.waits ≡ state.old.room.waits }
     ensures capacity { vec_capacity outcomes.old ≤ vec_capacity outcomes.new }
 {
     let now = state.clock();
@@ -208,13 +202,13 @@ fn finish(
         × HaveSameObjects s state.old.state }
     requires receives { received ≡ true → ReceivesWait state.old.limits state.old.state }
     requires places { length outcomes.old.items + 2 * (length state.old.state.wait + 1) ≤ vec_capacity outcomes.old }
-    ensures state { state.new.state ≡ (after (replied pid.0 serial (finish_firing state.old.state answer fired))
-        (settled state.old.limits)).state }
+    ensures state { state.new ≡ record state.old {
+      state = (after (replied pid.0 serial (finish_firing state.old.state answer fired))
+          (settled state.old.limits)).state;
+    } }
     ensures outcomes { map plain_outcome outcomes.new.items ≡ map plain_outcome outcomes.old.items
         ++ (after (replied pid.0 serial (finish_firing state.old.state answer fired))
         (settled state.old.limits)).outcomes }
-    ensures limits { state.new.limits ≡ state.old.limits }
-    ensures waits { state.new.room.waits ≡ state.old.room.waits }
     ensures capacity { vec_capacity outcomes.old ≤ vec_capacity outcomes.new }
     ensures room { room_in_answer answer ≤ room_in outcomes.new.items }
 {
@@ -237,11 +231,9 @@ fn refuse(outcomes: &mut Vec<Outcome>, pid: Pid, serial: u32, errno: Errno)
 pub(crate) fn interrupt(state: &mut State, outcomes: &mut Vec<Outcome>, pid: Pid, serial: u32)
     requires sound { IsSound state.old.limits state.old.state }
     requires places { length outcomes.old.items + length state.old.state.wait < vec_capacity outcomes.old }
-    ensures state { state.new.state ≡ (interrupt_step pid.0 serial state.old.state).state }
+    ensures state { state.new ≡ record state.old { state = (interrupt_step pid.0 serial state.old.state).state } }
     ensures outcomes { map plain_outcome outcomes.new.items
         ≡ map plain_outcome outcomes.old.items ++ (interrupt_step pid.0 serial state.old.state).outcomes }
-    ensures limits { state.new.limits ≡ state.old.limits }
-    ensures waits { state.new.room.waits ≡ state.old.room.waits }
     ensures capacity { vec_capacity outcomes.old ≤ vec_capacity outcomes.new }
 {
     end_waiting(state, outcomes, pid);
@@ -252,11 +244,9 @@ pub(crate) fn interrupt(state: &mut State, outcomes: &mut Vec<Outcome>, pid: Pid
 pub(crate) fn leave(state: &mut State, outcomes: &mut Vec<Outcome>, pid: Pid)
     requires sound { IsSound state.old.limits state.old.state }
     requires places { length outcomes.old.items + 2 * length state.old.state.wait ≤ vec_capacity outcomes.old }
-    ensures state { state.new.state ≡ (settled state.old.limits (exit state.old.state pid.0)).state }
+    ensures state { state.new ≡ left state.old (settled state.old.limits (exit state.old.state pid.0)).state }
     ensures outcomes { map plain_outcome outcomes.new.items
         ≡ map plain_outcome outcomes.old.items ++ (settled state.old.limits (exit state.old.state pid.0)).outcomes }
-    ensures limits { state.new.limits ≡ state.old.limits }
-    ensures waits { state.new.room.waits ≡ state.old.room.waits }
     ensures capacity { vec_capacity outcomes.old ≤ vec_capacity outcomes.new }
 {
     state.remove_process(pid);
@@ -266,12 +256,11 @@ pub(crate) fn leave(state: &mut State, outcomes: &mut Vec<Outcome>, pid: Pid)
 /// The call of a process that waits, if there is one, ends with EINTR.
 fn end_waiting(state: &mut State, outcomes: &mut Vec<Outcome>, pid: Pid)
     requires place { length outcomes.old.items < vec_capacity outcomes.old }
-    ensures state { state.new.state
-        ≡ (interrupted state.old.state pid.0 (waiting_call_of pid state.old.state.wait)).state }
+    ensures state { state.new ≡ record state.old {
+      state = (interrupted state.old.state pid.0 (waiting_call_of pid state.old.state.wait)).state;
+    } }
     ensures outcomes { map plain_outcome outcomes.new.items ≡ map plain_outcome outcomes.old.items
         ++ (interrupted state.old.state pid.0 (waiting_call_of pid state.old.state.wait)).outcomes }
-    ensures limits { state.new.limits ≡ state.old.limits }
-    ensures waits { state.new.room.waits ≡ state.old.room.waits }
     ensures capacity { vec_capacity outcomes.old ≤ vec_capacity outcomes.new }
     ensures few { length outcomes.new.items ≤ length outcomes.old.items + length state.old.state.wait }
 {

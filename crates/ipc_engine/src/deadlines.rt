@@ -25,10 +25,8 @@ pub(crate) fn advance(
 )
     requires sound { IsSound state.old.limits state.old.state }
     requires places { most_replies state.old.limits ≤ vec_capacity outcomes.old }
-    ensures state { state.new.state ≡ (due moment.0 state.old.state).state }
+    ensures state { state.new ≡ record state.old { state = (due moment.0 state.old.state).state } }
     ensures outcomes { map plain_outcome outcomes.new.items ≡ (due moment.0 state.old.state).outcomes }
-    ensures limits { state.new.limits ≡ state.old.limits }
-    ensures room { state.new.room ≡ state.old.room }
     ensures sound { IsSound state.new.limits state.new.state }
     ensures few { length outcomes.new.items + length state.new.state.wait ≤ state.new.limits.processes }
     ensures capacity { vec_capacity outcomes.old ≤ vec_capacity outcomes.new }
@@ -44,11 +42,9 @@ pub(crate) fn advance(
 fn expire(state: &mut State, outcomes: &mut Vec<Outcome>)
     requires pids { HaveDistinctPids state.old.state.wait }
     requires places { length outcomes.old.items + length state.old.state.wait ≤ vec_capacity outcomes.old }
-    ensures state { state.new.state ≡ without_due state.old.state }
+    ensures state { state.new ≡ record state.old { state = without_due state.old.state } }
     ensures outcomes { map plain_outcome outcomes.new.items
         ≡ map plain_outcome outcomes.old.items ++ map expired (due_calls state.old.state) }
-    ensures limits { state.new.limits ≡ state.old.limits }
-    ensures room { state.new.room ≡ state.old.room }
     ensures capacity { vec_capacity outcomes.old ≤ vec_capacity outcomes.new }
 {
     while let Some(waiting) = state.leave_due() {

@@ -29,13 +29,15 @@ ghost use Rattle.ipc_base.specs.Limits.{ArePassed, longest_body, longest_reply};
 ghost use Rattle.ipc_wire.specs.Request.{plain_kind};
 ghost use Rattle.ipc_wire.specs.View.{plain_request};
 ghost use Rattle.ipc_state.specs.Finish.{finish_of};
-ghost use Rattle.ipc_state.specs.Sound.{FitsBody, HasSoundParts};
+ghost use Rattle.ipc_state.specs.Held.{left};
+ghost use Rattle.ipc_state.specs.Held.Ready.{Nothing};
+ghost use Rattle.ipc_state.specs.Sound.{FitsBody};
 ghost use Rattle.ipc_state.specs.State.{State as PlainState, has_all_processes, is_process, is_waiting, start};
 ghost use Rattle.ipc_state.specs.Spare.{room_of, room_in as room_in_answer};
 ghost use Rattle.ipc_wait.specs.Waits.{next_deadline};
 ghost use Rattle.ipc_engine.specs.Buffer.{room_in, HasBuffer};
 ghost use Rattle.ipc_engine.specs.Bytes.{most_owed, owed};
-ghost use Rattle.ipc_engine.specs.Engine.{IsReadyForHello};
+ghost use Rattle.ipc_engine.specs.Engine.{hello_needs};
 ghost use Rattle.ipc_engine.specs.Reserved.{IsReserved, takes_memory};
 ghost use Rattle.ipc_engine.specs.Step.{step as step_on, connect as connect_step, due, replied, most_replies};
 ghost use Rattle.ipc_engine.specs.Listing.{plain_row, rows_of};
@@ -67,12 +69,14 @@ pub struct Engine {
 }
 
 impl Model for Engine {
-    ghost use Rattle.std.specs.Prelude.{◌≤◌, map, vec_capacity};
+    ghost use Rattle.std.specs.Prelude.{◌≡◌, ◌≤◌, map, vec_capacity};
     ghost use Rattle.std.specs.Coded.{codes};
     ghost use Rattle.ipc_base.specs.Limits.{ArePassed};
     ghost use Rattle.sem_undo.specs.Undo.{undo_code};
+    ghost use Rattle.ipc_state.specs.Held.Ready.{Nothing};
     ghost use Rattle.ipc_engine.specs.Buffer.{HasBuffer};
     ghost use Rattle.ipc_engine.specs.Engine.{Machine};
+    ghost use Rattle.ipc_state.specs.Held.Ready.{Nothing};
     ghost use Rattle.ipc_engine.specs.Sound.{IsSound};
     ghost use Rattle.ipc_engine.specs.Step.{most_replies};
     ghost use Rattle.ipc_engine.specs.View.{plain_outcome};
@@ -90,7 +94,7 @@ impl Model for Engine {
     ghost invariant = { λ e. (most_replies e.state.limits ≤ vec_capacity e.outcomes)
         × IsSound e.state.limits e.state.state
         × ArePassed e.state.limits × HasBuffer e.state.limits e.spare e.outcomes.items
-        × (e.state.limits.processes ≤ e.state.room.waits) };
+        × (e.state.limits.processes ≤ e.state.waits) × (e.state.ready ≡ Nothing) };
 }
 
 impl Engine {
@@ -134,6 +138,7 @@ impl Engine {
     {
         let outcomes = Vec::with_capacity(alloc, most_replies(state.limits()))?;
         let spare = buffer(alloc, state.limits())?;
+        state.release();
         state.reserve_waits()?;
         Ok(Engine {
             state,
@@ -338,12 +343,11 @@ fn prepare(
     request: &Request<'_>,
     moment: Moment,
 ) -> Result<Option<Parked>, AllocError>
-    requires { HasSoundParts state.old.limits state.old.state }
-    ensures state { state.new.state ≡ state.old.state }
-    ensures limits { state.new.limits ≡ state.old.limits }
-    ensures waits { state.new.room.waits ≡ state.old.room.waits }
-    ensures ok { IfOk result (λ kept. is_waiting (due moment.0 state.old.state).state pid.0 ≡ false
-        → IsReserved state.new.state state.new.room (plain_request request.now) kept) }
+    requires { state.old.ready ≡ Nothing }
+    ensures held { state.new ≡ record state.old { ready = state.new.ready } }
+    ensures ok { IfOk result (λ kept. IsReserved (is_waiting (due moment.0 state.old.state).state pid.0)
+        state.new.ready (plain_request request.now) kept) }
+    ensures err { OnErr result (state.new ≡ state.old) }
     ensures memory { takes_memory (plain_kind request.now.kind)
         && not (is_waiting (due moment.0 state.old.state).state pid.0) ≡ false → IsOk result }
 {
@@ -355,10 +359,10 @@ fn prepare(
 
 /// Takes the memory that a HELLO needs: none where no process can be added.
 fn reserve_hello(state: &mut State) -> Result<(), AllocError>
-    ensures state { state.new.state ≡ state.old.state }
-    ensures limits { state.new.limits ≡ state.old.limits }
-    ensures waits { state.new.room.waits ≡ state.old.room.waits }
-    ensures ok { OnOk result (IsReadyForHello state.new.limits state.new.state state.new.room) }
+    requires { state.old.ready ≡ Nothing }
+    ensures ok { OnOk result (state.new ≡ record state.old {
+      ready = hello_needs state.old.limits state.old.state;
+    }) }
     ensures memory { not (has_all_processes state.old.limits state.old.state) ≡ false → IsOk result }
     ensures err { OnErr result (state.new ≡ state.old) }
 {
@@ -370,10 +374,9 @@ fn reserve_hello(state: &mut State) -> Result<(), AllocError>
 
 /// The reply to a HELLO: a new process, or ENFILE where none can be added. It takes no memory.
 fn connect(state: &mut State, cred: Cred, serial: u32) -> Outcome
-    requires { IsReadyForHello state.old.limits state.old.state state.old.room }
+    requires { state.old.ready ≡ hello_needs state.old.limits state.old.state }
     ensures step { step_of state.new.state result ≡ connect_step state.old.limits cred serial state.old.state }
-    ensures limits { state.new.limits ≡ state.old.limits }
-    ensures waits { state.new.room.waits ≡ state.old.room.waits }
+    ensures held { state.new ≡ left state.old state.new.state }
 {
     if state.has_all_processes() {
         return Outcome {

@@ -34,11 +34,9 @@ pub(crate) fn settle(
     requires others { OthersWait state.old.limits state.old.state touched }
     requires receives { received ≡ true → ReceivesWait state.old.limits state.old.state }
     requires room { length outcomes.old.items + 2 * length state.old.state.wait ≤ vec_capacity outcomes.old }
-    ensures state { state.new.state ≡ (settled state.old.limits state.old.state).state }
+    ensures state { state.new ≡ record state.old { state = (settled state.old.limits state.old.state).state } }
     ensures outcomes { map plain_outcome outcomes.new.items
         ≡ map plain_outcome outcomes.old.items ++ (settled state.old.limits state.old.state).outcomes }
-    ensures limits { state.new.limits ≡ state.old.limits }
-    ensures waits { state.new.room.waits ≡ state.old.room.waits }
     ensures capacity { vec_capacity outcomes.old ≤ vec_capacity outcomes.new }
     ensures buffer { room_in outcomes.old.items ≤ room_in outcomes.new.items }
 {
@@ -54,11 +52,9 @@ pub(crate) fn settle_all(state: &mut State, outcomes: &mut Vec<Outcome>)
     requires parts { HasSoundParts state.old.limits state.old.state }
     requires linked { AreLinked state.old.state }
     requires room { length outcomes.old.items + 2 * length state.old.state.wait ≤ vec_capacity outcomes.old }
-    ensures state { state.new.state ≡ (settled state.old.limits state.old.state).state }
+    ensures state { state.new ≡ record state.old { state = (settled state.old.limits state.old.state).state } }
     ensures outcomes { map plain_outcome outcomes.new.items
         ≡ map plain_outcome outcomes.old.items ++ (settled state.old.limits state.old.state).outcomes }
-    ensures limits { state.new.limits ≡ state.old.limits }
-    ensures waits { state.new.room.waits ≡ state.old.room.waits }
     ensures capacity { vec_capacity outcomes.old ≤ vec_capacity outcomes.new }
     ensures buffer { room_in outcomes.old.items ≤ room_in outcomes.new.items }
 {
@@ -77,11 +73,9 @@ fn settle_among(
     requires rest { RestWaits state.old.limits state.old.state among }
     requires receives { received ≡ true → ReceivesWait state.old.limits state.old.state }
     requires room { length outcomes.old.items + 2 * length state.old.state.wait ≤ vec_capacity outcomes.old }
-    ensures state { state.new.state ≡ (settled state.old.limits state.old.state).state }
+    ensures state { state.new ≡ record state.old { state = (settled state.old.limits state.old.state).state } }
     ensures outcomes { map plain_outcome outcomes.new.items
         ≡ map plain_outcome outcomes.old.items ++ (settled state.old.limits state.old.state).outcomes }
-    ensures limits { state.new.limits ≡ state.old.limits }
-    ensures waits { state.new.room.waits ≡ state.old.room.waits }
     ensures capacity { vec_capacity outcomes.old ≤ vec_capacity outcomes.new }
     ensures buffer { room_in outcomes.old.items ≤ room_in outcomes.new.items }
 {
@@ -168,13 +162,11 @@ fn resume(state: &mut State, outcomes: &mut Vec<Outcome>, pid: Pid)
     requires room { length outcomes.old.items + 2 ≤ vec_capacity outcomes.old }
     ensures state { (w : PlainWaiting)
         → find (can_resume state.old.limits state.old.state) state.old.state.wait ≡ Some w
-        → state.new.state ≡ (resumed state.old.limits state.old.state w).state }
+        → state.new ≡ record state.old { state = (resumed state.old.limits state.old.state w).state } }
     ensures outcomes { (w : PlainWaiting)
         → find (can_resume state.old.limits state.old.state) state.old.state.wait ≡ Some w
         → map plain_outcome outcomes.new.items
         ≡ map plain_outcome outcomes.old.items ++ (resumed state.old.limits state.old.state w).outcomes }
-    ensures limits { state.new.limits ≡ state.old.limits }
-    ensures waits { state.new.room.waits ≡ state.old.room.waits }
     ensures capacity { vec_capacity outcomes.old ≤ vec_capacity outcomes.new }
     ensures buffer { room_in outcomes.old.items ≤ room_in outcomes.new.items }
 {

@@ -1,15 +1,16 @@
 //! What differs by the kind of a call: what it needs of memory, how it is tried, and which object it may change.
 
-ghost use Rattle.std.specs.Prelude.{◌≡◌, true, false, IfOk, IsOk};
+ghost use Rattle.std.specs.Prelude.{◌≡◌, true, false, IfOk, IsOk, OnOk, OnErr};
 ghost use Rattle.ipc_wire.specs.Request.{plain_kind};
 ghost use Rattle.ipc_wire.specs.View.{plain_request};
 ghost use Rattle.ipc_state.specs.Finish as finish;
+ghost use Rattle.ipc_state.specs.Held.{left};
 ghost use Rattle.ipc_state.specs.Sound.{HasSoundParts};
 ghost use Rattle.ipc_state.specs.Spare.{KeepsBuffer, IsSpare};
 ghost use Rattle.ipc_state.specs.State.{is_process};
 ghost use Rattle.ipc_state.specs.Waiting.{may_wait};
 ghost use Rattle.sysv_calls.specs.Calls as sysv;
-ghost use Rattle.ipc_engine.specs.Reserved.{Has, IsReserved, takes_memory};
+ghost use Rattle.ipc_engine.specs.Reserved.{kept_of, needs, takes_memory};
 ghost use Rattle.ipc_engine.specs.Settling.{touched_by};
 ghost use Rattle.ipc_engine.specs.Step.{tried};
 ghost use Rattle.ipc_engine.specs.Trial.{WaitsUnchanged, tried_of};
@@ -27,11 +28,9 @@ pub(crate) fn reserve(
     alloc: Global,
     request: &Request<'_>,
 ) -> Result<Option<Parked>, AllocError>
-    requires sound { HasSoundParts state.old.limits state.old.state }
-    ensures state { state.new.state ≡ state.old.state }
-    ensures limits { state.new.limits ≡ state.old.limits }
-    ensures waits { state.new.room.waits ≡ state.old.room.waits }
-    ensures ok { IfOk result (λ kept. IsReserved state.new.state state.new.room (plain_request request.now) kept) }
+    ensures ready { OnOk result (state.new ≡ record state.old { ready = needs (plain_kind request.now.kind) }) }
+    ensures kept { IfOk result (λ kept. kept ≡ kept_of (plain_request request.now)) }
+    ensures err { OnErr result (state.new ≡ left state.old state.old.state) }
     ensures memory { takes_memory (plain_kind request.now.kind) ≡ false → IsOk result }
 {
     match &request.kind {
@@ -52,13 +51,12 @@ pub(crate) fn try_at_once(
     requires sound { HasSoundParts state.old.limits state.old.state }
     requires process { is_process state.old.state pid.0 ≡ true }
     requires never { may_wait (plain_kind kind.now) ≡ false }
-    requires room { Has (plain_kind kind.now) state.old.state state.old.room }
+    requires ready { state.old.ready ≡ needs (plain_kind kind.now) }
     requires spare { IsSpare state.old.limits spare.old }
     ensures finish { finish.Finishes (finish.finish_of state.new.state result.0)
         ≡ tried state.old.limits state.old.state pid.0 false (plain_kind kind.now) }
     ensures touched { result.1 ≡ touched_by state.old.state pid.0 (plain_kind kind.now) }
-    ensures limits { state.new.limits ≡ state.old.limits }
-    ensures waits { state.new.room.waits ≡ state.old.room.waits }
+    ensures held { state.new ≡ left state.old state.new.state }
     ensures spare { KeepsBuffer state.old.limits spare.new result.0 }
 {
     match kind {
@@ -93,8 +91,7 @@ pub(crate) fn try_kept(state: &mut State, pid: Pid, again: bool, parked: Parked)
     ensures finish { tried_of state.new.state result
         ≡ tried state.old.limits state.old.state pid.0 again parked.kind }
     ensures kept { WaitsUnchanged state.old parked state.new result }
-    ensures limits { state.new.limits ≡ state.old.limits }
-    ensures waits { state.new.room.waits ≡ state.old.room.waits }
+    ensures held { state.new ≡ record state.old { state = state.new.state } }
 {
     let serial = parked.serial();
     match parked.into_kind() {

@@ -1,12 +1,12 @@
 -- POSIX queues as objects: how many bytes each has, and that each of its numbers has its place.
 use Rattle.std.proofs.Common.{◌≡◌, ◌<◌, ◌≤◌, ◌+◌, ◌*◌, ◌^◌, ℕ, Bool, true, false, List, [], ◌∷◌, ◌++◌, get_or, length, Option, Some, None}
 use Rattle.std.proofs.Common.{refl, sym, ap, subst, ◌∙◌, arith}
-use Rattle.std.specs.Prelude.{All, Ok, Err, IfSome, nat_lt, ◌||◌, if◌then◌else◌}
+use Rattle.std.specs.Prelude.{All, Ok, Err, nat_lt, ◌||◌, if◌then◌else◌}
 use Rattle.std.specs.List.{flat_map}
 use Rattle.std.specs.Result.{is_ok}
 use Rattle.std.proofs.lemmas.Bool.Decides.{nat_tests}
 use Rattle.std.proofs.lemmas.List.{append_assoc, length-append}
-use Rattle.std.proofs.lemmas.List.Elements.{All-cons, All-head, All-nil, All-tail, All-weaker}
+use Rattle.std.proofs.lemmas.List.Elements.{All-weaker}
 use Rattle.std.proofs.lemmas.Nat.{mul-le}
 use Rattle.ipc_base.specs.declared.errno.Errno.{Errno}
 use Rattle.ipc_base.specs.declared.errno.Errno.TheVariants.{ENAMETOOLONG}
@@ -26,7 +26,7 @@ use Rattle.ipc_state.specs.Opening.{is_named_so}
 use Rattle.ipc_state.specs.Sound.{IsSoundMq, IsSoundMqMessage}
 use Rattle.ipc_image.specs.Saved.{registration_numbers, mq_sizes, mq_numbers, mq_message_bytes, mq_bytes, FitsMqMessage, FitsMq}
 use Rattle.ipc_image.specs.SavedParts.{IsSmallMq}
-use Rattle.ipc_image.specs.Relations.Mqs.{count_after, length_after}
+use Rattle.ipc_image.specs.Relations.Mqs.{count_after}
 use Rattle.ipc_image.specs.Relations.Shapes.{text_one}
 use Rattle.ipc_image.proofs.Marks.{length-most}
 
@@ -91,35 +91,11 @@ module _ (limits : Limits) (n : ℕ) (e : NamedEntry Mq) (sound : IsSoundMq limi
 
 -- ---- each number has its place
 
-registration-fits : (r : Option Registration) (n m : ℕ) → IfSome r (λ r. (r.pid.0 < 2 ^ 32) × (r.descriptor < 2 ^ 32) × (r.cookie < 2 ^ 32))
-    → n < 2 ^ 32 → m < 2 ^ 32 → FitFields (Four ∷ Four ∷ Four ∷ Four ∷ Four ∷ Four ∷ []) (registration_numbers r ++ n ∷ m ∷ [])
-registration-fits None n m small few short = (omega arith, (omega arith, (omega arith, (omega arith, (few, (short, tt))))))
-registration-fits (Some r) n m small few short = (kind r.sends, (small.0, (small.1, (small.2, (few, (short, tt))))))
-  where
-    kind : (b : Bool) → (if b then 2 else 1) < 2 ^ 32
-    kind true = omega arith
-    kind false = omega arith
-
 abbrev Low : MqMessage → Type 0
 Low m = m.priority < 2 ^ 32
 
 abbrev Short : MqMessage → Type 0
 Short m = length m.text < 2 ^ 32
-
-pub mq-fits : (e : NamedEntry Mq) → IsSmallMq e → e.owner.uid < 2 ^ 32 → e.owner.gid < 2 ^ 32 → e.mode < 2 ^ 32 → e.object.maxmsg < 2 ^ 32
-    → e.object.msgsize < 2 ^ 32 → All (λ m. m.priority < 2 ^ 32) e.object.messages
-    → IfSome e.object.registration (λ r. (r.pid.0 < 2 ^ 32) × (r.descriptor < 2 ^ 32) × (r.cookie < 2 ^ 32)) → FitsMq e
-mq-fits e small uid gid mode maxmsg msgsize priorities registered =
-    let q : Mq = e.object in
-    let numbers : FitFields mq_sizes (mq_numbers e) =
-    (uid, (gid, (mode, (maxmsg, (msgsize, registration-fits q.registration (length q.messages) (length e.name) registered small.count small.name))))) in
-    ((numbers, sym (length_after q.registration (length q.messages) (length e.name))), both q.messages priorities small.texts)
-  where
-    both : (ms : List MqMessage) → All Low ms → All Short ms → All FitsMqMessage ms
-    both [] low short = All-nil FitsMqMessage
-    both (m ∷ ms) low short =
-        let one : FitsMqMessage m = ((All-head Low m ms low, (All-head Short m ms short, tt)), refl) in
-        All-cons FitsMqMessage m ms one (both ms (All-tail Low m ms low) (All-tail Short m ms short))
 
 -- the numbers of a registration, and the two after them, one by one
 pub numbers-spelled : (r : Option Registration) (n m : ℕ) → let ns : List ℕ = registration_numbers r in

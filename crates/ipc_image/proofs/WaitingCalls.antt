@@ -11,7 +11,7 @@ use Rattle.std.proofs.lemmas.List.Elements.{All-head, All-tail}
 use Rattle.ipc_base.specs.declared.identity.Moment.{Moment}
 use Rattle.ipc_base.specs.Numbers.{fields_bytes, FitFields}
 use Rattle.ipc_state.specs.declared.parked.Awaited.{Awaited}
-use Rattle.ipc_state.specs.Waiting.{has_deadline, PlainWaiting, awaited_by, IsSoundWaiting}
+use Rattle.ipc_state.specs.Waiting.{PlainWaiting, awaited_by, IsSoundWaiting}
 use Rattle.ipc_wire.specs.Request.{PlainRequest}
 use Rattle.ipc_wire.specs.Spelling.{HasFrame, request_bytes, opcode_of, fields_of}
 use Rattle.ipc_image.specs.Relations.Trees.{waiting_one}
@@ -99,20 +99,3 @@ length-waits (w ∷ ws) each =
       waiting-long w (All-head IsSoundWaiting w ws each).frame,
       length-waits ws (All-tail IsSoundWaiting w ws each),
     )
-
--- a deadline has its place
-deadline_small : (A : Type 0) (deadline : Option Moment) → IfSome deadline (λ m. A × (m.0 < 2 ^ 64 - 1))
-    → (deadline_number deadline < 2 ^ 64) × IfSome deadline (λ m. m.0 < 2 ^ 64 - 1)
-deadline_small A None less = (omega arith, tt)
-deadline_small A (Some m) less = (omega (arith, less.1), less.1)
-
--- a sound call has its place
-pub sound_fits : (w : PlainWaiting) → w.pid.0 < 2 ^ 32 → IsSoundWaiting w → FitsWaiting w
-sound_fits w pid sound =
-    let small = deadline_small (has_deadline w.call.kind ≡ true) w.deadline sound.deadline in
-    record {
-      tree = ((pid, (small.0, (omega (arith, sound.frame.short), tt))), refl);
-      frame = sound.frame;
-      on = sound.on;
-      deadline = small.1;
-    }

@@ -1,5 +1,4 @@
 -- What holds of a fault, by whether the world failed, or the disk, or the script is wrong.
-use Rattle.std.proofs.Common.{◌≡◌, ℕ, sym, subst}
 use Rattle.ipc_script.specs.declared.fault.ScriptFault.{ScriptFault}
 use Rattle.ipc_script.specs.declared.fault.ScriptFault.TheVariants.{NoMemory, Input, Output, Device, NotFormatted, Version, Damaged}
 use Rattle.ipc_script.specs.declared.fault.ScriptFault.TheVariants.{TooLong, BadLine, InUse, Unknown}
@@ -35,10 +34,6 @@ by_fault W V A B P Q e f d g x = by_fault_both W V A B P P Q e f d (λ p _. g p)
     wrong_script W A P (BadLine number) x = x
     wrong_script W A P (InUse number) x = x
     wrong_script W A P (Unknown number) x = x
-
--- what holds of a connection that is not open
-pub refused_unknown : (P : Type 0) (e : ScriptFault) (number : ℕ) → e ≡ Unknown number → P → IfRefused e P
-refused_unknown P e number is p = subst (λ (f : ScriptFault). IfRefused f P) (sym is) p
 
 -- if memory or a write failed, anything holds of a failed disk and of a wrong script
 pub world_failed : (W V B P : Type 0) (e : ScriptFault) → (W → V) → WorldFailed e W → ByFault e V B P

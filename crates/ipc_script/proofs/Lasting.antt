@@ -1,5 +1,5 @@
 -- What calls, one after another, do to the history of a store.
-use Rattle.std.proofs.Common.{◌≡◌, ⊎_elim, inl, ℕ, List, Option, [], ◌++◌, refl, sym, subst, ap, ◌∙◌}
+use Rattle.std.proofs.Common.{◌≡◌, ⊎_elim, inl, ℕ, List, Option, [], ◌++◌, refl, sym, subst, ap}
 use Rattle.std.specs.Prelude.{⊤, Result, Ok, Err}
 use Rattle.ipc_base.specs.declared.limits.Limits.{Limits}
 use Rattle.ipc_disk.specs.Counts.{Counts}
@@ -15,7 +15,7 @@ use Rattle.ipc_hub.specs.Clients.{Clients}
 use Rattle.ipc_hub.specs.View.{StoredHub}
 use Rattle.ipc_hub.specs.Relations.Faults.{Halts, Refuses}
 use Rattle.ipc_script.specs.declared.fault.ScriptFault.{ScriptFault}
-use Rattle.ipc_script.specs.Relations.Faults.{ByFault, of_serve_error}
+use Rattle.ipc_script.specs.Relations.Faults.{ByFault}
 use Rattle.ipc_script.specs.declared.fault.ScriptFault.TheVariants.{NoMemory, Input, Output, Device}
 use Rattle.ipc_script.specs.declared.fault.ScriptFault.TheVariants.{NotFormatted, Version, Damaged}
 use Rattle.ipc_script.specs.declared.fault.ScriptFault.TheVariants.{TooLong, BadLine, InUse, Unknown}
@@ -65,15 +65,6 @@ commits-empty old new e empty = by_fault _ _ _ _ _ _ e (λ none _. none) (λ t. 
 pub commits-all : {A D : Type 0} (old new : StoreView D) (result : Result A ScriptFault) → Empties new result → CommitsOrFails old new result
 commits-all old new (Ok a) empty = λ _. empty
 commits-all old new (Err e) empty = commits-empty old new e empty
-
--- it was refused: nothing has changed, or the disk failed
-pub commits-refused : {D : Type 0} (medium : D → Medium) (counts : D → Counts) (old new : StoredHub D) (conn : ℕ) (e : ServeError) (number : ℕ)
-    → Refuses medium counts old new conn e
-    → ByFault (of_serve_error e number) (StaysCommitted old.store new.store) ⊤ (StaysCommitted old.store new.store)
-commits-refused {D} medium counts old new conn serve.Unknown number refuses =
-    λ none. ap (λ (h : StoredHub D). h.store.waiting) refuses.2 ∙ none
-commits-refused medium counts old new conn serve.Device number refuses = tt
-commits-refused medium counts old new conn serve.Stopped number refuses = tt
 
 -- one thing after another
 pub commits-after : {D : Type 0} (old mid new : StoreView D) (e : ScriptFault) → StaysCommitted old mid

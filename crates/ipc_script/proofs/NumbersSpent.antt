@@ -6,32 +6,16 @@ use Rattle.ipc_disk.specs.Medium.{Medium}
 use Rattle.ipc_store.specs.declared.fault.CommitError.{CommitError}
 use Rattle.ipc_store.specs.declared.fault.CommitError.TheVariants as commit
 use Rattle.ipc_store.specs.View.{StoreView, Spends}
-use Rattle.ipc_hub.specs.declared.fault.ServeError.{ServeError}
 use Rattle.ipc_hub.specs.declared.fault.ServeError.TheVariants as serve
-use Rattle.ipc_hub.specs.Relations.Faults.{Halts, Refuses}
+use Rattle.ipc_hub.specs.Relations.Faults.{Halts}
 use Rattle.ipc_hub.specs.View.{StoredHub, HasStopped, most_events}
 use Rattle.ipc_script.specs.declared.fault.ScriptFault.{ScriptFault}
 use Rattle.ipc_script.specs.declared.fault.ScriptFault.TheVariants.{NoMemory, Input, Output, Device, NotFormatted, Version, Damaged}
 use Rattle.ipc_script.specs.declared.fault.ScriptFault.TheVariants.{TooLong, BadLine, InUse, Unknown}
 use Rattle.ipc_script.specs.Line.{longest_script}
 use Rattle.ipc_script.specs.Script.{DiskFailed, IsYoung}
-use Rattle.ipc_script.specs.Relations.Faults.{ByFault, of_serve_error}
 use Rattle.ipc_script.specs.Relations.Input.{IsReadFault}
 use Rattle.ipc_script.specs.Relations.Numbers.{HasNumbers}
-
--- a fault of the world or of the script is not the disk's
-pub not-the-disks : (W P : Type 0) (before after : ℕ) (e : ScriptFault) → ByFault e W ⊥ P → DiskFailed e before after
-not-the-disks W P before after NoMemory f = tt
-not-the-disks W P before after Input f = tt
-not-the-disks W P before after Output f = tt
-not-the-disks W P before after Device f = absurd f
-not-the-disks W P before after NotFormatted f = f
-not-the-disks W P before after (Version found) f = f
-not-the-disks W P before after (Damaged sector) f = f
-not-the-disks W P before after TooLong f = tt
-not-the-disks W P before after (BadLine number) f = tt
-not-the-disks W P before after (InUse number) f = tt
-not-the-disks W P before after (Unknown number) f = tt
 
 -- nor is one of the reader
 pub not-the-readers : (before after : ℕ) (e : ScriptFault) → IsReadFault e → DiskFailed e before after
@@ -84,13 +68,6 @@ module _ {D : Type 0} (medium : D → Medium) (counts : D → Counts) (n : ℕ) 
   halted-by commit.Device halts = halts.1
   halted-by commit.Stopped (inl stopped) = absurd (goes-on n old has stopped.0)
   halted-by commit.Stopped (inr last) = absurd (omega (arith, has.left, last.1))
-
-  -- so has one that names a connection, but for a wrong number
-  pub refused-by : (e : ServeError) (conn number : ℕ) → Refuses medium counts old new conn e
-      → DiskFailed (of_serve_error e number) (counts old.store.disk).failures (counts new.store.disk).failures
-  refused-by serve.Unknown conn number refuses = tt
-  refused-by serve.Device conn number halts = halts.1
-  refused-by serve.Stopped conn number halts = halted-by commit.Stopped halts
 
 -- a failure that is counted after calls without one is the first
 pub failed-behind : {D : Type 0} {counts : D → Counts} {n : ℕ} {old mid : StoreView D} (e : ScriptFault) (after : ℕ) → Spends counts n old mid

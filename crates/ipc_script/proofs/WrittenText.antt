@@ -1,8 +1,8 @@
 -- What a writer holds after a part of some text.
-use Rattle.std.proofs.Common.{◌≡◌, ℕ, ◌-◌, List, [], ◌++◌, length, take, drop, Option, None, Some, refl, sym, ap, ◌∙◌, subst, append_assoc, append-nil}
+use Rattle.std.proofs.Common.{◌≡◌, ℕ, ◌-◌, List, [], ◌++◌, length, take, drop, Option, refl, sym, ap, ◌∙◌, append_assoc}
 use Rattle.std.proofs.lemmas.List.{take-append-drop, take_rest}
 use Rattle.std.proofs.KnownBytes.{Appends-nil, Appends-trans}
-use Rattle.std.specs.Io.KnownBytes.{Appends, Keeps}
+use Rattle.std.specs.Io.KnownBytes.{Appends}
 use Rattle.ipc_script.specs.Script.{WritesPart, WritesMore}
 
 -- one piece more of the bytes is written
@@ -48,14 +48,3 @@ grown_by a b text is = (text, is)
 
 pub grown_part : (a b : Option (List ℕ)) (text : List ℕ) → WritesPart a b text → WritesMore a b []
 grown_part a b text part = (part.0, part.3)
-
--- a writer that keeps what it holds has taken nothing
-pub kept_nothing : (a b : Option (List ℕ)) → Keeps a b → Appends a b []
-kept_nothing None b k = tt
-kept_nothing (Some xs) None k = absurd k
-kept_nothing (Some xs) (Some ys) k = k ∙ sym (append-nil xs)
-
--- some of the bytes are written, and then nothing
-pub wrote_part : (a b c : Option (List ℕ)) (done rest bytes : List ℕ) → done ++ rest ≡ bytes → Appends a b done → Appends b c [] → WritesPart a c bytes
-wrote_part a b c done rest bytes e before none =
-    (done, rest, sym e, subst (Appends a c) (append-nil done) (Appends-trans a b c done [] before none))

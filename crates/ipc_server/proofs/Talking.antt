@@ -65,13 +65,6 @@ tells-both known mid all shown left less one two = (
   appends-both known mid all one.0 two.0 one.2 two.2,
 )
 
--- a write that failed wrote nothing
-pub tells-kept : (known mid all : Option (List ℕ)) (shown left : List ℕ) → WritesOutput known mid shown left → Keeps mid all → WritesOutput known all shown left
-tells-kept None mid all shown left one same = (one.0, one.1, tt)
-tells-kept (Some xs) None all shown left one same = absurd one.2
-tells-kept (Some xs) (Some mid) None shown left one same = absurd same
-tells-kept (Some xs) (Some mid) (Some all) shown left one same = (one.0, one.1, same ∙ one.2)
-
 -- one write, and what it took is consumed
 pub tells-one : (known all : Option (List ℕ)) (shown left : List ℕ) (count : ℕ) → Appends known all (take count shown) → left ≡ drop count shown
     → WritesOutput known all shown left

@@ -9,15 +9,12 @@ use Rattle.std.proofs.lemmas.List.Elements.{All-nil, All-append, All-drop, All-f
 use Rattle.std.proofs.lemmas.List.{length-drop, length-replicate, length-take}
 use Rattle.std.proofs.lemmas.List.Filters.{length-filter_both}
 use Rattle.sysv_sem.specs.declared.set.Semaphore.{Semaphore}
-use Rattle.std.specs.Borrow.{MutBor}
-use Rattle.std.specs.Option.{option_copied_mut, IsSome}
 use Rattle.ipc_base.specs.Table.{keys_of, value_at, without as without_value, EachValue}
 use Rattle.std.specs.FinMap as fin
 use Rattle.sem_undo.specs.Undo.{Key, Undo, cleared}
-use Rattle.ipc_base.proofs.CallerLemmas.{at-with, nobody, own, twice, rising-bounds, each-at, each-with, each-without, keys_of-with_value}
+use Rattle.ipc_base.proofs.CallerLemmas.{nobody, each-at, each-with, each-without, keys_of-with_value}
 use Rattle.ipc_state.specs.Directory.{ArePositive}
 use Rattle.ipc_state.proofs.Directories.{named-positive}
-use Rattle.ipc_state.specs.Lends.{HasPutObject}
 use Rattle.ipc_state.specs.Tables.{HeldObjects}
 use Rattle.ipc_base.specs.declared.identity.Cred.{Cred}
 use Rattle.ipc_base.specs.declared.identity.Moment.{Moment}
@@ -476,17 +473,11 @@ module _ (limits : Limits) where
   pub psem-positive : (s : State) → HasSoundParts limits s → ArePositive s.psem.entries
   psem-positive s h = named-positive s.psem.entries s.psem.next h.psem.named.numbered.numbers
 
-  pub psem-next : (s : State) → HasSoundParts limits s → 0 < s.psem.next
-  psem-next s h = omega (arith, rising-bounds 1 (keys_of s.psem.entries) s.psem.next h.psem.named.numbered.numbers)
-
   pub psem-names : (s : State) → HasSoundParts limits s → HaveNames s.psem
   psem-names s h = have-names limits.named_semaphores (λ value. value ≤ sem_value_max) s.psem h.psem.named
 
   pub segment-positive : (s : State) → HasSoundParts limits s → ArePositive s.pshm.entries
   segment-positive s h = named-positive s.pshm.entries s.pshm.next h.pshm.held.named.numbered.numbers
-
-  pub segment-next : (s : State) → HasSoundParts limits s → 0 < s.pshm.next
-  segment-next s h = omega (arith, rising-bounds 1 (keys_of s.pshm.entries) s.pshm.next h.pshm.held.named.numbered.numbers)
 
   pub segment-names : (s : State) → HasSoundParts limits s → HaveNames s.pshm
   segment-names s h = have-names limits.segments (λ x. ⊤) s.pshm h.pshm.held.named
@@ -499,18 +490,9 @@ module _ (limits : Limits) where
       → is_by_descriptor s.processes.entries n e.object.registration ≡ true
   mq-registered s n e is h = opening.All-found (λ (d : ℕ × NamedEntry Mq). is_registered s.processes.entries d ≡ true) s.mq.entries n e h.mq.registered is
 
-  -- what is lent of it
-  pub mq-lent : (s : State) (n : ℕ) (e : NamedEntry Mq) (r : Option (MutBor Mq)) (q : MutBor Mq) → entry_of s.mq n ≡ Some e
-      → option_copied_mut r ≡ option_map (λ (f : NamedEntry Mq). f.object) (entry_of s.mq n) → r ≡ Some q → q.now ≡ e.object
-  mq-lent s n e r q there got is =
-      let same : option_copied_mut r ≡ Some e.object = got ∙ ap (option_map (λ (f : NamedEntry Mq). f.object)) there in cc
-
   -- numbers are above 0, so that a directory of names tells them; and each name names the queue that has it
   pub mq-positive : (s : State) → HasSoundParts limits s → ArePositive s.mq.entries
   mq-positive s h = named-positive s.mq.entries s.mq.next h.mq.held.named.numbered.numbers
-
-  pub mq-next : (s : State) → HasSoundParts limits s → 0 < s.mq.next
-  mq-next s h = omega (arith, rising-bounds 1 (keys_of s.mq.entries) s.mq.next h.mq.held.named.numbered.numbers)
 
   pub mq-names : (s : State) → HasSoundParts limits s → HaveNames s.mq
   mq-names s h = have-names limits.queues (IsSoundMq limits) s.mq h.mq.held.named
@@ -584,85 +566,3 @@ module _ {X : Type 0} (o : HeldObjects X) (s : Keyed X) (same : o.objects ≡ s)
 
   pub held-positive : ArePositive o.objects.entries
   held-positive = named-positive o.objects.entries o.objects.next held-named.numbers
-
--- the next identifier is above 0
-pub next_of-positive : {X : Type 0} {most : ℕ} {IsSoundOne : X → Type 0} (o : Keyed X) → AreKeyed most IsSoundOne o → 0 < o.next
-next_of-positive o h = omega (arith, rising-bounds 1 (keys_of o.entries) o.next h.numbered.numbers)
-
-pub next-positive : (limits : Limits) (s : State) → HasSoundParts limits s → 0 < s.msg.next
-next-positive limits s h = next_of-positive s.msg h.msg
-
--- ---- an object that was lent
-
-module _ {X : Type 0} (o : HeldObjects X) (s : Keyed X) (id : ℕ) (e : Entry X) (same : o.objects ≡ s) (there : entry_of s id ≡ Some e) where
-  is-held : entry_of o.objects id ≡ Some e
-  is-held = ap (λ (t : Keyed X). entry_of t id) same ∙ there
-
-  module _ (r : Option (MutBor X)) (got : option_copied_mut r ≡ option_map (λ (f : Entry X). f.object) (entry_of o.objects id)) where
-    lent-some : option_copied_mut r ≡ Some e.object
-    lent-some = got ∙ ap (option_map (λ (f : Entry X). f.object)) is-held
-
-    -- it is lent
-    pub is-lent : IsSome r
-    is-lent = by_result r lent-some
-      where
-        by_result : (r : Option (MutBor X)) → option_copied_mut r ≡ Some e.object → IsSome r
-        by_result None is = cc
-        by_result (Some q) is = refl
-
-    -- as the definitions have it
-    pub lent-object : (q : MutBor X) → r ≡ Some q → q.now ≡ e.object
-    lent-object q is = cc
-
-  -- with other permissions
-  put-perm : (perm : Perm) (new : HeldObjects X)
-      → ((f : Entry X) → entry_of o.objects id ≡ Some f → new ≡ record o { objects = with_entry o.objects id (permitting f perm) })
-      → new.objects ≡ with_entry s id (permitting e perm)
-  put-perm perm new put =
-      ap (λ (n : HeldObjects X). n.objects) (put e is-held) ∙ ap (λ (t : Keyed X). with_entry t id (permitting e perm)) same
-
-  -- what is left in its place
-  module _ (left : X) (new : HeldObjects X) (put : HasPutObject o id left new) where
-    pub put-object : new.objects ≡ with_entry s id (holding e left)
-    put-object = ap (λ (n : HeldObjects X). n.objects) (put e is-held) ∙ ap (λ (t : Keyed X). with_entry t id (holding e left)) same
-
-    -- the same object leaves all as it is
-    pub put-same : left ≡ e.object → new.objects ≡ s
-    put-same is =
-        put-object ∙ (ap (λ (x : X). with_entry s id (holding e x)) is
-        ∙ ap (λ (es : List (ℕ × Entry X)). let n : Keyed X = record { next = s.next; entries = es } in n) (own s.entries id e there))
-
-    -- the directory of the keys stays
-    pub put-keys : new.keys ≡ o.keys
-    put-keys = ap (λ (n : HeldObjects X). n.keys) (put e is-held)
-
--- ---- an object that was given other permissions, and then lent
-
-module _ {X : Type 0} (o : HeldObjects X) (s : Keyed X) (id : ℕ) (e : Entry X) (same : o.objects ≡ s) (there : entry_of s id ≡ Some e) (perm : Perm)
-    (mid : HeldObjects X)
-    (put : (f : Entry X) → entry_of o.objects id ≡ Some f → mid ≡ record o { objects = with_entry o.objects id (permitting f perm) }) where
-  permits : mid.objects ≡ with_entry s id (permitting e perm)
-  permits = put-perm o s id e same there perm mid put
-
-  permitted : entry_of (with_entry s id (permitting e perm)) id ≡ Some (permitting e perm)
-  permitted = at-with s.entries id (permitting e perm) e there
-
-  module _ (r : Option (MutBor X)) (got : option_copied_mut r ≡ option_map (λ (f : Entry X). f.object) (entry_of mid.objects id)) where
-    pub permitted-lent : IsSome r
-    permitted-lent = is-lent mid _ id _ permits permitted r got
-
-    pub permitted-object : (q : MutBor X) → r ≡ Some q → q.now ≡ e.object
-    permitted-object q is = lent-object mid _ id _ permits permitted r got q is
-
-  -- what is left in its place has both
-  module _ (left : X) (new : HeldObjects X) (puts : HasPutObject mid id left new) where
-    pub permitted-put : new.objects ≡ with_entry s id (holding (permitting e perm) left)
-    permitted-put =
-        put-object mid _ id _ permits permitted left new puts
-        ∙ ap (λ (es : List (ℕ × Entry X)). let n : Keyed X = record { next = s.next; entries = es } in n)
-        (twice s.entries id (permitting e perm) (holding (permitting e perm) left))
-
-    pub permitted-keys : new.keys ≡ o.keys
-    permitted-keys =
-        put-keys mid _ id _ permits permitted left new puts
-        ∙ ap (λ (h : HeldObjects X). h.keys) (put e (ap (λ (k : Keyed X). entry_of k id) same ∙ there))

@@ -239,12 +239,6 @@ module _ {K E : Type 0} (keys : Keys K E) where
           rw not refl
       by_test false is later = ap (λ (r : Option ℕ). cond (keys.same (keys.key_of f.1) other) (Some f.0) r) (later is)
 
-  -- an entry without a key leaves what the others name
-  pub names-nameless : (es : List (ℕ × E)) (id : ℕ) (e : E) (other : K) → value_at nat_eq es id ≡ Some e → keys.key_of e ≡ keys.none
-      → names (without nat_eq es id) other ≡ names es other
-  names-nameless es id e other is none =
-      names-same es (without nat_eq es id) other (λ some. others es id e other is (other_key (keys.key_of e) other none some))
-
   -- the key of an object names it
   named-at : (ks : List (K × ℕ)) (es : List (ℕ × E)) (id : ℕ) (e : E) (other : K) → All (λ (f : ℕ × E). IsNamed ks (row f)) es → value_at nat_eq es id ≡ Some e
       → keys.key_of e ≡ other → other ≢ keys.none → value_at keys.same ks other ≡ Some id

@@ -11,6 +11,9 @@ mod SoundOpening
 mod Elsewhere
 mod Ending
 mod Directories
+mod Ready
+mod Reserved
+mod Lent
 mod Naming
 mod Adjusting
 mod Clearing

@@ -9,21 +9,21 @@ use Rattle.std.specs.List.{list_all, filter}
 use Rattle.std.specs.Ordering.{nat_cmp}
 use Rattle.std.specs.Str.{bytes_eq}
 use Rattle.std.proofs.lemmas.Bool.Decides.{Decides-and}
-use Rattle.std.proofs.lemmas.List.Elements.{All-nil, All-push, All-map, All-filter}
+use Rattle.std.proofs.lemmas.List.Elements.{All-nil, All-push, All-filter}
 use Rattle.std.proofs.lemmas.Slice.Eq.{bytes_eq-Decides}
-use Rattle.ipc_base.specs.Table.{value_at, without, keys_of, IsRising}
+use Rattle.ipc_base.specs.Table.{keys_of, IsRising}
 use Rattle.ipc_base.proofs.CallerLemmas.{All-with_value, All-value_at, rising-lower}
 use Rattle.ipc_keys.specs.Names.{is_none}
 use Rattle.ipc_state.specs.declared.named.NamedEntry.{NamedEntry}
 use Rattle.ipc_state.specs.declared.numbered.Item.{Item}
 use Rattle.ipc_state.specs.Directory.{number_at}
-use Rattle.ipc_state.specs.Named.{Named, name_row, named, with_object, nameless, without_name, unnamed, kept_if, HaveNames, AreNamedObjects}
+use Rattle.ipc_state.specs.Named.{Named, named, with_object, nameless, without_name, unnamed, kept_if, HaveNames, AreNamedObjects}
 use Rattle.ipc_state.specs.Numbered.{none_yet, entry_of, is_full, with_entry, with_new, without_entry, AreNumbered}
 use Rattle.ipc_state.specs.Tables.{item_row}
 use Rattle.ipc_state.specs.Tests.{is_named}
-use Rattle.ipc_state.proofs.Numbering.{none_yet-numbered, with_new-numbered, with_entry-numbered, without_entry-numbered}
-use Rattle.ipc_state.proofs.EntryKeys.{Keys, IsNamed, names, named-push, same_keys, named-unkeyed, named_without, named-kept, all_without}
-use Rattle.ipc_state.proofs.EntryKeys.{names-nameless, names-unkeyed, keys-decide, modes-decide}
+use Rattle.ipc_state.proofs.Numbering.{none_yet-numbered, with_new-numbered, with_entry-numbered}
+use Rattle.ipc_state.proofs.EntryKeys.{Keys, IsNamed, names, named-push, same_keys, named-unkeyed, named-kept}
+use Rattle.ipc_state.proofs.EntryKeys.{names-unkeyed, keys-decide, modes-decide}
 
 -- no bytes are no name
 abbrev pub by_name : {X : Type 0} → Keys (List ℕ) (NamedEntry X)
@@ -37,15 +37,6 @@ HasMode e = e.1.mode < 512
 pub record IsSoundEntry {X : Type 0} (IsSoundOne : X → Type 0) (e : NamedEntry X) : Type 0 where
   pub mode : e.mode < 512
   pub each : IsSoundOne e.object
-
-absent-without : {X : Type 0} (es : List (ℕ × X)) (n : ℕ) → value_at nat_eq es n ≡ None → without nat_eq es n ≡ es
-absent-without [] n none = refl
-absent-without {X} (e ∷ es) n none = by_test (nat_eq e.0 n) none (absent-without es n)
-  where
-    by_test : (b : Bool) → cond b (Some e.1) (value_at nat_eq es n) ≡ None → (value_at nat_eq es n ≡ None → without nat_eq es n ≡ es)
-        → cond b es (e ∷ without nat_eq es n) ≡ e ∷ es
-    by_test true none rest = cc
-    by_test false none rest = ap (λ (fs : List (ℕ × X)). e ∷ fs) (rest none)
 
 -- numbers stay in order if some go
 pub rising-filter : {X : Type 0} (p : ℕ × X → Bool) (low : ℕ) (es : List (ℕ × X)) (high : ℕ) → IsRising low (keys_of es) high
@@ -91,18 +82,6 @@ module _ {X : Type 0} (most : ℕ) (IsSoundOne : X → Type 0) where
         ];
         modes = All-with_value nat_eq (λ (g : NamedEntry X). g.mode < 512) o.entries n f h.modes good.mode;
         each = All-with_value nat_eq (λ (g : NamedEntry X). IsSoundOne g.object) o.entries n f h.each good.each;
-      }
-
-  -- one is taken out
-  pub without_entry-named : (o : Named X) (n : ℕ) → AreNamedObjects most IsSoundOne o → AreNamedObjects most IsSoundOne (without_entry o n)
-  without_entry-named o n h =
-      let left : List (ℕ × NamedEntry X) = without nat_eq o.entries n in
-      record {
-        numbered = without_entry-numbered most o n h.numbered;
-        names = All-map (IsNamed (by_name {X = X}) (map name_row left)) name_row left
-            (named_without (by_name {X = X}) o.entries o.next n h.numbered.numbers h.names);
-        modes = all_without HasMode o.entries n h.modes;
-        each = all_without (λ (e : ℕ × NamedEntry X). IsSoundOne e.1.object) o.entries n h.each;
       }
 
   pub entry-named : (o : Named X) (n : ℕ) (e : NamedEntry X) → entry_of o n ≡ Some e → AreNamedObjects most IsSoundOne o → IsSoundEntry IsSoundOne e
@@ -152,15 +131,6 @@ module _ {X : Type 0} (most : ℕ) (IsSoundOne : X → Type 0) where
 pub unnamed-names : {X : Type 0} (o : Named X) (n : ℕ) (e : NamedEntry X) (name : List ℕ) → entry_of o n ≡ Some e
     → named (unnamed o n) name ≡ named (without_entry o n) name
 unnamed-names o n e name is = ap (λ r. named (without_name o n r) name) is ∙ names-unkeyed by_name o.entries n (nameless e) name refl
-
--- without an entry that has no name, if it is there
-pub nameless-names : {X : Type 0} (o : Named X) (n : ℕ) (name : List ℕ) → ((e : NamedEntry X) → entry_of o n ≡ Some e → e.name ≡ [])
-    → named (without_entry o n) name ≡ named o name
-nameless-names {X} o n name none = by_entry (entry_of o n) refl
-  where
-    by_entry : (r : Option (NamedEntry X)) → entry_of o n ≡ r → named (without_entry o n) name ≡ named o name
-    by_entry None is = ap (λ (es : List (ℕ × NamedEntry X)). names by_name es name) (absent-without o.entries n is)
-    by_entry (Some e) is = names-nameless by_name o.entries n e name is (none e is)
 
 -- ---- how it is told
 

@@ -28,9 +28,6 @@ pub record RiseTo (low : ℕ) (ns : List ℕ) (least : ℕ) : Type 0 where
   pub rise : IsRising low ns least
   pub lowest : (high : ℕ) → IsRising low ns high → least ≤ high
 
-pub rise-none : (low : ℕ) → RiseTo low [] low
-rise-none low = record { rise = omega arith; lowest = λ high h. h }
-
 rise-one : (low : ℕ) (ns : List ℕ) (least n : ℕ) → RiseTo low ns least → least ≤ n → RiseTo low (ns ++ n ∷ []) (n + 1)
 rise-one low ns least n h le =
     record {

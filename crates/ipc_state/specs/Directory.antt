@@ -1,12 +1,13 @@
 -- The directory of the keys or names of one kind: which number a key has. One key has none: of System V keys
 -- (sysvipc(7)) it is IPC_PRIVATE, which is 0, and no bytes are no name.
-use Rattle.std.specs.Prelude.{◌≡◌, ◌<◌, ℕ, ℤ, pos, Bool, false, if◌then◌else◌, List, [], All, Option, Some, None}
+use Rattle.std.specs.Prelude.{◌≡◌, ◌≢◌, ◌<◌, ℕ, ℤ, pos, Bool, true, if◌then◌else◌}
+use Rattle.std.specs.Prelude.{List, [], All, Option, Some, None, is_some}
 use Rattle.std.specs.FinMap.{FinMap}
 use Rattle.std.specs.Cmp.Lexicographic.{slice_cmp}
 use Rattle.std.specs.Ordering.{int_cmp, int_eq, nat_cmp}
 use Rattle.std.specs.Str.{bytes_eq}
 use Rattle.ipc_base.specs.Table.{keys_of}
-use Rattle.ipc_keys.specs.Directory.{found, is_vacant}
+use Rattle.ipc_keys.specs.Directory.{found}
 use Rattle.ipc_keys.specs.Names.{is_none}
 use Rattle.ipc_state.specs.Keyed.{Keyed, keyed}
 use Rattle.ipc_state.specs.Named.{Named, named}
@@ -14,10 +15,6 @@ use Rattle.ipc_state.specs.Named.{Named, named}
 -- the identifier of a key
 abbrev pub named_by : FinMap int_cmp ℕ → ℤ → Option ℕ
 named_by keys key = if int_eq key (pos 0) then None else found keys key
-
--- no key has room that no object has
-abbrev pub HasNoSpareKey : FinMap int_cmp ℕ → Type 0
-HasNoSpareKey keys = (key : ℤ) → is_vacant keys key ≡ false
 
 -- the first of two that is there
 abbrev pub or_else : Option ℕ → Option ℕ → Option ℕ
@@ -44,15 +41,19 @@ Agrees {K} found named = ((key : K) (n : ℕ) → named key ≡ Some n → 0 < n
 abbrev pub Agree : {X : Type 0} → FinMap int_cmp ℕ → Keyed X → Type 0
 Agree keys o = Agrees (named_by keys) (keyed o)
 
+-- What is ready to be added, if anything is: no key is vacant but its own, which is if it names nothing and is one; and
+-- there is a place for it.
+pub record IsReady {K : Type 0} (none : K) (vacant : K → Bool) (number : K → Option ℕ) (has_place : Bool)
+    (ready : Option K) : Type 0 where
+  pub only : (key : K) → vacant key ≡ true → (ready ≡ Some key) × (key ≢ none)
+  pub own : (key : K) → ready ≡ Some key → key ≢ none → number key ≡ None → vacant key ≡ true
+  pub place : is_some ready ≡ true → has_place ≡ true
+
 -- ---- of names
 
 -- the number of a name
 abbrev pub number_at : FinMap (slice_cmp nat_cmp) ℕ → List ℕ → Option ℕ
 number_at names name = if is_none name then None else found names name
-
--- no name has room that no object has
-abbrev pub HasNoSpareName : FinMap (slice_cmp nat_cmp) ℕ → Type 0
-HasNoSpareName names = (name : List ℕ) → is_vacant names name ≡ false
 
 -- what an object with this name and number adds for another name
 abbrev pub name_added : List ℕ → ℕ → List ℕ → Option ℕ

@@ -1,5 +1,5 @@
 -- What tables are, once a `&mut` to something in them has ended.
-use Rattle.std.specs.Prelude.{◌≡◌, ℕ, Option, Some}
+use Rattle.std.specs.Prelude.{◌≡◌, ℕ, Option, Some, IfSome}
 use Rattle.std.specs.Borrow.{Fml, RattleType, MutBor, LendsSo}
 use Rattle.ipc_state.specs.declared.keyed.Entry.{Entry}
 use Rattle.ipc_state.specs.declared.named.NamedEntry.{NamedEntry}
@@ -29,6 +29,13 @@ HasPutNamed {X} old number x new =
     (e : NamedEntry X) → entry_of old.objects number ≡ Some e
     → new ≡ record old { objects = with_entry old.objects number (with_object e x) }
 
+-- the object that is ready is this now, under the same key or name, and all else is as before
+abbrev pub HasMadeReady : {X : Type 0} → HeldObjects X → X → HeldObjects X → Type 0
+HasMadeReady old x new = IfSome old.ready (λ r. new ≡ record old { ready = Some (r.0, x) })
+
+abbrev pub HasMadeReadyNamed : {X : Type 0} → HeldNamed X → X → HeldNamed X → Type 0
+HasMadeReadyNamed old x new = IfSome old.ready (λ r. new ≡ record old { ready = Some (r.0, x) })
+
 module _ (T : RattleType) where
   -- the number has the last value written through r, and at `None` nothing has changed
   abbrev pub lends_numbered : MutBor (Table T.Denot) → ℕ → Option (MutBor T.Denot) → Fml
@@ -39,3 +46,9 @@ module _ (T : RattleType) where
 
   abbrev pub lends_named : MutBor (HeldNamed T.Denot) → ℕ → Option (MutBor T.Denot) → Fml
   lends_named o number r = LendsSo (named.the_row T) T o r (λ n x. HasPutNamed o.now number x n) (λ n. n ≡ o.now)
+
+  abbrev pub lends_ready : MutBor (HeldObjects T.Denot) → Option (MutBor T.Denot) → Fml
+  lends_ready o r = LendsSo (keyed.the_row T) T o r (λ n x. HasMadeReady o.now x n) (λ n. n ≡ o.now)
+
+  abbrev pub lends_ready_named : MutBor (HeldNamed T.Denot) → Option (MutBor T.Denot) → Fml
+  lends_ready_named o r = LendsSo (named.the_row T) T o r (λ n x. HasMadeReadyNamed o.now x n) (λ n. n ≡ o.now)

@@ -1,37 +1,13 @@
--- What the state is, once a `&mut` to its named semaphores or to its segments, or to one of them, has ended.
+-- What the state is, once a `&mut` to a named semaphore or to a segment has ended.
 use Rattle.std.specs.Prelude.{◌≡◌, ℕ, true, is_some, Option}
-use Rattle.std.specs.Borrow.{Fml, MutBor, Lends, LendsSo}
+use Rattle.std.specs.Borrow.{Fml, MutBor, LendsSo}
 use Rattle.posix_sem.specs.contracts.semaphore.NamedSem as semaphore
 use Rattle.shm_segment.specs.Segment.{Segment}
 use Rattle.shm_segment.specs.contracts.segment.Segment as segment
-use Rattle.ipc_state.specs.contracts.named.Named as named
 use Rattle.ipc_state.specs.contracts.state.State.{the_row}
 use Rattle.ipc_state.specs.Held.{Held}
 use Rattle.ipc_state.specs.Numbered.{entry_of}
 use Rattle.ipc_state.specs.State.{with_psem, with_pshm}
-use Rattle.ipc_state.specs.Tables.{HeldNamed}
-
--- with these named semaphores, and the room for them
-abbrev pub with_psems : Held → HeldNamed ℕ → Held
-with_psems held o =
-    record held {
-      state = record held.state { psem = o.objects };
-      room = record held.room { psem = o.place; psem_names = o.names };
-    }
-
-abbrev pub lends_psems : MutBor Held → MutBor (HeldNamed ℕ) → Fml
-lends_psems s r = Lends the_row (named.the_row semaphore.the_row) s r (with_psems s.now)
-
--- with these segments, and the room for them
-abbrev pub with_pshms : Held → HeldNamed Segment → Held
-with_pshms held o =
-    record held {
-      state = record held.state { pshm = o.objects };
-      room = record held.room { pshm = o.place; pshm_names = o.names };
-    }
-
-abbrev pub lends_pshms : MutBor Held → MutBor (HeldNamed Segment) → Fml
-lends_pshms s r = Lends the_row (named.the_row segment.the_row) s r (with_pshms s.now)
 
 -- the number, which has a semaphore, has this value now, and all else is as before
 abbrev pub HasPutPsem : Held → ℕ → ℕ → Held → Type 0

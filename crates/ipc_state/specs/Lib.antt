@@ -13,7 +13,7 @@ pub mod Tables
 pub mod Restored
 pub mod Rows
 pub mod Lends
-pub mod LendsMsg
+pub mod LendsMsgQueue
 pub mod LendsSemset
 pub mod LendsMq
 pub mod LendsNamed

@@ -1,9 +1,10 @@
 //! What keeps an object with a name: the name, or a descriptor that is open on it. See mq_overview(7), sem_overview(7)
 //! and shm_overview(7).
 
-ghost use Rattle.std.specs.Prelude.{◌≡◌, ◌↔◌, ◌&&◌, true, map, All, IsTrue};
+ghost use Rattle.std.specs.Prelude.{◌≡◌, ◌↔◌, ◌&&◌, true, map, All, IsTrue, None};
 ghost use Rattle.std.specs.Prelude.{filter};
 ghost use Rattle.std.specs.List.{list_all, list_any};
+ghost use Rattle.ipc_state.specs.Held.{left};
 ghost use Rattle.ipc_state.specs.Opening.{descriptor_at, has_access, is_named_so, is_on, is_open, is_sound_descriptor};
 ghost use Rattle.ipc_state.specs.Opening.{is_there_for, opened_as, stays, still_open};
 ghost use Rattle.ipc_state.specs.Sound.{AreHeld, AreSoundDescriptors, AreSoundProcesses};
@@ -22,18 +23,13 @@ use ipc_keys::{NameKind, check_name};
 
 impl State {
     /// Objects go that have no name and on which no descriptor is open. It takes no memory.
-    pub fn sweep(&mut self)
-        ensures state { self.new.state ≡ swept self.old.state }
-        ensures limits { self.new.limits ≡ self.old.limits }
-        ensures room { self.new.room ≡ record self.old.room {
-          mq = self.new.room.mq;
-          psem = self.new.room.psem;
-          pshm = self.new.room.pshm;
-        } }
+    pub(crate) fn sweep(&mut self)
+        ensures { self.new ≡ left self.old (swept self.old.state) }
     {
         self.mq.sweep(self.processes.items(), NameKind::Mq);
         self.psem.sweep(self.processes.items(), NameKind::Psem);
         self.pshm.sweep(self.processes.items(), NameKind::Pshm);
+        self.release();
     }
 
     /// What a descriptor of a process is, if the number is in use.
@@ -100,11 +96,12 @@ impl State {
 }
 
 impl<T: Drop> Named<T> {
-    /// Those go that have no name and on which no descriptor of these processes is open.
+    /// Those go that have no name and on which no descriptor of these processes is open. Nothing is ready then.
     pub(crate) fn sweep(&mut self, processes: &[Item<Process>], kind: NameKind)
-        ensures objects { self.new.objects ≡ still_open kind (map item_row processes.now) self.old.objects }
-        ensures names { self.new.names ≡ self.old.names }
+        ensures { self.new
+            ≡ record { objects = still_open kind (map item_row processes.now) self.old.objects; ready = None } }
     {
+        let _before = self.release();
         self.objects.items.sweep(processes, kind);
     }
 }

@@ -1,34 +1,12 @@
 //! The objects of one kind that may have a key.
 
-ghost use Rattle.std.specs.Prelude.{
-  ◌≡◌,
-  ◌≢◌,
-  ℤ,
-  pos,
-  ◌<◌,
-  ◌^◌,
-  ◌↔◌,
-  ◌&&◌,
-  ⊤,
-  true,
-  false,
-  is_some,
-  Some,
-  IsTrue,
-  IsOk,
-  OnOk,
-  OnErr,
-  map,
-  option_map,
-  option_copied,
-  nat_lt,
-};
+ghost use Rattle.std.specs.Prelude.{◌≡◌, pos, ◌<◌, ◌^◌, ◌↔◌, ◌&&◌, ⊤, true, is_some, None, Some, IsTrue, IfSome};
+ghost use Rattle.std.specs.Prelude.{OnOk, OnErr, map, option_map, option_copied, nat_lt};
 ghost use Rattle.std.specs.Ordering.{int_eq};
 ghost use Rattle.std.specs.Borrow.{sem};
 ghost use Rattle.std.specs.List.{list_all};
 ghost use Rattle.std.specs.Option.{option_copied_mut};
-ghost use Rattle.ipc_state.specs.Lends.{lends_object};
-ghost use Rattle.ipc_keys.specs.Directory.{is_vacant};
+ghost use Rattle.ipc_state.specs.Lends.{lends_object, lends_ready};
 ghost use Rattle.ipc_state.specs.declared.keyed.Entry.{Entry};
 ghost use Rattle.ipc_state.specs.Keyed.{keyed, permitting, AreKeyed, AreNamed};
 ghost use Rattle.ipc_state.specs.Tests.{is_named};
@@ -41,8 +19,8 @@ ghost use Rattle.ipc_state.specs.Numbered.{
   with_last,
   without_entry,
 };
-ghost use Rattle.ipc_state.specs.Directory.{ArePositive, HasNoSpareKey, named_by};
-ghost use Rattle.ipc_state.specs.Tables.{HasPlaceFor, item_row};
+ghost use Rattle.ipc_state.specs.Directory.{ArePositive, named_by};
+ghost use Rattle.ipc_state.specs.Tables.{item_row};
 
 use crate::keys;
 use crate::numbered::{Item, Numbered};
@@ -61,11 +39,13 @@ pub struct Entry<T> {
     pub object: T,
 }
 
-/// The objects of one kind. A contract sees them by identifier, and what there is room for.
+/// The objects of one kind. A contract sees them by identifier, and what is ready to be added.
 pub struct Keyed<T> {
     objects: Numbered<Entry<T>>,
     /// The identifier of each key but `IPC_PRIVATE`.
     keys: KeyDir,
+    /// The key and the object of the next one, for which there is a place.
+    ready: Option<(i32, T)>,
 }
 
 impl<T: Drop> Drop for Keyed<T> {
@@ -73,27 +53,27 @@ impl<T: Drop> Drop for Keyed<T> {
         let Keyed {
             objects: _,
             keys: _,
+            ready: _,
         } = self;
     }
 }
 
 impl<T> Model for Keyed<T> {
     ghost use Rattle.std.specs.Coded.{codes};
+    ghost use Rattle.std.specs.Prelude.{pos, option_map};
     ghost use Rattle.ipc_keys.specs.contracts.keys.KeyDir as directory;
-    ghost use Rattle.ipc_state.specs.Directory.{Agree};
+    ghost use Rattle.ipc_keys.specs.Directory.{is_vacant};
+    ghost use Rattle.ipc_state.specs.Directory.{Agree, IsReady, named_by};
     ghost use Rattle.ipc_state.specs.Tables.{HeldObjects, numbered_of, has_place};
 
     ghost Value = { HeldObjects T };
 
     ghost coded = { Prim.hlevel (codes, directory.the_row.coded) };
 
-    ghost view = { λ o. record {
-      objects = numbered_of o.objects;
-      place = has_place o.objects;
-      keys = o.keys;
-    } };
+    ghost view = { λ o. record { objects = numbered_of o.objects; ready = o.ready } };
 
-    ghost invariant = { λ o. Agree o.keys (numbered_of o.objects) };
+    ghost invariant = { λ o. Agree o.keys (numbered_of o.objects)
+        × IsReady (pos 0) (is_vacant o.keys) (named_by o.keys) (has_place o.objects) (option_map (λ r. r.0) o.ready) };
 }
 
 /// The key of a get that always makes a new object. See msgget(2).
@@ -102,11 +82,13 @@ pub const IPC_PRIVATE: i32 = 0;
 impl<T> Keyed<T> {
     /// None yet. It takes no memory.
     pub(crate) fn new(alloc: Global) -> Self
-        ensures { result.objects ≡ none_yet }
+        ensures objects { result.objects ≡ none_yet }
+        ensures ready { result.ready ≡ None }
     {
         Keyed {
             objects: Numbered::new(alloc),
             keys: KeyDir::new(alloc),
+            ready: None,
         }
     }
 
@@ -126,9 +108,7 @@ impl<T> Keyed<T> {
 
     /// The identifier that a key names; IPC_PRIVATE names none.
     pub fn of_key(&self, key: i32) -> Option<Id>
-        ensures named { option_map (λ id. id.0) result ≡ named_by self.now.keys key }
-        ensures keyed { ArePositive self.now.objects.entries
-            → option_map (λ id. id.0) result ≡ keyed self.now.objects key }
+        ensures { ArePositive self.now.objects.entries → option_map (λ id. id.0) result ≡ keyed self.now.objects key }
     {
         match keys::named(&self.keys, key) {
             Some(id) => Some(Id(id)),
@@ -162,46 +142,44 @@ impl<T> Keyed<T> {
         self.objects.is_full(most)
     }
 
-    /// Takes the memory for one more of this key, if no object has it. Refused, no key has room that had
-    /// none; never refused if the memory is there already.
-    pub fn reserve(&mut self, key: i32) -> Result<(), AllocError>
-        ensures objects { self.new.objects ≡ self.old.objects }
-        ensures ok { OnOk result (ArePositive self.old.objects.entries → HasPlaceFor self.new key) }
-        ensures succeeds { ArePositive self.old.objects.entries → HasPlaceFor self.old key → IsOk result }
-        ensures others { (other : ℤ) → other ≢ key → is_vacant self.new.keys other ≡ is_vacant self.old.keys other }
-        ensures err { OnErr result ((other : ℤ) → is_vacant self.new.keys other ≡ is_vacant self.old.keys other) }
+    /// Gives back what is ready, if anything is. It takes no memory.
+    pub(crate) fn release(&mut self) -> Option<T>
+        ensures { self.new ≡ record self.old { ready = None } }
     {
-        self.objects.reserve()?;
-        keys::reserve(&mut self.keys, key)
-    }
-
-    /// Gives back what was reserved for a key that no object has. It takes no memory.
-    pub fn release(&mut self, key: i32)
-        ensures objects { self.new.objects ≡ self.old.objects }
-        ensures key { is_vacant self.new.keys key ≡ false }
-        ensures others { (other : ℤ) → other ≢ key → is_vacant self.new.keys other ≡ is_vacant self.old.keys other }
-    {
+        let (key, object) = self.ready.take()?;
         keys::release(&mut self.keys, key);
+        Some(object)
     }
 
-    /// Adds one under the next identifier, which it gives. It takes no memory.
-    pub fn add(&mut self, key: i32, perm: Perm, object: T) -> Id
-        requires place { self.old.place ≡ true }
-        requires key { key ≢ pos 0 → is_vacant self.old.keys key ≡ true }
-        requires number { (0 < self.old.objects.next) × (self.old.objects.next < 2 ^ 31) }
-        ensures objects { self.new.objects
-            ≡ with_new self.old.objects (record { key = key; perm = perm; object = object }) }
-        ensures id { result.0 ≡ self.old.objects.next }
-        ensures key { key ≢ pos 0 → is_vacant self.new.keys key ≡ false }
-        ensures others { (other : ℤ) → other ≢ key → is_vacant self.new.keys other ≡ is_vacant self.old.keys other }
+    /// The object that is ready, to be changed.
+    pub(crate) fn ready_mut(&mut self) -> Option<&mut T>
+        ensures* writes_back { sem 𝓛 (lends_ready T.row self.entry result) }
+        ensures object { option_copied_mut result ≡ option_map (λ r. r.1) self.old.ready }
     {
+        let ready = self.ready.as_mut()?;
+        Some(&mut ready.1)
+    }
+
+    /// Adds the one that is ready under the next identifier, which it gives. It takes no memory.
+    pub(crate) fn add(&mut self, perm: Perm) -> Id
+        requires ready { is_some self.old.ready ≡ true }
+        requires unused { IfSome self.old.ready (λ r. keyed self.old.objects r.0 ≡ None) }
+        requires positive { ArePositive self.old.objects.entries }
+        requires number { (0 < self.old.objects.next) × (self.old.objects.next < 2 ^ 31) }
+        ensures added { IfSome self.old.ready (λ r. self.new ≡ record {
+          objects = with_new self.old.objects (record { key = r.0; perm = perm; object = r.1 });
+          ready = None;
+        }) }
+        ensures id { result.0 ≡ self.old.objects.next }
+    {
+        let (key, object) = self.ready.take().unwrap();
         let id = self.objects.add(Entry { key, perm, object });
         keys::bind(&mut self.keys, key, id);
         Id(id)
     }
 
     /// Replaces who may use the object of an identifier.
-    pub fn set_perm(&mut self, id: Id, perm: Perm)
+    pub(crate) fn set_perm(&mut self, id: Id, perm: Perm)
         requires { is_some (entry_of self.old.objects id.0) ≡ true }
         ensures { (e : Entry T) → entry_of self.old.objects id.0 ≡ Some e
             → self.new ≡ record self.old { objects = with_entry self.old.objects id.0 (permitting e perm) } }
@@ -217,65 +195,79 @@ impl<T> Keyed<T> {
         self.objects.set_next(next);
     }
 
-    /// Whether the key of an object names it, or is IPC_PRIVATE.
-    fn names(&self, item: &Item<Entry<T>>) -> bool
-        ensures { result ≡ is_named (named_by self.now.keys item.now.value.key)
-            (int_eq item.now.value.key (pos 0)) item.now.number }
-    {
-        match self.of_key(item.value.key) {
-            Some(id) => id.0 == item.number,
-            None => item.value.key == IPC_PRIVATE,
-        }
-    }
-
-    /// Whether each object is named so.
-    fn are_named(&self, items: &[Item<Entry<T>>]) -> bool
-        ensures { result ≡ list_all
-            (λ e. is_named (named_by self.now.keys e.value.key) (int_eq e.value.key (pos 0)) e.number) items.now }
-    {
-        items.iter().all(|item| self.names(item))
-    }
-
-    /// Whether the keys and the modes of these are sound.
-    fn are_named_with_modes(&self, items: &[Item<Entry<T>>]) -> bool
-        ensures { result ≡ (list_all
-            (λ e. is_named (named_by self.now.keys e.value.key) (int_eq e.value.key (pos 0)) e.number) items.now
-            && list_all (λ e. nat_lt e.value.perm.mode 512) items.now) }
-    {
-        self.are_named(items) && have_modes(items)
-    }
-
     /// Whether identifiers, keys and modes are sound, and there are no more objects than `most`.
     pub(crate) fn are_keyed(&self, most: u32) -> bool
         ensures { IsTrue result ↔ AreKeyed most (λ x. ⊤) self.now.objects }
     {
-        self.objects.are_numbered(most) && self.are_named_with_modes(self.objects.items())
+        self.objects.are_numbered(most) && are_named_with_modes(&self.keys, self.objects.items())
     }
 }
 
 impl<T: Drop> Keyed<T> {
-    /// Adds one that was read, at the end. Refused for want of memory, all is as before.
-    pub(crate) fn restore(&mut self, id: Id, entry: Entry<T>) -> Result<(), AllocError>
-        ensures objects { OnOk result (self.new.objects ≡ with_last self.old.objects id.0 entry) }
-        ensures err { OnErr result (self.new.objects ≡ self.old.objects) }
+    /// Makes this object ready to be added under this key, in place of what was. Refused for want of memory, nothing
+    /// is ready.
+    pub(crate) fn reserve(&mut self, key: i32, object: T) -> Result<(), AllocError>
+        ensures ok { OnOk result (self.new ≡ record self.old { ready = Some (key, object) }) }
+        ensures err { OnErr result (self.new ≡ record self.old { ready = None }) }
     {
+        let _before = self.release();
+        self.objects.reserve()?;
+        keys::reserve(&mut self.keys, key)?;
+        self.ready = Some((key, object));
+        Ok(())
+    }
+
+    /// Adds one that was read, at the end. Nothing is ready then. Refused for want of memory, all else is as before.
+    pub(crate) fn restore(&mut self, id: Id, entry: Entry<T>) -> Result<(), AllocError>
+        ensures ok { OnOk result (self.new ≡ record { objects = with_last self.old.objects id.0 entry; ready = None }) }
+        ensures err { OnErr result (self.new ≡ record self.old { ready = None }) }
+    {
+        let _before = self.release();
         self.objects.reserve()?;
         keys::restore(&mut self.keys, entry.key, id.0)?;
         self.objects.push(id.0, entry);
         Ok(())
     }
 
-    /// Takes one out; its key names none then.
-    pub fn remove(&mut self, id: Id)
+    /// Takes one out; its key names none then, and nothing is ready. It takes no memory.
+    pub(crate) fn remove(&mut self, id: Id)
         requires named { AreNamed self.old.objects }
         requires there { is_some (entry_of self.old.objects id.0) ≡ true }
-        ensures objects { self.new.objects ≡ without_entry self.old.objects id.0 }
-        ensures keys { HasNoSpareKey self.old.keys → HasNoSpareKey self.new.keys }
+        ensures { self.new ≡ record { objects = without_entry self.old.objects id.0; ready = None } }
     {
+        let _before = self.release();
         let key = self.objects.get(id.0).unwrap().value.key;
         keys::unbind(&mut self.keys, key);
         self.objects.remove(id.0);
     }
+}
+
+/// Whether the key of an object names it, or is IPC_PRIVATE.
+fn names_it<T>(keys: &KeyDir, item: &Item<Entry<T>>) -> bool
+    ensures { result ≡ is_named (named_by keys.now item.now.value.key)
+        (int_eq item.now.value.key (pos 0)) item.now.number }
+{
+    match keys::named(keys, item.value.key) {
+        Some(id) => id == item.number,
+        None => item.value.key == IPC_PRIVATE,
+    }
+}
+
+/// Whether each object is named so.
+fn are_named<T>(keys: &KeyDir, items: &[Item<Entry<T>>]) -> bool
+    ensures { result ≡ list_all
+        (λ e. is_named (named_by keys.now e.value.key) (int_eq e.value.key (pos 0)) e.number) items.now }
+{
+    items.iter().all(|item| names_it(keys, item))
+}
+
+/// Whether the keys and the modes of these are sound.
+fn are_named_with_modes<T>(keys: &KeyDir, items: &[Item<Entry<T>>]) -> bool
+    ensures { result ≡ (list_all
+        (λ e. is_named (named_by keys.now e.value.key) (int_eq e.value.key (pos 0)) e.number) items.now
+        && list_all (λ e. nat_lt e.value.perm.mode 512) items.now) }
+{
+    are_named(keys, items) && have_modes(items)
 }
 
 /// Whether each mode has nine bits.

@@ -1,19 +1,18 @@
 //! The POSIX message queues, and who is registered with them. See mq_overview(7).
 
-ghost use Rattle.std.specs.Prelude.{◌≡◌, ◌≢◌, ◌<◌, ◌↔◌, ◌&&◌, ℕ, List, [], true, false, map, is_some};
+ghost use Rattle.std.specs.Prelude.{◌≡◌, ◌↔◌, ◌&&◌, ℕ, List, true, false, map, is_some};
 ghost use Rattle.std.specs.Prelude.{IsTrue, OnOk, OnErr, Some, None, option_map};
 ghost use Rattle.std.specs.Borrow.{sem};
 ghost use Rattle.std.specs.List.{list_all};
 ghost use Rattle.std.specs.Option.{option_copied, option_copied_mut};
 ghost use Rattle.ipc_base.specs.Limits.{ArePassed};
-ghost use Rattle.ipc_base.specs.Table.{seen_as};
-ghost use Rattle.ipc_keys.specs.Directory.{is_vacant};
+ghost use Rattle.ipc_base.specs.Table.{IsRising, keys_of, seen_as};
 ghost use Rattle.ipc_keys.specs.declared.check.NameKind.TheVariants as names;
 ghost use Rattle.posix_mq.specs.Queue.{empty_queue, plain};
 ghost use Rattle.ipc_state.specs.Opening.{deregistered, is_by, is_or_any, unless_so, without_registrations};
 ghost use Rattle.ipc_state.specs.Opening.{is_registered};
-ghost use Rattle.ipc_state.specs.Directory.{ArePositive, HasNoSpareName};
-ghost use Rattle.ipc_state.specs.Held.{HasMqPlace};
+ghost use Rattle.ipc_state.specs.Directory.{ArePositive};
+ghost use Rattle.ipc_state.specs.Held.{Ready, left};
 ghost use Rattle.ipc_state.specs.LendsMq.{lends_mq};
 ghost use Rattle.ipc_state.specs.Named.{HaveNames, named};
 ghost use Rattle.ipc_state.specs.Numbered.{entry_of};
@@ -90,109 +89,43 @@ impl State {
         self.mq.get_mut(number)
     }
 
-    /// Takes the memory for one queue more of this name, if no queue has it. Refused, no name has room that had none.
+    /// Takes the memory for one queue more of this name.
     pub fn reserve_mq(&mut self, name: &[u8]) -> Result<(), AllocError>
-        ensures state { self.new.state ≡ self.old.state }
-        ensures limits { self.new.limits ≡ self.old.limits }
-        ensures waits { self.new.room.waits ≡ self.old.room.waits }
-        ensures keys { self.new.room.keys ≡ self.old.room.keys }
-        ensures set_keys { self.new.room.set_keys ≡ self.old.room.set_keys }
-        ensures psem_names { self.new.room.psem_names ≡ self.old.room.psem_names }
-        ensures pshm_names { self.new.room.pshm_names ≡ self.old.room.pshm_names }
-        ensures ok { OnOk result (ArePositive self.old.state.mq.entries
-            → HasMqPlace self.new.state self.new.room name.now) }
-        ensures others { (other : List ℕ) → other ≢ name.now
-            → is_vacant self.new.room.names other ≡ is_vacant self.old.room.names other }
-        ensures err { OnErr result ((other : List ℕ)
-            → is_vacant self.new.room.names other ≡ is_vacant self.old.room.names other) }
+        ensures ok { OnOk result (self.new ≡ record self.old { ready = Ready.Mq name.now }) }
+        ensures err { OnErr result (self.new ≡ record self.old { ready = Ready.Nothing }) }
     {
-        self.reserve_fresh_mq(name)?;
-        self.mq.reserve(name)
+        self.release();
+        let name = Name::new(self.alloc, name)?;
+        let queue = match self.spare_mq.take() {
+            Some(queue) => queue,
+            None => Mq::new(self.alloc, self.limits.maxmsg, self.limits.msgsize)?,
+        };
+        self.mq.reserve(name, queue)
     }
 
-    /// Makes a queue that is ready to be added, if there is none, and its name.
-    fn reserve_fresh_mq(&mut self, name: &[u8]) -> Result<(), AllocError>
-        ensures state { self.new.state ≡ self.old.state }
-        ensures limits { self.new.limits ≡ self.old.limits }
-        ensures waits { self.new.room.waits ≡ self.old.room.waits }
-        ensures keys { self.new.room.keys ≡ self.old.room.keys }
-        ensures set_keys { self.new.room.set_keys ≡ self.old.room.set_keys }
-        ensures psem_names { self.new.room.psem_names ≡ self.old.room.psem_names }
-        ensures pshm_names { self.new.room.pshm_names ≡ self.old.room.pshm_names }
-        ensures names { self.new.room.names ≡ self.old.room.names }
-        ensures fresh { OnOk result (self.new.room.fresh_mq ≡ true) }
-        ensures name { OnOk result (self.new.room.fresh_name ≡ Some name.now) }
-    {
-        if self.fresh_mq.is_none() {
-            self.fresh_mq = Some(Mq::new(self.alloc, self.limits.maxmsg, self.limits.msgsize)?);
-        }
-        self.fresh_name = Some(Name::new(self.alloc, name)?);
-        Ok(())
-    }
-
-    /// Gives back what was reserved for a name that no queue has. It takes no memory.
-    pub fn release_mq(&mut self, name: &[u8])
-        ensures state { self.new.state ≡ self.old.state }
-        ensures limits { self.new.limits ≡ self.old.limits }
-        ensures waits { self.new.room.waits ≡ self.old.room.waits }
-        ensures keys { self.new.room.keys ≡ self.old.room.keys }
-        ensures set_keys { self.new.room.set_keys ≡ self.old.room.set_keys }
-        ensures psem_names { self.new.room.psem_names ≡ self.old.room.psem_names }
-        ensures pshm_names { self.new.room.pshm_names ≡ self.old.room.pshm_names }
-        ensures name { is_vacant self.new.room.names name.now ≡ false }
-        ensures others { (other : List ℕ) → other ≢ name.now
-            → is_vacant self.new.room.names other ≡ is_vacant self.old.room.names other }
-    {
-        self.mq.release(name);
-    }
-
-    /// Adds a queue without messages of the name that is ready, for at most `maxmsg` messages of at most `msgsize`
-    /// bytes each, under the next number, which it gives. It takes no memory.
+    /// Adds a queue without messages, of the name for which there is memory, for at most `maxmsg` messages of at most
+    /// `msgsize` bytes each, under the next number, which it gives.
     pub fn add_mq(&mut self, cred: Cred, mode: u32, maxmsg: u32, msgsize: u32) -> u32
-        requires place { self.old.room.mq ≡ true }
-        requires fresh { self.old.room.fresh_mq ≡ true }
-        requires name { is_some self.old.room.fresh_name ≡ true }
-        requires vacant { (name : List ℕ) → self.old.room.fresh_name ≡ Some name → name ≢ []
-            → is_vacant self.old.room.names name ≡ true }
-        requires number { 0 < self.old.state.mq.next }
+        ghost name: { List ℕ }
+        requires ready { self.old.ready ≡ Ready.Mq name }
+        requires unused { named self.old.state.mq name ≡ None }
+        requires numbers { IsRising 1 (keys_of self.old.state.mq.entries) self.old.state.mq.next }
         requires more { has_all_mqs self.old.limits self.old.state ≡ false }
-        ensures state { (name : List ℕ) → self.old.room.fresh_name ≡ Some name
-            → self.new.state ≡ with_new_mq self.old.state name cred mode (empty_queue maxmsg msgsize None) }
+        ensures added { self.new
+            ≡ left self.old (with_new_mq self.old.state name cred mode (empty_queue maxmsg msgsize None)) }
         ensures number { result ≡ self.old.state.mq.next }
-        ensures limits { self.new.limits ≡ self.old.limits }
-        ensures waits { self.new.room.waits ≡ self.old.room.waits }
-        ensures keys { self.new.room.keys ≡ self.old.room.keys }
-        ensures set_keys { self.new.room.set_keys ≡ self.old.room.set_keys }
-        ensures psem_names { self.new.room.psem_names ≡ self.old.room.psem_names }
-        ensures pshm_names { self.new.room.pshm_names ≡ self.old.room.pshm_names }
-        ensures name { (name : List ℕ) → self.old.room.fresh_name ≡ Some name → name ≢ []
-            → is_vacant self.new.room.names name ≡ false }
-        ensures others { (name : List ℕ) → self.old.room.fresh_name ≡ Some name → (other : List ℕ) → other ≢ name
-            → is_vacant self.new.room.names other ≡ is_vacant self.old.room.names other }
     {
-        let mut object = self.fresh_mq.take().unwrap();
-        object.renew(maxmsg, msgsize);
-        let name = self.fresh_name.take().unwrap();
-        self.mq.add(NamedEntry {
-            name,
-            owner: cred,
-            mode,
-            object,
-        })
+        self.mq.ready_mut().unwrap().renew(maxmsg, msgsize);
+        let number = self.mq.add(cred, mode);
+        self.release();
+        number
     }
 
     /// Takes the name of a queue, and the queue, if it is not open. It takes no memory. See mq_unlink(3).
     pub fn unlink_mq(&mut self, number: u32)
         requires named { HaveNames self.old.state.mq }
         requires there { is_some (entry_of self.old.state.mq number) ≡ true }
-        ensures state { self.new.state ≡ unlinked self.old.state number }
-        ensures limits { self.new.limits ≡ self.old.limits }
-        ensures waits { self.new.room.waits ≡ self.old.room.waits }
-        ensures keys { self.new.room.keys ≡ self.old.room.keys }
-        ensures set_keys { self.new.room.set_keys ≡ self.old.room.set_keys }
-        ensures psem_names { self.new.room.psem_names ≡ self.old.room.psem_names }
-        ensures pshm_names { self.new.room.pshm_names ≡ self.old.room.pshm_names }
-        ensures names { HasNoSpareName self.old.room.names → HasNoSpareName self.new.room.names }
+        ensures { self.new ≡ left self.old (unlinked self.old.state number) }
     {
         self.mq.unname(number);
         self.sweep();

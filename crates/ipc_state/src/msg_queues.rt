@@ -1,35 +1,23 @@
 //! The message queues.
 
-ghost use Rattle.std.specs.Prelude.{
-  ◌≡◌,
-  ◌≢◌,
-  ◌<◌,
-  ℤ,
-  pos,
-  ◌↔◌,
-  true,
-  false,
-  map,
-  IsTrue,
-  IsOk,
-  OnOk,
-  OnErr,
-};
+ghost use Rattle.std.specs.Prelude.{◌≡◌, ◌↔◌, ℤ, true, false, map, is_some, None, Some, option_map};
+ghost use Rattle.std.specs.Prelude.{IsTrue, OnOk, OnErr};
 ghost use Rattle.std.specs.Borrow.{sem};
 ghost use Rattle.std.specs.List.{list_all};
+ghost use Rattle.std.specs.Option.{option_copied_mut};
 ghost use Rattle.ipc_base.specs.Limits.{ArePassed};
-ghost use Rattle.ipc_keys.specs.Directory.{is_vacant};
-ghost use Rattle.ipc_state.specs.Directory.{ArePositive};
-ghost use Rattle.ipc_state.specs.Held.{HasMsgQueuePlace};
-ghost use Rattle.ipc_state.specs.Keyed.{AreKeyed};
-ghost use Rattle.ipc_state.specs.LendsMsg.{lends_msg};
-ghost use Rattle.ipc_state.specs.Numbered.{is_full};
+ghost use Rattle.ipc_base.specs.Table.{IsRising, keys_of};
+ghost use Rattle.ipc_state.specs.declared.keyed.Entry.{Entry};
+ghost use Rattle.ipc_state.specs.Held.{Ready, left};
+ghost use Rattle.ipc_state.specs.Keyed.{AreKeyed, AreNamed, keyed, permitting};
+ghost use Rattle.ipc_state.specs.LendsMsgQueue.{lends_msg_queue};
+ghost use Rattle.ipc_state.specs.Numbered.{entry_of, is_full, with_entry, without_entry};
 ghost use Rattle.ipc_state.specs.Restored.{with_last_msg_queue};
 ghost use Rattle.ipc_state.specs.Sound.{IsSoundMsgQueue};
 ghost use Rattle.ipc_state.specs.State.{with_new_msg_queue};
 ghost use Rattle.ipc_state.specs.Tables.{item_row};
 ghost use Rattle.ipc_state.specs.Tests.{is_sound_message, is_sound_msg_queue};
-ghost use Rattle.sysv_msg.specs.Queue.{plain};
+ghost use Rattle.sysv_msg.specs.Queue.{Queue, plain};
 
 use crate::keyed::{Entry, Keyed};
 use crate::numbered::Item;
@@ -63,76 +51,70 @@ impl State {
         &self.msg
     }
 
-    /// The message queues, to be changed.
-    pub fn msg_mut(&mut self) -> &mut Keyed<MsgQueue>
-        ensures* writes_back { sem 𝓛 (lends_msg self.entry result) }
-        ensures queues { result.now.objects ≡ self.old.state.msg }
-        ensures place { result.now.place ≡ self.old.room.queue }
-        ensures keys { result.now.keys ≡ self.old.room.keys }
+    /// The queue that an identifier has, to be changed.
+    pub fn msg_queue_mut(&mut self, id: Id) -> Option<&mut MsgQueue>
+        ensures* writes_back { sem 𝓛 (lends_msg_queue self.entry id.0 result) }
+        ensures object { option_copied_mut result ≡ option_map (λ e. e.object) (entry_of self.old.state.msg id.0) }
     {
-        &mut self.msg
+        self.msg.get_mut(id)
     }
 
-    /// Takes the memory for one queue more of this key, if no queue has it. Refused, no key has room that
-    /// had none; never refused if the memory is there already.
+    /// Replaces who may use the queue of an identifier.
+    pub fn set_msg_perm(&mut self, id: Id, perm: Perm)
+        requires { is_some (entry_of self.old.state.msg id.0) ≡ true }
+        ensures { (e : Entry Queue) → entry_of self.old.state.msg id.0 ≡ Some e
+            → self.new ≡ record self.old {
+              state = record self.old.state {
+                msg = with_entry self.old.state.msg id.0 (permitting e perm);
+              };
+            } }
+    {
+        self.msg.set_perm(id, perm);
+    }
+
+    /// Takes the memory for one queue more of this key.
     pub fn reserve_msg_queue(&mut self, key: i32) -> Result<(), AllocError>
-        ensures state { self.new.state ≡ self.old.state }
-        ensures limits { self.new.limits ≡ self.old.limits }
-        ensures waits { self.new.room.waits ≡ self.old.room.waits }
-        ensures set_keys { self.new.room.set_keys ≡ self.old.room.set_keys }
-        ensures ok { OnOk result (ArePositive self.old.state.msg.entries
-            → HasMsgQueuePlace self.new.state self.new.room key) }
-        ensures succeeds { ArePositive self.old.state.msg.entries
-            → HasMsgQueuePlace self.old.state self.old.room key → IsOk result }
-        ensures others { (other : ℤ) → other ≢ key
-            → is_vacant self.new.room.keys other ≡ is_vacant self.old.room.keys other }
-        ensures err { OnErr result ((other : ℤ)
-            → is_vacant self.new.room.keys other ≡ is_vacant self.old.room.keys other) }
+        ensures ok { OnOk result (self.new ≡ record self.old { ready = Ready.MsgQueue key }) }
+        ensures err { OnErr result (self.new ≡ record self.old { ready = Ready.Nothing }) }
     {
-        self.reserve_fresh()?;
-        self.msg_mut().reserve(key)
+        self.release();
+        let queue = match self.spare_msg_queue.take() {
+            Some(queue) => queue,
+            None => MsgQueue::new(self.alloc, self.limits.msgmnb, self.clock)?,
+        };
+        self.msg.reserve(key, queue)
     }
 
-    /// Makes a queue that is ready to be added, if there is none.
-    fn reserve_fresh(&mut self) -> Result<(), AllocError>
-        ensures state { self.new.state ≡ self.old.state }
-        ensures limits { self.new.limits ≡ self.old.limits }
-        ensures queue { self.new.room.queue ≡ self.old.room.queue }
-        ensures keys { self.new.room.keys ≡ self.old.room.keys }
-        ensures waits { self.new.room.waits ≡ self.old.room.waits }
-        ensures set_keys { self.new.room.set_keys ≡ self.old.room.set_keys }
-        ensures ok { OnOk result (self.new.room.fresh ≡ true) }
-        ensures succeeds { self.old.room.fresh ≡ true → IsOk result }
-    {
-        if self.fresh.is_none() {
-            let queue = MsgQueue::new(self.alloc, self.limits.msgmnb, self.clock)?;
-            self.fresh = Some(queue);
-        }
-        Ok(())
-    }
-
-    /// Adds a queue without messages under the next identifier, which it gives. It takes no memory.
-    pub fn add_msg_queue(&mut self, key: i32, perm: Perm) -> Id
-        requires room { self.old.room.queue ≡ true }
-        requires fresh { self.old.room.fresh ≡ true }
-        requires key { key ≢ pos 0 → is_vacant self.old.room.keys key ≡ true }
-        requires number { 0 < self.old.state.msg.next }
+    /// Adds a queue without messages, of the key for which there is memory, under the next identifier, which it gives.
+    pub fn add_msg_queue(&mut self, perm: Perm) -> Id
+        ghost key: { ℤ }
+        requires ready { self.old.ready ≡ Ready.MsgQueue key }
+        requires unused { keyed self.old.state.msg key ≡ None }
+        requires numbers { IsRising 1 (keys_of self.old.state.msg.entries) self.old.state.msg.next }
         requires more { is_full self.old.limits.msgmni self.old.state.msg ≡ false }
-        ensures state { self.new.state ≡ with_new_msg_queue self.old.limits self.old.state key perm }
+        ensures added { self.new ≡ left self.old (with_new_msg_queue self.old.limits self.old.state key perm) }
         ensures id { result.0 ≡ self.old.state.msg.next }
-        ensures limits { self.new.limits ≡ self.old.limits }
-        ensures waits { self.new.room.waits ≡ self.old.room.waits }
-        ensures set_keys { self.new.room.set_keys ≡ self.old.room.set_keys }
-        ensures key { key ≢ pos 0 → is_vacant self.new.room.keys key ≡ false }
-        ensures others { (other : ℤ) → other ≢ key
-            → is_vacant self.new.room.keys other ≡ is_vacant self.old.room.keys other }
     {
-        let mut object = self.fresh.take().unwrap();
-        object.renew(self.limits.msgmnb, self.clock);
-        self.msg.add(key, perm, object)
+        self.msg
+            .ready_mut()
+            .unwrap()
+            .renew(self.limits.msgmnb, self.clock);
+        let id = self.msg.add(perm);
+        self.release();
+        id
     }
 
-    /// Adds a queue that was read, at the end. Refused for want of memory, all is as before.
+    /// Takes a queue out. It takes no memory.
+    pub fn remove_msg_queue(&mut self, id: Id)
+        requires named { AreNamed self.old.state.msg }
+        requires there { is_some (entry_of self.old.state.msg id.0) ≡ true }
+        ensures { self.new ≡ left self.old (record self.old.state { msg = without_entry self.old.state.msg id.0 }) }
+    {
+        self.msg.remove(id);
+        self.release();
+    }
+
+    /// Adds a queue that was read, at the end. Refused for want of memory, the state is as before.
     pub fn restore_msg_queue(&mut self, id: Id, entry: Entry<MsgQueue>) -> Result<(), AllocError>
         ensures state { OnOk result (self.new.state ≡ with_last_msg_queue self.old.state id.0 entry) }
         ensures limits { self.new.limits ≡ self.old.limits }

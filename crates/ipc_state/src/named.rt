@@ -1,35 +1,12 @@
 //! The objects of one kind that may have a name.
 
-ghost use Rattle.std.specs.Prelude.{
-  ◌≡◌,
-  ◌≢◌,
-  ℕ,
-  ◌<◌,
-  ◌^◌,
-  ◌↔◌,
-  ◌&&◌,
-  ⊤,
-  List,
-  [],
-  true,
-  false,
-  is_some,
-  Some,
-  IsTrue,
-  IsOk,
-  OnOk,
-  OnErr,
-  map,
-  option_map,
-  option_copied,
-  nat_lt,
-};
+ghost use Rattle.std.specs.Prelude.{◌≡◌, ◌<◌, ◌^◌, ◌↔◌, ◌&&◌, ⊤, [], true, is_some, None, Some, IsTrue, IfSome};
+ghost use Rattle.std.specs.Prelude.{OnOk, OnErr, map, option_map, option_copied, nat_lt};
 ghost use Rattle.std.specs.Borrow.{sem};
 ghost use Rattle.std.specs.List.{list_all};
 ghost use Rattle.std.specs.Option.{option_copied_mut};
-ghost use Rattle.ipc_keys.specs.Directory.{is_vacant};
 ghost use Rattle.ipc_keys.specs.Names.{is_none};
-ghost use Rattle.ipc_state.specs.Lends.{lends_named};
+ghost use Rattle.ipc_state.specs.Lends.{lends_named, lends_ready_named};
 ghost use Rattle.ipc_state.specs.declared.named.NamedEntry.{NamedEntry};
 ghost use Rattle.ipc_state.specs.Named.{
   AreNamedObjects,
@@ -44,10 +21,9 @@ ghost use Rattle.ipc_state.specs.Numbered.{
   is_full as is_full_of,
   with_new,
   with_last,
-  without_entry,
 };
-ghost use Rattle.ipc_state.specs.Directory.{ArePositive, HasNoSpareName, number_at};
-ghost use Rattle.ipc_state.specs.Tables.{HasPlaceForName, item_row, numbered_of};
+ghost use Rattle.ipc_state.specs.Directory.{ArePositive, number_at};
+ghost use Rattle.ipc_state.specs.Tables.{item_row, numbered_of};
 
 use crate::names;
 use crate::numbered::{Item, Numbered};
@@ -66,11 +42,13 @@ pub struct NamedEntry<T> {
     pub object: T,
 }
 
-/// The objects of one kind. A contract sees them by number, and what there is room for.
+/// The objects of one kind. A contract sees them by number, and what is ready to be added.
 pub struct Named<T> {
     pub(crate) objects: Numbered<NamedEntry<T>>,
     /// The number of each name.
     names: NameDir,
+    /// The name and the object of the next one, for which there is a place.
+    ready: Option<(Name, T)>,
 }
 
 impl<T: Drop> Drop for Named<T> {
@@ -78,37 +56,39 @@ impl<T: Drop> Drop for Named<T> {
         let Named {
             objects: _,
             names: _,
+            ready: _,
         } = self;
     }
 }
 
 impl<T> Model for Named<T> {
     ghost use Rattle.std.specs.Coded.{codes};
+    ghost use Rattle.std.specs.Prelude.{[], option_map};
     ghost use Rattle.ipc_keys.specs.contracts.names.NameDir as directory;
-    ghost use Rattle.ipc_state.specs.Directory.{AgreeNames};
+    ghost use Rattle.ipc_keys.specs.Directory.{is_vacant};
+    ghost use Rattle.ipc_state.specs.Directory.{AgreeNames, IsReady, number_at};
     ghost use Rattle.ipc_state.specs.Tables.{HeldNamed, numbered_of, has_place};
 
     ghost Value = { HeldNamed T };
 
     ghost coded = { Prim.hlevel (codes, directory.the_row.coded) };
 
-    ghost view = { λ o. record {
-      objects = numbered_of o.objects;
-      place = has_place o.objects;
-      names = o.names;
-    } };
+    ghost view = { λ o. record { objects = numbered_of o.objects; ready = o.ready } };
 
-    ghost invariant = { λ o. AgreeNames o.names (numbered_of o.objects) };
+    ghost invariant = { λ o. AgreeNames o.names (numbered_of o.objects)
+        × IsReady [] (is_vacant o.names) (number_at o.names) (has_place o.objects) (option_map (λ r. r.0) o.ready) };
 }
 
 impl<T> Named<T> {
     /// None yet. It takes no memory.
     pub(crate) fn new(alloc: Global) -> Self
-        ensures { result.objects ≡ none_yet }
+        ensures objects { result.objects ≡ none_yet }
+        ensures ready { result.ready ≡ None }
     {
         Named {
             objects: Numbered::new(alloc),
             names: NameDir::new(alloc),
+            ready: None,
         }
     }
 
@@ -128,8 +108,7 @@ impl<T> Named<T> {
 
     /// The number that a name names; no bytes name none.
     pub fn of_name(&self, name: &[u8]) -> Option<u32>
-        ensures number { result ≡ number_at self.now.names name.now }
-        ensures named { ArePositive self.now.objects.entries → result ≡ named self.now.objects name.now }
+        ensures { ArePositive self.now.objects.entries → result ≡ named self.now.objects name.now }
     {
         names::number_at(&self.names, name)
     }
@@ -160,56 +139,44 @@ impl<T> Named<T> {
         self.objects.is_full(most)
     }
 
-    /// Takes the memory for one more of this name, if no object has it. Refused, no name has room that had
-    /// none; never refused if the memory is there already.
-    pub fn reserve(&mut self, name: &[u8]) -> Result<(), AllocError>
-        ensures objects { self.new.objects ≡ self.old.objects }
-        ensures ok { OnOk result (ArePositive self.old.objects.entries → HasPlaceForName self.new name.now) }
-        ensures succeeds { ArePositive self.old.objects.entries → HasPlaceForName self.old name.now → IsOk result }
-        ensures others { (other : List ℕ) → other ≢ name.now
-            → is_vacant self.new.names other ≡ is_vacant self.old.names other }
-        ensures err { OnErr result ((other : List ℕ)
-            → is_vacant self.new.names other ≡ is_vacant self.old.names other) }
+    /// Gives back what is ready, if anything is. It takes no memory.
+    pub(crate) fn release(&mut self) -> Option<T>
+        ensures { self.new ≡ record self.old { ready = None } }
     {
-        self.objects.reserve()?;
-        names::reserve(&mut self.names, name)
+        let (name, object) = self.ready.take()?;
+        names::release(&mut self.names, name.bytes());
+        Some(object)
     }
 
-    /// Gives back what was reserved for a name that no object has. It takes no memory.
-    pub fn release(&mut self, name: &[u8])
-        ensures objects { self.new.objects ≡ self.old.objects }
-        ensures name { is_vacant self.new.names name.now ≡ false }
-        ensures others { (other : List ℕ) → other ≢ name.now
-            → is_vacant self.new.names other ≡ is_vacant self.old.names other }
+    /// The object that is ready, to be changed.
+    pub(crate) fn ready_mut(&mut self) -> Option<&mut T>
+        ensures* writes_back { sem 𝓛 (lends_ready_named T.row self.entry result) }
+        ensures object { option_copied_mut result ≡ option_map (λ r. r.1) self.old.ready }
     {
-        names::release(&mut self.names, name);
+        let ready = self.ready.as_mut()?;
+        Some(&mut ready.1)
     }
 
-    /// Adds one under the next number, which it gives. It takes no memory.
-    pub fn add(&mut self, entry: NamedEntry<T>) -> u32
-        requires place { self.old.place ≡ true }
-        requires name { entry.name ≢ [] → is_vacant self.old.names entry.name ≡ true }
+    /// Adds the one that is ready under the next number, which it gives. It takes no memory.
+    pub(crate) fn add(&mut self, owner: Cred, mode: u32) -> u32
+        requires ready { is_some self.old.ready ≡ true }
+        requires unused { IfSome self.old.ready (λ r. named self.old.objects r.0 ≡ None) }
+        requires positive { ArePositive self.old.objects.entries }
         requires number { (0 < self.old.objects.next) × (self.old.objects.next < 2 ^ 31) }
-        ensures objects { self.new.objects ≡ with_new self.old.objects entry }
+        ensures added { IfSome self.old.ready (λ r. self.new ≡ record {
+          objects = with_new self.old.objects (record { name = r.0; owner = owner; mode = mode; object = r.1 });
+          ready = None;
+        }) }
         ensures number { result ≡ self.old.objects.next }
-        ensures name { entry.name ≢ [] → is_vacant self.new.names entry.name ≡ false }
-        ensures others { (other : List ℕ) → other ≢ entry.name
-            → is_vacant self.new.names other ≡ is_vacant self.old.names other }
     {
-        names::bind(&mut self.names, entry.name.bytes(), self.objects.next());
-        self.objects.add(entry)
-    }
-
-    /// Takes the name of an object, which names none then. It takes no memory. See unlink(2).
-    pub fn unname(&mut self, number: u32)
-        requires named { HaveNames self.old.objects }
-        requires there { is_some (entry_of self.old.objects number) ≡ true }
-        ensures objects { self.new.objects ≡ unnamed self.old.objects number }
-        ensures names { HasNoSpareName self.old.names → HasNoSpareName self.new.names }
-    {
-        let item = self.objects.get(number).unwrap();
-        names::unbind(&mut self.names, item.value.name.bytes());
-        clear_name(&mut self.objects, number);
+        let (name, object) = self.ready.take().unwrap();
+        names::bind(&mut self.names, name.bytes(), self.objects.next());
+        self.objects.add(NamedEntry {
+            name,
+            owner,
+            mode,
+            object,
+        })
     }
 
     /// Replaces the number of the next one.
@@ -220,57 +187,47 @@ impl<T> Named<T> {
         self.objects.set_next(next);
     }
 
-    /// Whether the name of an object names it, or is none.
-    fn names(&self, item: &Item<NamedEntry<T>>) -> bool
-        ensures { result ≡ is_named (number_at self.now.names item.now.value.name)
-            (is_none item.now.value.name) item.now.number }
-    {
-        match self.of_name(item.value.name.bytes()) {
-            Some(number) => number == item.number,
-            None => item.value.name.is_none(),
-        }
-    }
-
-    /// Whether each object is named so.
-    fn are_named(&self, items: &[Item<NamedEntry<T>>]) -> bool
-        ensures { result ≡ list_all
-            (λ e. is_named (number_at self.now.names e.value.name) (is_none e.value.name) e.number) items.now }
-    {
-        items.iter().all(|item| self.names(item))
-    }
-
-    /// Whether the names and the modes of these are sound.
-    fn are_named_with_modes(&self, items: &[Item<NamedEntry<T>>]) -> bool
-        ensures { result ≡ (list_all
-            (λ e. is_named (number_at self.now.names e.value.name) (is_none e.value.name) e.number) items.now
-            && list_all (λ e. nat_lt e.value.mode 512) items.now) }
-    {
-        self.are_named(items) && have_modes(items)
-    }
-
     /// Whether numbers, names and modes are sound, and there are no more objects than `most`.
     pub(crate) fn are_named_objects(&self, most: u32) -> bool
         ensures { IsTrue result ↔ AreNamedObjects most (λ x. ⊤) self.now.objects }
     {
-        self.objects.are_numbered(most) && self.are_named_with_modes(self.objects.items())
+        self.objects.are_numbered(most) && are_named_with_modes(&self.names, self.objects.items())
     }
 }
 
 impl<T: Drop> Named<T> {
-    /// Takes out one that has no name, if it is there; the names stay.
-    pub fn remove_nameless(&mut self, number: u32)
-        requires nameless { (e : NamedEntry T) → entry_of self.old.objects number ≡ Some e → e.name ≡ [] }
-        ensures objects { self.new.objects ≡ without_entry self.old.objects number }
-        ensures names { self.new.names ≡ self.old.names }
+    /// Makes this object ready to be added under this name, in place of what was. Refused for want of memory, nothing
+    /// is ready.
+    pub(crate) fn reserve(&mut self, name: Name, object: T) -> Result<(), AllocError>
+        ensures ok { OnOk result (self.new ≡ record self.old { ready = Some (name, object) }) }
+        ensures err { OnErr result (self.new ≡ record self.old { ready = None }) }
     {
-        self.objects.remove(number);
+        let _before = self.release();
+        self.objects.reserve()?;
+        names::reserve(&mut self.names, name.bytes())?;
+        self.ready = Some((name, object));
+        Ok(())
     }
 
-    /// Adds one that was read, at the end. Refused for want of memory, all is as before.
-    pub(crate) fn restore(&mut self, number: u32, entry: NamedEntry<T>) -> Result<(), AllocError>
-        ensures objects { OnOk result (self.new.objects ≡ with_last self.old.objects number entry) }
-        ensures err { OnErr result (self.new.objects ≡ self.old.objects) }
+    /// Takes the name of an object, which names none then; nothing is ready. It takes no memory. See unlink(2).
+    pub(crate) fn unname(&mut self, number: u32)
+        requires named { HaveNames self.old.objects }
+        requires there { is_some (entry_of self.old.objects number) ≡ true }
+        ensures { self.new ≡ record { objects = unnamed self.old.objects number; ready = None } }
     {
+        let _before = self.release();
+        let item = self.objects.get(number).unwrap();
+        names::unbind(&mut self.names, item.value.name.bytes());
+        clear_name(&mut self.objects, number);
+    }
+
+    /// Adds one that was read, at the end. Nothing is ready then. Refused for want of memory, all else is as before.
+    pub(crate) fn restore(&mut self, number: u32, entry: NamedEntry<T>) -> Result<(), AllocError>
+        ensures ok { OnOk result (self.new
+            ≡ record { objects = with_last self.old.objects number entry; ready = None }) }
+        ensures err { OnErr result (self.new ≡ record self.old { ready = None }) }
+    {
+        let _before = self.release();
         self.objects.reserve()?;
         names::restore(&mut self.names, entry.name.bytes(), number)?;
         self.objects.push(number, entry);
@@ -285,6 +242,34 @@ fn clear_name<T>(objects: &mut Numbered<NamedEntry<T>>, number: u32)
     if let Some(entry) = objects.get_mut(number) {
         entry.name.clear();
     }
+}
+
+/// Whether the name of an object names it, or is none.
+fn names_it<T>(directory: &NameDir, item: &Item<NamedEntry<T>>) -> bool
+    ensures { result ≡ is_named (number_at directory.now item.now.value.name)
+        (is_none item.now.value.name) item.now.number }
+{
+    match names::number_at(directory, item.value.name.bytes()) {
+        Some(number) => number == item.number,
+        None => item.value.name.is_none(),
+    }
+}
+
+/// Whether each object is named so.
+fn are_named<T>(directory: &NameDir, items: &[Item<NamedEntry<T>>]) -> bool
+    ensures { result ≡ list_all
+        (λ e. is_named (number_at directory.now e.value.name) (is_none e.value.name) e.number) items.now }
+{
+    items.iter().all(|item| names_it(directory, item))
+}
+
+/// Whether the names and the modes of these are sound.
+fn are_named_with_modes<T>(directory: &NameDir, items: &[Item<NamedEntry<T>>]) -> bool
+    ensures { result ≡ (list_all
+        (λ e. is_named (number_at directory.now e.value.name) (is_none e.value.name) e.number) items.now
+        && list_all (λ e. nat_lt e.value.mode 512) items.now) }
+{
+    are_named(directory, items) && have_modes(items)
 }
 
 /// Whether each mode has nine bits.

@@ -1,9 +1,9 @@
 //! The names of the objects of one kind in their directory; no bytes are no name, and have no place there.
 
-ghost use Rattle.std.specs.Prelude.{◌≡◌, ◌≢◌, ◌<◌, ℕ, List, [], true, false, None, if◌then◌else◌, IsOk, OnOk, OnErr};
+ghost use Rattle.std.specs.Prelude.{◌≡◌, ◌≢◌, ◌<◌, ℕ, List, [], true, false, None, if◌then◌else◌, OnOk, OnErr};
 ghost use Rattle.std.specs.Str.{bytes_eq};
 ghost use Rattle.ipc_keys.specs.Directory.{is_vacant};
-ghost use Rattle.ipc_state.specs.Directory.{HasNoSpareName, name_added, number_at, or_else};
+ghost use Rattle.ipc_state.specs.Directory.{name_added, number_at, or_else};
 
 use ipc_keys::NameDir;
 use std::alloc::AllocError;
@@ -18,15 +18,14 @@ pub(crate) fn number_at(names: &NameDir, name: &[u8]) -> Option<u32>
     names.find(name)
 }
 
-/// Makes room for a name that has no number, so that `bind` takes no memory; never refused if the room is there.
+/// Makes room for a name that has no number, so that `bind` takes no memory.
 pub(crate) fn reserve(names: &mut NameDir, name: &[u8]) -> Result<(), AllocError>
     ensures names { (other : List ℕ) → number_at names.new other ≡ number_at names.old other }
     ensures ok { OnOk result (name.now ≢ [] → number_at names.old name.now ≡ None
         → is_vacant names.new name.now ≡ true) }
-    ensures succeeds { (name.now ≢ [] → number_at names.old name.now ≡ None
-        → is_vacant names.old name.now ≡ true) → IsOk result }
     ensures others { (other : List ℕ) → other ≢ name.now
         → is_vacant names.new other ≡ is_vacant names.old other }
+    ensures none { is_vacant names.new [] ≡ is_vacant names.old [] }
     ensures err { OnErr result (names.new ≡ names.old) }
 {
     if name.is_empty() {
@@ -59,6 +58,7 @@ pub(crate) fn bind(names: &mut NameDir, name: &[u8], number: u32)
     ensures name { name.now ≢ [] → is_vacant names.new name.now ≡ false }
     ensures others { (other : List ℕ) → other ≢ name.now
         → is_vacant names.new other ≡ is_vacant names.old other }
+    ensures none { is_vacant names.new [] ≡ is_vacant names.old [] }
 {
     if name.is_empty() {
         return;
@@ -72,18 +72,18 @@ pub(crate) fn restore(names: &mut NameDir, name: &[u8], number: u32) -> Result<(
         ≡ or_else (number_at names.old other) (name_added name.now number other)) }
     ensures zero { OnOk result (number ≡ 0 → (other : List ℕ)
         → number_at names.new other ≡ number_at names.old other) }
+    ensures vacant { OnOk result ((other : List ℕ)
+        → is_vacant names.old other ≡ false → is_vacant names.new other ≡ false) }
     ensures err { OnErr result (names.new ≡ names.old) }
 {
-    if name.is_empty() {
+    if name.is_empty() || number == 0 {
         return Ok(());
     }
     if names.find(name).is_some() {
         return Ok(());
     }
     names.reserve(name)?;
-    if number > 0 {
-        names.bind(name, number);
-    }
+    names.bind(name, number);
     Ok(())
 }
 
@@ -91,7 +91,7 @@ pub(crate) fn restore(names: &mut NameDir, name: &[u8], number: u32) -> Result<(
 pub(crate) fn unbind(names: &mut NameDir, name: &[u8])
     ensures names { (other : List ℕ) → number_at names.new other
         ≡ if bytes_eq name.now other then None else number_at names.old other }
-    ensures spare { HasNoSpareName names.old → HasNoSpareName names.new }
+    ensures vacant { (other : List ℕ) → is_vacant names.old other ≡ false → is_vacant names.new other ≡ false }
 {
     names.unbind(name);
 }

@@ -1,6 +1,7 @@
 //! The connected processes.
 
-ghost use Rattle.std.specs.Prelude.{◌≡◌, true, false, map, IsOk, OnOk, OnErr};
+ghost use Rattle.std.specs.Prelude.{◌≡◌, true, false, map, OnOk, OnErr};
+ghost use Rattle.ipc_state.specs.Held.{Ready, left};
 ghost use Rattle.ipc_state.specs.Restored.{with_last_process};
 ghost use Rattle.ipc_state.specs.State.{
   is_process,
@@ -64,52 +65,40 @@ impl State {
         self.processes.is_full(self.limits.processes)
     }
 
-    /// Takes the memory for one process more; never refused if it is there already. Refused, all is
-    /// as before.
+    /// Takes the memory for one process more.
     pub fn reserve_process(&mut self) -> Result<(), AllocError>
-        ensures state { self.new.state ≡ self.old.state }
-        ensures limits { self.new.limits ≡ self.old.limits }
-        ensures waits { self.new.room.waits ≡ self.old.room.waits }
-        ensures ok { OnOk result (self.new.room.process ≡ true) }
-        ensures succeeds { self.old.room.process ≡ true → IsOk result }
-        ensures err { OnErr result (self.new ≡ self.old) }
+        ensures ok { OnOk result (self.new ≡ record self.old { ready = Ready.Process }) }
+        ensures err { OnErr result (self.new ≡ record self.old { ready = Ready.Nothing }) }
     {
+        self.release();
+        let undo = SemUndo::new(self.alloc)?;
+        let descriptors = Descriptors::new(self.alloc)?;
         self.processes.reserve()?;
         self.undo.reserve()?;
-        if self.fresh_undo.is_none() {
-            self.fresh_undo = Some(SemUndo::new(self.alloc)?);
-        }
-        if self.fresh_descriptors.is_none() {
-            self.fresh_descriptors = Some(Descriptors::new(self.alloc)?);
-        }
+        self.fresh = Some((undo, descriptors));
         Ok(())
     }
 
     /// Adds a process under the next number, which it gives. It takes no memory.
     pub fn add_process(&mut self, cred: Cred) -> Pid
-        requires room { self.old.room.process ≡ true }
+        requires ready { self.old.ready ≡ Ready.Process }
         requires more { has_all_processes self.old.limits self.old.state ≡ false }
-        ensures state { self.new.state ≡ with_process self.old.state cred }
+        ensures added { self.new ≡ left self.old (with_process self.old.state cred) }
         ensures pid { result.0 ≡ self.old.state.processes.next }
-        ensures limits { self.new.limits ≡ self.old.limits }
-        ensures waits { self.new.room.waits ≡ self.old.room.waits }
     {
-        let mut descriptors = self.fresh_descriptors.take().unwrap();
+        let (mut undo, mut descriptors) = self.fresh.take().unwrap();
+        undo.clear_all();
         descriptors.clear();
         let pid = self.processes.add(Process { cred, descriptors });
-        let mut undo = self.fresh_undo.take().unwrap();
-        undo.clear_all();
         self.undo.push(pid, undo);
+        self.release();
         Pid(pid)
     }
 
     /// Takes a process out, if it is there, with its descriptors, its registrations and its call that waits; its
     /// adjustments are added. Objects without a name go that only it had open.
     pub fn remove_process(&mut self, pid: Pid)
-        ensures state { self.new.state ≡ exit self.old.state pid.0 }
-        ensures limits { self.new.limits ≡ self.old.limits }
-        ensures waits { self.new.room.waits ≡ self.old.room.waits }
-        ensures keys { self.new.room.keys ≡ self.old.room.keys }
+        ensures { self.new ≡ left self.old (exit self.old.state pid.0) }
     {
         self.drop_process(pid);
         self.deregister(Some(pid.0), None);
@@ -118,24 +107,19 @@ impl State {
 
     /// Takes a process out, and its call that waits; its adjustments are added.
     fn drop_process(&mut self, pid: Pid)
-        ensures state { self.new.state ≡ without_process self.old.state pid.0 }
-        ensures limits { self.new.limits ≡ self.old.limits }
-        ensures waits { self.new.room.waits ≡ self.old.room.waits }
-        ensures keys { self.new.room.keys ≡ self.old.room.keys }
+        ensures { self.new ≡ left self.old (without_process self.old.state pid.0) }
     {
         self.add_adjustments_of(pid);
         self.undo.remove(pid.0);
         self.processes.remove(pid.0);
         let _waiting = self.wait.leave(pid);
+        self.release();
     }
 
     /// The server has stopped and begun anew: no process is left, no call waits, nobody is registered, the adjustments
     /// are added, and objects without a name go. It takes no memory.
     pub fn restart(&mut self)
-        ensures state { self.new.state ≡ restart self.old.state }
-        ensures limits { self.new.limits ≡ self.old.limits }
-        ensures waits { self.new.room.waits ≡ self.old.room.waits }
-        ensures keys { self.new.room.keys ≡ self.old.room.keys }
+        ensures { self.new ≡ left self.old (restart self.old.state) }
     {
         self.add_all_adjustments();
         self.undo.clear();

@@ -1,19 +1,19 @@
 //! The shared memory segments. See shm_overview(7).
 
-ghost use Rattle.std.specs.Prelude.{◌≡◌, ◌≢◌, ◌<◌, ◌≤◌, ◌↔◌, ⊤, ℕ, List, [], true, false, is_some, Some, None};
+ghost use Rattle.std.specs.Prelude.{◌≡◌, ◌≤◌, ◌↔◌, ⊤, ℕ, List, true, false, is_some, Some, None};
 ghost use Rattle.std.specs.Prelude.{option_map, length, sum_by, IsTrue, OnOk, OnErr};
 ghost use Rattle.std.specs.Borrow.{sem};
 ghost use Rattle.std.specs.Option.{option_copied_mut};
 ghost use Rattle.ipc_base.specs.Limits.{ArePassed};
-ghost use Rattle.ipc_keys.specs.Directory.{is_vacant};
+ghost use Rattle.ipc_base.specs.Table.{IsRising, keys_of};
 ghost use Rattle.ipc_keys.specs.declared.check.NameKind.TheVariants as names;
-ghost use Rattle.ipc_state.specs.Directory.{ArePositive, HasNoSpareName};
-ghost use Rattle.ipc_state.specs.Held.{HasPshmPlace, HasZeros};
-ghost use Rattle.ipc_state.specs.LendsNamed.{lends_pshm, lends_pshms};
+ghost use Rattle.ipc_state.specs.Held.{Ready, left};
+ghost use Rattle.ipc_state.specs.LendsNamed.{lends_pshm};
 ghost use Rattle.ipc_state.specs.Numbered.{entry_of};
-ghost use Rattle.ipc_state.specs.Named.{HaveNames};
+ghost use Rattle.ipc_state.specs.Named.{HaveNames, named};
 ghost use Rattle.ipc_state.specs.Restored.{with_last_pshm};
 ghost use Rattle.ipc_state.specs.Sound.{AreHeld, AreSoundPshms, segment_bytes};
+ghost use Rattle.shm_segment.specs.Segment.{Segment, empty_segment, truncated};
 ghost use Rattle.ipc_state.specs.State.{has_all_pshms, unlinked_pshm, with_new_pshm};
 
 use crate::named::{Named, NamedEntry};
@@ -34,16 +34,6 @@ impl State {
         &self.pshm
     }
 
-    /// The segments, to be changed.
-    pub fn pshms_mut(&mut self) -> &mut Named<Segment>
-        ensures* writes_back { sem 𝓛 (lends_pshms self.entry result) }
-        ensures objects { result.now.objects ≡ self.old.state.pshm }
-        ensures place { result.now.place ≡ self.old.room.pshm }
-        ensures names { result.now.names ≡ self.old.room.pshm_names }
-    {
-        &mut self.pshm
-    }
-
     /// The segment that a number has, to be changed.
     pub fn pshm_mut(&mut self, number: u32) -> Option<&mut Segment>
         ensures* writes_back { sem 𝓛 (lends_pshm self.entry number result) }
@@ -52,45 +42,35 @@ impl State {
         self.pshm.get_mut(number)
     }
 
-    /// Takes the memory for one segment more of this name, if none has it. Refused, no name has room that had none.
+    /// Takes the memory for one segment more of this name.
     pub fn reserve_pshm(&mut self, name: &[u8]) -> Result<(), AllocError>
-        ensures state { self.new.state ≡ self.old.state }
-        ensures limits { self.new.limits ≡ self.old.limits }
-        ensures waits { self.new.room.waits ≡ self.old.room.waits }
-        ensures keys { self.new.room.keys ≡ self.old.room.keys }
-        ensures set_keys { self.new.room.set_keys ≡ self.old.room.set_keys }
-        ensures names { self.new.room.names ≡ self.old.room.names }
-        ensures psem_names { self.new.room.psem_names ≡ self.old.room.psem_names }
-        ensures ok { OnOk result (ArePositive self.old.state.pshm.entries
-            → HasPshmPlace self.new.state self.new.room name.now) }
-        ensures others { (other : List ℕ) → other ≢ name.now
-            → is_vacant self.new.room.pshm_names other ≡ is_vacant self.old.room.pshm_names other }
-        ensures err { OnErr result ((other : List ℕ)
-            → is_vacant self.new.room.pshm_names other ≡ is_vacant self.old.room.pshm_names other) }
+        ensures ok { OnOk result (self.new ≡ record self.old { ready = Ready.Pshm name.now }) }
+        ensures err { OnErr result (self.new ≡ record self.old { ready = Ready.Nothing }) }
     {
-        self.fresh_name = Some(Name::new(self.alloc, name)?);
-        self.pshm.reserve(name)
+        self.release();
+        let name = Name::new(self.alloc, name)?;
+        self.pshm.reserve(name, Segment::new(self.alloc))
     }
 
-    /// Takes the memory of so many zeros, which are ready to be a segment that grows to that length.
+    /// Takes the memory of so many zeros, which a segment takes that grows to this length.
     pub fn reserve_zeros(&mut self, length: usize) -> Result<(), AllocError>
-        ensures state { self.new.state ≡ self.old.state }
-        ensures limits { self.new.limits ≡ self.old.limits }
-        ensures room { self.new.room ≡ record self.old.room { fresh_segment = self.new.room.fresh_segment } }
-        ensures ok { OnOk result (HasZeros self.new.room length) }
+        ensures ok { OnOk result (self.new
+            ≡ record self.old { ready = Ready.Zeros (truncated length empty_segment) }) }
+        ensures err { OnErr result (self.new ≡ record self.old { ready = Ready.Nothing }) }
     {
-        self.fresh_segment = Some(Segment::zeroed(self.alloc, length)?);
+        self.release();
+        self.zeros = Some(Segment::zeroed(self.alloc, length)?);
         Ok(())
     }
 
     /// The zeros that are ready, if any are. It takes no memory.
     pub fn take_zeros(&mut self) -> Option<Segment>
-        ensures zeros { result ≡ self.old.room.fresh_segment }
-        ensures state { self.new.state ≡ self.old.state }
-        ensures limits { self.new.limits ≡ self.old.limits }
-        ensures left { self.new.room ≡ record self.old.room { fresh_segment = None } }
+        ensures zeros { (zeros : Segment) → self.old.ready ≡ Ready.Zeros zeros → result ≡ Some zeros }
+        ensures left { self.new ≡ left self.old self.old.state }
     {
-        self.fresh_segment.take()
+        let zeros = self.zeros.take();
+        self.release();
+        zeros
     }
 
     /// Whether all segments have together no more bytes than `most`.
@@ -100,50 +80,27 @@ impl State {
         are_short(self.pshm.items(), most)
     }
 
-    /// Adds a segment without bytes, of the name that is ready, under the next number, which it gives. It takes no
-    /// memory.
+    /// Adds a segment without bytes, of the name for which there is memory, under the next number, which it gives.
     pub fn add_pshm(&mut self, cred: Cred, mode: u32) -> u32
-        requires place { self.old.room.pshm ≡ true }
-        requires name { is_some self.old.room.fresh_name ≡ true }
-        requires vacant { (name : List ℕ) → self.old.room.fresh_name ≡ Some name → name ≢ []
-            → is_vacant self.old.room.pshm_names name ≡ true }
-        requires number { 0 < self.old.state.pshm.next }
+        ghost name: { List ℕ }
+        requires ready { self.old.ready ≡ Ready.Pshm name }
+        requires unused { named self.old.state.pshm name ≡ None }
+        requires numbers { IsRising 1 (keys_of self.old.state.pshm.entries) self.old.state.pshm.next }
         requires more { has_all_pshms self.old.limits self.old.state ≡ false }
-        ensures state { (name : List ℕ) → self.old.room.fresh_name ≡ Some name
-            → self.new.state ≡ with_new_pshm self.old.state name cred mode }
+        ensures added { self.new ≡ left self.old (with_new_pshm self.old.state name cred mode) }
         ensures number { result ≡ self.old.state.pshm.next }
-        ensures limits { self.new.limits ≡ self.old.limits }
-        ensures room { self.new.room ≡ record self.old.room {
-          pshm = self.new.room.pshm;
-          pshm_names = self.new.room.pshm_names;
-          fresh_name = None;
-        } }
-        ensures name { (name : List ℕ) → self.old.room.fresh_name ≡ Some name → name ≢ []
-            → is_vacant self.new.room.pshm_names name ≡ false }
-        ensures others { (name : List ℕ) → self.old.room.fresh_name ≡ Some name → (other : List ℕ) → other ≢ name
-            → is_vacant self.new.room.pshm_names other ≡ is_vacant self.old.room.pshm_names other }
     {
-        let name = self.fresh_name.take().unwrap();
-        self.pshm.add(NamedEntry {
-            name,
-            owner: cred,
-            mode,
-            object: Segment::new(self.alloc),
-        })
+        *self.pshm.ready_mut().unwrap() = Segment::new(self.alloc);
+        let number = self.pshm.add(cred, mode);
+        self.release();
+        number
     }
 
     /// Takes the name of a segment, and it, if it is not open. It takes no memory.
     pub fn unlink_pshm(&mut self, number: u32)
         requires named { HaveNames self.old.state.pshm }
         requires there { is_some (entry_of self.old.state.pshm number) ≡ true }
-        ensures state { self.new.state ≡ unlinked_pshm self.old.state number }
-        ensures limits { self.new.limits ≡ self.old.limits }
-        ensures waits { self.new.room.waits ≡ self.old.room.waits }
-        ensures keys { self.new.room.keys ≡ self.old.room.keys }
-        ensures set_keys { self.new.room.set_keys ≡ self.old.room.set_keys }
-        ensures mq_names { self.new.room.names ≡ self.old.room.names }
-        ensures psem_names { self.new.room.psem_names ≡ self.old.room.psem_names }
-        ensures names { HasNoSpareName self.old.room.pshm_names → HasNoSpareName self.new.room.pshm_names }
+        ensures { self.new ≡ left self.old (unlinked_pshm self.old.state number) }
     {
         self.pshm.unname(number);
         self.sweep();

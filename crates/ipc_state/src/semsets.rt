@@ -1,18 +1,21 @@
 //! The semaphore sets.
 
-ghost use Rattle.std.specs.Prelude.{◌≡◌, ◌≢◌, ◌<◌, ◌≤◌, ◌+◌, ◌↔◌, ℕ, ℤ, pos, true, false, is_some};
+ghost use Rattle.std.specs.Prelude.{◌≡◌, ◌≤◌, ◌+◌, ◌↔◌, ℕ, ℤ, true, false, is_some, None, Some, option_map};
 ghost use Rattle.std.specs.Prelude.{map, length, All, sum_by, IsTrue, OnOk, OnErr};
 ghost use Rattle.std.specs.Borrow.{sem};
+ghost use Rattle.std.specs.Option.{option_copied_mut};
 ghost use Rattle.ipc_base.specs.Limits.{ArePassed};
-ghost use Rattle.ipc_keys.specs.Directory.{is_vacant};
-ghost use Rattle.ipc_state.specs.Directory.{ArePositive};
-ghost use Rattle.ipc_state.specs.Held.{HasFreshSet, HasSemsetPlace};
+ghost use Rattle.ipc_base.specs.Table.{IsRising, keys_of};
+ghost use Rattle.ipc_state.specs.declared.keyed.Entry.{Entry};
+ghost use Rattle.ipc_state.specs.Held.{Ready, left};
+ghost use Rattle.ipc_state.specs.Keyed.{AreNamed, keyed, permitting};
 ghost use Rattle.ipc_state.specs.LendsSemset.{lends_semset};
-ghost use Rattle.ipc_state.specs.Numbered.{is_full};
+ghost use Rattle.ipc_state.specs.Numbered.{entry_of, is_full, with_entry, without_entry};
 ghost use Rattle.ipc_state.specs.Restored.{with_last_semset};
 ghost use Rattle.ipc_state.specs.Sound.{AreSoundSemsets, IsSoundSemset, semaphore_count};
 ghost use Rattle.ipc_state.specs.State.{with_new_semset};
 ghost use Rattle.ipc_state.specs.Tables.{item_row};
+ghost use Rattle.sysv_sem.specs.Set.{Set};
 
 use crate::keyed::{Entry, Keyed};
 use crate::numbered::Item;
@@ -46,69 +49,64 @@ impl State {
         &self.semset
     }
 
-    /// The semaphore sets, to be changed.
-    pub fn semset_mut(&mut self) -> &mut Keyed<SemSet>
-        ensures* writes_back { sem 𝓛 (lends_semset self.entry result) }
-        ensures sets { result.now.objects ≡ self.old.state.semset }
-        ensures place { result.now.place ≡ self.old.room.set }
-        ensures keys { result.now.keys ≡ self.old.room.set_keys }
+    /// The set that an identifier has, to be changed.
+    pub fn semset_mut(&mut self, id: Id) -> Option<&mut SemSet>
+        ensures* writes_back { sem 𝓛 (lends_semset self.entry id.0 result) }
+        ensures object { option_copied_mut result ≡ option_map (λ e. e.object) (entry_of self.old.state.semset id.0) }
     {
-        &mut self.semset
+        self.semset.get_mut(id)
     }
 
-    /// Takes the memory for one set more of this key, if no set has it, and of so many semaphores. Refused, no key has
-    /// room that had none.
+    /// Replaces who may use the set of an identifier.
+    pub fn set_semset_perm(&mut self, id: Id, perm: Perm)
+        requires { is_some (entry_of self.old.state.semset id.0) ≡ true }
+        ensures { (e : Entry Set) → entry_of self.old.state.semset id.0 ≡ Some e
+            → self.new ≡ record self.old {
+              state = record self.old.state {
+                semset = with_entry self.old.state.semset id.0 (permitting e perm);
+              };
+            } }
+    {
+        self.semset.set_perm(id, perm);
+    }
+
+    /// Takes the memory for one set more of this key, and of so many semaphores.
     pub fn reserve_semset(&mut self, key: i32, nsems: usize) -> Result<(), AllocError>
-        ensures state { self.new.state ≡ self.old.state }
-        ensures limits { self.new.limits ≡ self.old.limits }
-        ensures waits { self.new.room.waits ≡ self.old.room.waits }
-        ensures keys { self.new.room.keys ≡ self.old.room.keys }
-        ensures ok { OnOk result (ArePositive self.old.state.semset.entries
-            → HasSemsetPlace self.new.state self.new.room key nsems) }
-        ensures others { (other : ℤ) → other ≢ key
-            → is_vacant self.new.room.set_keys other ≡ is_vacant self.old.room.set_keys other }
-        ensures err { OnErr result ((other : ℤ)
-            → is_vacant self.new.room.set_keys other ≡ is_vacant self.old.room.set_keys other) }
+        ensures ok { OnOk result (self.new ≡ record self.old { ready = Ready.Semset key nsems }) }
+        ensures err { OnErr result (self.new ≡ record self.old { ready = Ready.Nothing }) }
     {
-        self.reserve_fresh_set(nsems)?;
-        self.semset_mut().reserve(key)
-    }
-
-    /// Makes a set of so many semaphores that is ready to be added.
-    fn reserve_fresh_set(&mut self, nsems: usize) -> Result<(), AllocError>
-        ensures state { self.new.state ≡ self.old.state }
-        ensures limits { self.new.limits ≡ self.old.limits }
-        ensures set { self.new.room.set ≡ self.old.room.set }
-        ensures keys { self.new.room.keys ≡ self.old.room.keys }
-        ensures set_keys { self.new.room.set_keys ≡ self.old.room.set_keys }
-        ensures waits { self.new.room.waits ≡ self.old.room.waits }
-        ensures ok { OnOk result (HasFreshSet self.new.room nsems) }
-    {
+        self.release();
         let set = SemSet::new(self.alloc, nsems, self.clock)?;
-        self.fresh_set = Some(set);
-        Ok(())
+        self.semset.reserve(key, set)
     }
 
-    /// Adds the set that is ready under the next identifier, which it gives. It takes no memory.
-    pub fn add_semset(&mut self, key: i32, perm: Perm) -> Id
-        requires room { self.old.room.set ≡ true }
-        requires fresh { is_some self.old.room.fresh_set ≡ true }
-        requires key { key ≢ pos 0 → is_vacant self.old.room.set_keys key ≡ true }
-        requires number { 0 < self.old.state.semset.next }
+    /// Adds a set, of the key and with as many semaphores as there is memory for, under the next identifier, which it
+    /// gives.
+    pub fn add_semset(&mut self, perm: Perm) -> Id
+        ghost asked: { ℤ × ℕ }
+        requires ready { self.old.ready ≡ Ready.Semset asked.0 asked.1 }
+        requires unused { keyed self.old.state.semset asked.0 ≡ None }
+        requires numbers { IsRising 1 (keys_of self.old.state.semset.entries) self.old.state.semset.next }
         requires more { is_full self.old.limits.semmni self.old.state.semset ≡ false }
-        ensures state { (nsems : ℕ) → HasFreshSet self.old.room nsems
-            → self.new.state ≡ with_new_semset self.old.state key perm nsems }
+        ensures added { self.new ≡ left self.old (with_new_semset self.old.state asked.0 perm asked.1) }
         ensures id { result.0 ≡ self.old.state.semset.next }
-        ensures limits { self.new.limits ≡ self.old.limits }
-        ensures waits { self.new.room.waits ≡ self.old.room.waits }
-        ensures keys { self.new.room.keys ≡ self.old.room.keys }
-        ensures key { key ≢ pos 0 → is_vacant self.new.room.set_keys key ≡ false }
-        ensures others { (other : ℤ) → other ≢ key
-            → is_vacant self.new.room.set_keys other ≡ is_vacant self.old.room.set_keys other }
     {
-        let mut object = self.fresh_set.take().unwrap();
-        object.set(self.clock);
-        self.semset.add(key, perm, object)
+        self.semset.ready_mut().unwrap().renew(self.clock);
+        let id = self.semset.add(perm);
+        self.release();
+        id
+    }
+
+    /// Takes a set out. It takes no memory.
+    pub fn remove_semset(&mut self, id: Id)
+        requires named { AreNamed self.old.state.semset }
+        requires there { is_some (entry_of self.old.state.semset id.0) ≡ true }
+        ensures { self.new ≡ left self.old (record self.old.state {
+          semset = without_entry self.old.state.semset id.0;
+        }) }
+    {
+        self.semset.remove(id);
+        self.release();
     }
 
     /// Whether so many semaphores more may come: all sets together have no more than the limit says then.

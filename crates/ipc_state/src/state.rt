@@ -2,6 +2,7 @@
 
 ghost use Rattle.std.specs.Prelude.{◌≡◌, ◌↔◌, IsTrue};
 ghost use Rattle.ipc_base.specs.Limits.{ArePassed};
+ghost use Rattle.ipc_state.specs.Held.Ready.{Nothing};
 ghost use Rattle.ipc_state.specs.Restored.{with_numbers};
 ghost use Rattle.ipc_state.specs.Sound.{HasSoundParts};
 ghost use Rattle.ipc_state.specs.State.{start, at_moment};
@@ -13,7 +14,6 @@ use crate::numbered::Numbered;
 use crate::parked::{Awaited, Parked};
 use crate::processes::Process;
 use ipc_base::{Limits, Moment};
-use ipc_keys::Name;
 use ipc_wait::WaitList;
 use posix_mq::Mq;
 use posix_sem::NamedSem;
@@ -24,35 +24,29 @@ use std::marker::Model;
 use sysv_msg::MsgQueue;
 use sysv_sem::SemSet;
 
-/// The state between two events. A contract sees its limits, the state of the definitions, and the room
-/// that is reserved. It lends its objects, and so it need not be sound: whoever keeps it says so.
+/// The state between two events. A contract sees its limits, the state of the definitions, and what memory is reserved.
+/// It lends its objects, and so it need not be sound: whoever keeps it says so.
 pub struct State {
     pub(crate) alloc: Global,
     pub(crate) limits: Limits,
     pub(crate) clock: Moment,
     pub(crate) processes: Numbered<Process>,
-    /// The descriptors of a process that comes, so that this takes no memory.
-    pub(crate) fresh_descriptors: Option<Descriptors>,
     pub(crate) wait: WaitList<Awaited, Parked>,
     /// The adjustments of each process.
     pub(crate) undo: Numbered<SemUndo>,
-    /// Those of a process that comes, so that this takes no memory.
-    pub(crate) fresh_undo: Option<SemUndo>,
+    /// The adjustments and the descriptors of a process that comes, which are none.
+    pub(crate) fresh: Option<(SemUndo, Descriptors)>,
     pub(crate) msg: Keyed<MsgQueue>,
-    /// A queue that is ready to be added, so that this takes no memory.
-    pub(crate) fresh: Option<MsgQueue>,
+    /// A queue that was ready and was not used: the next one to be ready takes no memory.
+    pub(crate) spare_msg_queue: Option<MsgQueue>,
     pub(crate) semset: Keyed<SemSet>,
-    /// A set that is ready to be added.
-    pub(crate) fresh_set: Option<SemSet>,
     pub(crate) mq: Named<Mq>,
-    /// A POSIX queue that is ready to be added.
-    pub(crate) fresh_mq: Option<Mq>,
-    /// The name that is ready for it, or for a new object of the kinds below.
-    pub(crate) fresh_name: Option<Name>,
+    /// The same of a POSIX queue.
+    pub(crate) spare_mq: Option<Mq>,
     pub(crate) psem: Named<NamedSem>,
     pub(crate) pshm: Named<Segment>,
     /// Zeros that are ready to be a longer segment.
-    pub(crate) fresh_segment: Option<Segment>,
+    pub(crate) zeros: Option<Segment>,
 }
 
 impl Drop for State {
@@ -62,20 +56,17 @@ impl Drop for State {
             limits: _,
             clock: _,
             processes: _,
-            fresh_descriptors: _,
             wait: _,
             undo: _,
-            fresh_undo: _,
-            msg: _,
             fresh: _,
+            msg: _,
+            spare_msg_queue: _,
             semset: _,
-            fresh_set: _,
             mq: _,
-            fresh_mq: _,
-            fresh_name: _,
+            spare_mq: _,
             psem: _,
             pshm: _,
-            fresh_segment: _,
+            zeros: _,
         } = self;
     }
 }
@@ -83,16 +74,14 @@ impl Drop for State {
 impl Model for State {
     ghost use Rattle.ipc_base.specs.Limits.{ArePassed};
     ghost use Rattle.std.specs.Coded.{codes};
-    ghost use Rattle.std.specs.Prelude.{◌&&◌, is_some};
-    ghost use Rattle.ipc_keys.specs.contracts.keys.KeyDir as directory;
-    ghost use Rattle.ipc_keys.specs.contracts.names.NameDir as names;
+    ghost use Rattle.std.specs.Prelude.{◌&&◌, is_some, length, option_map};
     ghost use Rattle.sem_undo.specs.Undo.{undo_code};
-    ghost use Rattle.ipc_state.specs.Held.{Held};
+    ghost use Rattle.ipc_state.specs.Held.{Held, ready_of};
     ghost use Rattle.ipc_state.specs.Tables.{numbered_of, has_place};
 
     ghost Value = { Held };
 
-    ghost coded = { Prim.hlevel (codes, directory.the_row.coded, names.the_row.coded, undo_code) };
+    ghost coded = { Prim.hlevel (codes, undo_code) };
 
     ghost view = { λ s. record {
       limits = s.limits;
@@ -107,26 +96,15 @@ impl Model for State {
         psem = s.psem.objects;
         pshm = s.pshm.objects;
       };
-      room = record {
-        process = has_place s.processes
-            && (has_place s.undo && (is_some s.fresh_undo && is_some s.fresh_descriptors));
-        queue = s.msg.place;
-        keys = s.msg.keys;
-        fresh = is_some s.fresh;
-        waits = s.wait.room;
-        set = s.semset.place;
-        set_keys = s.semset.keys;
-        fresh_set = s.fresh_set;
-        mq = s.mq.place;
-        names = s.mq.names;
-        fresh_mq = is_some s.fresh_mq;
-        fresh_name = s.fresh_name;
-        psem = s.psem.place;
-        psem_names = s.psem.names;
-        pshm = s.pshm.place;
-        pshm_names = s.pshm.names;
-        fresh_segment = s.fresh_segment;
-      };
+      ready = ready_of
+          (is_some s.fresh && (has_place s.processes && has_place s.undo))
+          (option_map (λ r. r.0) s.msg.ready)
+          (option_map (λ r. (r.0, length r.1.semaphores)) s.semset.ready)
+          (option_map (λ r. r.0) s.mq.ready)
+          (option_map (λ r. r.0) s.psem.ready)
+          (option_map (λ r. r.0) s.pshm.ready)
+          s.zeros;
+      waits = s.wait.room;
     } };
 
     ghost invariant = { λ s. ArePassed s.limits };
@@ -150,27 +128,42 @@ impl State {
         requires { ArePassed limits }
         ensures state { result.state ≡ start }
         ensures limits { result.limits ≡ limits }
+        ensures ready { result.ready ≡ Nothing }
     {
         State {
             alloc,
             limits,
             clock: Moment(0),
             processes: Numbered::new(alloc),
-            fresh_descriptors: None,
             wait: WaitList::new(alloc),
             undo: Numbered::new(alloc),
-            fresh_undo: None,
-            msg: Keyed::new(alloc),
             fresh: None,
+            msg: Keyed::new(alloc),
+            spare_msg_queue: None,
             semset: Keyed::new(alloc),
-            fresh_set: None,
             mq: Named::new(alloc),
-            fresh_mq: None,
-            fresh_name: None,
+            spare_mq: None,
             psem: Named::new(alloc),
             pshm: Named::new(alloc),
-            fresh_segment: None,
+            zeros: None,
         }
+    }
+
+    /// Gives back what is reserved. It takes no memory.
+    pub fn release(&mut self)
+        ensures { self.new ≡ record self.old { ready = Nothing } }
+    {
+        self.fresh = None;
+        if let Some(queue) = self.msg.release() {
+            self.spare_msg_queue = Some(queue);
+        }
+        let _set = self.semset.release();
+        if let Some(queue) = self.mq.release() {
+            self.spare_mq = Some(queue);
+        }
+        let _semaphore = self.psem.release();
+        let _segment = self.pshm.release();
+        self.zeros = None;
     }
 
     /// The limits, which the state keeps.

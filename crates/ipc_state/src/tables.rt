@@ -3,6 +3,7 @@
 ghost use Rattle.std.specs.Prelude.{◌≡◌, ◌<◌, ◌^◌, true, false, is_some, length, nat_eq};
 ghost use Rattle.ipc_base.specs.Table.{keys_of, without, IsRising};
 ghost use Rattle.ipc_state.specs.Descriptors.{lowest_unused, most_descriptors, opened, with_flags};
+ghost use Rattle.ipc_state.specs.Held.{left};
 ghost use Rattle.ipc_state.specs.Numbered.{entry_of};
 ghost use Rattle.ipc_state.specs.Opening.{descriptors_of, with_table};
 ghost use Rattle.ipc_state.specs.Sound.{HasSoundParts};
@@ -46,13 +47,7 @@ impl State {
     /// Closes a descriptor of a process. The registration by it goes with it, and the object, if it has no name and is
     /// no longer open. It takes no memory.
     pub fn close_descriptor(&mut self, pid: Pid, fd: u32)
-        ensures state { self.new.state ≡ closed self.old.state pid.0 fd }
-        ensures limits { self.new.limits ≡ self.old.limits }
-        ensures room { self.new.room ≡ record self.old.room {
-          mq = self.new.room.mq;
-          psem = self.new.room.psem;
-          pshm = self.new.room.pshm;
-        } }
+        ensures { self.new ≡ left self.old (closed self.old.state pid.0 fd) }
     {
         self.processes.close(pid.0, fd);
         self.deregister(Some(pid.0), Some(fd));

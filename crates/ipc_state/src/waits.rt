@@ -1,6 +1,6 @@
 //! The calls that wait.
 
-ghost use Rattle.std.specs.Prelude.{◌≡◌, ◌<◌, ◌≤◌, ◌-◌, ◌^◌, ◌↔◌, ◌∷◌, [], Some, true, false, All, IsTrue, IsOk, OnOk};
+ghost use Rattle.std.specs.Prelude.{◌≡◌, ◌<◌, ◌≤◌, ◌-◌, ◌^◌, ◌↔◌, ◌∷◌, [], Some, true, false, All, IsTrue, OnOk};
 ghost use Rattle.std.specs.Prelude.{IfSome, IfNone, length};
 ghost use Rattle.ipc_state.specs.Restored.{with_waits};
 ghost use Rattle.ipc_state.specs.State.{at_moment, due_calls, is_waiting, with_waiting, without_due, without_waiting};
@@ -52,13 +52,10 @@ impl State {
         }
     }
 
-    /// Takes the memory for a call of each process that there may be; never refused if it is there already. Refused,
-    /// the state is as before.
+    /// Takes the memory for a call of each process that there may be.
     pub fn reserve_waits(&mut self) -> Result<(), AllocError>
-        ensures state { self.new.state ≡ self.old.state }
-        ensures limits { self.new.limits ≡ self.old.limits }
-        ensures ok { OnOk result (self.new.limits.processes ≤ self.new.room.waits) }
-        ensures succeeds { self.old.limits.processes ≤ self.old.room.waits → IsOk result }
+        ensures held { self.new ≡ record self.old { waits = self.new.waits } }
+        ensures ok { OnOk result (self.old.limits.processes ≤ self.new.waits) }
     {
         self.wait.reserve(self.limits.processes as usize)
     }
@@ -74,13 +71,9 @@ impl State {
 
     /// Puts a call at the end of those that wait; its process has none there. It takes no memory.
     pub fn enter_wait(&mut self, waiting: Waiting<Awaited, Parked>)
-        requires room { length self.old.state.wait < self.old.room.waits }
+        requires place { length self.old.state.wait < self.old.waits }
         requires free { is_waiting self.old.state waiting.pid.0 ≡ false }
-        ensures state { self.new.state ≡ with_waiting self.old.state waiting }
-        ensures limits { self.new.limits ≡ self.old.limits }
-        ensures keys { self.new.room.keys ≡ self.old.room.keys }
-        ensures set_keys { self.new.room.set_keys ≡ self.old.room.set_keys }
-        ensures waits { self.new.room.waits ≡ self.old.room.waits }
+        ensures { self.new ≡ record self.old { state = with_waiting self.old.state waiting } }
     {
         self.wait.enter(waiting);
     }
@@ -88,11 +81,7 @@ impl State {
     /// Takes out the call of a process that waits, and gives it. The others stay in order.
     pub fn leave_wait(&mut self, pid: Pid) -> Option<Waiting<Awaited, Parked>>
         ensures call { result ≡ waiting_call_of pid self.old.state.wait }
-        ensures state { self.new.state ≡ without_waiting self.old.state pid.0 }
-        ensures limits { self.new.limits ≡ self.old.limits }
-        ensures keys { self.new.room.keys ≡ self.old.room.keys }
-        ensures set_keys { self.new.room.set_keys ≡ self.old.room.set_keys }
-        ensures waits { self.new.room.waits ≡ self.old.room.waits }
+        ensures held { self.new ≡ record self.old { state = without_waiting self.old.state pid.0 } }
     {
         self.wait.leave(pid)
     }
@@ -103,9 +92,8 @@ impl State {
         ensures none { IfNone result ((due_calls self.old.state ≡ []) × (self.new ≡ self.old)) }
         ensures first { IfSome result (λ w. due_calls self.old.state ≡ w ∷ due_calls self.new.state) }
         ensures call { IfSome result (λ w. waiting_call_of w.pid self.old.state.wait ≡ Some w) }
-        ensures state { IfSome result (λ w. self.new.state ≡ without_waiting self.old.state w.pid.0) }
-        ensures limits { self.new.limits ≡ self.old.limits }
-        ensures room { self.new.room ≡ self.old.room }
+        ensures held { IfSome result (λ w. self.new
+            ≡ record self.old { state = without_waiting self.old.state w.pid.0 }) }
     {
         let Some(due) = self.wait.first_due(self.clock) else {
             return None;

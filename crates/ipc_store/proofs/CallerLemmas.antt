@@ -20,7 +20,7 @@ use Rattle.ipc_image.specs.Saved.{StandForState}
 use Rattle.ipc_store.specs.Batch.{records_of, batch_bytes, AreBatch}
 use Rattle.ipc_store.specs.Histories.{Takes}
 use Rattle.ipc_store.specs.Image.{journal_range, layout_of, events_of, epoch_at, HasObjects, HasBatches, HasBase, StandsFor}
-use Rattle.ipc_store.specs.View.{StoreView, HasRoom, IsReadyFor, events_left, numbers_used}
+use Rattle.ipc_store.specs.View.{StoreView, IsReadyFor, numbers_used}
 use Rattle.ipc_store.proofs.Batches.{record-length, record-most}
 use Rattle.ipc_store.specs.Relations.Matches.{StoreMatches}
 use Rattle.ipc_store.proofs.Committing as committing
@@ -132,10 +132,6 @@ left-counts : (came n : ℕ) (stopped : Bool) → 1 ≤ n → n ≤ left_of came
 left-counts came n true some fewer = absurd (omega (arith, some, fewer))
 left-counts came n false some fewer = omega (arith, some, fewer)
 
--- the longest record fits
-pub ready-room : {D : Type 0} (store : StoreView D) (n : ℕ) → 1 ≤ n → IsReadyFor store n → HasRoom store
-ready-room store n some ready = omega (arith, some, ready.0)
-
 -- it has not stopped
 pub ready-goes-on : {D : Type 0} (store : StoreView D) (n : ℕ) → 1 ≤ n → IsReadyFor store n → store.stopped ≡ false
 ready-goes-on store n some ready = left-goes-on (store.confirmed + store.waiting) n store.stopped some ready.1
@@ -154,7 +150,3 @@ ready-less old new e n has records waiting confirmed stopped ready =
       omega (arith, ready.0, ap length records, length-append old.records (record_bytes e), record-most e has),
       subst (λ (b : Bool). n ≤ left_of (new.confirmed + new.waiting) b) (sym (stopped ∙ going)) fewer,
     )
-
--- the longest records of three events fit if none waits
-pub empty-ready : {D : Type 0} (store : StoreView D) (n : ℕ) → n ≤ 3 → store.records ≡ [] → n ≤ events_left store → IsReadyFor store n
-empty-ready store n few none fewer = (omega (arith, few, ap length none), fewer)

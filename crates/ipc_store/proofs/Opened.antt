@@ -99,14 +99,6 @@ is_opened journal epoch found image same range is-epoch older current not_newer 
     subst (λ (r : Range). P r (epoch_of journal)) (sym range) (subst (P journal_range) (sym is-epoch) (older, current, not_newer)) in
     subst (IsOpened journal) same (record { older = all.0; current = all.1; not_newer = all.2 })
 
--- a journal that uses some sector has a header of its epoch
-pub used-is : (image : Image) (epoch used : ℕ) → (header_epoch journal_range image < epoch → used ≡ 0)
-    → (header_epoch journal_range image ≡ epoch → used ≡ header_used journal_range image)
-    → header_epoch journal_range image ≤ epoch → 0 < used → used ≡ header_used journal_range image
-used-is image epoch used older current not_newer some =
-    ⊎_elim (λ lt. absurd (omega (arith, some, older lt))) (λ le. current (omega (arith, le, not_newer)))
-    (cases_lt (header_epoch journal_range image) epoch)
-
 pub current-is : (image : Image) (epoch used : ℕ) → (header_epoch journal_range image < epoch → used ≡ 0)
     → header_epoch journal_range image ≤ epoch → 0 < used → header_epoch journal_range image ≡ epoch
 current-is image epoch used older not_newer some =

@@ -3,10 +3,10 @@ use Rattle.std.proofs.Common.{◌≡◌, ◌⊎◌, inl, inr, ⊎_elim, ℕ, ◌
 use Rattle.std.proofs.Common.{refl, sym, ◌∙◌, ap, subst, arith}
 use Rattle.std.specs.Prelude.{All, slice_index}
 use Rattle.std.specs.Int.{w32, from_be_bytes}
-use Rattle.std.proofs.lemmas.List.{take_at, drop_at, take_all, take-append-drop, drop-take, drop-drop}
+use Rattle.std.proofs.lemmas.List.{take_at, drop_at, take-append-drop, drop-take, drop-drop}
 use Rattle.std.proofs.lemmas.List.{length-take, length-take-le, length-drop, length-append, get_or-take, get_or_past, map-append}
 use Rattle.std.proofs.lemmas.Bool.{cases_lt}
-use Rattle.std.proofs.lemmas.List.Elements.{All-nil, All-head, All-tail, All-push}
+use Rattle.std.proofs.lemmas.List.Elements.{All-head, All-tail, All-push}
 use Rattle.std.proofs.lemmas.Nat.{be_bytes_4}
 use Rattle.std.proofs.Math.Seq.{take-add}
 use Rattle.byteorder.specs.Endian.{big_bytes, big_number}
@@ -74,13 +74,6 @@ pub record GoneThrough (limits : Limits) (from : State) (bytes : List ℕ) (at :
   pub ahead : (events : List PlainEvent) (to : State) → AreRecords limits from bytes events to
       → (more : List PlainEvent) × AreRecords limits s (drop at bytes) more to
 
-pub gone_none : (limits : Limits) (s : State) (bytes : List ℕ) → GoneThrough limits s bytes 0 s
-gone_none limits s bytes = record {
-  within = omega arith;
-  so_far = ([], record { each = All-nil HasRecord; spelled = refl; named = tt; state = refl });
-  ahead = λ events to are. (events, are);
-}
-
 -- a record takes at least a byte of what is left
 pub record_left : (bytes : List ℕ) (at : ℕ) (e : PlainEvent) → BeginsWith (drop at bytes) e
     → (0 < length (record_bytes e)) × (length (record_bytes e) ≤ length bytes - at)
@@ -130,12 +123,6 @@ gone_refused limits from bytes at s gone lt refuses events to good = let rest = 
     first : (more : List PlainEvent) → AreRecords limits s (drop at bytes) more to → ⊥
     first [] are = omega (arith, ap length are.spelled, length-drop at bytes, lt)
     first (f ∷ more) are = refuses f (begins limits s (drop at bytes) f more to are) are.named.0
-
--- at the end all is gone through
-pub gone_all : (limits : Limits) (from : State) (bytes : List ℕ) (at : ℕ) (s : State) → GoneThrough limits from bytes at s → length bytes ≤ at
-    → (events : List PlainEvent) × AreRecords limits from bytes events s
-gone_all limits from bytes at s gone le =
-    (gone.so_far.0, subst (λ (l : List ℕ). AreRecords limits from l gone.so_far.0 s) (take_all at bytes le) gone.so_far.1)
 
 pub gone_only : (limits : Limits) (from : State) (bytes : List ℕ) (at : ℕ) (s : State) → GoneThrough limits from bytes at s → length bytes ≤ at
     → (events : List PlainEvent) (to : State) → AreRecords limits from bytes events to → s ≡ to

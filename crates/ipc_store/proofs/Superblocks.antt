@@ -36,7 +36,3 @@ module _ (image : Image) (size : ℕ) (sector : List ℕ) (whole : length image 
     },
     IsFirstFault.Superblock (no_device none),
   )
-
-  pub is_device : (limits : Limits) → IsSuperblock size limits sector → IsDevice limits image
-  is_device limits is =
-      subst (λ (n : ℕ). IsSuperblock n limits (sector_at image 0)) (sym whole) (subst (λ (s : List ℕ). IsSuperblock size limits s) (sym read) is)

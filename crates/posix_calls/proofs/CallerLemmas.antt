@@ -6,7 +6,7 @@ use Rattle.ipc_wire.specs.Posix.{PlainPosix}
 use Rattle.ipc_wire.specs.Request.{PlainKind, PlainRequest, Posix}
 use Rattle.ipc_state.specs.declared.parked.Awaited.{Awaited}
 use Rattle.ipc_state.specs.Finish.{Finish, IfFinishes, has_to_wait}
-use Rattle.ipc_state.specs.Held.{Room}
+use Rattle.ipc_state.specs.Held.{Held}
 use Rattle.ipc_state.specs.State.{State, is_waiting}
 use Rattle.ipc_state.specs.Touching.{object_of}
 use Rattle.ipc_state.specs.Waiting.{awaited_by, may_wait}
@@ -46,9 +46,9 @@ never-waits limits s pid call is =
 
 -- ---- what is reserved
 
-module _ (s : State) (room : Room) (request : PlainRequest) where
+module _ (before after : Held) (request : PlainRequest) where
   -- a POSIX call of which nothing was kept never waits
-  pub never-kept : (call : PlainPosix) → request.kind ≡ Posix call → IsReserved s room request None → may_wait (Posix call) ≡ false
+  pub never-kept : (call : PlainPosix) → request.kind ≡ Posix call → IsReserved before after request None → may_wait (Posix call) ≡ false
   never-kept call kind has = by_test (may_wait (Posix call)) (subst (λ (k : PlainKind). None ≡ (if keeps_request k then Some request else None)) kind has.call)
     where
       by_test : (b : Bool) → None ≡ (if b then Some request else None) → b ≡ false
@@ -56,7 +56,7 @@ module _ (s : State) (room : Room) (request : PlainRequest) where
       by_test false is = refl
 
   -- what was kept is the request
-  pub kept-is : (kept : PlainRequest) → IsReserved s room request (Some kept) → kept ≡ request
+  pub kept-is : (kept : PlainRequest) → IsReserved before after request (Some kept) → kept ≡ request
   kept-is kept has = by_test (keeps_request request.kind) has.call
     where
       by_test : (b : Bool) → Some kept ≡ (if b then Some request else None) → kept ≡ request

@@ -1,22 +1,13 @@
 -- What it says that a call went on.
-use Rattle.std.proofs.Common.{◌≡◌, ◌≢◌, ℕ, ℤ, pos, negsuc, ◌<◌, ◌≤◌, Bool, true, false, Decides, List, Option, Some, None, refl, sym, ap, subst, ◌∙◌, arith}
+use Rattle.std.proofs.Common.{◌≡◌, ℕ, ℤ, pos, negsuc, ◌<◌, ◌≤◌, Bool, true, false, List, [], Option, Some, None, refl, subst, arith}
 use Rattle.std.specs.Prelude.{Ok, Err, Result, is_some, not, option_map, length, ◌==◌, ◌||◌, min, nat_lt}
 use Rattle.std.specs.Result.{is_ok}
-use Rattle.std.specs.Cmp.Lexicographic.{slice_cmp}
-use Rattle.std.specs.FinMap.{FinMap}
-use Rattle.std.specs.Ordering.{nat_cmp}
-use Rattle.std.specs.Str.{bytes_eq}
 use Rattle.std.proofs.lemmas.Bool.Decides.{nat_tests}
-use Rattle.std.proofs.lemmas.Slice.Eq.{bytes_eq-Decides}
 use Rattle.ipc_base.specs.declared.limits.Limits.{Limits}
-use Rattle.ipc_keys.specs.Directory.{is_vacant}
-use Rattle.ipc_state.specs.Directory.{HasNoSpareName}
 use Rattle.ipc_state.specs.Sound.{HasSoundParts, IsSoundMq}
 use Rattle.ipc_state.proofs.CallerLemmas.{empty_mq-sound, mq-sound}
 use Rattle.ipc_state.specs.Finish.{Blocks}
 use Rattle.ipc_state.proofs.CallerLemmas.{AtEnd, after, after-orelse, after-orstop, after-refuse, after-stop, at-failure, at-value, by-if_some, may-wait}
-use Rattle.ipc_state.specs.Held.{Room}
-use Rattle.posix_calls.specs.Needs.{HasNoSpareNameBut, HasNoSpareNames}
 use Rattle.ipc_base.specs.declared.errno.Errno.{Errno}
 use Rattle.ipc_base.specs.declared.errno.Errno.TheVariants.{EACCES, EBADF, EEXIST, EINVAL, EMSGSIZE, ENOENT}
 use Rattle.ipc_base.specs.declared.identity.Cred.{Cred}
@@ -32,7 +23,8 @@ use Rattle.ipc_state.specs.Numbered.{entry_of}
 use Rattle.ipc_state.specs.Opening.{descriptor_at}
 use Rattle.ipc_state.specs.State.{State}
 use Rattle.ipc_state.specs.Touching.{mq_object, psem_value}
-use Rattle.ipc_state.specs.Held.{Held}
+use Rattle.ipc_state.specs.Held.{Ready}
+use Rattle.ipc_state.specs.Held.Ready.{Mq as ForMq, Psem as ForPsem, Pshm as ForPshm}
 use Rattle.posix_calls.specs.Mq.{Found, asked_or, attributes, limited, open_mq, open_to, mq_number, receivable, sendable, waits_or_fails}
 use Rattle.posix_calls.specs.declared.psem.FoundPsem.{FoundPsem}
 use Rattle.posix_calls.specs.Psem.{lowerable, open_semaphore, semaphore_number}
@@ -76,11 +68,14 @@ has-entry s n q is = by_entry (entry_of s.mq n) refl is
 pub queue-sound : (limits : Limits) (s : State) (n : ℕ) (q : Mq) → mq_object s n ≡ Some q → HasSoundParts limits s → IsSoundMq limits q
 queue-sound limits s n q is h = let e = has-entry s n q is in subst (IsSoundMq limits) e.object (mq-sound limits s n e.entry e.there h)
 
--- ---- what is held
+-- ---- what is reserved
 
--- if the state alone was replaced, all else is as before
-pub same-but : (old new : Held) (s : State) → new ≡ (let h : Held = record old { state = s } in h) → new ≡ record old { state = new.state }
-same-but old new s put = put ∙ ap (λ (t : State). let h : Held = record old { state = t } in h) (sym (ap (λ (h : Held). h.state) put))
+-- the name of the object for which there is memory
+abbrev pub name_of : Ready → List ℕ
+name_of (ForMq name) = name
+name_of (ForPsem name) = name
+name_of (ForPshm name) = name
+name_of _ = []
 
 -- ---- calls that may wait
 
@@ -222,22 +217,3 @@ module _ {never : Bool} where
       after (limited-ends limits.maxmsg (asked_or attr (min 10 limits.maxmsg) maxmsg)) (λ most few.
       after (limited-ends limits.msgsize (asked_or attr (min 8192 limits.msgsize) msgsize)) (λ bytes short.
       at-value (most, bytes) (empty_mq-sound limits most bytes few.0 few.1 short.0 short.1)))
-
--- no name but this one had room, and it has none
-pub no-spare-name : (name : List ℕ) (old new : FinMap (slice_cmp nat_cmp) ℕ) → HasNoSpareNameBut name old
-    → ((other : List ℕ) → other ≢ name → is_vacant new other ≡ is_vacant old other) → is_vacant new name ≡ false → HasNoSpareName new
-no-spare-name name old new but others gone other = by_test (bytes_eq other name) refl (bytes_eq-Decides other name)
-  where
-    by_test : (b : Bool) → bytes_eq other name ≡ b → Decides (bytes_eq other name) (other ≡ name) → is_vacant new other ≡ false
-    by_test true is same = subst (λ (n : List ℕ). is_vacant new n ≡ false) (sym (same.0 is)) gone
-    by_test false is same = let apart : other ≢ name = λ one. let both = sym is ∙ same.1 one in cc in others other apart ∙ but other apart
-
--- if no directory is another, no name has room that had none
-pub kept-names : (old new : Room) → new.names ≡ old.names → new.psem_names ≡ old.psem_names → new.pshm_names ≡ old.pshm_names
-    → HasNoSpareNames old → HasNoSpareNames new
-kept-names old new mq sem segment none =
-    record {
-      queues = λ name. ap (λ ks. is_vacant ks name) mq ∙ none.queues name;
-      semaphores = λ name. ap (λ ks. is_vacant ks name) sem ∙ none.semaphores name;
-      segments = λ name. ap (λ ks. is_vacant ks name) segment ∙ none.segments name;
-    }

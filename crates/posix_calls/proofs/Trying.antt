@@ -16,14 +16,16 @@ use Rattle.ipc_state.specs.declared.parked.ParkedPosix.TheVariants as parked
 use Rattle.ipc_state.specs.Finish.{Finishes, done, done_firing}
 use Rattle.ipc_state.specs.Sound.{HasSoundParts}
 use Rattle.ipc_state.specs.State.{State, with_mq}
-use Rattle.ipc_state.specs.Touching.{mq_object}
+use Rattle.ipc_state.specs.Touching.{mq_object, psem_value}
 use Rattle.ipc_state.specs.Waiting.{parked_posix}
 use Rattle.ipc_state.proofs.CallerLemmas.{Answered, HasFound, Tested, ends-as, finishes, has-found, said, tested}
 use Rattle.posix_calls.specs.Calls.{attempt, definition_of}
 use Rattle.posix_calls.specs.Mq.{Found, arrived, firing, is_to_notify, message_body, receivable, sendable}
 use Rattle.ipc_state.specs.Steps.{attempted}
 use Rattle.posix_calls.specs.Seen.{number_in}
-use Rattle.posix_calls.proofs.Reaching.{Sends, Receives, sends, receives, queue-sound}
+use Rattle.posix_calls.specs.Psem.{lowerable}
+use Rattle.posix_calls.specs.declared.psem.FoundPsem.{FoundPsem}
+use Rattle.posix_calls.proofs.Reaching.{Lowers, Receives, Sends, lowers, queue-sound, receives, sends}
 
 -- a call is told by its tests
 call-tested : (limits : Limits) (s : State) (pid : ℕ) (call : ParkedPosix) → Tested s (definition_of limits s pid (parked_posix call)) (number_in s pid call)
@@ -54,10 +56,10 @@ module _ {limits : Limits} {s : State} {pid : ℕ} {call : ParkedPosix} {r : Res
     {n : ℕ} (was : r ≡ Ok n) where
   -- a send
   module _ {fd deadline : ℕ} {m : Message} (is : call ≡ parked.MqSend fd deadline m) where
-    send : HasFound (λ (f : Found). f.number) (Sends s pid fd m.priority m.text.items) (sendable s pid fd m.priority m.text.items) n
+    pub send : HasFound (λ (f : Found). f.number) (Sends s pid fd m.priority m.text.items) (sendable s pid fd m.priority m.text.items) n
     send = has-found (sends s pid fd m.priority m.text.items) (said tests.is was _ is)
 
-    send-queue : mq_object s n ≡ Some send.value.queue
+    pub send-queue : mq_object s n ≡ Some send.value.queue
     send-queue = ap (mq_object s) (sym send.is) ∙ send.holds.queue.there
 
     pub sends-room : HasSoundParts limits s → ArePassed limits → (q : Mq) → mq_object s n ≡ Some q → length q.messages < most_messages
@@ -80,10 +82,10 @@ module _ {limits : Limits} {s : State} {pid : ℕ} {call : ParkedPosix} {r : Res
 
   -- a receive
   module _ {fd deadline size : ℕ} (is : call ≡ parked.MqReceive fd deadline size) where
-    receive : HasFound (λ (f : Found × PlainMessage). f.0.number) (Receives s pid fd) (receivable s pid fd size) n
+    pub receive : HasFound (λ (f : Found × PlainMessage). f.0.number) (Receives s pid fd) (receivable s pid fd size) n
     receive = has-found (receives s pid fd size) (said tests.is was _ is)
 
-    receive-queue : mq_object s n ≡ Some receive.value.0.queue
+    pub receive-queue : mq_object s n ≡ Some receive.value.0.queue
     receive-queue = ap (mq_object s) (sym receive.is) ∙ receive.holds.queue.there
 
     pub receives-some : (q : Mq) → mq_object s n ≡ Some q → 0 < length q.messages
@@ -99,3 +101,11 @@ module _ {limits : Limits} {s : State} {pid : ℕ} {call : ParkedPosix} {r : Res
         let answers : body ≡ message_body receive.value.1 = same-value (says q receive-queue) (ap (option_map message_body) receive.holds.message) in
         ends-as tests.is _ is _ (finishes receive s _ (done t body) ((λ i. done (left q receive-queue i) (answers i))
         ∙ ap (λ (k : ℕ). done (with_mq s k (received q)) (message_body receive.value.1)) (sym receive.is)))
+
+  -- a wait
+  module _ {fd deadline : ℕ} (is : call ≡ parked.SemWait fd deadline) where
+    pub lower : HasFound (λ (f : FoundPsem). f.number) (Lowers s pid fd) (lowerable s pid fd) n
+    lower = has-found (lowers s pid fd) (said tests.is was _ is)
+
+    pub lower-value : psem_value s n ≡ Some lower.value.value
+    lower-value = ap (psem_value s) (sym lower.is) ∙ lower.holds.semaphore.there

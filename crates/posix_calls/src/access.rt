@@ -162,7 +162,7 @@ pub(crate) fn open_on(state: &mut State, pid: Pid, on: Opened, flags: u32) -> u3
     requires process { is_process state.old.state pid.0 ≡ true }
     requires few { has_all_descriptors state.old.limits state.old.state pid.0 ≡ false }
     ensures opens { opened_of state.new.state result ≡ defined.opens state.old.state pid.0 flags on }
-    ensures same { state.new ≡ record state.old { state = state.new.state } }
+    ensures held { state.new ≡ record state.old { state = state.new.state } }
 {
     state.open_descriptor(pid, Descriptor { on, flags })
 }

@@ -4,11 +4,12 @@ ghost use Rattle.std.specs.Prelude.{◌≡◌, true, false};
 ghost use Rattle.ipc_wire.specs.Posix.{plain_posix};
 ghost use Rattle.ipc_wire.specs.Request.{Posix};
 ghost use Rattle.ipc_state.specs.Finish.{Finishes, finish_of};
+ghost use Rattle.ipc_state.specs.Held.{left};
 ghost use Rattle.ipc_state.specs.Sound.{HasSoundParts};
 ghost use Rattle.ipc_state.specs.State.{is_process};
 ghost use Rattle.ipc_state.specs.Waiting.{may_wait};
 ghost use Rattle.posix_calls.specs.Calls as defined;
-ghost use Rattle.posix_calls.specs.Needs.{Has, HasNoSpareNames, HasSpareNameOf, needs};
+ghost use Rattle.posix_calls.specs.Needs.{needs};
 ghost use Rattle.ipc_state.specs.Spare.{IsSpare, KeepsBuffer};
 
 use crate::mq::{close, mq_getattr, mq_notify, mq_setattr, mq_unlink};
@@ -20,22 +21,17 @@ use ipc_state::{Answer, Awaited, Object, State};
 use ipc_wire::PosixCall;
 
 /// The attempt of a call by a process, whose memory is reserved and that never waits. It takes none: a record is made
-/// in the spare buffer, and has it.
+/// in the spare buffer, and has it. Nothing is reserved then.
 pub fn attempt(state: &mut State, pid: Pid, call: &PosixCall<'_>, spare: &mut Vec<u8>) -> Answer
     requires sound { HasSoundParts state.old.limits state.old.state }
     requires never { may_wait (Posix (plain_posix call.now)) ≡ false }
-    requires room { Has state.old.state state.old.room (needs (Posix (plain_posix call.now))) }
+    requires ready { state.old.ready ≡ needs (Posix (plain_posix call.now)) }
     requires process { is_process state.old.state pid.0 ≡ true }
     requires spare { IsSpare state.old.limits spare.old }
     ensures finish { Finishes (finish_of state.new.state result)
         ≡ defined.attempt state.old.limits state.old.state pid.0 (plain_posix call.now) }
-    ensures limits { state.new.limits ≡ state.old.limits }
-    ensures waits { state.new.room.waits ≡ state.old.room.waits }
-    ensures keys { state.new.room.keys ≡ state.old.room.keys }
-    ensures set_keys { state.new.room.set_keys ≡ state.old.room.set_keys }
+    ensures held { state.new ≡ left state.old state.new.state }
     ensures spare { KeepsBuffer state.old.limits spare.new result }
-    ensures no_name { HasSpareNameOf state.old.room (needs (Posix (plain_posix call.now)))
-        → HasNoSpareNames state.new.room }
 {
     let cred = state.cred(pid);
     match call {

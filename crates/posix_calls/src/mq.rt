@@ -5,8 +5,8 @@ ghost use Rattle.std.specs.Prelude.{◌≡◌, ◌+◌, ◌≤◌, ◌++◌, [],
 ghost use Rattle.std.specs.Prelude.{vec_len, vec_capacity, IfOk, OnOk};
 ghost use Rattle.ipc_base.specs.Limits.{ArePassed};
 ghost use Rattle.ipc_base.specs.Numbers.{record_bytes};
-ghost use Rattle.ipc_state.specs.Directory.{ArePositive, HasNoSpareName};
 ghost use Rattle.ipc_state.specs.Finish.{Finishes, ended, finish_of};
+ghost use Rattle.ipc_state.specs.Held.{Ready, left};
 ghost use Rattle.ipc_state.specs.Named.{named};
 ghost use Rattle.ipc_state.specs.Numbered.{entry_of};
 ghost use Rattle.ipc_state.specs.Sound.{HasSoundParts};
@@ -60,13 +60,7 @@ pub(crate) fn open_mq(state: &State, pid: Pid, fd: u32) -> Result<Found<'_>, Err
 pub(crate) fn close(state: &mut State, pid: Pid, fd: u32) -> Answer
     ensures finish { Finishes (finish_of state.new.state result)
         ≡ ended state.old.state (defined.close state.old.state pid.0 fd) }
-    ensures limits { state.new.limits ≡ state.old.limits }
-    ensures waits { state.new.room.waits ≡ state.old.room.waits }
-    ensures keys { state.new.room.keys ≡ state.old.room.keys }
-    ensures set_keys { state.new.room.set_keys ≡ state.old.room.set_keys }
-    ensures names { state.new.room.names ≡ state.old.room.names }
-    ensures psem_names { state.new.room.psem_names ≡ state.old.room.psem_names }
-    ensures pshm_names { state.new.room.pshm_names ≡ state.old.room.pshm_names }
+    ensures held { state.old.ready ≡ Ready.Nothing → state.new ≡ left state.old state.new.state }
 {
     described(state, pid, fd)?;
     state.close_descriptor(pid, fd);
@@ -118,7 +112,7 @@ pub(crate) fn mq_setattr(
     requires spare { IsSpare state.old.limits spare.old }
     ensures finish { Finishes (finish_of state.new.state result)
         ≡ ended state.old.state (defined.mq_setattr state.old.state pid.0 fd flags.0) }
-    ensures same { state.new ≡ record state.old { state = state.new.state } }
+    ensures held { state.new ≡ record state.old { state = state.new.state } }
     ensures spare { KeepsBuffer state.old.limits spare.new result }
 {
     let found = open_mq(state, pid, fd)?;
@@ -199,7 +193,7 @@ fn registration(pid: Pid, fd: u32, kind: u32, cookie: u32) -> Registration
 pub(crate) fn mq_notify(state: &mut State, pid: Pid, fd: u32, kind: u32, cookie: u32) -> Answer
     ensures finish { Finishes (finish_of state.new.state result)
         ≡ ended state.old.state (defined.mq_notify state.old.state pid.0 fd kind cookie) }
-    ensures same { state.new ≡ record state.old { state = state.new.state } }
+    ensures held { state.new ≡ record state.old { state = state.new.state } }
 {
     if kind > 2 {
         return Err(Errno::EINVAL);
@@ -222,13 +216,7 @@ pub(crate) fn mq_unlink(state: &mut State, cred: Cred, name: &[u8]) -> Answer
     requires sound { HasSoundParts state.old.limits state.old.state }
     ensures finish { Finishes (finish_of state.new.state result)
         ≡ ended state.old.state (defined.mq_unlink state.old.state cred name.now) }
-    ensures limits { state.new.limits ≡ state.old.limits }
-    ensures waits { state.new.room.waits ≡ state.old.room.waits }
-    ensures keys { state.new.room.keys ≡ state.old.room.keys }
-    ensures set_keys { state.new.room.set_keys ≡ state.old.room.set_keys }
-    ensures psem_names { state.new.room.psem_names ≡ state.old.room.psem_names }
-    ensures pshm_names { state.new.room.pshm_names ≡ state.old.room.pshm_names }
-    ensures names { HasNoSpareName state.old.room.names → HasNoSpareName state.new.room.names }
+    ensures held { state.old.ready ≡ Ready.Nothing → state.new ≡ left state.old state.new.state }
 {
     check_name(NameKind::Mq, name)?;
     let number = unlinkable(state.named_mqs(), cred, name)?;

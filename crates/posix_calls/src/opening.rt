@@ -1,21 +1,16 @@
 //! mq_open(3). It takes no memory in its attempt.
 
-ghost use Rattle.std.specs.Prelude.{◌≡◌, ◌≢◌, ◌<◌, ◌^◌, List, ℕ, None, false, true, IfOk};
+ghost use Rattle.std.specs.Prelude.{◌≡◌, ◌<◌, ◌^◌, List, ℕ, None, false, true};
 ghost use Rattle.std.specs.Result.{is_ok};
-ghost use Rattle.ipc_keys.specs.Directory.{is_vacant};
 ghost use Rattle.ipc_keys.specs.Names.{check_name as checked};
 ghost use Rattle.ipc_keys.specs.declared.check.NameKind.TheVariants as kinds;
-ghost use Rattle.ipc_state.specs.Directory.{ArePositive, HasNoSpareName};
 ghost use Rattle.ipc_state.specs.Finish.{Finishes, ended, finish_of};
-ghost use Rattle.ipc_state.specs.Held.{HasMqPlace};
+ghost use Rattle.ipc_state.specs.Held.{Ready, left};
 ghost use Rattle.ipc_state.specs.Named.{named};
 ghost use Rattle.ipc_state.specs.Sound.{HasSoundParts};
 ghost use Rattle.ipc_state.specs.State.{has_all_descriptors, is_process};
 ghost use Rattle.posix_calls.specs.Mq as defined;
-ghost use Rattle.posix_calls.specs.Needs.{HasNoSpareNameBut};
-ghost use Rattle.posix_calls.specs.Open.{sought};
 ghost use Rattle.ipc_state.specs.Steps.{result_of};
-ghost use Rattle.posix_calls.specs.Seen.{opened_of};
 
 use crate::access::{asked_by, open_on, seek, usable};
 use ipc_base::{Cred, Errno, Limits, OpenFlags, Pid};
@@ -35,7 +30,7 @@ pub(crate) struct Wanted {
 /// The flags that still mean something after the open: the access mode and O_NONBLOCK.
 const KEPT_FLAGS: u32 = 0o4003;
 
-/// mq_open(3). What room of the name is not used is given back.
+/// mq_open(3). What is reserved and is not used is given back.
 pub(crate) fn mq_open(
     state: &mut State,
     cred: Cred,
@@ -46,20 +41,14 @@ pub(crate) fn mq_open(
 ) -> Answer
     requires sound { HasSoundParts state.old.limits state.old.state }
     requires process { is_process state.old.state pid.0 ≡ true }
-    requires room { HasMqPlace state.old.state state.old.room name.now }
+    requires ready { state.old.ready ≡ Ready.Mq name.now }
     ensures finish { Finishes (finish_of state.new.state result)
         ≡ ended state.old.state (defined.mq_open state.old.limits state.old.state cred pid.0 flags.0 wanted.mode
         wanted.attr wanted.maxmsg wanted.msgsize name.now) }
-    ensures limits { state.new.limits ≡ state.old.limits }
-    ensures waits { state.new.room.waits ≡ state.old.room.waits }
-    ensures keys { state.new.room.keys ≡ state.old.room.keys }
-    ensures set_keys { state.new.room.set_keys ≡ state.old.room.set_keys }
-    ensures psem_names { state.new.room.psem_names ≡ state.old.room.psem_names }
-    ensures pshm_names { state.new.room.pshm_names ≡ state.old.room.pshm_names }
-    ensures no_name { HasNoSpareNameBut name.now state.old.room.names → HasNoSpareName state.new.room.names }
+    ensures held { state.new ≡ left state.old state.new.state }
 {
     let answer = open(state, cred, pid, flags, wanted, name);
-    state.release_mq(name);
+    state.release();
     answer
 }
 
@@ -74,18 +63,11 @@ fn open(
 ) -> Answer
     requires sound { HasSoundParts state.old.limits state.old.state }
     requires process { is_process state.old.state pid.0 ≡ true }
-    requires room { HasMqPlace state.old.state state.old.room name.now }
+    requires ready { state.old.ready ≡ Ready.Mq name.now }
     ensures finish { Finishes (finish_of state.new.state result)
         ≡ ended state.old.state (defined.mq_open state.old.limits state.old.state cred pid.0 flags.0 wanted.mode
         wanted.attr wanted.maxmsg wanted.msgsize name.now) }
-    ensures limits { state.new.limits ≡ state.old.limits }
-    ensures waits { state.new.room.waits ≡ state.old.room.waits }
-    ensures keys { state.new.room.keys ≡ state.old.room.keys }
-    ensures set_keys { state.new.room.set_keys ≡ state.old.room.set_keys }
-    ensures psem_names { state.new.room.psem_names ≡ state.old.room.psem_names }
-    ensures pshm_names { state.new.room.pshm_names ≡ state.old.room.pshm_names }
-    ensures others { (other : List ℕ) → other ≢ name.now
-        → is_vacant state.new.room.names other ≡ is_vacant state.old.room.names other }
+    ensures held { state.new ≡ record state.old { state = state.new.state; ready = state.new.ready } }
 {
     check_name(NameKind::Mq, name)?;
     if flags.access_mode() == 3 {
@@ -95,7 +77,7 @@ fn open(
         return Err(Errno::EMFILE);
     }
     let Some(number) = seek(state.named_mqs(), name, flags)? else {
-        return make_mq(state, cred, pid, flags, wanted, name);
+        return make_mq(state, cred, pid, flags, wanted);
     };
     open_mq(state, cred, pid, flags, number)
 }
@@ -107,7 +89,7 @@ fn open_mq(state: &mut State, cred: Cred, pid: Pid, flags: OpenFlags, number: u3
     requires few { has_all_descriptors state.old.limits state.old.state pid.0 ≡ false }
     ensures finish { Finishes (finish_of state.new.state result)
         ≡ ended state.old.state (defined.opened_mq state.old.state cred pid.0 flags.0 number) }
-    ensures same { state.new ≡ record state.old { state = state.new.state } }
+    ensures held { state.new ≡ record state.old { state = state.new.state } }
 {
     usable(state.named_mqs(), cred, number, asked_by(flags))?;
     let on = Opened::Mq(number);
@@ -144,31 +126,18 @@ fn attributes(limits: &Limits, wanted: Wanted) -> Result<(u32, u32), Errno>
 }
 
 /// Opens a new queue of the name that is ready.
-fn make_mq(
-    state: &mut State,
-    cred: Cred,
-    pid: Pid,
-    flags: OpenFlags,
-    wanted: Wanted,
-    _name: &[u8],
-) -> Answer
+fn make_mq(state: &mut State, cred: Cred, pid: Pid, flags: OpenFlags, wanted: Wanted) -> Answer
+    ghost name: { List ℕ }
     requires sound { HasSoundParts state.old.limits state.old.state }
     requires process { is_process state.old.state pid.0 ≡ true }
     requires few { has_all_descriptors state.old.limits state.old.state pid.0 ≡ false }
-    requires proper { is_ok (checked kinds.Mq _name.now) ≡ true }
-    requires unused { named state.old.state.mq _name.now ≡ None }
-    requires room { HasMqPlace state.old.state state.old.room _name.now }
+    requires proper { is_ok (checked kinds.Mq name) ≡ true }
+    requires unused { named state.old.state.mq name ≡ None }
+    requires ready { state.old.ready ≡ Ready.Mq name }
     ensures finish { Finishes (finish_of state.new.state result)
         ≡ ended state.old.state (defined.made_mq state.old.limits state.old.state cred pid.0 flags.0 wanted.mode
-        wanted.attr wanted.maxmsg wanted.msgsize _name.now) }
-    ensures limits { state.new.limits ≡ state.old.limits }
-    ensures waits { state.new.room.waits ≡ state.old.room.waits }
-    ensures keys { state.new.room.keys ≡ state.old.room.keys }
-    ensures set_keys { state.new.room.set_keys ≡ state.old.room.set_keys }
-    ensures psem_names { state.new.room.psem_names ≡ state.old.room.psem_names }
-    ensures pshm_names { state.new.room.pshm_names ≡ state.old.room.pshm_names }
-    ensures others { (other : List ℕ) → other ≢ _name.now
-        → is_vacant state.new.room.names other ≡ is_vacant state.old.room.names other }
+        wanted.attr wanted.maxmsg wanted.msgsize name) }
+    ensures held { state.new ≡ record state.old { state = state.new.state; ready = state.new.ready } }
 {
     let (maxmsg, msgsize) = attributes(state.limits(), wanted)?;
     if state.has_all_mqs() {

@@ -4,20 +4,17 @@
 ghost use Rattle.std.specs.Prelude.{◌≡◌, ◌≢◌, List, ℕ, [], Some, None, true, false, is_some, IfOk, OnOk};
 ghost use Rattle.std.specs.Result.{is_ok};
 ghost use Rattle.ipc_base.specs.Limits.{ArePassed};
-ghost use Rattle.ipc_keys.specs.Directory.{is_vacant};
 ghost use Rattle.ipc_keys.specs.Names.{check_name as checked};
 ghost use Rattle.ipc_keys.specs.declared.check.NameKind.TheVariants as kinds;
 ghost use Rattle.posix_sem.specs.Semaphore.{posted, sem_value_max, waited};
-ghost use Rattle.ipc_state.specs.Directory.{HasNoSpareName};
 ghost use Rattle.ipc_state.specs.Finish.{Finishes, ended, finish_of};
-ghost use Rattle.ipc_state.specs.Held.{HasPsemPlace};
+ghost use Rattle.ipc_state.specs.Held.{Ready, left};
 ghost use Rattle.ipc_state.specs.Named.{named};
 ghost use Rattle.ipc_state.specs.Numbered.{entry_of};
 ghost use Rattle.ipc_state.specs.Sound.{HasSoundParts};
 ghost use Rattle.ipc_state.specs.State.{has_all_descriptors, is_process, with_psem};
 ghost use Rattle.ipc_state.specs.Steps.{result_of};
 ghost use Rattle.ipc_state.specs.Touching.{psem_value};
-ghost use Rattle.posix_calls.specs.Needs.{HasNoSpareNameBut};
 ghost use Rattle.posix_calls.specs.Psem as defined;
 
 use crate::access::{described_or, open_on, seek, unlinkable, usable};
@@ -55,7 +52,7 @@ pub(crate) fn open_semaphore(state: &State, pid: Pid, fd: u32) -> Result<FoundPs
     })
 }
 
-/// sem_open(3). What room of the name is not used is given back.
+/// sem_open(3). What is reserved and is not used is given back.
 pub(crate) fn sem_open(
     state: &mut State,
     cred: Cred,
@@ -67,19 +64,13 @@ pub(crate) fn sem_open(
 ) -> Answer
     requires sound { HasSoundParts state.old.limits state.old.state }
     requires process { is_process state.old.state pid.0 ≡ true }
-    requires room { HasPsemPlace state.old.state state.old.room name.now }
+    requires ready { state.old.ready ≡ Ready.Psem name.now }
     ensures finish { Finishes (finish_of state.new.state result) ≡ ended state.old.state
         (defined.sem_open state.old.limits state.old.state cred pid.0 flags.0 mode value name.now) }
-    ensures limits { state.new.limits ≡ state.old.limits }
-    ensures waits { state.new.room.waits ≡ state.old.room.waits }
-    ensures keys { state.new.room.keys ≡ state.old.room.keys }
-    ensures set_keys { state.new.room.set_keys ≡ state.old.room.set_keys }
-    ensures mq_names { state.new.room.names ≡ state.old.room.names }
-    ensures pshm_names { state.new.room.pshm_names ≡ state.old.room.pshm_names }
-    ensures no_name { HasNoSpareNameBut name.now state.old.room.psem_names → HasNoSpareName state.new.room.psem_names }
+    ensures held { state.new ≡ left state.old state.new.state }
 {
     let answer = open(state, cred, pid, flags, mode, value, name);
-    state.psems_mut().release(name);
+    state.release();
     answer
 }
 
@@ -95,24 +86,17 @@ fn open(
 ) -> Answer
     requires sound { HasSoundParts state.old.limits state.old.state }
     requires process { is_process state.old.state pid.0 ≡ true }
-    requires room { HasPsemPlace state.old.state state.old.room name.now }
+    requires ready { state.old.ready ≡ Ready.Psem name.now }
     ensures finish { Finishes (finish_of state.new.state result) ≡ ended state.old.state
         (defined.sem_open state.old.limits state.old.state cred pid.0 flags.0 mode value name.now) }
-    ensures limits { state.new.limits ≡ state.old.limits }
-    ensures waits { state.new.room.waits ≡ state.old.room.waits }
-    ensures keys { state.new.room.keys ≡ state.old.room.keys }
-    ensures set_keys { state.new.room.set_keys ≡ state.old.room.set_keys }
-    ensures mq_names { state.new.room.names ≡ state.old.room.names }
-    ensures pshm_names { state.new.room.pshm_names ≡ state.old.room.pshm_names }
-    ensures others { (other : List ℕ) → other ≢ name.now
-        → is_vacant state.new.room.psem_names other ≡ is_vacant state.old.room.psem_names other }
+    ensures held { state.new ≡ record state.old { state = state.new.state; ready = state.new.ready } }
 {
     check_name(NameKind::Psem, name)?;
     if state.has_all_descriptors(pid) {
         return Err(Errno::EMFILE);
     }
     let Some(number) = seek(state.psems(), name, flags)? else {
-        return make_semaphore(state, cred, pid, mode, value, name);
+        return make_semaphore(state, cred, pid, mode, value);
     };
     open_at(state, cred, pid, number)
 }
@@ -124,7 +108,7 @@ fn open_at(state: &mut State, cred: Cred, pid: Pid, number: u32) -> Answer
     requires few { has_all_descriptors state.old.limits state.old.state pid.0 ≡ false }
     ensures finish { Finishes (finish_of state.new.state result)
         ≡ ended state.old.state (defined.opened_semaphore state.old.state cred pid.0 number) }
-    ensures same { state.new ≡ record state.old { state = state.new.state } }
+    ensures held { state.new ≡ record state.old { state = state.new.state } }
 {
     usable(
         state.psems(),
@@ -136,30 +120,17 @@ fn open_at(state: &mut State, cred: Cred, pid: Pid, number: u32) -> Answer
 }
 
 /// Opens a new semaphore of the name that is ready.
-fn make_semaphore(
-    state: &mut State,
-    cred: Cred,
-    pid: Pid,
-    mode: u32,
-    value: u32,
-    _name: &[u8],
-) -> Answer
+fn make_semaphore(state: &mut State, cred: Cred, pid: Pid, mode: u32, value: u32) -> Answer
+    ghost name: { List ℕ }
     requires sound { HasSoundParts state.old.limits state.old.state }
     requires process { is_process state.old.state pid.0 ≡ true }
     requires few { has_all_descriptors state.old.limits state.old.state pid.0 ≡ false }
-    requires proper { is_ok (checked kinds.Psem _name.now) ≡ true }
-    requires unused { named state.old.state.psem _name.now ≡ None }
-    requires room { HasPsemPlace state.old.state state.old.room _name.now }
+    requires proper { is_ok (checked kinds.Psem name) ≡ true }
+    requires unused { named state.old.state.psem name ≡ None }
+    requires ready { state.old.ready ≡ Ready.Psem name }
     ensures finish { Finishes (finish_of state.new.state result) ≡ ended state.old.state
-        (defined.made_semaphore state.old.limits state.old.state cred pid.0 mode value _name.now) }
-    ensures limits { state.new.limits ≡ state.old.limits }
-    ensures waits { state.new.room.waits ≡ state.old.room.waits }
-    ensures keys { state.new.room.keys ≡ state.old.room.keys }
-    ensures set_keys { state.new.room.set_keys ≡ state.old.room.set_keys }
-    ensures mq_names { state.new.room.names ≡ state.old.room.names }
-    ensures pshm_names { state.new.room.pshm_names ≡ state.old.room.pshm_names }
-    ensures others { (other : List ℕ) → other ≢ _name.now
-        → is_vacant state.new.room.psem_names other ≡ is_vacant state.old.room.psem_names other }
+        (defined.made_semaphore state.old.limits state.old.state cred pid.0 mode value name) }
+    ensures held { state.new ≡ record state.old { state = state.new.state; ready = state.new.ready } }
 {
     if value > SEM_VALUE_MAX {
         return Err(Errno::EINVAL);
@@ -176,13 +147,7 @@ pub(crate) fn sem_unlink(state: &mut State, cred: Cred, name: &[u8]) -> Answer
     requires sound { HasSoundParts state.old.limits state.old.state }
     ensures finish { Finishes (finish_of state.new.state result)
         ≡ ended state.old.state (defined.sem_unlink state.old.state cred name.now) }
-    ensures limits { state.new.limits ≡ state.old.limits }
-    ensures waits { state.new.room.waits ≡ state.old.room.waits }
-    ensures keys { state.new.room.keys ≡ state.old.room.keys }
-    ensures set_keys { state.new.room.set_keys ≡ state.old.room.set_keys }
-    ensures mq_names { state.new.room.names ≡ state.old.room.names }
-    ensures pshm_names { state.new.room.pshm_names ≡ state.old.room.pshm_names }
-    ensures names { HasNoSpareName state.old.room.psem_names → HasNoSpareName state.new.room.psem_names }
+    ensures held { state.old.ready ≡ Ready.Nothing → state.new ≡ left state.old state.new.state }
 {
     check_name(NameKind::Psem, name)?;
     let number = unlinkable(state.psems(), cred, name)?;
@@ -194,9 +159,8 @@ pub(crate) fn sem_unlink(state: &mut State, cred: Cred, name: &[u8]) -> Answer
 fn raise(state: &mut State, number: u32)
     requires there { is_some (entry_of state.old.state.psem number) ≡ true }
     requires low { (value : ℕ) → psem_value state.old.state number ≡ Some value → value ≢ sem_value_max }
-    ensures state { (value : ℕ) → psem_value state.old.state number ≡ Some value
+    ensures held { (value : ℕ) → psem_value state.old.state number ≡ Some value
         → state.new ≡ record state.old { state = with_psem state.old.state number (posted value) } }
-    ensures same { state.new ≡ record state.old { state = state.new.state } }
 {
     state.psem_mut(number).unwrap().post().unwrap();
 }
@@ -205,9 +169,8 @@ fn raise(state: &mut State, number: u32)
 pub(crate) fn lower(state: &mut State, number: u32)
     requires there { is_some (entry_of state.old.state.psem number) ≡ true }
     requires some { (value : ℕ) → psem_value state.old.state number ≡ Some value → value ≢ 0 }
-    ensures state { (value : ℕ) → psem_value state.old.state number ≡ Some value
+    ensures held { (value : ℕ) → psem_value state.old.state number ≡ Some value
         → state.new ≡ record state.old { state = with_psem state.old.state number (waited value) } }
-    ensures same { state.new ≡ record state.old { state = state.new.state } }
 {
     state.psem_mut(number).unwrap().try_wait().unwrap();
 }
@@ -216,7 +179,7 @@ pub(crate) fn lower(state: &mut State, number: u32)
 pub(crate) fn sem_post(state: &mut State, pid: Pid, fd: u32) -> Answer
     ensures finish { Finishes (finish_of state.new.state result)
         ≡ ended state.old.state (defined.sem_post state.old.state pid.0 fd) }
-    ensures same { state.new ≡ record state.old { state = state.new.state } }
+    ensures held { state.new ≡ record state.old { state = state.new.state } }
 {
     let found = open_semaphore(state, pid, fd)?;
     if found.value == SEM_VALUE_MAX {
@@ -230,7 +193,7 @@ pub(crate) fn sem_post(state: &mut State, pid: Pid, fd: u32) -> Answer
 pub(crate) fn sem_trywait(state: &mut State, pid: Pid, fd: u32) -> Answer
     ensures finish { Finishes (finish_of state.new.state result)
         ≡ ended state.old.state (defined.sem_trywait state.old.state pid.0 fd) }
-    ensures same { state.new ≡ record state.old { state = state.new.state } }
+    ensures held { state.new ≡ record state.old { state = state.new.state } }
 {
     let found = open_semaphore(state, pid, fd)?;
     if found.value == 0 {

@@ -1,29 +1,25 @@
 //! The calls on shared memory segments: shm_open(3), shm_unlink(3), ftruncate(2), reads and writes, fstat(2). None
 //! takes memory in its attempt.
 
-ghost use Rattle.std.specs.Prelude.{◌≡◌, ◌≢◌, ◌==◌, ◌<◌, ◌^◌, ◌+◌, ◌≤◌, ◌++◌, List, ℕ, Some, None, true, false};
+ghost use Rattle.std.specs.Prelude.{◌≡◌, ◌<◌, ◌^◌, ◌+◌, ◌≤◌, ◌++◌, List, ℕ, Some, None, true, false};
 ghost use Rattle.std.specs.Prelude.{is_some, length, IfOk};
 ghost use Rattle.std.specs.Prelude.{vec_len, vec_capacity};
-ghost use Rattle.std.specs.Int.RustNames.{bit_and};
 ghost use Rattle.std.specs.Result.{is_ok};
 ghost use Rattle.ipc_base.specs.Limits.{ArePassed};
 ghost use Rattle.ipc_base.specs.Numbers.{record_bytes};
-ghost use Rattle.ipc_keys.specs.Directory.{is_vacant};
 ghost use Rattle.ipc_keys.specs.Names.{check_name as checked};
 ghost use Rattle.ipc_keys.specs.declared.check.NameKind.TheVariants as kinds;
-ghost use Rattle.shm_segment.specs.Segment.{Segment, empty_segment, part, truncated, written, is_within};
-ghost use Rattle.ipc_state.specs.Directory.{HasNoSpareName};
+ghost use Rattle.shm_segment.specs.Segment.{Segment, empty_segment, truncated, written, is_within};
 ghost use Rattle.ipc_state.specs.Finish.{Finishes, ended, finish_of};
-ghost use Rattle.ipc_state.specs.Held.{HasPshmPlace};
+ghost use Rattle.ipc_state.specs.Held.{Ready, left};
 ghost use Rattle.ipc_state.specs.Named.{named};
 ghost use Rattle.ipc_state.specs.Numbered.{entry_of};
 ghost use Rattle.ipc_state.specs.Sound.{HasSoundParts};
 ghost use Rattle.ipc_state.specs.declared.named.NamedEntry.{NamedEntry};
 ghost use Rattle.ipc_state.specs.Spare.{IsSpare, KeepsBuffer};
 ghost use Rattle.ipc_state.specs.State.{has_all_descriptors, is_process, with_pshm};
-ghost use Rattle.ipc_state.specs.Steps.{result_of};
-ghost use Rattle.posix_calls.specs.Needs.{HasNoSpareNameBut, HasRoomFor, most_segment_bytes};
-ghost use Rattle.posix_calls.specs.Seen.{plain_segment, segment_of};
+ghost use Rattle.posix_calls.specs.Needs.{most_segment_bytes, zeros_of};
+ghost use Rattle.posix_calls.specs.Seen.{segment_of};
 ghost use Rattle.posix_calls.specs.Pshm as defined;
 
 use crate::access::{asked_by, described, open_on, seek, unlinkable, usable, writes};
@@ -76,7 +72,7 @@ fn writable(state: &State, pid: Pid, fd: u32) -> Result<FoundPshm<'_>, Errno>
     Ok(found)
 }
 
-/// shm_open(3). What room of the name is not used is given back.
+/// shm_open(3). What is reserved and is not used is given back.
 pub(crate) fn shm_open(
     state: &mut State,
     cred: Cred,
@@ -87,20 +83,13 @@ pub(crate) fn shm_open(
 ) -> Answer
     requires sound { HasSoundParts state.old.limits state.old.state }
     requires process { is_process state.old.state pid.0 ≡ true }
-    requires room { HasPshmPlace state.old.state state.old.room name.now }
+    requires ready { state.old.ready ≡ Ready.Pshm name.now }
     ensures finish { Finishes (finish_of state.new.state result) ≡ ended state.old.state
         (defined.shm_open state.old.limits state.old.state cred pid.0 flags.0 mode name.now) }
-    ensures limits { state.new.limits ≡ state.old.limits }
-    ensures waits { state.new.room.waits ≡ state.old.room.waits }
-    ensures keys { state.new.room.keys ≡ state.old.room.keys }
-    ensures set_keys { state.new.room.set_keys ≡ state.old.room.set_keys }
-    ensures mq_names { state.new.room.names ≡ state.old.room.names }
-    ensures psem_names { state.new.room.psem_names ≡ state.old.room.psem_names }
-    ensures no_name { HasNoSpareNameBut name.now state.old.room.pshm_names
-        → HasNoSpareName state.new.room.pshm_names }
+    ensures held { state.new ≡ left state.old state.new.state }
 {
     let answer = open(state, cred, pid, flags, mode, name);
-    state.pshms_mut().release(name);
+    state.release();
     answer
 }
 
@@ -108,17 +97,10 @@ pub(crate) fn shm_open(
 fn open(state: &mut State, cred: Cred, pid: Pid, flags: OpenFlags, mode: u32, name: &[u8]) -> Answer
     requires sound { HasSoundParts state.old.limits state.old.state }
     requires process { is_process state.old.state pid.0 ≡ true }
-    requires room { HasPshmPlace state.old.state state.old.room name.now }
+    requires ready { state.old.ready ≡ Ready.Pshm name.now }
     ensures finish { Finishes (finish_of state.new.state result) ≡ ended state.old.state
         (defined.shm_open state.old.limits state.old.state cred pid.0 flags.0 mode name.now) }
-    ensures limits { state.new.limits ≡ state.old.limits }
-    ensures waits { state.new.room.waits ≡ state.old.room.waits }
-    ensures keys { state.new.room.keys ≡ state.old.room.keys }
-    ensures set_keys { state.new.room.set_keys ≡ state.old.room.set_keys }
-    ensures mq_names { state.new.room.names ≡ state.old.room.names }
-    ensures psem_names { state.new.room.psem_names ≡ state.old.room.psem_names }
-    ensures others { (other : List ℕ) → other ≢ name.now
-        → is_vacant state.new.room.pshm_names other ≡ is_vacant state.old.room.pshm_names other }
+    ensures held { state.new ≡ record state.old { state = state.new.state; ready = state.new.ready } }
 {
     check_name(NameKind::Pshm, name)?;
     if flags.0 & 1 == 1 {
@@ -128,7 +110,7 @@ fn open(state: &mut State, cred: Cred, pid: Pid, flags: OpenFlags, mode: u32, na
         return Err(Errno::EMFILE);
     }
     let Some(number) = seek(state.pshms(), name, flags)? else {
-        return make_pshm(state, cred, pid, flags, mode, name);
+        return make_pshm(state, cred, pid, flags, mode);
     };
     open_at(state, cred, pid, flags, number)
 }
@@ -151,7 +133,7 @@ fn open_at(state: &mut State, cred: Cred, pid: Pid, flags: OpenFlags, number: u3
     requires few { has_all_descriptors state.old.limits state.old.state pid.0 ≡ false }
     ensures finish { Finishes (finish_of state.new.state result)
         ≡ ended state.old.state (defined.opened_pshm state.old.state cred pid.0 flags.0 number) }
-    ensures same { state.new ≡ record state.old { state = state.new.state } }
+    ensures held { state.new ≡ record state.old { state = state.new.state } }
 {
     usable(state.pshms(), cred, number, asked_of_pshm(flags))?;
     cut(state, number, flags);
@@ -162,9 +144,8 @@ fn open_at(state: &mut State, cred: Cred, pid: Pid, flags: OpenFlags, number: u3
 /// Leaves no bytes of a segment that is there, if the flags ask for that.
 fn cut(state: &mut State, number: u32, flags: OpenFlags)
     requires { is_some (entry_of state.old.state.pshm number) ≡ true }
-    ensures state { (e : NamedEntry Segment) → entry_of state.old.state.pshm number ≡ Some e
+    ensures held { (e : NamedEntry Segment) → entry_of state.old.state.pshm number ≡ Some e
         → state.new ≡ record state.old { state = defined.cut_as flags.0 state.old.state number e } }
-    ensures same { state.new ≡ record state.old { state = state.new.state } }
 {
     if flags.contains(OpenFlags::O_TRUNC) {
         let zeros = Segment::new(state.allocator());
@@ -173,31 +154,17 @@ fn cut(state: &mut State, number: u32, flags: OpenFlags)
 }
 
 /// Opens a new segment of the name that is ready.
-fn make_pshm(
-    state: &mut State,
-    cred: Cred,
-    pid: Pid,
-    flags: OpenFlags,
-    mode: u32,
-    _name: &[u8],
-) -> Answer
+fn make_pshm(state: &mut State, cred: Cred, pid: Pid, flags: OpenFlags, mode: u32) -> Answer
+    ghost name: { List ℕ }
     requires sound { HasSoundParts state.old.limits state.old.state }
     requires process { is_process state.old.state pid.0 ≡ true }
     requires few { has_all_descriptors state.old.limits state.old.state pid.0 ≡ false }
-    requires access { (bit_and flags.0 1 == 1) ≡ false }
-    requires proper { is_ok (checked kinds.Pshm _name.now) ≡ true }
-    requires unused { named state.old.state.pshm _name.now ≡ None }
-    requires room { HasPshmPlace state.old.state state.old.room _name.now }
+    requires proper { is_ok (checked kinds.Pshm name) ≡ true }
+    requires unused { named state.old.state.pshm name ≡ None }
+    requires ready { state.old.ready ≡ Ready.Pshm name }
     ensures finish { Finishes (finish_of state.new.state result) ≡ ended state.old.state
-        (defined.made_pshm state.old.limits state.old.state cred pid.0 flags.0 mode _name.now) }
-    ensures limits { state.new.limits ≡ state.old.limits }
-    ensures waits { state.new.room.waits ≡ state.old.room.waits }
-    ensures keys { state.new.room.keys ≡ state.old.room.keys }
-    ensures set_keys { state.new.room.set_keys ≡ state.old.room.set_keys }
-    ensures mq_names { state.new.room.names ≡ state.old.room.names }
-    ensures psem_names { state.new.room.psem_names ≡ state.old.room.psem_names }
-    ensures others { (other : List ℕ) → other ≢ _name.now
-        → is_vacant state.new.room.pshm_names other ≡ is_vacant state.old.room.pshm_names other }
+        (defined.made_pshm state.old.limits state.old.state cred pid.0 flags.0 mode name) }
+    ensures held { state.new ≡ record state.old { state = state.new.state; ready = state.new.ready } }
 {
     if state.pshms().is_full(state.limits().segments) {
         return Err(Errno::ENOSPC);
@@ -212,13 +179,7 @@ pub(crate) fn shm_unlink(state: &mut State, cred: Cred, name: &[u8]) -> Answer
     requires sound { HasSoundParts state.old.limits state.old.state }
     ensures finish { Finishes (finish_of state.new.state result)
         ≡ ended state.old.state (defined.shm_unlink state.old.state cred name.now) }
-    ensures limits { state.new.limits ≡ state.old.limits }
-    ensures waits { state.new.room.waits ≡ state.old.room.waits }
-    ensures keys { state.new.room.keys ≡ state.old.room.keys }
-    ensures set_keys { state.new.room.set_keys ≡ state.old.room.set_keys }
-    ensures mq_names { state.new.room.names ≡ state.old.room.names }
-    ensures psem_names { state.new.room.psem_names ≡ state.old.room.psem_names }
-    ensures names { HasNoSpareName state.old.room.pshm_names → HasNoSpareName state.new.room.pshm_names }
+    ensures held { state.old.ready ≡ Ready.Nothing → state.new ≡ left state.old state.new.state }
 {
     check_name(NameKind::Pshm, name)?;
     let number = unlinkable(state.pshms(), cred, name)?;
@@ -238,14 +199,13 @@ fn is_past_all(state: &State, segment: &Segment, wanted: u64) -> bool
     !state.have_at_most_bytes(segment.len() + (most - wanted) as usize)
 }
 
-/// ftruncate(2) of a segment. The zeros that are ready become the segment, or are given back.
+/// ftruncate(2) of a segment. The zeros that are reserved become the segment, or are given back.
 pub(crate) fn ftruncate(state: &mut State, pid: Pid, fd: u32, length: u64) -> Answer
     requires sound { HasSoundParts state.old.limits state.old.state }
-    requires room { HasRoomFor state.old.room length }
+    requires ready { state.old.ready ≡ zeros_of length }
     ensures finish { Finishes (finish_of state.new.state result) ≡ ended state.old.state
         (defined.ftruncate state.old.limits state.old.state pid.0 fd length) }
-    ensures limits { state.new.limits ≡ state.old.limits }
-    ensures room { state.new.room ≡ record state.old.room { fresh_segment = None } }
+    ensures held { state.new ≡ left state.old state.new.state }
 {
     let zeros = state.take_zeros();
     resize(state, pid, fd, length, zeros)
@@ -257,7 +217,7 @@ fn resize(state: &mut State, pid: Pid, fd: u32, length: u64, zeros: Option<Segme
     requires zeros { length ≤ most_segment_bytes → zeros ≡ Some (truncated length empty_segment) }
     ensures finish { Finishes (finish_of state.new.state result) ≡ ended state.old.state
         (defined.ftruncate state.old.limits state.old.state pid.0 fd length) }
-    ensures same { state.new ≡ record state.old { state = state.new.state } }
+    ensures held { state.new ≡ record state.old { state = state.new.state } }
 {
     let found = writable(state, pid, fd)?;
     if is_past_all(state, &found.entry.object, length) {
@@ -272,11 +232,10 @@ fn resize(state: &mut State, pid: Pid, fd: u32, length: u64, zeros: Option<Segme
 fn truncate(state: &mut State, number: u32, zeros: Segment)
     requires there { is_some (entry_of state.old.state.pshm number) ≡ true }
     requires zeros { zeros ≡ truncated (length zeros.bytes) empty_segment }
-    ensures state { (e : NamedEntry Segment) → entry_of state.old.state.pshm number ≡ Some e
+    ensures held { (e : NamedEntry Segment) → entry_of state.old.state.pshm number ≡ Some e
         → state.new ≡ record state.old {
           state = with_pshm state.old.state number (truncated (length zeros.bytes) e.object);
         } }
-    ensures same { state.new ≡ record state.old { state = state.new.state } }
 {
     state.pshm_mut(number).unwrap().truncate(zeros);
 }
@@ -313,7 +272,7 @@ pub(crate) fn shm_read(
 pub(crate) fn shm_write(state: &mut State, pid: Pid, fd: u32, offset: u64, bytes: &[u8]) -> Answer
     ensures finish { Finishes (finish_of state.new.state result) ≡ ended state.old.state
         (defined.shm_write state.old.limits state.old.state pid.0 fd offset bytes.now) }
-    ensures same { state.new ≡ record state.old { state = state.new.state } }
+    ensures held { state.new ≡ record state.old { state = state.new.state } }
 {
     let found = writable(state, pid, fd)?;
     if bytes.len() > state.limits().call_bytes as usize {
@@ -332,11 +291,10 @@ fn write(state: &mut State, number: u32, offset: usize, bytes: &[u8])
     requires there { is_some (entry_of state.old.state.pshm number) ≡ true }
     requires within { (e : NamedEntry Segment) → entry_of state.old.state.pshm number ≡ Some e
         → is_within offset (length bytes.now) e.object ≡ true }
-    ensures state { (e : NamedEntry Segment) → entry_of state.old.state.pshm number ≡ Some e
+    ensures held { (e : NamedEntry Segment) → entry_of state.old.state.pshm number ≡ Some e
         → state.new ≡ record state.old {
           state = with_pshm state.old.state number (written offset bytes.now e.object);
         } }
-    ensures same { state.new ≡ record state.old { state = state.new.state } }
 {
     state.pshm_mut(number).unwrap().write(offset, bytes);
 }

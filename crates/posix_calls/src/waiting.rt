@@ -41,11 +41,7 @@ pub fn try_parked(state: &mut State, pid: Pid, call: ParkedPosix) -> Tried
     ensures finish { tried_of state.new.state result
         ≡ calls.attempt state.old.limits state.old.state pid.0 (parked_posix call) }
     ensures kept { WaitsUnchanged state.old (parked_posix call) state.new result }
-    ensures limits { state.new.limits ≡ state.old.limits }
-    ensures keys { state.new.room.keys ≡ state.old.room.keys }
-    ensures set_keys { state.new.room.set_keys ≡ state.old.room.set_keys }
-    ensures names { state.new.room.names ≡ state.old.room.names }
-    ensures waits { state.new.room.waits ≡ state.old.room.waits }
+    ensures held { state.new ≡ record state.old { state = state.new.state } }
 {
     let number = match ready(state, pid, &call) {
         Ok(number) => number,
@@ -197,14 +193,13 @@ fn send(state: &mut State, number: u32, message: Message) -> Option<Registration
     requires there { is_some (entry_of state.old.state.mq number) ≡ true }
     requires room { (q : Queue) → mq_object state.old.state number ≡ Some q
         → length q.messages < most_messages }
-    ensures state { (q : Queue) → mq_object state.old.state number ≡ Some q
+    ensures held { (q : Queue) → mq_object state.old.state number ≡ Some q
         → state.new ≡ record state.old {
           state = with_mq state.old.state number
               (defined.arrived (defined.is_to_notify state.old.state number q) q (plain message));
         } }
     ensures fired { (q : Queue) → mq_object state.old.state number ≡ Some q
         → result ≡ defined.firing (defined.is_to_notify state.old.state number q) q }
-    ensures same { state.new ≡ record state.old { state = state.new.state } }
 {
     let notifies = is_to_notify(state, number);
     arrive(state.mq_object_mut(number).unwrap(), message, notifies)
@@ -215,12 +210,11 @@ fn receive(state: &mut State, number: u32) -> Body<Vec<u8>>
     requires there { is_some (entry_of state.old.state.mq number) ≡ true }
     requires some { (q : Queue) → mq_object state.old.state number ≡ Some q
         → 0 < length q.messages }
-    ensures state { (q : Queue) → mq_object state.old.state number ≡ Some q
+    ensures held { (q : Queue) → mq_object state.old.state number ≡ Some q
         → state.new ≡ record state.old { state = with_mq state.old.state number (received q) } }
     ensures body { (q : Queue) → mq_object state.old.state number ≡ Some q
         → option_map defined.message_body (received_message q)
         ≡ Some (body_of (λ text. text.items) result) }
-    ensures same { state.new ≡ record state.old { state = state.new.state } }
 {
     let message = state.mq_object_mut(number).unwrap().receive();
     Body::MqMessage {

@@ -3,6 +3,7 @@ mod Ending
 mod EveryCall
 mod Families
 mod Kept
+mod Lent
 mod MsgCalls
 mod Noting
 mod Reaching

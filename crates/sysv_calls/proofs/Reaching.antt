@@ -1,6 +1,6 @@
 -- What the steps of a call find, and what holds where its tests are passed.
 use Rattle.std.proofs.Common.{◌≡◌, ℕ, zero, suc, ℤ, pos, negsuc, ◌*◌, ◌<◌, Bool, true, false, List, [], ◌∷◌, ◌++◌, cond, length}
-use Rattle.std.proofs.Common.{map, arith, Option, Some, None, refl, sym, ap, subst, ◌∙◌}
+use Rattle.std.proofs.Common.{map, arith, Option, Some, None, refl, sym, ap, ◌∙◌}
 use Rattle.std.specs.Prelude.{not, is_some, nat_eq, nat_le, nat_lt, int_lt, ◌≤◌, ◌==◌, slice_get, sum_by, All, if◌then◌else◌, Ok, Err}
 use Rattle.std.proofs.lemmas.Bool.{eqb-true, leb-true, lt-ltb, ltb-false, ltb-true, not-false}
 use Rattle.std.proofs.lemmas.List.Elements.{All-weaker}
@@ -25,10 +25,7 @@ use Rattle.sysv_sem.specs.declared.set.Semaphore.{Semaphore}
 use Rattle.sysv_sem.specs.declared.operation.Operation.{Operation}
 use Rattle.sysv_sem.specs.Operation.{Outcome, Done as IsDone, Blocks as Stops, Fails as IsRefused, most_value, outcome}
 use Rattle.sysv_sem.specs.Set.{Set, values_of}
-use Rattle.ipc_state.specs.Held.{Room, HasSemsetPlace}
-use Rattle.ipc_state.specs.Lends.{HasPutObject}
-use Rattle.ipc_state.specs.Tables.{HeldObjects}
-use Rattle.ipc_state.proofs.CallerLemmas.{put-keys}
+use Rattle.ipc_state.specs.Held.Ready.{Nothing, Semset}
 use Rattle.ipc_state.specs.State.{State, semset_of}
 use Rattle.ipc_state.specs.Finish.{Attempt, Halt}
 use Rattle.ipc_state.specs.Sound.{IsSoundMessage}
@@ -36,7 +33,7 @@ use Rattle.ipc_state.proofs.CallerLemmas.{AtEnd, after, after-orelse, after-orst
 use Rattle.ipc_state.proofs.CallerLemmas.{may-wait}
 use Rattle.sysv_calls.specs.Access.{read, write, has, gone, accessible, owned, removed, sought}
 use Rattle.sysv_calls.specs.Msg.{except, waits_or, sendable, receivable, is_too_long, message_at}
-use Rattle.sysv_calls.specs.Needs.{Has, Nothing, SetPlace, set_place}
+use Rattle.sysv_calls.specs.Needs.{semset_place}
 use Rattle.sysv_calls.specs.Sem.{count_of, semaphore, settable}
 use Rattle.sysv_calls.specs.Relations.{Passes}
 use Rattle.sysv_calls.specs.Semop.{decided, held_by, operable, performable, stopped_by}
@@ -190,19 +187,6 @@ operates-passes limits s pid id ops found checked ok =
     let most = (passed-bounds limits checked).semopm in
     record { few = omega (arith, most, ok.few); there = ok.there; within = ok.within; done = ok.done }
 
--- what was told of the objects that are held, the definitions say of theirs
-pub told : {X Y : Type 0} (f : Keyed X → Attempt Y) (o s : Keyed X) → o ≡ s → (a : Attempt Y) → a ≡ f o → f s ≡ a
-told f o s same a got = sym (got ∙ ap f same)
-
--- the directory of the keys stays, if another object is put in the place of one that is there
-pub keys-kept : {X : Type 0} (o : HeldObjects X) (s : Keyed X) (id : ℕ) → o.objects ≡ s → is_some (entry_of s id) ≡ true → (left : X) (new : HeldObjects X)
-    → HasPutObject o id left new → new.keys ≡ o.keys
-keys-kept {X} o s id same is left new put = by_entry (entry_of s id) refl is
-  where
-    by_entry : (r : Option (Entry X)) → entry_of s id ≡ r → is_some r ≡ true → new.keys ≡ o.keys
-    by_entry None there is = cc
-    by_entry (Some e) there is = put-keys o s id e same there left new put
-
 -- why an attempt stopped does not tell what is looked at
 pub other-seen : {X Y Z : Type 0} (f : X → Y) (g : X → Z) (a : Attempt X) (h : Halt) → Err h ≡ seen f a → Err h ≡ seen g a
 other-seen f g (Ok x) h is = cc
@@ -232,17 +216,15 @@ values-length xs =
         let rest : List Field = map (λ (x : Semaphore). U16 x.value) ys in
         omega (arith, sum_by-cons (λ f. length (field_bytes f)) (U16 y.value) rest, sum-two ys)
 
--- ---- places
+-- ---- what is reserved
 
--- a set of as many semaphores as one may have has a place, if one was reserved
-pub has-set_place : (limits : Limits) (s : State) (room : Room) (key nsems : ℤ) (n : ℕ) → limits.semmsl ≤ 64 → count_of limits nsems ≡ Some n → 0 < n
-    → Has s room (set_place key nsems) → HasSemsetPlace s room key n
-has-set_place limits s room key (pos zero) n most is some has =
-    absurd (omega (arith, (within-limit zero limits.semmsl n is).0, some))
-has-set_place limits s room key (pos (suc k)) n most is some has =
+-- a set of as many semaphores as one may have is
+pub place-reserved : (limits : Limits) (key nsems : ℤ) (n : ℕ) → limits.semmsl ≤ 64 → count_of limits nsems ≡ Some n → 0 < n
+    → semset_place key nsems ≡ Semset key n
+place-reserved limits key (pos zero) n most is some = absurd (omega (arith, (within-limit zero limits.semmsl n is).0, some))
+place-reserved limits key (pos (suc k)) n most is some =
     let same : n ≡ suc k = (within-limit (suc k) limits.semmsl n is).0 in
     let few : suc k ≤ limits.semmsl = (within-limit (suc k) limits.semmsl n is).1 in
     let inside : nat_lt k 64 ≡ true = lt-ltb k 64 (omega (arith, few, most)) in
-    subst (λ (m : ℕ). HasSemsetPlace s room key m) (sym same)
-    (subst (λ (b : Bool). Has s room (if b then SetPlace key (suc k) else Nothing)) inside has)
-has-set_place limits s room key (negsuc k) n most is some has = cc
+    ap (λ (b : Bool). if b then Semset key (suc k) else Nothing) inside ∙ ap (Semset key) (sym same)
+place-reserved limits key (negsuc k) n most is some = cc

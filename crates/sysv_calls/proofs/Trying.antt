@@ -60,7 +60,7 @@ module _ {limits : Limits} {s : State} {pid : ℕ} {again : Bool} {call : Parked
     {at : ℕ} (was : r ≡ Ok at) where
   -- a send
   module _ {id : Id} {flags : MsgFlags} {m : Message} (is : call ≡ parked.Msgsnd id flags m) where
-    send : HasFound (λ (e : Entry Queue). 0) (Sends limits s id.0 m.mtype m.text.items)
+    pub send : HasFound (λ (e : Entry Queue). 0) (Sends limits s id.0 m.mtype m.text.items)
         (sendable limits s (cred_of s pid) again id.0 flags.0 m.mtype m.text.items) at
     send = has-found (sends limits s (cred_of s pid) again id.0 flags.0 m.mtype m.text.items) (said tests.is was _ is)
 
@@ -82,7 +82,7 @@ module _ {limits : Limits} {s : State} {pid : ℕ} {again : Bool} {call : Parked
 
   -- a receive
   module _ {id : Id} {flags : MsgFlags} {size : ℕ} {mtype : ℤ} (is : call ≡ parked.Msgrcv id flags size mtype) where
-    receive : HasFound (λ (found : Entry Queue × ℕ). found.1) (Receives s id.0) (receivable s (cred_of s pid) again id.0 flags.0 size mtype) at
+    pub receive : HasFound (λ (found : Entry Queue × ℕ). found.1) (Receives s id.0) (receivable s (cred_of s pid) again id.0 flags.0 size mtype) at
     receive = has-found (receives s (cred_of s pid) again id.0 flags.0 size mtype) (said tests.is was _ is)
 
     pub receives-there : is_some (msg_queue_of s id.0) ≡ true

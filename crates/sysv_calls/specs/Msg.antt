@@ -103,9 +103,8 @@ abbrev pub msgctl_set : Limits → State → Cred → ℕ → ℕ → ℕ → �
 msgctl_set limits s cred id uid gid mode qbytes = do
   e ← owned s.msg cred id
   refuse EPERM (nat_lt limits.msgmnb qbytes)
-  answer
-      (with_msg_queue s id
-      (holding (permitting e (owned_by e.perm uid gid mode)) (changed e.object qbytes s.clock))) Empty
+  let queue = holding (permitting e (owned_by e.perm uid gid mode)) (changed e.object qbytes s.clock)
+  answer (with_msg_queue s id queue) Empty
 
 -- IPC_RMID of msgctl(2)
 abbrev pub msgctl_rmid : State → Cred → ℕ → Attempt Done

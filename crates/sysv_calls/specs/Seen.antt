@@ -28,11 +28,6 @@ abbrev pub sought_of : Result (Option Id) Errno → Attempt (Option ℕ)
 sought_of (Ok found) = Ok (option_map (λ id. id.0) found)
 sought_of (Err e) = Err (Fails e)
 
--- what is left, where it is done
-abbrev pub unit_of : {X Y : Type 0} → X → Result Y Errno → Attempt X
-unit_of left (Ok done) = Ok left
-unit_of left (Err e) = Err (Fails e)
-
 -- the tests of a call that may wait: if it may go on now, the place of the message that a receive takes, and 0 for any
 -- other
 abbrev pub place_in : Limits → State → Cred → ℕ → Bool → ParkedSysv → Attempt ℕ

@@ -1,13 +1,12 @@
-//! What is alike for the objects of every kind: which of them a get finds, who may use them, their records, and their
-//! removal. See sysvipc(7).
+//! What is alike for the objects of every kind: which of them a get finds, who may use them, and their records. See
+//! sysvipc(7).
 
-ghost use Rattle.std.specs.Prelude.{◌≡◌, ◌+◌, ◌≤◌, ◌++◌, [], vec_len, vec_capacity, OnErr};
+ghost use Rattle.std.specs.Prelude.{◌≡◌, ◌+◌, ◌≤◌, ◌++◌, [], vec_len, vec_capacity};
 ghost use Rattle.ipc_base.specs.Numbers.{record_bytes};
-ghost use Rattle.ipc_state.specs.Directory.{ArePositive, HasNoSpareKey};
-ghost use Rattle.ipc_state.specs.Keyed.{AreNamed};
+ghost use Rattle.ipc_state.specs.Directory.{ArePositive};
 ghost use Rattle.sysv_calls.specs.Access as defined;
 ghost use Rattle.sysv_calls.specs.Records.{perm_fields};
-ghost use Rattle.sysv_calls.specs.Seen.{attempt_of, sought_of, unit_of};
+ghost use Rattle.sysv_calls.specs.Seen.{attempt_of, sought_of};
 
 use bitflags::Flags;
 use ipc_base::{Cred, Errno, Field, GetFlags, Id};
@@ -83,18 +82,6 @@ fn may_make(key: i32, flags: GetFlags) -> bool
     ensures { result ≡ defined.may_make key flags.0 }
 {
     key == IPC_PRIVATE || flags.contains(GetFlags::IPC_CREAT)
-}
-
-/// IPC_RMID of msgctl(2) and semctl(2). Refused, all is as before.
-pub(crate) fn remove<T: Drop>(objects: &mut Keyed<T>, cred: Cred, id: Id) -> Result<(), Errno>
-    requires { AreNamed objects.old.objects }
-    ensures objects { unit_of objects.new.objects result ≡ defined.removed objects.old.objects cred id.0 }
-    ensures err { OnErr result (objects.new ≡ objects.old) }
-    ensures keys { HasNoSpareKey objects.old.keys → HasNoSpareKey objects.new.keys }
-{
-    owned(objects, cred, id)?;
-    objects.remove(id);
-    Ok(())
 }
 
 /// Adds what is alike for the records of every kind to a body that has room for it.

@@ -1,24 +1,22 @@
 //! The memory of each request, the attempt of a call that never waits, which takes none, and which object a call may
 //! change.
 
-ghost use Rattle.std.specs.Prelude.{◌≡◌, true, false, IfOk, IsOk, OnOk, OnErr};
+ghost use Rattle.std.specs.Prelude.{◌≡◌, true, false, IfOk, IsOk, OnErr};
 ghost use Rattle.ipc_wire.specs.Request.{Sysv, plain_sysv, plain_kind};
 ghost use Rattle.ipc_wire.specs.View.{plain_request};
 ghost use Rattle.ipc_state.specs.Finish.{Finishes, finish_of};
-ghost use Rattle.ipc_state.specs.Held.{HasNoSpareKeys};
+ghost use Rattle.ipc_state.specs.Held.{left};
 ghost use Rattle.ipc_state.specs.Sound.{HasSoundParts};
 ghost use Rattle.ipc_state.specs.State.{is_process};
 ghost use Rattle.sysv_calls.specs.Calls as defined;
-ghost use Rattle.ipc_state.specs.Waiting.{has_text, may_wait};
-ghost use Rattle.sysv_calls.specs.Needs.{Has, HasSpareKeysOf, IsReserved, is_place, needs, plain_needs};
-ghost use Rattle.sysv_calls.specs.Needs.{keeps_request, kept_of, takes_memory};
+ghost use Rattle.ipc_state.specs.Waiting.{may_wait};
+ghost use Rattle.sysv_calls.specs.Needs.{IsReserved, needs, takes_memory};
 ghost use Rattle.ipc_state.specs.Spare.{IsSpare, KeepsBuffer};
 
-use crate::memory::{Needs, needed_by};
 use crate::msg::{msgctl_rmid, msgctl_set, msgctl_stat, msgget};
 use crate::sem::{
-    semctl_getall, semctl_getpid, semctl_getval, semctl_rmid, semctl_set, semctl_setall,
-    semctl_setval, semctl_stat, semget,
+    reserve_set, semctl_getall, semctl_getpid, semctl_getval, semctl_rmid, semctl_set,
+    semctl_setall, semctl_setval, semctl_stat, semget,
 };
 use crate::semop::semctl_getcnt;
 use ipc_base::{Errno, Pid};
@@ -26,56 +24,35 @@ use ipc_state::{Answer, Object, Parked, State};
 use ipc_wire::{Body, Request, RequestKind, SysvCall};
 use std::alloc::{AllocError, Global};
 
-/// Takes the memory that a System V request may need, which one that grows nothing never does. A call that may wait is
-/// kept, its text in memory of its own. Any other request needs nothing here, and nothing is kept of it. Refused, the
-/// state is as before.
+/// Reserves what a System V request may need, in place of what was reserved; one that grows nothing takes no memory. A
+/// call that may wait is kept, its text in memory of its own. Any other request needs nothing here, and nothing is kept
+/// of it. Refused for want of memory, nothing is reserved, and the state is as before.
 pub fn reserve(
     state: &mut State,
     alloc: Global,
     request: &Request<'_>,
 ) -> Result<Option<Parked>, AllocError>
-    requires sound { HasSoundParts state.old.limits state.old.state }
-    ensures state { state.new.state ≡ state.old.state }
-    ensures limits { state.new.limits ≡ state.old.limits }
-    ensures waits { state.new.room.waits ≡ state.old.room.waits }
-    ensures ok { IfOk result (λ kept. IsReserved state.new.state state.new.room (plain_request request.now) kept) }
+    ensures ok { IfOk result (λ kept. IsReserved state.old state.new (plain_request request.now) kept) }
+    ensures err { OnErr result (state.new ≡ left state.old state.old.state) }
     ensures memory { takes_memory (plain_kind request.now.kind) ≡ false → IsOk result }
-    ensures key { HasNoSpareKeys state.old.room
-        → HasSpareKeysOf state.new.room (needs (plain_kind request.now.kind)) }
-    ensures no_key { OnErr result (HasNoSpareKeys state.old.room → HasNoSpareKeys state.new.room) }
-{
-    reserve_place(state, needed_by(&request.kind))?;
-    keep(alloc, request)
-}
-
-/// Keeps a System V request that may have to wait. Refused for want of memory, which only a text or a list of
-/// operations takes.
-fn keep(alloc: Global, request: &Request<'_>) -> Result<Option<Parked>, AllocError>
-    ensures kept { IfOk result (λ kept. kept ≡ kept_of (plain_request request.now)) }
-    ensures memory { has_text (plain_kind request.now.kind) ≡ false → IsOk result }
-    ensures others { keeps_request (plain_kind request.now.kind) ≡ false → IsOk result }
 {
     match &request.kind {
-        RequestKind::Sysv(_) => Parked::new(alloc, request),
-        RequestKind::Hello(_) | RequestKind::Interrupt | RequestKind::Posix(_) => Ok(None),
-    }
-}
-
-/// Takes the memory of a new object, if one is needed. Refused, the state is as before.
-fn reserve_place(state: &mut State, needs: Needs) -> Result<(), AllocError>
-    requires sound { HasSoundParts state.old.limits state.old.state }
-    ensures state { state.new.state ≡ state.old.state }
-    ensures limits { state.new.limits ≡ state.old.limits }
-    ensures waits { state.new.room.waits ≡ state.old.room.waits }
-    ensures ok { OnOk result (Has state.new.state state.new.room (plain_needs needs)) }
-    ensures memory { is_place (plain_needs needs) ≡ false → IsOk result }
-    ensures key { HasNoSpareKeys state.old.room → HasSpareKeysOf state.new.room (plain_needs needs) }
-    ensures no_key { OnErr result (HasNoSpareKeys state.old.room → HasNoSpareKeys state.new.room) }
-{
-    match needs {
-        Needs::Place { key } => state.reserve_msg_queue(key),
-        Needs::SetPlace { key, nsems } => state.reserve_semset(key, nsems),
-        Needs::Text | Needs::Nothing => Ok(()),
+        RequestKind::Sysv(SysvCall::Msgget { key, .. }) => {
+            state.reserve_msg_queue(*key)?;
+            Ok(None)
+        }
+        RequestKind::Sysv(SysvCall::Semget { key, nsems, .. }) => {
+            reserve_set(state, *key, *nsems)?;
+            Ok(None)
+        }
+        RequestKind::Sysv(_) => {
+            state.release();
+            Parked::new(alloc, request)
+        }
+        RequestKind::Hello(_) | RequestKind::Interrupt | RequestKind::Posix(_) => {
+            state.release();
+            Ok(None)
+        }
     }
 }
 
@@ -84,16 +61,13 @@ fn reserve_place(state: &mut State, needs: Needs) -> Result<(), AllocError>
 pub fn attempt(state: &mut State, pid: Pid, call: &SysvCall<'_>, spare: &mut Vec<u8>) -> Answer
     requires sound { HasSoundParts state.old.limits state.old.state }
     requires never { may_wait (Sysv (plain_sysv call.now)) ≡ false }
-    requires room { Has state.old.state state.old.room (needs (Sysv (plain_sysv call.now))) }
+    requires ready { state.old.ready ≡ needs (Sysv (plain_sysv call.now)) }
     requires process { is_process state.old.state pid.0 ≡ true }
     requires spare { IsSpare state.old.limits spare.old }
     ensures finish { Finishes (finish_of state.new.state result)
         ≡ defined.attempt state.old.limits state.old.state pid.0 false (plain_sysv call.now) }
-    ensures limits { state.new.limits ≡ state.old.limits }
-    ensures waits { state.new.room.waits ≡ state.old.room.waits }
+    ensures held { state.new ≡ left state.old state.new.state }
     ensures spare { KeepsBuffer state.old.limits spare.new result }
-    ensures no_key { HasSpareKeysOf state.old.room (needs (Sysv (plain_sysv call.now)))
-        → HasNoSpareKeys state.new.room }
 {
     let cred = state.cred(pid);
     match call {

@@ -4,7 +4,6 @@
 
 mod access;
 mod calls;
-mod memory;
 mod msg;
 mod sem;
 mod semop;

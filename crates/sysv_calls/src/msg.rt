@@ -1,13 +1,11 @@
 //! The calls on message queues: msgget(2), msgop(2), msgctl(2). None takes memory in its attempt.
 
-ghost use Rattle.std.specs.Prelude.{◌≡◌, ◌≢◌, ℤ, ◌+◌, ◌<◌, ◌≤◌, ◌++◌, Some, None};
-ghost use Rattle.std.specs.Prelude.{true, is_some, length, take, vec_len, vec_capacity, OnOk};
+ghost use Rattle.std.specs.Prelude.{◌≡◌, ◌+◌, ◌<◌, ◌≤◌, ◌++◌, Some, None};
+ghost use Rattle.std.specs.Prelude.{true, is_some, length, take, vec_len, vec_capacity, OnOk, OnErr};
 ghost use Rattle.ipc_base.specs.Limits.{ArePassed};
 ghost use Rattle.ipc_base.specs.Numbers.{record_bytes};
-ghost use Rattle.ipc_keys.specs.Directory.{is_vacant};
-ghost use Rattle.ipc_state.specs.Directory.{HasNoSpareKey};
 ghost use Rattle.ipc_state.specs.Finish.{Finishes, ended, finish_of};
-ghost use Rattle.ipc_state.specs.Held.{HasMsgQueuePlace};
+ghost use Rattle.ipc_state.specs.Held.{Ready, left};
 ghost use Rattle.ipc_state.specs.Keyed.{holding, keyed};
 ghost use Rattle.ipc_state.specs.Sound.{HasSoundParts, HasNumbers};
 ghost use Rattle.ipc_state.specs.State.{msg_queue_of, with_msg_queue};
@@ -15,13 +13,12 @@ ghost use Rattle.ipc_state.specs.declared.keyed.Entry.{Entry};
 ghost use Rattle.ipc_wire.specs.Reply.{body_of};
 ghost use Rattle.ipc_wire.specs.declared.reply.Body.TheVariants as body;
 ghost use Rattle.sysv_calls.specs.Msg as defined;
-ghost use Rattle.sysv_calls.specs.Needs.{HasNoSpareKeyBut};
 ghost use Rattle.sysv_calls.specs.Records.{queue_fields};
 ghost use Rattle.ipc_state.specs.Steps.{attempted, plain_halt, seen};
 ghost use Rattle.ipc_state.specs.Spare.{IsSpare, KeepsBuffer};
 ghost use Rattle.sysv_msg.specs.Queue.{Queue, most_messages, plain, sent, taken};
 
-use crate::access::{accessible, owned, push_perm, remove, seek};
+use crate::access::{accessible, owned, push_perm, seek};
 use bitflags::Flags;
 use ipc_base::{Cred, Errno, Field, GetFlags, Id, MsgFlags, Pid};
 use ipc_perm::{Access, Perm};
@@ -29,33 +26,26 @@ use ipc_state::{Answer, Halt, LAST_NUMBER, State, take_spare};
 use ipc_wire::{Body, push_fields};
 use sysv_msg::{Message, MsgQueue};
 
-/// msgget(2). What room of the key is not used is given back.
+/// msgget(2). What is reserved for a queue that is not made is given back.
 pub(crate) fn msgget(state: &mut State, cred: Cred, key: i32, flags: GetFlags) -> Answer
     requires sound { HasSoundParts state.old.limits state.old.state }
-    requires room { HasMsgQueuePlace state.old.state state.old.room key }
+    requires ready { state.old.ready ≡ Ready.MsgQueue key }
     ensures finish { Finishes (finish_of state.new.state result) ≡ ended state.old.state
         (defined.msgget state.old.limits state.old.state cred key flags.0) }
-    ensures limits { state.new.limits ≡ state.old.limits }
-    ensures waits { state.new.room.waits ≡ state.old.room.waits }
-    ensures set_keys { state.new.room.set_keys ≡ state.old.room.set_keys }
-    ensures no_key { HasNoSpareKeyBut key state.old.room.keys → HasNoSpareKey state.new.room.keys }
+    ensures held { state.new ≡ left state.old state.new.state }
 {
     let answer = get_queue(state, cred, key, flags);
-    state.msg_mut().release(key);
+    state.release();
     answer
 }
 
 /// The queue that a key names, or a new one.
 fn get_queue(state: &mut State, cred: Cred, key: i32, flags: GetFlags) -> Answer
     requires sound { HasSoundParts state.old.limits state.old.state }
-    requires room { HasMsgQueuePlace state.old.state state.old.room key }
+    requires ready { state.old.ready ≡ Ready.MsgQueue key }
     ensures finish { Finishes (finish_of state.new.state result) ≡ ended state.old.state
         (defined.msgget state.old.limits state.old.state cred key flags.0) }
-    ensures limits { state.new.limits ≡ state.old.limits }
-    ensures waits { state.new.room.waits ≡ state.old.room.waits }
-    ensures set_keys { state.new.room.set_keys ≡ state.old.room.set_keys }
-    ensures others { (other : ℤ) → other ≢ key
-        → is_vacant state.new.room.keys other ≡ is_vacant state.old.room.keys other }
+    ensures held { state.new ≡ record state.old { state = state.new.state; ready = state.new.ready } }
 {
     let Some(id) = seek(state.msg(), key, flags)? else {
         return make_queue(state, cred, key, flags);
@@ -68,19 +58,15 @@ fn get_queue(state: &mut State, cred: Cred, key: i32, flags: GetFlags) -> Answer
 fn make_queue(state: &mut State, cred: Cred, key: i32, flags: GetFlags) -> Answer
     requires sound { HasSoundParts state.old.limits state.old.state }
     requires unused { keyed state.old.state.msg key ≡ None }
-    requires room { HasMsgQueuePlace state.old.state state.old.room key }
+    requires ready { state.old.ready ≡ Ready.MsgQueue key }
     ensures finish { Finishes (finish_of state.new.state result) ≡ ended state.old.state
         (defined.made_queue state.old.limits state.old.state cred key flags.0) }
-    ensures limits { state.new.limits ≡ state.old.limits }
-    ensures waits { state.new.room.waits ≡ state.old.room.waits }
-    ensures set_keys { state.new.room.set_keys ≡ state.old.room.set_keys }
-    ensures others { (other : ℤ) → other ≢ key
-        → is_vacant state.new.room.keys other ≡ is_vacant state.old.room.keys other }
+    ensures held { state.new ≡ record state.old { state = state.new.state; ready = state.new.ready } }
 {
     if state.msg().is_full(state.limits().msgmni) {
         return Err(Errno::ENOSPC);
     }
-    Ok(Body::Number(state.add_msg_queue(key, Perm::new(cred, flags.0)).0))
+    Ok(Body::Number(state.add_msg_queue(Perm::new(cred, flags.0)).0))
 }
 
 /// What becomes of a call that cannot go on: it fails, if its flags have IPC_NOWAIT.
@@ -122,15 +108,13 @@ pub(crate) fn send(state: &mut State, pid: Pid, id: Id, message: Message)
     requires there { is_some (msg_queue_of state.old.state id.0) ≡ true }
     requires room { (e : Entry Queue) → msg_queue_of state.old.state id.0 ≡ Some e
         → length e.object.messages < most_messages }
-    ensures state { (e : Entry Queue) → msg_queue_of state.old.state id.0 ≡ Some e → state.new.state
-        ≡ with_msg_queue state.old.state id.0 (holding e (sent e.object (plain message) pid.0 state.old.state.clock)) }
-    ensures limits { state.new.limits ≡ state.old.limits }
-    ensures keys { state.new.room.keys ≡ state.old.room.keys }
-    ensures set_keys { state.new.room.set_keys ≡ state.old.room.set_keys }
-    ensures waits { state.new.room.waits ≡ state.old.room.waits }
+    ensures { (e : Entry Queue) → msg_queue_of state.old.state id.0 ≡ Some e → state.new ≡ record state.old {
+      state = with_msg_queue state.old.state id.0
+          (holding e (sent e.object (plain message) pid.0 state.old.state.clock));
+    } }
 {
     let now = state.clock();
-    state.msg_mut().get_mut(id).unwrap().send(message, pid, now);
+    state.msg_queue_mut(id).unwrap().send(message, pid, now);
 }
 
 /// The place of the message that may be received now: the tests of msgrcv, as msgop(2) has it.
@@ -168,17 +152,14 @@ pub(crate) fn receive(state: &mut State, pid: Pid, id: Id, at: usize, size: u32)
     requires there { is_some (msg_queue_of state.old.state id.0) ≡ true }
     requires inside { (e : Entry Queue) → msg_queue_of state.old.state id.0 ≡ Some e
         → at < length e.object.messages }
-    ensures state { (e : Entry Queue) → msg_queue_of state.old.state id.0 ≡ Some e → state.new.state
-        ≡ with_msg_queue state.old.state id.0 (holding e (taken e.object at pid.0 state.old.state.clock)) }
+    ensures held { (e : Entry Queue) → msg_queue_of state.old.state id.0 ≡ Some e → state.new ≡ record state.old {
+      state = with_msg_queue state.old.state id.0 (holding e (taken e.object at pid.0 state.old.state.clock));
+    } }
     ensures body { (e : Entry Queue) → msg_queue_of state.old.state id.0 ≡ Some e → body_of (λ text. text.items) result
         ≡ body.Message (defined.message_at e.object at).mtype (take size (defined.message_at e.object at).text) }
-    ensures limits { state.new.limits ≡ state.old.limits }
-    ensures keys { state.new.room.keys ≡ state.old.room.keys }
-    ensures set_keys { state.new.room.set_keys ≡ state.old.room.set_keys }
-    ensures waits { state.new.room.waits ≡ state.old.room.waits }
 {
     let now = state.clock();
-    let message = state.msg_mut().get_mut(id).unwrap().take(at, pid, now);
+    let message = state.msg_queue_mut(id).unwrap().take(at, pid, now);
     let mut text = message.text;
     text.truncate(size as usize);
     Body::Message {
@@ -221,19 +202,15 @@ pub(crate) fn msgctl_set(
 ) -> Answer
     ensures finish { Finishes (finish_of state.new.state result) ≡ ended state.old.state
         (defined.msgctl_set state.old.limits state.old.state cred id.0 uid gid mode qbytes) }
-    ensures limits { state.new.limits ≡ state.old.limits }
-    ensures keys { state.new.room.keys ≡ state.old.room.keys }
-    ensures set_keys { state.new.room.set_keys ≡ state.old.room.set_keys }
-    ensures waits { state.new.room.waits ≡ state.old.room.waits }
+    ensures held { state.new ≡ record state.old { state = state.new.state } }
 {
     let perm = owned(state.msg(), cred, id)?.perm;
     if qbytes > state.limits().msgmnb {
         return Err(Errno::EPERM);
     }
     let now = state.clock();
-    let queues = state.msg_mut();
-    queues.set_perm(id, perm.owned_by(uid, gid, mode));
-    queues.get_mut(id).unwrap().set(qbytes, now);
+    state.set_msg_perm(id, perm.owned_by(uid, gid, mode));
+    state.msg_queue_mut(id).unwrap().set(qbytes, now);
     Ok(Body::Empty)
 }
 
@@ -242,12 +219,11 @@ pub(crate) fn msgctl_rmid(state: &mut State, cred: Cred, id: Id) -> Answer
     requires { HasSoundParts state.old.limits state.old.state }
     ensures finish { Finishes (finish_of state.new.state result)
         ≡ ended state.old.state (defined.msgctl_rmid state.old.state cred id.0) }
-    ensures limits { state.new.limits ≡ state.old.limits }
-    ensures keys { HasNoSpareKey state.old.room.keys → HasNoSpareKey state.new.room.keys }
-    ensures set_keys { state.new.room.set_keys ≡ state.old.room.set_keys }
-    ensures waits { state.new.room.waits ≡ state.old.room.waits }
+    ensures ok { OnOk result (state.new ≡ left state.old state.new.state) }
+    ensures err { OnErr result (state.new ≡ state.old) }
 {
-    remove(state.msg_mut(), cred, id)?;
+    owned(state.msg(), cred, id)?;
+    state.remove_msg_queue(id);
     Ok(Body::Empty)
 }
 

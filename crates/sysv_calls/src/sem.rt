@@ -1,58 +1,66 @@
 //! The calls on semaphore sets: semget(2), semctl(2). None takes memory in its attempt.
 
-ghost use Rattle.std.specs.Prelude.{◌≡◌, ◌≢◌, ℕ, ℤ, ◌+◌, ◌*◌, ◌^◌, ◌<◌, ◌≤◌, ◌++◌, None, OnOk};
+ghost use Rattle.std.specs.Prelude.{◌≡◌, ℕ, ◌+◌, ◌*◌, ◌^◌, ◌<◌, ◌≤◌, ◌++◌, false, None, IsOk, OnOk, OnErr};
 ghost use Rattle.std.specs.Prelude.{length, map, take, vec_len, vec_capacity};
 ghost use Rattle.ipc_base.specs.Limits.{ArePassed};
 ghost use Rattle.ipc_base.specs.Numbers.{record_bytes};
 ghost use Rattle.ipc_base.specs.declared.field.Field.TheVariants.{U16};
-ghost use Rattle.ipc_keys.specs.Directory.{is_vacant};
 ghost use Rattle.ipc_wire.specs.Pairs.{bytes_of, numbers_in};
-ghost use Rattle.ipc_state.specs.Directory.{HasNoSpareKey};
 ghost use Rattle.ipc_state.specs.Finish.{Finishes, ended, finish_of};
-ghost use Rattle.ipc_state.specs.Held.{HasSemsetPlace};
+ghost use Rattle.ipc_state.specs.Held.{Ready, left};
 ghost use Rattle.ipc_state.specs.Keyed.{keyed};
 ghost use Rattle.ipc_state.specs.Numbered.{entry_of};
 ghost use Rattle.ipc_state.specs.Sound.{HasSoundParts};
-ghost use Rattle.sysv_calls.specs.Needs.{Has, HasNoSpareKeyBut, set_place};
+ghost use Rattle.sysv_calls.specs.Needs.{is_something, semset_place};
 ghost use Rattle.sysv_calls.specs.Records.{set_fields};
 ghost use Rattle.ipc_state.specs.Steps.{result_of, seen};
 ghost use Rattle.sysv_calls.specs.Sem as defined;
 ghost use Rattle.ipc_state.specs.Spare.{IsSpare, KeepsBuffer};
 
-use crate::access::{accessible, owned, push_perm, remove, seek};
+use crate::access::{accessible, owned, push_perm, seek};
 use ipc_base::{Cred, Errno, Field, GetFlags, Id, Limits, Pid};
 use ipc_perm::{Access, Perm, may};
 use ipc_state::{Answer, Keyed, State, take_spare};
 use ipc_wire::{Body, Pairs, push_fields};
+use std::alloc::AllocError;
 use sysv_sem::{MOST_VALUE, SemSet, Semaphore};
 
-/// semget(2). What room of the key is not used is given back.
+/// The most semaphores of a set, under any limits.
+const MOST_SEMAPHORES: usize = 64;
+
+/// Takes the memory of a new set of so many semaphores, if there can be one.
+pub(crate) fn reserve_set(state: &mut State, key: i32, nsems: i32) -> Result<(), AllocError>
+    ensures ok { OnOk result (state.new ≡ record state.old { ready = semset_place key nsems }) }
+    ensures err { OnErr result (state.new ≡ left state.old state.old.state) }
+    ensures memory { is_something (semset_place key nsems) ≡ false → IsOk result }
+{
+    if nsems < 1 || nsems as usize > MOST_SEMAPHORES {
+        state.release();
+        return Ok(());
+    }
+    state.reserve_semset(key, nsems as usize)
+}
+
+/// semget(2). What is reserved for a set that is not made is given back.
 pub(crate) fn semget(state: &mut State, cred: Cred, key: i32, nsems: i32, flags: GetFlags) -> Answer
     requires sound { HasSoundParts state.old.limits state.old.state }
-    requires room { Has state.old.state state.old.room (set_place key nsems) }
+    requires ready { state.old.ready ≡ semset_place key nsems }
     ensures finish { Finishes (finish_of state.new.state result) ≡ ended state.old.state
         (defined.semget state.old.limits state.old.state cred key nsems flags.0) }
-    ensures limits { state.new.limits ≡ state.old.limits }
-    ensures waits { state.new.room.waits ≡ state.old.room.waits }
-    ensures keys { state.new.room.keys ≡ state.old.room.keys }
-    ensures no_key { HasNoSpareKeyBut key state.old.room.set_keys → HasNoSpareKey state.new.room.set_keys }
+    ensures held { state.new ≡ left state.old state.new.state }
 {
     let answer = get_set(state, cred, key, nsems, flags);
-    state.semset_mut().release(key);
+    state.release();
     answer
 }
 
 /// The set that a key names, or a new one.
 fn get_set(state: &mut State, cred: Cred, key: i32, nsems: i32, flags: GetFlags) -> Answer
     requires sound { HasSoundParts state.old.limits state.old.state }
-    requires room { Has state.old.state state.old.room (set_place key nsems) }
+    requires ready { state.old.ready ≡ semset_place key nsems }
     ensures finish { Finishes (finish_of state.new.state result) ≡ ended state.old.state
         (defined.semget state.old.limits state.old.state cred key nsems flags.0) }
-    ensures limits { state.new.limits ≡ state.old.limits }
-    ensures waits { state.new.room.waits ≡ state.old.room.waits }
-    ensures keys { state.new.room.keys ≡ state.old.room.keys }
-    ensures others { (other : ℤ) → other ≢ key
-        → is_vacant state.new.room.set_keys other ≡ is_vacant state.old.room.set_keys other }
+    ensures held { state.new ≡ record state.old { state = state.new.state; ready = state.new.ready } }
 {
     let Some(count) = count_of(state.limits(), nsems) else {
         return Err(Errno::EINVAL);
@@ -91,14 +99,10 @@ fn has_fewer(sets: &Keyed<SemSet>, id: Id, count: usize) -> bool
 fn make_set(state: &mut State, cred: Cred, key: i32, count: usize, flags: GetFlags) -> Answer
     requires sound { HasSoundParts state.old.limits state.old.state }
     requires unused { keyed state.old.state.semset key ≡ None }
-    requires room { 0 < count → HasSemsetPlace state.old.state state.old.room key count }
+    requires ready { 0 < count → state.old.ready ≡ Ready.Semset key count }
     ensures finish { Finishes (finish_of state.new.state result) ≡ ended state.old.state
         (defined.made_set state.old.limits state.old.state cred key flags.0 count) }
-    ensures limits { state.new.limits ≡ state.old.limits }
-    ensures waits { state.new.room.waits ≡ state.old.room.waits }
-    ensures keys { state.new.room.keys ≡ state.old.room.keys }
-    ensures others { (other : ℤ) → other ≢ key
-        → is_vacant state.new.room.set_keys other ≡ is_vacant state.old.room.set_keys other }
+    ensures held { state.new ≡ record state.old { state = state.new.state; ready = state.new.ready } }
 {
     if count == 0 {
         return Err(Errno::EINVAL);
@@ -109,7 +113,7 @@ fn make_set(state: &mut State, cred: Cred, key: i32, count: usize, flags: GetFla
     if !state.may_have_more(count) {
         return Err(Errno::ENOSPC);
     }
-    Ok(Body::Number(state.add_semset(key, Perm::new(cred, flags.0)).0))
+    Ok(Body::Number(state.add_semset(Perm::new(cred, flags.0)).0))
 }
 
 /// A semaphore of a set, for a caller that may use it so.
@@ -166,17 +170,14 @@ pub(crate) fn semctl_setval(
     requires sound { HasSoundParts state.old.limits state.old.state }
     ensures finish { Finishes (finish_of state.new.state result) ≡ ended state.old.state
         (defined.semctl_setval state.old.state cred pid.0 id.0 num value) }
-    ensures limits { state.new.limits ≡ state.old.limits }
-    ensures waits { state.new.room.waits ≡ state.old.room.waits }
-    ensures keys { state.new.room.keys ≡ state.old.room.keys }
-    ensures set_keys { state.new.room.set_keys ≡ state.old.room.set_keys }
+    ensures held { state.new ≡ record state.old { state = state.new.state } }
 {
     semaphore(state, cred, id, num, Access::WRITE)?;
     let Some(value) = value_of(value) else {
         return Err(Errno::ERANGE);
     };
     let now = state.clock();
-    let set = state.semset_mut().get_mut(id).unwrap();
+    let set = state.semset_mut(id).unwrap();
     let num = num as u16;
     set.set_value(num, value, pid, now);
     state.clear_adjustments(id, Some(num));
@@ -218,9 +219,6 @@ fn push_values(body: &mut Vec<u8>, semaphores: &[Semaphore])
     }
 }
 
-/// The most semaphores of a set, under any limits.
-const MOST_SEMAPHORES: usize = 64;
-
 /// SETALL of semctl(2). No process has an adjustment at the set any more.
 pub(crate) fn semctl_setall(
     state: &mut State,
@@ -232,16 +230,13 @@ pub(crate) fn semctl_setall(
     requires sound { HasSoundParts state.old.limits state.old.state }
     ensures finish { Finishes (finish_of state.new.state result) ≡ ended state.old.state
         (defined.semctl_setall state.old.state cred pid.0 id.0 (bytes_of values.now)) }
-    ensures limits { state.new.limits ≡ state.old.limits }
-    ensures waits { state.new.room.waits ≡ state.old.room.waits }
-    ensures keys { state.new.room.keys ≡ state.old.room.keys }
-    ensures set_keys { state.new.room.set_keys ≡ state.old.room.set_keys }
+    ensures held { state.new ≡ record state.old { state = state.new.state } }
 {
     ready_to_set(state, cred, id, values)?;
     let mut all = [0; MOST_SEMAPHORES];
     put_values(values, &mut all);
     let now = state.clock();
-    let set = state.semset_mut().get_mut(id).unwrap();
+    let set = state.semset_mut(id).unwrap();
     set.set_all(&all[..values.len()], pid, now);
     state.clear_adjustments(id, None);
     Ok(Body::Empty)
@@ -334,16 +329,12 @@ pub(crate) fn semctl_set(
 ) -> Answer
     ensures finish { Finishes (finish_of state.new.state result) ≡ ended state.old.state
         (defined.semctl_set state.old.state cred id.0 uid gid mode) }
-    ensures limits { state.new.limits ≡ state.old.limits }
-    ensures waits { state.new.room.waits ≡ state.old.room.waits }
-    ensures keys { state.new.room.keys ≡ state.old.room.keys }
-    ensures set_keys { state.new.room.set_keys ≡ state.old.room.set_keys }
+    ensures held { state.new ≡ record state.old { state = state.new.state } }
 {
     let perm = owned(state.semset(), cred, id)?.perm;
     let now = state.clock();
-    let sets = state.semset_mut();
-    sets.set_perm(id, perm.owned_by(uid, gid, mode));
-    sets.get_mut(id).unwrap().set(now);
+    state.set_semset_perm(id, perm.owned_by(uid, gid, mode));
+    state.semset_mut(id).unwrap().set(now);
     Ok(Body::Empty)
 }
 
@@ -352,12 +343,11 @@ pub(crate) fn semctl_rmid(state: &mut State, cred: Cred, id: Id) -> Answer
     requires { HasSoundParts state.old.limits state.old.state }
     ensures finish { Finishes (finish_of state.new.state result)
         ≡ ended state.old.state (defined.semctl_rmid state.old.state cred id.0) }
-    ensures limits { state.new.limits ≡ state.old.limits }
-    ensures waits { state.new.room.waits ≡ state.old.room.waits }
-    ensures keys { state.new.room.keys ≡ state.old.room.keys }
-    ensures set_keys { HasNoSpareKey state.old.room.set_keys → HasNoSpareKey state.new.room.set_keys }
+    ensures ok { OnOk result (state.new ≡ left state.old state.new.state) }
+    ensures err { OnErr result (state.new ≡ state.old) }
 {
-    remove(state.semset_mut(), cred, id)?;
+    owned(state.semset(), cred, id)?;
+    state.remove_semset(id);
     state.clear_adjustments(id, None);
     Ok(Body::Empty)
 }

@@ -190,20 +190,17 @@ pub(crate) fn ready_to_operate(
 pub(crate) fn operate(state: &mut State, pid: Pid, id: Id, operations: &Sixes<'_>)
     requires sound { HasSoundParts state.old.limits state.old.state }
     requires ready { IsReady state.old.limits state.old.state pid.0 id.0 (operations_of (bytes_of operations.now)) }
-    ensures state { (found : Entry Set × List ℕ)
+    ensures { (found : Entry Set × List ℕ)
         → Passes state.old.limits state.old.state pid.0 id.0 (operations_of (bytes_of operations.now)) found
-        → state.new.state ≡ defined.operated state.old.state pid.0 id.0 (operations_of
-        (bytes_of operations.now)) found }
-    ensures limits { state.new.limits ≡ state.old.limits }
-    ensures keys { state.new.room.keys ≡ state.old.room.keys }
-    ensures set_keys { state.new.room.set_keys ≡ state.old.room.set_keys }
-    ensures waits { state.new.room.waits ≡ state.old.room.waits }
+        → state.new ≡ record state.old {
+          state = defined.operated state.old.state pid.0 id.0 (operations_of (bytes_of operations.now)) found;
+        } }
 {
     let mut all = NO_OPERATIONS;
     put_operations(operations, &mut all);
     let all = &all[..operations.len()];
     let now = state.clock();
-    let set = state.semset_mut().get_mut(id).unwrap();
+    let set = state.semset_mut(id).unwrap();
     set.carry(all, pid, now);
     subtracted_adds_up();
     note_undo(state, pid, id, all);

@@ -33,10 +33,7 @@ pub fn try_parked(state: &mut State, pid: Pid, again: bool, call: ParkedSysv) ->
     ensures finish { tried_of state.new.state result
         ≡ defined.attempt state.old.limits state.old.state pid.0 again (parked_sysv call) }
     ensures kept { WaitsUnchanged state.old (parked_sysv call) state.new result }
-    ensures limits { state.new.limits ≡ state.old.limits }
-    ensures keys { state.new.room.keys ≡ state.old.room.keys }
-    ensures set_keys { state.new.room.set_keys ≡ state.old.room.set_keys }
-    ensures waits { state.new.room.waits ≡ state.old.room.waits }
+    ensures held { state.new ≡ record state.old { state = state.new.state } }
 {
     let cred = state.cred(pid);
     let at = match ready(state, cred, pid, again, &call) {

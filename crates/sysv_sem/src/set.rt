@@ -1,6 +1,6 @@
 //! A semaphore set.
 
-ghost use Rattle.std.specs.Prelude.{◌≡◌, ◌<◌, ◌≤◌, ℕ, ℤ, List, Some, length, map};
+ghost use Rattle.std.specs.Prelude.{◌≡◌, ◌<◌, ◌≤◌, ℕ, ℤ, List, Some, length, map, replicate};
 ghost use Rattle.std.specs.Prelude.{IfOk, OnOk, OnErr, All, slice_index, slice_get};
 ghost use Rattle.sysv_sem.specs.Operation.{most_value, outcome, trial_of, Done};
 ghost use Rattle.sysv_sem.specs.Trial.{AreAdjustments, ArePrepared, CanBeDone};
@@ -72,6 +72,15 @@ impl SemSet {
             otime: Moment(0),
             ctime,
         })
+    }
+
+    /// Makes it a set as new, of as many semaphores. It takes no memory.
+    pub fn renew(&mut self, ctime: Moment)
+        ensures { self.new ≡ new_set (length self.old.semaphores) ctime.0 }
+    {
+        reset(&mut self.semaphores);
+        self.otime = Moment(0);
+        self.ctime = ctime;
     }
 
     /// A set without semaphores whose times are known. It takes no memory.
@@ -191,6 +200,15 @@ impl SemSet {
             otime: self.otime,
             ctime: self.ctime,
         }
+    }
+}
+
+// Each semaphore is one that nobody changed.
+fn reset(semaphores: &mut [Semaphore])
+    ensures { semaphores.new ≡ replicate (length semaphores.old) (record { value = 0; pid = record { 0 = 0 } }) }
+{
+    for at in 0..semaphores.len() {
+        semaphores[at] = UNCHANGED;
     }
 }
 

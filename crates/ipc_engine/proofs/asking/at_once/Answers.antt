@@ -4,9 +4,10 @@ use Rattle.ipc_wire.specs.Request.{plain_kind}
 use Rattle.ipc_wire.specs.View.{plain_request}
 use Rattle.ipc_state.specs.declared.parked.Object.{Object}
 use Rattle.ipc_state.specs.Finish.{Tried, finish_of}
+use Rattle.ipc_state.specs.Held.{Held, left}
 use Rattle.ipc_engine.specs.Step.{after, replied, settle, replied_or_joined}
 use Rattle.ipc_engine.specs.View.{plain_outcome}
-use Rattle.ipc_engine.proofs.Buffers.{finish-state, waits-kept}
+use Rattle.ipc_engine.proofs.Buffers.{finish-state, waits-kept, with_state}
 use Rattle.ipc_engine.proofs.Resumes.{ended-of, good-here}
 use Rattle.ipc_engine.proofs.Tries.{HasEnded}
 use Rattle.ipc_engine.proofs.asking.at_once.Goals as goal
@@ -16,7 +17,7 @@ finish-requires-clause-good c =
     let s = c.args.state.now in
     let now = c.try_at_once-answer.new.state in
     let f = finish_of now.state c.try_at_once-answer.result.0 in
-    good-here s.limits now.limits s.state now.state c.args.pid.0 c.try_at_once-answer.result.1 f c.try_at_once-answer.ensures.limits
+    good-here s.limits now.limits s.state now.state c.args.pid.0 c.try_at_once-answer.result.1 f (ap (λ (h : Held). h.limits) c.try_at_once-answer.ensures.held)
     (finish-state now.state c.try_at_once-answer.result.0 None) c.requires.sound c.requires.free
     (subst (λ (o : Option Object). HasEnded s.limits s.state c.args.pid.0 o f) (sym c.try_at_once-answer.ensures.touched)
     (ended-of s.limits s.state c.args.pid.0 (plain_kind c.args.request.now.kind) f c.requires.free c.try_at_once-answer.ensures.finish))
@@ -32,9 +33,11 @@ pub returns-clause-state : goal.returns-clause-state
 returns-clause-state c =
     let s = c.args.state.now in
     let f = finish_of c.try_at_once-answer.new.state.state c.try_at_once-answer.result.0 in
+    let held = c.try_at_once-answer.ensures.held in
     c.finish.ensures.state
-    ∙ ((λ i. (after (replied c.args.pid.0 c.args.request.now.serial f) (settle (c.try_at_once-answer.ensures.limits i))).state)
-    ∙ ap (λ (t : Tried). (replied_or_joined s.limits c.args.pid.0 (plain_request c.args.request.now) s.state t).state) c.try_at_once-answer.ensures.finish)
+    ∙ ((λ i. with_state (held i) (after (replied c.args.pid.0 c.args.request.now.serial f) (settle (held i).limits)).state)
+    ∙ ap (λ (t : Tried). left s (replied_or_joined s.limits c.args.pid.0 (plain_request c.args.request.now) s.state t).state)
+    c.try_at_once-answer.ensures.finish)
 
 pub returns-clause-outcomes : goal.returns-clause-outcomes
 returns-clause-outcomes c =
@@ -42,7 +45,7 @@ returns-clause-outcomes c =
     let f = finish_of c.try_at_once-answer.new.state.state c.try_at_once-answer.result.0 in
     let old = map plain_outcome c.args.outcomes.now.items in
     c.finish.ensures.outcomes
-    ∙ ((λ i. old ++ (after (replied c.args.pid.0 c.args.request.now.serial f) (settle (c.try_at_once-answer.ensures.limits i))).outcomes)
+    ∙ ((λ i. old ++ (after (replied c.args.pid.0 c.args.request.now.serial f) (settle (c.try_at_once-answer.ensures.held i).limits)).outcomes)
     ∙ ap (λ (t : Tried). old ++ (replied_or_joined s.limits c.args.pid.0 (plain_request c.args.request.now) s.state t).outcomes) c.try_at_once-answer.ensures.finish)
 
 pub returns-clause-buffer : goal.returns-clause-buffer

@@ -4,6 +4,7 @@ use Rattle.ipc_base.specs.declared.identity.Pid.{Pid}
 use Rattle.ipc_wire.specs.declared.reply.Body.TheVariants.{Empty}
 use Rattle.ipc_wait.proofs.CallerLemmas.{filter-none}
 use Rattle.ipc_wait.specs.Waits.{waiting_call_of, is_of}
+use Rattle.ipc_state.specs.Held.{Held}
 use Rattle.ipc_state.specs.State.{State, without_waiting}
 use Rattle.ipc_state.specs.Waiting.{PlainWaiting}
 use Rattle.ipc_engine.specs.Step.{Step, interrupted}
@@ -17,9 +18,11 @@ some (v ∷ vs) w p is = omega arith
 
 pub returns-in_default-clause-state : goal.returns-in_default-clause-state
 returns-in_default-clause-state c =
-    let s = c.args.state.now.state in
+    let h = c.args.state.now in
+    let s = h.state in
     let none = sym c.leave_wait.ensures.call ∙ c.in_default.is in
-    c.leave_wait.ensures.state ∙ (ap (λ (ws : List PlainWaiting). let t : State = record s { wait = ws } in t) (filter-none (is_of c.args.pid) s.wait none)
+    let with : State → Held = λ t. record h { state = t } in
+    c.leave_wait.ensures.held ∙ ap with (ap (λ (ws : List PlainWaiting). let t : State = record s { wait = ws } in t) (filter-none (is_of c.args.pid) s.wait none)
     ∙ sym (ap (λ (r : _). (interrupted s c.args.pid.0 r).state) none))
 
 pub returns-in_default-clause-outcomes : goal.returns-in_default-clause-outcomes
@@ -31,9 +34,9 @@ returns-in_default-clause-outcomes c =
 
 pub returns-clause-state : goal.returns-clause-state
 returns-clause-state c =
-    let s = c.args.state.now.state in
+    let h = c.args.state.now in
     let is = sym c.leave_wait.ensures.call ∙ c.in-Some.is in
-    c.leave_wait.ensures.state ∙ sym (ap (λ (r : _). (interrupted s c.args.pid.0 r).state) is)
+    c.leave_wait.ensures.held ∙ sym (ap (λ (r : _). let n : Held = record h { state = (interrupted h.state c.args.pid.0 r).state } in n) is)
 
 pub returns-clause-outcomes : goal.returns-clause-outcomes
 returns-clause-outcomes c =

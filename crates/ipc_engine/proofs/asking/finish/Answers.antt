@@ -1,5 +1,6 @@
 use Rattle.std.proofs.Common.{List, ◌++◌, map, sym, subst, ap, ◌∙◌, append_assoc}
 use Rattle.ipc_state.specs.Finish.{finish_firing}
+use Rattle.ipc_state.specs.Held.{Held}
 use Rattle.ipc_state.specs.State.{State}
 use Rattle.ipc_state.specs.Sound.{HasSoundParts}
 use Rattle.ipc_engine.specs.Event.{PlainOutcome}
@@ -35,7 +36,8 @@ settle-requires-clause-others c =
 pub returns-clause-state : goal.returns-clause-state
 returns-clause-state c =
     let s = c.args.state.now in
-    c.settle.ensures.state ∙ ap (λ (t : State). (settle s.limits t).state) (sym (finish-state s.state c.args.answer c.args.fired))
+    c.settle.ensures.state
+    ∙ ap (λ (t : State). let h : Held = record s { state = (settle s.limits t).state } in h) (sym (finish-state s.state c.args.answer c.args.fired))
 
 pub returns-clause-outcomes : goal.returns-clause-outcomes
 returns-clause-outcomes c =

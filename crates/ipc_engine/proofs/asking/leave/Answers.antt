@@ -1,9 +1,8 @@
 use Rattle.std.proofs.Common.{◌++◌, not, length, map, refl, sym, subst, ap, ◌∙◌, arith}
 use Rattle.std.proofs.lemmas.List.Filters.{length-filter_both}
-use Rattle.ipc_base.specs.declared.limits.Limits.{Limits}
 use Rattle.ipc_wait.specs.Waits.{is_of}
 use Rattle.ipc_state.specs.Sound.{HasSoundParts}
-use Rattle.ipc_state.specs.State.{State}
+use Rattle.ipc_state.specs.Held.{Held}
 use Rattle.ipc_state.specs.Waiting.{PlainWaiting}
 use Rattle.ipc_state.proofs.CallerLemmas.{exit-sound}
 use Rattle.ipc_engine.specs.Settling.{AreLinked}
@@ -15,24 +14,24 @@ use Rattle.ipc_engine.proofs.asking.leave.Goals as goal
 pub settle_all-requires-clause-parts : goal.settle_all-requires-clause-parts
 settle_all-requires-clause-parts c =
     let s = c.args.state.now in
-    subst (λ (l : Limits). HasSoundParts l c.remove_process.new.self.state) (sym c.remove_process.ensures.limits)
-    (subst (HasSoundParts s.limits) (sym c.remove_process.ensures.state) (exit-sound s.limits s.state c.args.pid.0 c.requires.sound.parts))
+    subst (λ (h : Held). HasSoundParts h.limits h.state) (sym c.remove_process.ensures) (exit-sound s.limits s.state c.args.pid.0 c.requires.sound.parts)
 
 pub settle_all-requires-clause-linked : goal.settle_all-requires-clause-linked
 settle_all-requires-clause-linked c =
     let s = c.args.state.now in
-    subst AreLinked (sym c.remove_process.ensures.state) (exit-linked s.limits s.state c.args.pid.0 c.requires.sound)
+    subst (λ (h : Held). AreLinked h.state) (sym c.remove_process.ensures) (exit-linked s.limits s.state c.args.pid.0 c.requires.sound)
 
 pub settle_all-requires-clause-room : goal.settle_all-requires-clause-room
 settle_all-requires-clause-room c =
     let fewer = length-filter_both (is_of c.args.pid) (λ (w : PlainWaiting). not (is_of c.args.pid w)) (λ w. refl) c.args.state.now.state.wait in
-    omega (arith, c.requires.places, fewer, ap (λ (s : State). length s.wait) c.remove_process.ensures.state)
+    omega (arith, c.requires.places, fewer, ap (λ (h : Held). length h.state.wait) c.remove_process.ensures)
 
 pub returns-clause-state : goal.returns-clause-state
 returns-clause-state c =
-    c.settle_all.ensures.state ∙ (λ i. (settle (c.remove_process.ensures.limits i) (c.remove_process.ensures.state i)).state)
+    let gone = c.remove_process.ensures in
+    c.settle_all.ensures.state ∙ (λ i. let h : Held = record (gone i) { state = (settle (gone i).limits (gone i).state).state } in h)
 
 pub returns-clause-outcomes : goal.returns-clause-outcomes
 returns-clause-outcomes c =
     c.settle_all.ensures.outcomes
-    ∙ (λ i. map plain_outcome c.args.outcomes.now.items ++ (settle (c.remove_process.ensures.limits i) (c.remove_process.ensures.state i)).outcomes)
+    ∙ (λ i. map plain_outcome c.args.outcomes.now.items ++ (settle (c.remove_process.ensures i).limits (c.remove_process.ensures i).state).outcomes)

@@ -1,28 +1,49 @@
-use Rattle.std.proofs.Common.{◌≡◌, Bool, true, false, Some, None, sym, ap, ◌∙◌}
+use Rattle.std.proofs.Common.{◌≡◌, Bool, true, false, Some, None, refl, sym, ap, ◌∙◌}
 use Rattle.std.specs.Prelude.{if◌then◌else◌}
-use Rattle.ipc_wire.specs.Request.{PlainKind, PlainRequest, Sysv, Hello, Interrupt, Posix}
+use Rattle.ipc_wire.specs.Posix as calls
+use Rattle.ipc_wire.specs.Request as requests
+use Rattle.ipc_wire.specs.Request.{PlainKind, PlainRequest, Sysv, Posix}
 use Rattle.ipc_wire.specs.View.{plain_request}
-use Rattle.ipc_state.specs.Held.{Room}
-use Rattle.ipc_state.specs.State.{State, is_waiting}
-use Rattle.posix_calls.specs.Needs as posix
-use Rattle.sysv_calls.specs.Needs as sysv
-use Rattle.ipc_engine.specs.Reserved.{IsReserved, IsReservedAs}
+use Rattle.ipc_state.specs.Held.{Held, Ready}
+use Rattle.ipc_state.specs.Held.Ready.{Nothing}
+use Rattle.ipc_state.specs.State.{is_waiting}
+use Rattle.ipc_state.specs.Waiting.{may_wait}
+use Rattle.ipc_engine.specs.Reserved.{kept_of, needs}
 use Rattle.ipc_engine.specs.Step.{Step, replied_or_joined, tried}
+use Rattle.ipc_engine.proofs.asking.make.Goals.{In-Some}
 use Rattle.ipc_engine.proofs.asking.make.Goals as goal
 
--- what is kept of a request is the request
-kept-is : (s : State) (room : Room) (request parked : PlainRequest) → IsReserved s room request (Some parked) → parked ≡ request
-kept-is s room request parked = by_kind request.kind
-  where
-    unless : (b : Bool) → Some parked ≡ (if b then Some request else None) → parked ≡ request
-    unless true is = cc
-    unless false is = cc
+-- a call that may wait needs nothing but what is kept of it
+may-wait-needs : (kind : PlainKind) → may_wait kind ≡ true → needs kind ≡ Nothing
+may-wait-needs (Sysv (requests.Msgget key flags)) waits = cc
+may-wait-needs (Sysv (requests.Semget key nsems flags)) waits = cc
+may-wait-needs (Posix (calls.MqOpen flags mode attr maxmsg msgsize name)) waits = cc
+may-wait-needs (Posix (calls.SemOpen flags mode value name)) waits = cc
+may-wait-needs (Posix (calls.ShmOpen flags mode name)) waits = cc
+may-wait-needs (Posix (calls.Ftruncate fd len)) waits = cc
+may-wait-needs kind waits = refl
 
-    by_kind : (kind : PlainKind) → IsReservedAs kind s room request (Some parked) → parked ≡ request
-    by_kind (Posix call) h = unless (posix.keeps_request request.kind) h.call
-    by_kind (Sysv call) h = unless (sysv.keeps_request request.kind) h.call
-    by_kind (Hello cred) h = unless (sysv.keeps_request request.kind) h.call
-    by_kind Interrupt h = unless (sysv.keeps_request request.kind) h.call
+-- what is kept of a request is the request, which needs nothing else
+kept-is : (request parked : PlainRequest) → kept_of request ≡ Some parked → (parked ≡ request) × (needs request.kind ≡ Nothing)
+kept-is request parked = unless (may_wait request.kind) refl
+  where
+    unless : (b : Bool) → may_wait request.kind ≡ b → (if b then Some request else None) ≡ Some parked → (parked ≡ request) × (needs request.kind ≡ Nothing)
+    unless true waits is = (cc, may-wait-needs request.kind waits)
+    unless false waits is = cc
+
+-- nothing is ready for a request that is kept
+kept-ready : (c : In-Some) → (c.in-Some.parked ≡ plain_request c.args.request.now) × (c.args.state.now.ready ≡ Nothing)
+kept-ready c =
+    let free : is_waiting c.args.state.now.state c.args.pid.0 ≡ false = sym c.is_waiting.ensures ∙ c.if-is_waiting.false in
+    let both = kept-is (plain_request c.args.request.now) c.in-Some.parked (sym (rw free at c.requires.reserved.kept) ∙ c.in-Some.is) in
+    (both.0, rw free at c.requires.reserved.ready ∙ both.1)
+
+pub returns-then-is_waiting-clause-state : goal.returns-then-is_waiting-clause-state
+returns-then-is_waiting-clause-state c =
+    let s = c.args.state.now in
+    let waits : is_waiting s.state c.args.pid.0 ≡ true = sym c.is_waiting.ensures ∙ c.if-is_waiting.true in
+    let nothing : s.ready ≡ Nothing = rw waits at c.requires.reserved.ready in
+    rw waits (ap (λ (r : Ready). let h : Held = record s { ready = r } in h) nothing)
 
 pub returns-then-is_waiting-clause-outcomes : goal.returns-then-is_waiting-clause-outcomes
 returns-then-is_waiting-clause-outcomes c =
@@ -33,7 +54,6 @@ pub returns-in-Some-clause-state : goal.returns-in-Some-clause-state
 returns-in-Some-clause-state c =
     let s = c.args.state.now in
     let free : is_waiting s.state c.args.pid.0 ≡ false = sym c.is_waiting.ensures ∙ c.if-is_waiting.false in
-    let reserved = rw c.in-Some.is at c.requires.room free in
-    let same = kept-is s.state s.room (plain_request c.args.request.now) c.in-Some.parked reserved in
+    let both = kept-ready (goal.at.returns-in-Some-clause-state c).In-Some in
     let went : PlainRequest → Step = λ r. replied_or_joined s.limits c.args.pid.0 r s.state (tried s.limits s.state c.args.pid.0 false r.kind) in
-    rw free (c.try_once.ensures.state ∙ ap (λ (r : PlainRequest). (went r).state) same)
+    rw free (c.try_once.ensures.state ∙ (λ i. let h : Held = record s { state = (went (both.0 i)).state; ready = both.1 i } in h))

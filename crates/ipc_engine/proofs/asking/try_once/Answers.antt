@@ -1,4 +1,4 @@
-use Rattle.std.proofs.Common.{◌<◌, ◌++◌, map, length, sym, subst, ap, ◌∙◌, arith}
+use Rattle.std.proofs.Common.{◌≡◌, ◌<◌, ◌++◌, map, length, sym, subst, ap, ◌∙◌, arith}
 use Rattle.std.specs.Prelude.{Option}
 use Rattle.ipc_base.specs.declared.limits.Limits.{Limits}
 use Rattle.ipc_state.specs.declared.parked.Object.{Object}
@@ -10,7 +10,7 @@ use Rattle.ipc_state.proofs.CallerLemmas.{room-waiting}
 use Rattle.ipc_engine.specs.Settling.{ReceivesWait, touched_by}
 use Rattle.ipc_engine.specs.Step.{after, replied, settle, replied_or_joined, joins}
 use Rattle.ipc_engine.specs.View.{plain_outcome}
-use Rattle.ipc_engine.proofs.Buffers.{finish-state, waits-kept}
+use Rattle.ipc_engine.proofs.Buffers.{finish-state, waits-kept, with_state}
 use Rattle.ipc_engine.proofs.Going.{receives-tried}
 use Rattle.ipc_engine.proofs.Resumes.{ended-of, good-here}
 use Rattle.ipc_engine.proofs.Soundness.{linked}
@@ -26,12 +26,15 @@ ended c =
     ended-of s.limits s.state c.args.pid.0 c.args.parked.kind
     (finish_firing c.try_kept.new.state.state c.in-Finishes.answer c.in-Finishes.fired) c.requires.free c.in-Finishes.ensures.finish
 
+limits : (c : In-Finishes) → c.try_kept.new.state.limits ≡ c.args.state.now.limits
+limits c = ap (λ (h : Held). h.limits) c.try_kept.ensures.held
+
 pub finish-requires-clause-good : goal.finish-requires-clause-good
 finish-requires-clause-good c =
     let s = c.args.state.now in
     let now = c.try_kept.new.state in
     let f = finish_firing now.state c.in-Finishes.answer c.in-Finishes.fired in
-    good-here s.limits now.limits s.state now.state c.args.pid.0 c.touched_by-touched.result f c.try_kept.ensures.limits
+    good-here s.limits now.limits s.state now.state c.args.pid.0 c.touched_by-touched.result f (limits (goal.at.finish-requires-clause-good c).In-Finishes)
     (finish-state now.state c.in-Finishes.answer c.in-Finishes.fired) c.requires.sound c.requires.free
     (subst (λ (o : Option Object). HasEnded s.limits s.state c.args.pid.0 o f) (sym c.touched_by-touched.ensures) (ended
     (goal.at.finish-requires-clause-good c).In-Finishes))
@@ -43,7 +46,7 @@ finish-requires-clause-receives c received =
     let f = finish_firing now.state c.in-Finishes.answer c.in-Finishes.fired in
     let wait = receives-tried s.limits s.state c.args.pid.0 c.args.parked.kind f c.requires.sound (sym c.in-Finishes.ensures.finish)
     (sym c.is_receive-received.ensures ∙ received) in
-    subst (λ (l : Limits). ReceivesWait l now.state) (sym c.try_kept.ensures.limits)
+    subst (λ (l : Limits). ReceivesWait l now.state) (sym (limits (goal.at.finish-requires-clause-receives c).In-Finishes))
     (subst (λ (t : State). ReceivesWait s.limits t) (finish-state now.state c.in-Finishes.answer c.in-Finishes.fired) wait)
 
 pub finish-requires-clause-places : goal.finish-requires-clause-places
@@ -59,9 +62,10 @@ pub returns-in-Finishes-clause-state : goal.returns-in-Finishes-clause-state
 returns-in-Finishes-clause-state c =
     let s = c.args.state.now in
     let f = finish_firing c.try_kept.new.state.state c.in-Finishes.answer c.in-Finishes.fired in
+    let held = c.try_kept.ensures.held in
     c.finish.ensures.state
-    ∙ ((λ i. (after (replied c.args.pid.0 (c.serial-serial.ensures i) f) (settle (c.try_kept.ensures.limits i))).state)
-    ∙ ap (λ (t : Tried). (replied_or_joined s.limits c.args.pid.0 c.args.parked s.state t).state) c.in-Finishes.ensures.finish)
+    ∙ ((λ i. with_state (held i) (after (replied c.args.pid.0 (c.serial-serial.ensures i) f) (settle (held i).limits)).state)
+    ∙ ap (λ (t : Tried). with_state s (replied_or_joined s.limits c.args.pid.0 c.args.parked s.state t).state) c.in-Finishes.ensures.finish)
 
 pub returns-in-Finishes-clause-outcomes : goal.returns-in-Finishes-clause-outcomes
 returns-in-Finishes-clause-outcomes c =
@@ -69,7 +73,7 @@ returns-in-Finishes-clause-outcomes c =
     let old = map plain_outcome c.args.outcomes.now.items in
     let f = finish_firing c.try_kept.new.state.state c.in-Finishes.answer c.in-Finishes.fired in
     c.finish.ensures.outcomes
-    ∙ ((λ i. old ++ (after (replied c.args.pid.0 (c.serial-serial.ensures i) f) (settle (c.try_kept.ensures.limits i))).outcomes)
+    ∙ ((λ i. old ++ (after (replied c.args.pid.0 (c.serial-serial.ensures i) f) (settle (c.try_kept.ensures.held i).limits)).outcomes)
     ∙ ap (λ (t : Tried). old ++ (replied_or_joined s.limits c.args.pid.0 c.args.parked s.state t).outcomes) c.in-Finishes.ensures.finish)
 
 pub join-requires-clause-room : goal.join-requires-clause-room
@@ -77,15 +81,15 @@ join-requires-clause-room c =
     let s = c.args.state.now in
     let fewer = room-waiting s.limits s.state c.args.pid.0 c.requires.sound.parts c.requires.free (linked s.limits s.state c.requires.sound)
     c.requires.process in
-    subst (λ (h : Held). length h.state.wait < h.room.waits) (sym c.in-Waits.ensures.kept.1) (omega (arith, fewer, c.requires.waits))
+    subst (λ (h : Held). length h.state.wait < h.waits) (sym c.in-Waits.ensures.kept.1) (omega (arith, fewer, c.requires.waits))
 
 pub returns-in-Waits-clause-state : goal.returns-in-Waits-clause-state
 returns-in-Waits-clause-state c =
     let s = c.args.state.now in
     let kept = c.in-Waits.ensures.kept in
     c.join.ensures.state
-    ∙ ((λ i. (joins (kept.1 i).state c.args.pid.0 (kept.0 i) (awaited_by (kept.0 i).kind)).state)
-    ∙ ap (λ (t : Tried). (replied_or_joined s.limits c.args.pid.0 c.args.parked s.state t).state) c.in-Waits.ensures.finish)
+    ∙ ((λ i. with_state (kept.1 i) (joins (kept.1 i).state c.args.pid.0 (kept.0 i) (awaited_by (kept.0 i).kind)).state)
+    ∙ ap (λ (t : Tried). with_state s (replied_or_joined s.limits c.args.pid.0 c.args.parked s.state t).state) c.in-Waits.ensures.finish)
 
 pub returns-in-Waits-clause-outcomes : goal.returns-in-Waits-clause-outcomes
 returns-in-Waits-clause-outcomes c =

@@ -1,4 +1,4 @@
-use Rattle.std.proofs.Common.{◌++◌, List, map, sym, ap, ◌∙◌, append-nil, arith}
+use Rattle.std.proofs.Common.{◌++◌, List, map, refl, sym, ap, ◌∙◌, append-nil, arith}
 use Rattle.std.proofs.lemmas.List.{length-map}
 use Rattle.ipc_wait.proofs.CallerLemmas.{none-due}
 use Rattle.ipc_state.specs.Held.{Held}
@@ -6,6 +6,7 @@ use Rattle.ipc_state.specs.State.{State}
 use Rattle.ipc_state.specs.Waiting.{PlainWaiting}
 use Rattle.ipc_engine.specs.Step.{expired}
 use Rattle.ipc_engine.specs.View.{plain_outcome}
+use Rattle.ipc_engine.proofs.Buffers.{held-still, with_state}
 use Rattle.ipc_engine.proofs.Expiring.{Expires, expires}
 use Rattle.ipc_engine.proofs.deadlines.expire.Goals.{After-end_late}
 use Rattle.ipc_engine.proofs.deadlines.expire.Goals as goal
@@ -16,7 +17,7 @@ one : (c : After-end_late) → Expires c.loop-waiting.state.state c.leave_due.ne
 one c =
     let l = c.loop-waiting in
     expires l.state.state c.leave_due.new.self.state (map plain_outcome l.outcomes.items) (map plain_outcome c.end_late.new.outcomes.items)
-    c.in-Some.waiting l.invariant.pids c.in-Some.ensures.first c.in-Some.ensures.call c.in-Some.ensures.state c.end_late.ensures.outcomes
+    c.in-Some.waiting l.invariant.pids c.in-Some.ensures.first c.in-Some.ensures.call (ap (λ (h : Held). h.state) c.in-Some.ensures.held) c.end_late.ensures.outcomes
 
 pub loop-waiting-smaller : goal.loop-waiting-smaller
 loop-waiting-smaller c = (one (goal.at.loop-waiting-smaller c).After-end_late).fewer
@@ -37,8 +38,8 @@ loop-waiting-preserved c =
       );
       state = now.state ∙ l.invariant.state;
       outcomes = now.outcomes ∙ l.invariant.outcomes;
-      limits = c.leave_due.ensures.limits ∙ l.invariant.limits;
-      room = c.leave_due.ensures.room ∙ l.invariant.room;
+      held = held-still c.args.state.now l.state c.leave_due.new.self _ _ l.invariant.held
+          (c.in-Some.ensures.held ∙ sym (ap (λ (h : Held). with_state l.state h.state) c.in-Some.ensures.held)) refl;
       capacity = omega (arith, l.invariant.capacity, c.end_late.ensures.capacity);
     }
 
@@ -47,7 +48,8 @@ returns-clause-state c =
     let l = c.loop-waiting in
     let none = c.in_default.ensures.none in
     let all = none-due (record { 0 = l.state.state.clock }) l.state.state.wait none.0 in
-    ap (λ (h : Held). h.state) none.1 ∙ (ap (λ (ws : List PlainWaiting). let t : State = record l.state.state { wait = ws } in t) (sym all) ∙ l.invariant.state)
+    none.1 ∙ (l.invariant.held ∙ ap (with_state c.args.state.now)
+    (ap (λ (ws : List PlainWaiting). let t : State = record l.state.state { wait = ws } in t) (sym all) ∙ l.invariant.state))
 
 pub returns-clause-outcomes : goal.returns-clause-outcomes
 returns-clause-outcomes c =

@@ -14,8 +14,7 @@ invariant-loop-waiting l =
       state : without_due l.state.state ≡ without_due l.fn.state.state;
       outcomes : map plain_outcome l.outcomes.items ++ map expired (due_calls l.state.state)
           ≡ map plain_outcome l.fn.outcomes.items ++ map expired (due_calls l.fn.state.state);
-      limits : l.state.limits ≡ l.fn.state.limits;
-      room : l.state.room ≡ l.fn.state.room;
+      held : l.state ≡ record l.fn.state { state = l.state.state };
       capacity : vec_capacity l.fn.outcomes ≤ vec_capacity l.outcomes;
     }
 

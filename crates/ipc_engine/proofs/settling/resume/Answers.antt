@@ -1,16 +1,15 @@
 use Rattle.std.proofs.Common.{◌≡◌, true, List, ◌++◌, map, sym, ap, subst, ◌∙◌, append-nil}
 use Rattle.ipc_base.specs.declared.identity.Pid.{Pid}
-use Rattle.ipc_base.specs.declared.limits.Limits.{Limits}
 use Rattle.ipc_state.specs.Finish.{finish_firing}
 use Rattle.ipc_state.specs.Held.{Held}
 use Rattle.ipc_state.specs.Sound.{HasSoundParts}
-use Rattle.ipc_state.specs.State.{State, is_process}
+use Rattle.ipc_state.specs.State.{is_process}
 use Rattle.ipc_state.specs.Waiting.{PlainWaiting}
 use Rattle.ipc_state.proofs.CallerLemmas.{without_waiting-sound}
 use Rattle.ipc_engine.specs.Event.{PlainOutcome}
 use Rattle.ipc_engine.specs.Step.{Step, can_resume}
 use Rattle.ipc_engine.specs.View.{plain_outcome}
-use Rattle.ipc_engine.proofs.Buffers.{finish-state}
+use Rattle.ipc_engine.proofs.Buffers.{finish-state, held-still}
 use Rattle.ipc_engine.proofs.Lists.{found-all}
 use Rattle.ipc_engine.proofs.Resumes.{left-is, left-some, resumed-finishes, resumed-waits}
 use Rattle.ipc_engine.proofs.settling.resume.Goals as goal
@@ -30,8 +29,8 @@ returns-in_default-clause-outcomes c w also =
 pub try_kept-requires-clause-sound : goal.try_kept-requires-clause-sound
 try_kept-requires-clause-sound c =
     let s = c.args.state.now in
-    subst (λ (l : Limits). HasSoundParts l c.leave_wait.new.self.state) (sym c.leave_wait.ensures.limits)
-    (subst (λ (t : State). HasSoundParts s.limits t) (sym c.leave_wait.ensures.state) (without_waiting-sound s.limits s.state c.args.pid.0 c.requires.parts))
+    subst (λ (h : Held). HasSoundParts h.limits h.state) (sym c.leave_wait.ensures.held)
+    (without_waiting-sound s.limits s.state c.args.pid.0 c.requires.parts)
 
 pub try_kept-requires-clause-process : goal.try_kept-requires-clause-process
 try_kept-requires-clause-process c =
@@ -40,7 +39,7 @@ try_kept-requires-clause-process c =
     let there : is_process s.state first.pid.0 ≡ true =
     found-all (can_resume s.limits s.state)
     (λ (w : PlainWaiting). is_process s.state w.pid.0 ≡ true) s.state.wait first c.requires.linked c.requires.first.1 in
-    ap (λ (t : State). is_process t c.args.pid.0) c.leave_wait.ensures.state ∙ (ap (λ (p : Pid). is_process s.state p.0) (sym c.requires.first.2) ∙ there)
+    ap (λ (h : Held). is_process h.state c.args.pid.0) c.leave_wait.ensures.held ∙ (ap (λ (p : Pid). is_process s.state p.0) (sym c.requires.first.2) ∙ there)
 
 pub returns-in-Finishes-clause-state : goal.returns-in-Finishes-clause-state
 returns-in-Finishes-clause-state c w also =
@@ -51,8 +50,9 @@ returns-in-Finishes-clause-state c w also =
     let f = finish_firing c.try_kept.new.state.state c.in-Finishes.answer c.in-Finishes.fired in
     let is = resumed-finishes s.limits s.state c.leave_wait.new.self.state c.leave_wait.new.self.limits c.args.pid c.serial-serial.result first.0 v w
     c.requires.parts first.1 its first.2
-    c.serial-serial.ensures c.leave_wait.ensures.limits c.leave_wait.ensures.state also f c.in-Finishes.ensures.finish in
-    sym (ap (λ (t : Step). t.state) is ∙ finish-state c.try_kept.new.state.state c.in-Finishes.answer c.in-Finishes.fired)
+    c.serial-serial.ensures (ap (λ (h : Held). h.limits) c.leave_wait.ensures.held) (ap (λ (h : Held). h.state) c.leave_wait.ensures.held) also f c.in-Finishes.ensures.finish in
+    held-still s c.leave_wait.new.self c.try_kept.new.state _ _ c.leave_wait.ensures.held c.try_kept.ensures.held
+    (sym (ap (λ (t : Step). t.state) is ∙ finish-state c.try_kept.new.state.state c.in-Finishes.answer c.in-Finishes.fired))
 
 pub returns-in-Finishes-clause-outcomes : goal.returns-in-Finishes-clause-outcomes
 returns-in-Finishes-clause-outcomes c w also =
@@ -63,7 +63,7 @@ returns-in-Finishes-clause-outcomes c w also =
     let f = finish_firing c.try_kept.new.state.state c.in-Finishes.answer c.in-Finishes.fired in
     let is = resumed-finishes s.limits s.state c.leave_wait.new.self.state c.leave_wait.new.self.limits c.args.pid c.serial-serial.result first.0 v w
     c.requires.parts first.1 its first.2
-    c.serial-serial.ensures c.leave_wait.ensures.limits c.leave_wait.ensures.state also f c.in-Finishes.ensures.finish in
+    c.serial-serial.ensures (ap (λ (h : Held). h.limits) c.leave_wait.ensures.held) (ap (λ (h : Held). h.state) c.leave_wait.ensures.held) also f c.in-Finishes.ensures.finish in
     c.push_reply.ensures.outcomes c.try_kept.new.state.state ∙ ap (λ (t : Step). map plain_outcome c.args.outcomes.now.items ++ t.outcomes) (sym is)
 
 pub returns-in-Waits-clause-state : goal.returns-in-Waits-clause-state
@@ -74,8 +74,9 @@ returns-in-Waits-clause-state c w also =
     let its = left-is s.limits s.state c.args.pid first.0 v c.leave_wait.result c.requires.parts first.1 first.2 c.leave_wait.ensures.call c.in-Some.is in
     let is = resumed-waits s.limits s.state c.leave_wait.new.self.state c.leave_wait.new.self.limits c.args.pid c.serial-serial.result first.0 v w
     c.requires.parts first.1 its first.2
-    c.serial-serial.ensures c.leave_wait.ensures.limits c.leave_wait.ensures.state also c.in-Waits.ensures.finish in
-    ap (λ (held : Held). held.state) c.in-Waits.ensures.kept.1 ∙ sym (ap (λ (t : Step). t.state) is)
+    c.serial-serial.ensures (ap (λ (h : Held). h.limits) c.leave_wait.ensures.held) (ap (λ (h : Held). h.state) c.leave_wait.ensures.held) also c.in-Waits.ensures.finish in
+    held-still s c.leave_wait.new.self c.try_kept.new.state _ _ c.leave_wait.ensures.held c.try_kept.ensures.held
+    (ap (λ (h : Held). h.state) c.in-Waits.ensures.kept.1 ∙ sym (ap (λ (t : Step). t.state) is))
 
 pub returns-in-Waits-clause-outcomes : goal.returns-in-Waits-clause-outcomes
 returns-in-Waits-clause-outcomes c w also =
@@ -85,6 +86,6 @@ returns-in-Waits-clause-outcomes c w also =
     let its = left-is s.limits s.state c.args.pid first.0 v c.leave_wait.result c.requires.parts first.1 first.2 c.leave_wait.ensures.call c.in-Some.is in
     let is = resumed-waits s.limits s.state c.leave_wait.new.self.state c.leave_wait.new.self.limits c.args.pid c.serial-serial.result first.0 v w
     c.requires.parts first.1 its first.2
-    c.serial-serial.ensures c.leave_wait.ensures.limits c.leave_wait.ensures.state also c.in-Waits.ensures.finish in
+    c.serial-serial.ensures (ap (λ (h : Held). h.limits) c.leave_wait.ensures.held) (ap (λ (h : Held). h.state) c.leave_wait.ensures.held) also c.in-Waits.ensures.finish in
     sym (ap (λ (xs : List PlainOutcome). map plain_outcome c.args.outcomes.now.items ++ xs) (ap (λ (t : Step). t.outcomes) is)
     ∙ append-nil (map plain_outcome c.args.outcomes.now.items))

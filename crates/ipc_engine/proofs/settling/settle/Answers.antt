@@ -1,5 +1,6 @@
 use Rattle.std.proofs.Common.{Option, ◌++◌, map, append-nil, sym, subst, ap, ◌∙◌}
 use Rattle.ipc_state.specs.declared.parked.Object.{Object}
+use Rattle.ipc_state.specs.Held.{Held}
 use Rattle.ipc_engine.specs.Settling.{OthersWait}
 use Rattle.ipc_engine.specs.Step.{Step}
 use Rattle.ipc_engine.specs.View.{plain_outcome}
@@ -10,7 +11,7 @@ pub returns-in_default-clause-state : goal.returns-in_default-clause-state
 returns-in_default-clause-state c =
     let s = c.args.state.now in
     let none = untouched-settled s.limits s.state (subst (λ (o : Option Object). OthersWait s.limits s.state o) c.in_default.is c.requires.others) in
-    sym (ap (λ (t : Step). t.state) none)
+    sym (ap (λ (t : Step). let h : Held = record s { state = t.state } in h) none)
 
 pub returns-in_default-clause-outcomes : goal.returns-in_default-clause-outcomes
 returns-in_default-clause-outcomes c =

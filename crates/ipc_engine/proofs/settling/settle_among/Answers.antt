@@ -1,11 +1,13 @@
-use Rattle.std.proofs.Common.{◌≡◌, ◌+◌, ◌-◌, ℕ, suc, ◌++◌, map, length, append-nil, sym, subst, ap, ◌∙◌, arith}
+use Rattle.std.proofs.Common.{◌≡◌, ◌+◌, ◌-◌, ℕ, suc, ◌++◌, map, length, append-nil, refl, sym, subst, ap, ◌∙◌, arith}
 use Rattle.std.proofs.lemmas.List.{length-map}
 use Rattle.ipc_base.specs.declared.limits.Limits.{Limits}
 use Rattle.ipc_wait.proofs.CallerLemmas.{found-in}
+use Rattle.ipc_state.specs.Held.{Held}
 use Rattle.ipc_state.specs.Sound.{HasSoundParts}
 use Rattle.ipc_engine.specs.Settling.{RestWaits}
 use Rattle.ipc_engine.specs.Step.{Step, can_resume, silent, settle, settle_within}
 use Rattle.ipc_engine.specs.View.{plain_outcome}
+use Rattle.ipc_engine.proofs.Buffers.{held-still, with_state}
 use Rattle.ipc_engine.proofs.Going.{goes-on, within-none, within-all, within-nothing}
 use Rattle.ipc_engine.proofs.settling.settle_among.Goals as goal
 
@@ -20,8 +22,7 @@ loop-gone-init c =
       rest = c.requires.rest;
       receives = c.requires.receives;
       room = c.requires.room;
-      limits = λ i. s.limits;
-      waits = λ i. s.room.waits;
+      held = λ i. s;
       capacity = omega arith;
       buffer = omega arith;
       state = ap (λ (t : Step). t.state) all;
@@ -32,7 +33,7 @@ pub returns-in_default-clause-state : goal.returns-in_default-clause-state
 returns-in_default-clause-state c =
     let l = c.loop-gone in
     let none = within-none l.state.limits (length c.args.state.now.state.wait - l.gone) l.state.state c.in_default.ensures in
-    sym (ap (λ (t : Step). t.state) none) ∙ l.invariant.state
+    l.invariant.held ∙ ap (with_state c.args.state.now) (sym (ap (λ (t : Step). t.state) none) ∙ l.invariant.state)
 
 pub returns-in_default-clause-outcomes : goal.returns-in_default-clause-outcomes
 returns-in_default-clause-outcomes c =
@@ -56,10 +57,11 @@ loop-gone-preserved c =
     let first = c.in-Some.ensures in
     let old = map plain_outcome l.outcomes.items in
     let new = map plain_outcome c.resume.new.outcomes.items in
+    let went = c.resume.ensures.state first.0 first.1 in
     let on = goes-on l.state.limits l.state.state c.resume.new.state.state c.args.among left old new first.0 l.invariant.parts l.invariant.linked
     l.invariant.rest first.1
-    (c.resume.ensures.state first.0 first.1) (c.resume.ensures.outcomes first.0 first.1) in
-    let same = c.resume.ensures.limits in
+    (ap (λ (h : Held). h.state) went) (c.resume.ensures.outcomes first.0 first.1) in
+    let same = ap (λ (h : Held). h.limits) went in
     let all = ap (λ (m : ℕ). settle_within l.state.limits m l.state.state) count in
     record {
       parts = subst (λ (x : Limits). HasSoundParts x c.resume.new.state.state) (sym same) on.parts;
@@ -75,8 +77,8 @@ loop-gone-preserved c =
             plain_outcome,
         c.resume.ensures.capacity,
       );
-      limits = same ∙ l.invariant.limits;
-      waits = c.resume.ensures.waits ∙ l.invariant.waits;
+      held = held-still c.args.state.now l.state c.resume.new.state _ _ l.invariant.held
+          (went ∙ sym (ap (λ (h : Held). with_state l.state h.state) went)) refl;
       capacity = omega (arith, l.invariant.capacity, c.resume.ensures.capacity);
       buffer = omega (arith, l.invariant.buffer, c.resume.ensures.buffer);
       state = ap (λ (x : Limits). (settle_within x left c.resume.new.state.state).state) same ∙ (on.state ∙ (ap (λ (t : Step). t.state) (sym all)
@@ -91,7 +93,7 @@ returns-clause-state c =
     let none : settle_within l.state.limits (length c.args.state.now.state.wait - l.gone) l.state.state ≡ silent l.state.state =
     ap (λ (n : ℕ). settle_within l.state.limits n l.state.state) (omega (arith, c.loop-gone-test.false, ap length c.waits-gone-end.ensures))
     ∙ within-nothing l.state.limits l.state.state in
-    sym (ap (λ (t : Step). t.state) none) ∙ l.invariant.state
+    l.invariant.held ∙ ap (with_state c.args.state.now) (sym (ap (λ (t : Step). t.state) none) ∙ l.invariant.state)
 
 pub returns-clause-outcomes : goal.returns-clause-outcomes
 returns-clause-outcomes c =

@@ -16,8 +16,7 @@ invariant-loop-gone l =
       rest : RestWaits l.state.limits l.state.state l.among;
       receives : l.received ≡ true → ReceivesWait l.state.limits l.state.state;
       room : length l.outcomes.items + 2 * length l.state.state.wait ≤ vec_capacity l.outcomes;
-      limits : l.state.limits ≡ l.fn.state.limits;
-      waits : l.state.room.waits ≡ l.fn.state.room.waits;
+      held : l.state ≡ record l.fn.state { state = l.state.state };
       capacity : vec_capacity l.fn.outcomes ≤ vec_capacity l.outcomes;
       buffer : room_in l.fn.outcomes.items ≤ room_in l.outcomes.items;
       state : (settle_within l.state.limits left l.state.state).state ≡ (settled l.fn.state.limits l.fn.state.state).state;

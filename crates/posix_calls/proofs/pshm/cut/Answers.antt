@@ -7,12 +7,14 @@ use Rattle.posix_calls.specs.Open.{has}
 use Rattle.posix_calls.specs.Pshm.{trunc}
 use Rattle.posix_calls.proofs.pshm.cut.Goals as goal
 
-pub returns-then-contains-clause-state : goal.returns-then-contains-clause-state
-returns-then-contains-clause-state c e there =
+pub returns-then-contains : goal.returns-then-contains
+returns-then-contains c =
     let old = c.args.state.now in
     let n = c.args.number in
     let asked : has c.args.flags.0 trunc ≡ true = search rules in
     let none : length c.new-zeros.result.bytes ≡ 0 = ap (λ (x : Segment). length x.bytes) c.new-zeros.ensures in
-    c.truncate.ensures.state e there
-    ∙ (ap (λ k. let h : Held = record old { state = with_pshm old.state n (truncated k e.object) } in h) none
-    ∙ ap (λ b. let h : Held = record old { state = if b then with_pshm old.state n (truncated 0 e.object) else old.state } in h) (sym asked))
+    record {
+      held = λ e there. c.truncate.ensures.held e there
+          ∙ (ap (λ k. let h : Held = record old { state = with_pshm old.state n (truncated k e.object) } in h) none
+          ∙ ap (λ b. let h : Held = record old { state = if b then with_pshm old.state n (truncated 0 e.object) else old.state } in h) (sym asked));
+    }

@@ -21,7 +21,7 @@ there c = subst (λ (o : Named Segment). entry_of o c.args.number ≡ Some c.in_
 
 cut-is : (c : After-cut) → c.cut.new.state
     ≡ (let h : Held = record c.args.state.now { state = cut_as c.args.flags.0 c.args.state.now.state c.args.number c.in_ok-usable.field-0.now } in h)
-cut-is c = c.cut.ensures.state c.in_ok-usable.field-0.now (there c)
+cut-is c = c.cut.ensures.held c.in_ok-usable.field-0.now (there c)
 
 same-processes : (c : After-cut) → c.cut.new.state.state.processes ≡ c.args.state.now.state.processes
 same-processes c =
@@ -62,3 +62,6 @@ returns-clause-finish c =
     ∙ ap (usable s.pshm c.args.cred n) c.asked_of_pshm.ensures) in
     ap (ended s) c.open_on.ensures.opens
     ∙ ((λ i. ended s (opens (cut-is a i).state c.args.pid.0 (c.access_mode.ensures i) (opened.Pshm n))) ∙ ap (λ (r : Attempt (NamedEntry Segment)). ended s (r >>= next)) found)
+
+pub returns-clause-held : goal.returns-clause-held
+returns-clause-held c = rw c.open_on.ensures.held (rw (cut-is (goal.at.returns-clause-held c).After-cut) refl)

@@ -1,4 +1,4 @@
-use Rattle.std.proofs.Common.{◌≡◌, ◌∙◌, ◌≤◌, ◌^◌, Some, false, length, sym, ap, arith}
+use Rattle.std.proofs.Common.{◌≡◌, ◌∙◌, ◌≤◌, ◌^◌, Some, false, length, refl, sym, ap, arith}
 use Rattle.std.specs.Prelude.{Bool, nat_lt, ◌+◌, ◌-◌}
 use Rattle.ipc_base.specs.declared.errno.Errno.TheVariants.{ENOSPC}
 use Rattle.ipc_wire.specs.declared.reply.Body.TheVariants.{Empty}
@@ -48,7 +48,7 @@ returns-clause-finish c =
     let f = c.in_ok-found.found in
     let long : length c.unwrap.result.bytes ≡ c.args.length = ap (λ (x : Segment). length x.bytes) is ∙ truncated-length empty_segment c.args.length in
     let left : c.truncate.new.state.state ≡ with_pshm old.state f.number (truncated c.args.length f.entry.now.object) =
-    ap (λ (h : Held). h.state) (c.truncate.ensures.state f.entry.now c.in_ok-found.ensures.there)
+    ap (λ (h : Held). h.state) (c.truncate.ensures.held f.entry.now c.in_ok-found.ensures.there)
     ∙ ap (λ n. with_pshm old.state f.number (truncated n f.entry.now.object)) long in
     let past : is_past_all old.limits old.state f.entry.now.object c.args.length ≡ false = sym c.is_past_all.ensures ∙ c.if-is_past_all.false in
     let last : Attempt Done = answer (with_pshm old.state f.number (truncated c.args.length f.entry.now.object)) Empty in
@@ -58,3 +58,6 @@ returns-clause-finish c =
     ap (λ (s : State). Finishes (done s Empty)) left
     ∙ (ap (λ (b : Bool). ended old.state (refuse ENOSPC b >> last)) (sym past)
     ∙ ap (λ (a : Attempt FoundPshm). ended old.state (a >>= next)) c.in_ok-found.ensures.found)
+
+pub returns-clause-held : goal.returns-clause-held
+returns-clause-held c = rw (c.truncate.ensures.held _ c.in_ok-found.ensures.there) refl

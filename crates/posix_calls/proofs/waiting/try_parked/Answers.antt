@@ -1,9 +1,9 @@
-use Rattle.std.proofs.Common.{◌∙◌, ap}
+use Rattle.std.proofs.Common.{◌∙◌, refl, ap}
 use Rattle.std.specs.Prelude.{Err}
 use Rattle.ipc_state.specs.declared.answers.Halt.{Halt as Stops}
 use Rattle.ipc_state.specs.Held.{Held}
 use Rattle.ipc_state.proofs.CallerLemmas.{ends-stopped}
-use Rattle.posix_calls.proofs.Trying.{IsAnswered, is-answered, receives-finish, receives-some, sends-finish, sends-room}
+use Rattle.posix_calls.proofs.Trying.{IsAnswered, is-answered, lower-value, receives-finish, receive-queue, receives-some, send-queue, sends-finish, sends-room}
 use Rattle.posix_calls.proofs.waiting.try_parked.Goals.{After-ready}
 use Rattle.posix_calls.proofs.waiting.try_parked.Goals as goal
 
@@ -27,7 +27,7 @@ send-fired-requires-clause-room c =
 pub returns-in-MqSend-clause-finish : goal.returns-in-MqSend-clause-finish
 returns-in-MqSend-clause-finish c =
     sends-finish (tests (goal.at.returns-in-MqSend-clause-finish c).After-ready) c.in-Ok.is c.in-MqSend.is c.send-fired.new.state.state c.send-fired.result
-    (λ q there. ap (λ (h : Held). h.state) (c.send-fired.ensures.state q there)) c.send-fired.ensures.fired
+    (λ q there. ap (λ (h : Held). h.state) (c.send-fired.ensures.held q there)) c.send-fired.ensures.fired
 
 pub receive-requires-clause-some : goal.receive-requires-clause-some
 receive-requires-clause-some c = receives-some (tests (goal.at.receive-requires-clause-some c).After-ready) c.in-Ok.is c.in-MqReceive.is
@@ -35,4 +35,19 @@ receive-requires-clause-some c = receives-some (tests (goal.at.receive-requires-
 pub returns-in-MqReceive-clause-finish : goal.returns-in-MqReceive-clause-finish
 returns-in-MqReceive-clause-finish c =
     receives-finish (tests (goal.at.returns-in-MqReceive-clause-finish c).After-ready) c.in-Ok.is c.in-MqReceive.is c.receive.new.state.state _
-    (λ q there. ap (λ (h : Held). h.state) (c.receive.ensures.state q there)) c.receive.ensures.body
+    (λ q there. ap (λ (h : Held). h.state) (c.receive.ensures.held q there)) c.receive.ensures.body
+
+pub returns-in-MqSend-clause-held : goal.returns-in-MqSend-clause-held
+returns-in-MqSend-clause-held c =
+    let queue = send-queue (tests (goal.at.returns-in-MqSend-clause-held c).After-ready) c.in-Ok.is c.in-MqSend.is in
+    rw (c.send-fired.ensures.held _ queue) refl
+
+pub returns-in-MqReceive-clause-held : goal.returns-in-MqReceive-clause-held
+returns-in-MqReceive-clause-held c =
+    let queue = receive-queue (tests (goal.at.returns-in-MqReceive-clause-held c).After-ready) c.in-Ok.is c.in-MqReceive.is in
+    rw (c.receive.ensures.held _ queue) refl
+
+pub returns-in-SemWait-clause-held : goal.returns-in-SemWait-clause-held
+returns-in-SemWait-clause-held c =
+    let value = lower-value (tests (goal.at.returns-in-SemWait-clause-held c).After-ready) c.in-Ok.is c.in-SemWait.is in
+    rw (c.lower.ensures.held _ value) refl

@@ -1,31 +1,20 @@
-use Rattle.std.proofs.Common.{◌≡◌, ◌∙◌, ℤ, false, refl, sym, ap, rules}
+use Rattle.std.proofs.Common.{◌≡◌, ◌∙◌, false, refl, ap, rules}
 use Rattle.std.specs.Prelude.{Ok, Err}
-use Rattle.std.specs.Int.{w32}
-use Rattle.std.proofs.lemmas.Int.{to_z-of_z}
 use Rattle.ipc_perm.specs.Perm.{asked_by}
-use Rattle.sysv_msg.specs.Queue.{Queue}
-use Rattle.ipc_state.specs.Keyed.{Keyed}
 use Rattle.ipc_state.proofs.CallerLemmas.{held-positive}
 use Rattle.sysv_calls.specs.Access.{accessible, sought}
 use Rattle.sysv_calls.specs.Seen.{attempt_of, sought_of}
-use Rattle.sysv_calls.proofs.Reaching.{told}
 use Rattle.sysv_calls.proofs.msg.get_queue.Goals.{After-seek, After-accessible}
 use Rattle.sysv_calls.proofs.msg.get_queue.Goals as goal
 
 -- what is found
 finds : (c : After-seek) → sought c.args.state.now.state.msg c.args.key c.args.flags.0 ≡ sought_of c.seek.result
-finds c =
-    ap (λ (t : Keyed Queue). sought t c.args.key c.args.flags.0) (sym c.msg.ensures.queues)
-    ∙ (ap (λ (z : ℤ). sought c.msg.result.now.objects z c.args.flags.0) (sym (to_z-of_z w32 c.args.key c.ranges.key)) ∙ sym c.seek.ensures)
+finds c = search rules
 
 -- what the identifier has for the caller
 has : (c : After-accessible) → accessible false c.args.state.now.state.msg c.args.cred c.in-Some.id.0 (asked_by c.args.flags.0)
     ≡ attempt_of c.accessible.result
-has c =
-    told (λ (t : Keyed Queue). accessible false t c.args.cred c.in-Some.id.0 (asked_by c.args.flags.0)) c.msg-2.result.now.objects
-    c.args.state.now.state.msg
-    c.msg-2.ensures.queues (attempt_of c.accessible.result)
-    (c.accessible.ensures ∙ ap (accessible false c.msg-2.result.now.objects c.args.cred c.in-Some.id.0) c.asked_by.ensures)
+has c = search rules
 
 pub seek-requires : goal.seek-requires
 seek-requires c = held-positive c.msg.result.now c.args.state.now.state.msg c.msg.ensures.queues c.requires.sound.msg

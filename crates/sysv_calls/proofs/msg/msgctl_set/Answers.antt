@@ -1,58 +1,64 @@
-use Rattle.std.proofs.Common.{◌≡◌, false, Some, refl, sym, ap, ◌∙◌}
+use Rattle.std.proofs.Common.{◌≡◌, false, Some, refl, ap, ◌∙◌, rules}
 use Rattle.std.specs.Prelude.{Ok, nat_lt}
 use Rattle.std.proofs.lemmas.Bool.{le-ltb}
-use Rattle.ipc_base.specs.declared.limits.Limits.{Limits}
 use Rattle.ipc_wire.specs.declared.reply.Body.TheVariants.{Empty}
 use Rattle.sysv_msg.specs.Queue.{Queue, changed}
 use Rattle.ipc_state.specs.Finish.{Finishes, done}
+use Rattle.ipc_state.specs.Held.{Held}
 use Rattle.ipc_state.specs.Keyed.{Keyed, holding, permitting}
-use Rattle.ipc_state.specs.Numbered.{entry_of, with_entry}
-use Rattle.ipc_state.proofs.CallerLemmas.{permitted-keys, permitted-lent, permitted-object, permitted-put}
+use Rattle.ipc_state.specs.Numbered.{entry_of}
+use Rattle.ipc_state.specs.State.{with_msg_queue}
 use Rattle.sysv_calls.specs.Access.{owned}
-use Rattle.sysv_calls.specs.Seen.{attempt_of}
-use Rattle.sysv_calls.proofs.Reaching.{owned-there, told}
-use Rattle.sysv_calls.proofs.msg.msgctl_set.Goals.{After-get_mut}
+use Rattle.sysv_calls.proofs.Lent.{permitted, permitted-put, state-alone, with_state}
+use Rattle.sysv_calls.proofs.Reaching.{owned-there}
+use Rattle.sysv_calls.proofs.msg.msgctl_set.Goals.{After-msg_queue_mut, After-set}
 use Rattle.sysv_calls.proofs.msg.msgctl_set.Goals as goal
 
 -- the queue of a caller that owns it
-owns_it : (c : After-get_mut) → owned c.args.state.now.state.msg c.args.cred c.args.id.0 ≡ Ok c.in_ok-perm.field-0.now
-owns_it c =
-    told (λ (t : Keyed Queue). owned t c.args.cred c.args.id.0) c.msg.result.now.objects c.args.state.now.state.msg c.msg.ensures.queues
-    (attempt_of c.owned.result) c.owned.ensures ∙ ap attempt_of c.in_ok-perm.was
+owns_it : (c : After-msg_queue_mut) → owned c.args.state.now.state.msg c.args.cred c.args.id.0 ≡ Ok c.in_ok-perm.field-0.now
+owns_it c = search rules
 
-has : (c : After-get_mut) → entry_of c.args.state.now.state.msg c.args.id.0 ≡ Some c.in_ok-perm.field-0.now
+has : (c : After-msg_queue_mut) → entry_of c.args.state.now.state.msg c.args.id.0 ≡ Some c.in_ok-perm.field-0.now
 has c = owned-there c.args.state.now.state.msg c.args.cred c.args.id.0 c.in_ok-perm.field-0.now (owns_it c)
 
+-- it is lent with its other permissions
+lends : (c : After-msg_queue_mut) → entry_of c.set_msg_perm.new.self.state.msg c.args.id.0 ≡ Some (permitting c.in_ok-perm.field-0.now c.owned_by.result)
+lends c =
+    ap (λ (h : Held). entry_of h.state.msg c.args.id.0) (c.set_msg_perm.ensures c.in_ok-perm.field-0.now (has c))
+    ∙ permitted c.args.state.now.state.msg c.args.id.0 c.in_ok-perm.field-0.now c.owned_by.result (has c)
+
+-- and left changed
+leaves : (c : After-set) → entry_of c.args.state.now.state.msg c.args.id.0 ≡ Some c.in_ok-perm.field-0.now
+    → entry_of c.set_msg_perm.new.self.state.msg c.args.id.0 ≡ Some (permitting c.in_ok-perm.field-0.now c.owned_by.result)
+    → c.msg_queue_mut.follows.lender c.set.new.self ≡ with_state c.args.state.now
+    (with_msg_queue c.args.state.now.state c.args.id.0 (holding (permitting c.in_ok-perm.field-0.now c.owned_by.result) c.set.new.self))
+leaves c has lends =
+    let s = c.args.state.now.state in
+    let id = c.args.id.0 in
+    let e = c.in_ok-perm.field-0.now in
+    let x = c.set.new.self in
+    c.msg_queue_mut.follows.holds x (permitting e c.owned_by.result) lends
+    ∙ ap (λ (h : Held). with_state h (with_msg_queue h.state id (holding (permitting e c.owned_by.result) x))) (c.set_msg_perm.ensures e has)
+    ∙ ap (λ (o : Keyed Queue). with_state c.args.state.now (record s { msg = o })) (permitted-put s.msg id e c.owned_by.result x)
+
 pub unwrap-requires : goal.unwrap-requires
-unwrap-requires c =
-    let g = (goal.at.unwrap-requires c).After-get_mut in
-    permitted-lent c.msg_mut-queues.result.now c.args.state.now.state.msg c.args.id.0 c.in_ok-perm.field-0.now c.msg_mut-queues.ensures.queues (has g)
-    c.owned_by.result c.set_perm.new.self c.set_perm.ensures c.get_mut.result c.get_mut.ensures.object
+unwrap-requires c = let there = lends (goal.at.unwrap-requires c).After-msg_queue_mut in search (rules, there)
 
 pub returns-clause-finish : goal.returns-clause-finish
 returns-clause-finish c =
-    let g = (goal.at.returns-clause-finish c).After-get_mut in
-    let old = c.args.state.now in
-    let id = c.args.id.0 in
+    let g = goal.at.returns-clause-finish c in
+    let l = g.After-msg_queue_mut in
+    let s = c.args.state.now.state in
     let e = c.in_ok-perm.field-0.now in
-    let left = c.set.new.self in
-    let within : nat_lt old.limits.msgmnb c.args.qbytes ≡ false =
-    ap (λ (l : Limits). nat_lt l.msgmnb c.args.qbytes) (sym c.limits.ensures.limits)
-    ∙ le-ltb c.limits.result.now.msgmnb c.args.qbytes c.if-qbytes-limits.false in
-    let object = permitted-object c.msg_mut-queues.result.now old.state.msg id e c.msg_mut-queues.ensures.queues (has g) c.owned_by.result
-    c.set_perm.new.self c.set_perm.ensures c.get_mut.result c.get_mut.ensures.object c.unwrap.result c.unwrap.ensures in
-    let puts = permitted-put c.msg_mut-queues.result.now old.state.msg id e c.msg_mut-queues.ensures.queues (has g) c.owned_by.result
-    c.set_perm.new.self c.set_perm.ensures left (c.get_mut.follows.lender left) (c.get_mut.follows.holds left) in
-    let sets : left ≡ changed e.object c.args.qbytes old.state.clock =
-    c.set.ensures ∙ (λ i. changed (object i) c.args.qbytes (c.clock-now.ensures i)) in
-    ap (λ (m : Keyed Queue). Finishes (done (record old.state { msg = m }) Empty))
-    (puts ∙ (λ i. with_entry old.state.msg id (holding (permitting e (c.owned_by.ensures.perm i)) (sets i))))
-    ∙ rw (owns_it g) (rw within refl)
+    let there = lends l in
+    let sets : c.set.new.self ≡ changed e.object c.args.qbytes s.clock = search (rules, there) in
+    let within : nat_lt c.args.state.now.limits.msgmnb c.args.qbytes ≡ false = search (rules, le-ltb) in
+    ap (λ (h : Held). Finishes (done h.state Empty)) (leaves g.After-set (has l) (lends l))
+    ∙ (λ i. Finishes (done (with_msg_queue s c.args.id.0 (holding (permitting e (c.owned_by.ensures.perm i)) (sets i))) Empty))
+    ∙ rw (owns_it l) (rw within refl)
 
-pub returns-clause-keys : goal.returns-clause-keys
-returns-clause-keys c =
-    let g = (goal.at.returns-clause-keys c).After-get_mut in
-    let left = c.set.new.self in
-    permitted-keys c.msg_mut-queues.result.now c.args.state.now.state.msg c.args.id.0 c.in_ok-perm.field-0.now c.msg_mut-queues.ensures.queues (has g)
-    c.owned_by.result c.set_perm.new.self c.set_perm.ensures left (c.get_mut.follows.lender left) (c.get_mut.follows.holds left)
-    ∙ c.msg_mut-queues.ensures.keys
+pub returns-clause-held : goal.returns-clause-held
+returns-clause-held c =
+    let g = goal.at.returns-clause-held c in
+    let l = g.After-msg_queue_mut in
+    state-alone c.args.state.now _ (leaves g.After-set (has l) (lends l))

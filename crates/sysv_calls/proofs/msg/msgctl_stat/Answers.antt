@@ -1,10 +1,8 @@
-use Rattle.std.proofs.Common.{ap, ◌∙◌, false}
-use Rattle.sysv_msg.specs.Queue.{Queue}
-use Rattle.ipc_state.specs.Keyed.{Keyed}
+use Rattle.std.proofs.Common.{◌≡◌, false, rules}
+use Rattle.std.specs.Prelude.{Ok}
 use Rattle.ipc_state.proofs.CallerLemmas.{queue-numbers, queue-sound}
 use Rattle.sysv_calls.specs.Access.{read, accessible}
-use Rattle.sysv_calls.specs.Seen.{attempt_of}
-use Rattle.sysv_calls.proofs.Reaching.{accessible-there, told}
+use Rattle.sysv_calls.proofs.Reaching.{accessible-there}
 use Rattle.sysv_calls.proofs.msg.msgctl_stat.Goals as goal
 
 pub push_queue-requires-clause-numbers : goal.push_queue-requires-clause-numbers
@@ -12,7 +10,6 @@ push_queue-requires-clause-numbers c =
     let limits = c.args.state.now.limits in
     let s = c.args.state.now.state in
     let e = c.in_ok-entry.entry.now in
-    let is = told (λ (t : Keyed Queue). accessible false t c.args.cred c.args.id.0 read) c.msg.result.now.objects s.msg c.msg.ensures.queues
-    (attempt_of c.accessible.result) c.accessible.ensures ∙ ap attempt_of c.in_ok-entry.was in
+    let is : accessible false s.msg c.args.cred c.args.id.0 read ≡ Ok e = search rules in
     let there = accessible-there s.msg c.args.cred c.args.id.0 e read is in
     queue-numbers limits e.object c.msg.ensures.passed (queue-sound limits s c.args.id.0 e there c.requires.sound)

@@ -4,21 +4,15 @@ use Rattle.std.specs.Int.{w64, cast_signed as to_z, cast_unsigned as of_z}
 use Rattle.std.proofs.lemmas.Int.{to_z-of_z}
 use Rattle.sysv_msg.specs.Queue.{Queue, PlainMessage, pick}
 use Rattle.ipc_state.specs.Finish.{Halt}
-use Rattle.ipc_state.specs.Keyed.{Keyed}
 use Rattle.ipc_state.specs.Numbered.{last_number}
 use Rattle.sysv_calls.specs.Access.{read, has, accessible}
 use Rattle.sysv_calls.specs.Msg.{except, is_too_long, message_at}
-use Rattle.sysv_calls.specs.Seen.{attempt_of}
-use Rattle.sysv_calls.proofs.Reaching.{told}
 use Rattle.sysv_calls.proofs.msg.ready_to_receive.Goals.{After-select}
 use Rattle.sysv_calls.proofs.msg.ready_to_receive.Goals as goal
 
 -- the queue of a caller that was let in
 in_queue : (c : After-select) → accessible c.args.again c.args.state.now.state.msg c.args.cred c.args.id.0 read ≡ Ok c.in_ok-entry.entry.now
-in_queue c =
-    let was : c.accessible.result ≡ Ok c.in_ok-entry.entry = search rules in
-    told (λ (t : Keyed Queue). accessible c.args.again t c.args.cred c.args.id.0 read) c.msg.result.now.objects c.args.state.now.state.msg c.msg.ensures.queues
-    (attempt_of c.accessible.result) c.accessible.ensures ∙ ap attempt_of was
+in_queue c = search rules
 
 small : (c : After-select) → nat_lt last_number c.args.size ≡ false
 small c = search rules

@@ -6,21 +6,17 @@ use Rattle.ipc_base.specs.Numbers.{record_bytes}
 use Rattle.ipc_base.specs.declared.field.Field.TheVariants.{U16}
 use Rattle.ipc_wire.specs.declared.reply.Body.TheVariants.{Record}
 use Rattle.sysv_sem.specs.declared.set.Semaphore.{Semaphore}
-use Rattle.sysv_sem.specs.Set.{Set, values_of}
+use Rattle.sysv_sem.specs.Set.{values_of}
 use Rattle.ipc_state.specs.Finish.{Finishes, done}
-use Rattle.ipc_state.specs.Keyed.{Keyed}
 use Rattle.ipc_state.proofs.CallerLemmas.{set-sound}
 use Rattle.sysv_calls.specs.Access.{read, accessible}
-use Rattle.sysv_calls.specs.Seen.{attempt_of}
-use Rattle.sysv_calls.proofs.Reaching.{accessible-there, told}
+use Rattle.sysv_calls.proofs.Reaching.{accessible-there}
 use Rattle.sysv_calls.proofs.sem.semctl_getall.Goals.{After-semaphores}
 use Rattle.sysv_calls.proofs.sem.semctl_getall.Goals as goal
 
 -- the set of a caller that may read it
 reads : (c : After-semaphores) → accessible false c.args.state.now.state.semset c.args.cred c.args.id.0 read ≡ Ok c.in_ok-entry.entry.now
-reads c =
-    told (λ (t : Keyed Set). accessible false t c.args.cred c.args.id.0 read) c.semset.result.now.objects c.args.state.now.state.semset c.semset.ensures.sets
-    (attempt_of c.accessible.result) c.accessible.ensures ∙ ap attempt_of c.in_ok-entry.was
+reads c = search rules
 
 -- the buffer is empty at first
 empty : (c : After-semaphores) → c.take_spare-body.result.items ≡ []

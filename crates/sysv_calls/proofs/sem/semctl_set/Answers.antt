@@ -1,52 +1,62 @@
-use Rattle.std.proofs.Common.{◌≡◌, Some, refl, ap, ◌∙◌}
+use Rattle.std.proofs.Common.{◌≡◌, Some, refl, ap, ◌∙◌, rules}
 use Rattle.std.specs.Prelude.{Ok}
 use Rattle.ipc_wire.specs.declared.reply.Body.TheVariants.{Empty}
 use Rattle.sysv_sem.specs.Set.{Set, changed}
 use Rattle.ipc_state.specs.Finish.{Finishes, done}
+use Rattle.ipc_state.specs.Held.{Held}
 use Rattle.ipc_state.specs.Keyed.{Keyed, holding, permitting}
-use Rattle.ipc_state.specs.Numbered.{entry_of, with_entry}
-use Rattle.ipc_state.proofs.CallerLemmas.{permitted-keys, permitted-lent, permitted-object, permitted-put}
+use Rattle.ipc_state.specs.Numbered.{entry_of}
+use Rattle.ipc_state.specs.State.{with_semset}
 use Rattle.sysv_calls.specs.Access.{owned}
-use Rattle.sysv_calls.specs.Seen.{attempt_of}
-use Rattle.sysv_calls.proofs.Reaching.{owned-there, told}
-use Rattle.sysv_calls.proofs.sem.semctl_set.Goals.{After-get_mut}
+use Rattle.sysv_calls.proofs.Lent.{permitted, permitted-put, state-alone, with_state}
+use Rattle.sysv_calls.proofs.Reaching.{owned-there}
+use Rattle.sysv_calls.proofs.sem.semctl_set.Goals.{After-semset_mut, After-set}
 use Rattle.sysv_calls.proofs.sem.semctl_set.Goals as goal
 
 -- the set of a caller that owns it
-owns_it : (c : After-get_mut) → owned c.args.state.now.state.semset c.args.cred c.args.id.0 ≡ Ok c.in_ok-perm.field-0.now
-owns_it c =
-    told (λ (t : Keyed Set). owned t c.args.cred c.args.id.0) c.semset.result.now.objects c.args.state.now.state.semset c.semset.ensures.sets
-    (attempt_of c.owned.result) c.owned.ensures ∙ ap attempt_of c.in_ok-perm.was
+owns_it : (c : After-semset_mut) → owned c.args.state.now.state.semset c.args.cred c.args.id.0 ≡ Ok c.in_ok-perm.field-0.now
+owns_it c = search rules
 
-has : (c : After-get_mut) → entry_of c.args.state.now.state.semset c.args.id.0 ≡ Some c.in_ok-perm.field-0.now
+has : (c : After-semset_mut) → entry_of c.args.state.now.state.semset c.args.id.0 ≡ Some c.in_ok-perm.field-0.now
 has c = owned-there c.args.state.now.state.semset c.args.cred c.args.id.0 c.in_ok-perm.field-0.now (owns_it c)
 
+-- it is lent with its other permissions
+lends : (c : After-semset_mut) → entry_of c.set_semset_perm.new.self.state.semset c.args.id.0 ≡ Some (permitting c.in_ok-perm.field-0.now c.owned_by.result)
+lends c =
+    ap (λ (h : Held). entry_of h.state.semset c.args.id.0) (c.set_semset_perm.ensures c.in_ok-perm.field-0.now (has c))
+    ∙ permitted c.args.state.now.state.semset c.args.id.0 c.in_ok-perm.field-0.now c.owned_by.result (has c)
+
+-- and left changed
+leaves : (c : After-set) → entry_of c.args.state.now.state.semset c.args.id.0 ≡ Some c.in_ok-perm.field-0.now
+    → entry_of c.set_semset_perm.new.self.state.semset c.args.id.0 ≡ Some (permitting c.in_ok-perm.field-0.now c.owned_by.result)
+    → c.semset_mut.follows.lender c.set.new.self ≡ with_state c.args.state.now
+    (with_semset c.args.state.now.state c.args.id.0 (holding (permitting c.in_ok-perm.field-0.now c.owned_by.result) c.set.new.self))
+leaves c has lends =
+    let s = c.args.state.now.state in
+    let id = c.args.id.0 in
+    let e = c.in_ok-perm.field-0.now in
+    let x = c.set.new.self in
+    c.semset_mut.follows.holds x (permitting e c.owned_by.result) lends
+    ∙ ap (λ (h : Held). with_state h (with_semset h.state id (holding (permitting e c.owned_by.result) x))) (c.set_semset_perm.ensures e has)
+    ∙ ap (λ (o : Keyed Set). with_state c.args.state.now (record s { semset = o })) (permitted-put s.semset id e c.owned_by.result x)
+
 pub unwrap-requires : goal.unwrap-requires
-unwrap-requires c =
-    let g = (goal.at.unwrap-requires c).After-get_mut in
-    permitted-lent c.semset_mut-sets.result.now c.args.state.now.state.semset c.args.id.0 c.in_ok-perm.field-0.now c.semset_mut-sets.ensures.sets (has g)
-    c.owned_by.result c.set_perm.new.self c.set_perm.ensures c.get_mut.result c.get_mut.ensures.object
+unwrap-requires c = let there = lends (goal.at.unwrap-requires c).After-semset_mut in search (rules, there)
 
 pub returns-clause-finish : goal.returns-clause-finish
 returns-clause-finish c =
-    let g = (goal.at.returns-clause-finish c).After-get_mut in
-    let old = c.args.state.now in
-    let id = c.args.id.0 in
+    let g = goal.at.returns-clause-finish c in
+    let l = g.After-semset_mut in
+    let s = c.args.state.now.state in
     let e = c.in_ok-perm.field-0.now in
-    let left = c.set.new.self in
-    let object = permitted-object c.semset_mut-sets.result.now old.state.semset id e c.semset_mut-sets.ensures.sets (has g) c.owned_by.result
-    c.set_perm.new.self c.set_perm.ensures c.get_mut.result c.get_mut.ensures.object c.unwrap.result c.unwrap.ensures in
-    let puts = permitted-put c.semset_mut-sets.result.now old.state.semset id e c.semset_mut-sets.ensures.sets (has g) c.owned_by.result
-    c.set_perm.new.self c.set_perm.ensures left (c.get_mut.follows.lender left) (c.get_mut.follows.holds left) in
-    let sets : left ≡ changed e.object old.state.clock = c.set.ensures ∙ (λ i. changed (object i) (c.clock-now.ensures i)) in
-    ap (λ (m : Keyed Set). Finishes (done (record old.state { semset = m }) Empty))
-    (puts ∙ (λ i. with_entry old.state.semset id (holding (permitting e (c.owned_by.ensures.perm i)) (sets i))))
-    ∙ rw (owns_it g) refl
+    let there = lends l in
+    let sets : c.set.new.self ≡ changed e.object s.clock = search (rules, there) in
+    ap (λ (h : Held). Finishes (done h.state Empty)) (leaves g.After-set (has l) (lends l))
+    ∙ (λ i. Finishes (done (with_semset s c.args.id.0 (holding (permitting e (c.owned_by.ensures.perm i)) (sets i))) Empty))
+    ∙ rw (owns_it l) refl
 
-pub returns-clause-set_keys : goal.returns-clause-set_keys
-returns-clause-set_keys c =
-    let g = (goal.at.returns-clause-set_keys c).After-get_mut in
-    let left = c.set.new.self in
-    permitted-keys c.semset_mut-sets.result.now c.args.state.now.state.semset c.args.id.0 c.in_ok-perm.field-0.now c.semset_mut-sets.ensures.sets (has g)
-    c.owned_by.result c.set_perm.new.self c.set_perm.ensures left (c.get_mut.follows.lender left) (c.get_mut.follows.holds left)
-    ∙ c.semset_mut-sets.ensures.keys
+pub returns-clause-held : goal.returns-clause-held
+returns-clause-held c =
+    let g = goal.at.returns-clause-held c in
+    let l = g.After-semset_mut in
+    state-alone c.args.state.now _ (leaves g.After-set (has l) (lends l))

@@ -1,21 +1,21 @@
-use Rattle.std.proofs.Common.{◌≡◌, ◌∙◌, None, ℕ, List, take, refl, ap, sym, arith, true}
-use Rattle.std.specs.Prelude.{is_some}
+use Rattle.std.proofs.Common.{◌≡◌, ◌∙◌, ◌≤◌, Some, None, ℕ, All, take, refl, ap, sym, subst, arith, true, rules}
 use Rattle.ipc_base.proofs.CallerLemmas.{passed-bounds}
 use Rattle.ipc_wire.specs.Pairs.{bytes_of, numbers_in}
 use Rattle.ipc_wire.specs.declared.reply.Body.TheVariants.{Empty}
+use Rattle.sysv_sem.specs.Operation.{most_value}
 use Rattle.sysv_sem.specs.Set.{Set, with_values}
 use Rattle.ipc_state.specs.declared.keyed.Entry.{Entry}
 use Rattle.ipc_state.specs.Finish.{Finishes, done}
 use Rattle.ipc_state.specs.Held.{Held}
-use Rattle.ipc_state.specs.Keyed.{Keyed, holding}
-use Rattle.ipc_state.specs.State.{without_adjustments}
-use Rattle.ipc_state.specs.Numbered.{with_entry}
-use Rattle.ipc_state.proofs.CallerLemmas.{lent-object, put-object, set-sound}
+use Rattle.ipc_state.specs.Keyed.{holding}
+use Rattle.ipc_state.specs.State.{semset_of, with_semset, without_adjustments}
+use Rattle.ipc_state.proofs.CallerLemmas.{set-sound}
 use Rattle.ipc_state.specs.Steps.{result_of}
 use Rattle.ipc_state.proofs.CallerLemmas.{HasFound, has-found}
 use Rattle.sysv_calls.specs.Sem.{settable}
-use Rattle.sysv_calls.proofs.Reaching.{IsSettable, keys-kept, settable-ends}
-use Rattle.sysv_calls.proofs.sem.semctl_setall.Goals.{In_ok-ready_to_set}
+use Rattle.sysv_calls.proofs.Lent.{state-alone, with_state}
+use Rattle.sysv_calls.proofs.Reaching.{IsSettable, settable-ends}
+use Rattle.sysv_calls.proofs.sem.semctl_setall.Goals.{After-clear_adjustments, After-len, In_ok-ready_to_set}
 use Rattle.sysv_calls.proofs.sem.semctl_setall.Goals as goal
 
 abbrev nothing : Entry Set → Unit {0}
@@ -35,30 +35,44 @@ put_values-requires c =
     let few = (set-sound old.limits old.state c.args.id.0 (found g).value (found g).holds.there c.requires.sound).few in
     omega (arith, few, (found g).holds.count, (passed-bounds old.limits c.in_ok-ready_to_set.ensures.passed).semmsl)
 
+-- the values that are read
+values : (c : After-len) → take c.len.result c.put_values.new.all ≡ numbers_in (bytes_of c.args.values.now)
+values c = ap (λ (n : ℕ). take n c.put_values.new.all) c.len.ensures ∙ c.put_values.ensures
+
+pub set_all-requires-clause-count : goal.set_all-requires-clause-count
+set_all-requires-clause-count c =
+    let f = found (goal.at.set_all-requires-clause-count c).In_ok-ready_to_set in
+    let there = f.holds.there in
+    let count = f.holds.count in
+    search (rules, there, count)
+
+pub set_all-requires-clause-values : goal.set_all-requires-clause-values
+set_all-requires-clause-values c =
+    let g = goal.at.set_all-requires-clause-values c in
+    subst (All (λ v. v ≤ most_value)) (sym (values g.After-len)) (found g.In_ok-ready_to_set).holds.values
+
+leaves : (c : After-clear_adjustments) (e : Entry Set) → semset_of c.args.state.now.state c.args.id.0 ≡ Some e → c.clear_adjustments.new.self
+    ≡ with_state c.args.state.now (without_adjustments c.args.id.0 None (with_semset c.args.state.now.state c.args.id.0 (holding e c.set_all.new.self)))
+leaves c e there =
+    c.clear_adjustments.ensures
+    ∙ ap (λ (h : Held). with_state h (without_adjustments c.args.id.0 None h.state)) (c.semset_mut.follows.holds c.set_all.new.self e there)
+
 pub returns-clause-finish : goal.returns-clause-finish
 returns-clause-finish c =
-    let g = (goal.at.returns-clause-finish c).In_ok-ready_to_set in
-    let old = c.args.state.now in
-    let id = c.args.id.0 in
-    let e : Entry Set = (found g).value in
-    let values : List ℕ = numbers_in (bytes_of c.args.values.now) in
-    let left = c.set_all.new.self in
-    let object = lent-object c.semset_mut.result.now old.state.semset id e c.semset_mut.ensures.sets (found g).holds.there c.get_mut.result
-    c.get_mut.ensures.object c.unwrap-set.result c.unwrap-set.ensures in
-    let puts = put-object c.semset_mut.result.now old.state.semset id e c.semset_mut.ensures.sets (found g).holds.there left (c.get_mut.follows.lender left)
-    (c.get_mut.follows.holds left) in
-    let all : take c.len.result c.put_values.new.all ≡ values = ap (λ (n : ℕ). take n c.put_values.new.all) c.len.ensures ∙ c.put_values.ensures in
-    let sets : left ≡ with_values e.object values c.args.pid old.state.clock =
-    c.set_all.ensures ∙ (λ i. with_values (object i) (all i) c.args.pid (c.clock-now.ensures i)) in
-    ap (λ (h : Held). Finishes (done h.state Empty)) c.clear_adjustments.ensures
-    ∙ ap (λ (m : Keyed Set). Finishes (done (without_adjustments id (None) (record old.state { semset = m })) Empty))
-    (puts ∙ ap (λ (x : Set). with_entry old.state.semset id (holding e x)) sets)
-    ∙ rw (found g).was refl
+    let g = goal.at.returns-clause-finish c in
+    let s = c.args.state.now.state in
+    let f = found g.In_ok-ready_to_set in
+    let e : Entry Set = f.value in
+    let there = f.holds.there in
+    let read = values g.After-len in
+    let sets : c.set_all.new.self ≡ with_values e.object (numbers_in (bytes_of c.args.values.now)) c.args.pid s.clock =
+    search (rules, there, read) in
+    ap (λ (h : Held). Finishes (done h.state Empty)) (leaves g.After-clear_adjustments e f.holds.there)
+    ∙ ap (λ (x : Set). Finishes (done (without_adjustments c.args.id.0 None (with_semset s c.args.id.0 (holding e x))) Empty)) sets
+    ∙ rw f.was refl
 
-pub returns-clause-set_keys : goal.returns-clause-set_keys
-returns-clause-set_keys c =
-    let g = (goal.at.returns-clause-set_keys c).In_ok-ready_to_set in
-    let left = c.set_all.new.self in
-    ap (λ (h : Held). h.room.set_keys) c.clear_adjustments.ensures
-    ∙ keys-kept c.semset_mut.result.now c.args.state.now.state.semset c.args.id.0 c.semset_mut.ensures.sets (ap is_some (found g).holds.there) left
-    (c.get_mut.follows.lender left) (c.get_mut.follows.holds left) ∙ c.semset_mut.ensures.keys
+pub returns-clause-held : goal.returns-clause-held
+returns-clause-held c =
+    let g = goal.at.returns-clause-held c in
+    let f = found g.In_ok-ready_to_set in
+    state-alone c.args.state.now _ (leaves g.After-clear_adjustments f.value f.holds.there)

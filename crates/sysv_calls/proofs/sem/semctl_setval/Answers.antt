@@ -1,25 +1,22 @@
-use Rattle.std.proofs.Common.{◌≡◌, ◌∙◌, ◌<◌, length, Some, refl, ap, sym, subst, arith, true}
-use Rattle.std.specs.Prelude.{is_some}
+use Rattle.std.proofs.Common.{◌≡◌, ◌∙◌, ◌<◌, length, Some, refl, ap, sym, subst, arith, true, rules}
 use Rattle.std.proofs.lemmas.Option.{slice_get_within}
-use Rattle.std.specs.Int.{w32, cast_signed as to_z, cast_unsigned as of_z}
-use Rattle.std.proofs.lemmas.Int.{to_z-of_z}
 use Rattle.ipc_base.proofs.CallerLemmas.{passed-bounds}
 use Rattle.ipc_wire.specs.declared.reply.Body.TheVariants.{Empty}
 use Rattle.sysv_sem.specs.declared.set.Semaphore.{Semaphore}
 use Rattle.sysv_sem.specs.Set.{Set, with_value}
 use Rattle.ipc_state.specs.Finish.{Finishes, done}
 use Rattle.ipc_state.specs.Held.{Held}
-use Rattle.ipc_state.specs.Keyed.{Keyed, holding}
-use Rattle.ipc_state.specs.State.{without_adjustments}
-use Rattle.ipc_state.specs.Numbered.{with_entry}
+use Rattle.ipc_state.specs.Keyed.{holding}
+use Rattle.ipc_state.specs.State.{semset_of, with_semset, without_adjustments}
 use Rattle.ipc_state.specs.declared.keyed.Entry.{Entry}
-use Rattle.ipc_state.proofs.CallerLemmas.{lent-object, put-object, set-sound}
+use Rattle.ipc_state.proofs.CallerLemmas.{set-sound}
 use Rattle.ipc_state.proofs.CallerLemmas.{HasFound, has-found}
 use Rattle.sysv_calls.specs.Access.{write}
 use Rattle.ipc_state.specs.Steps.{result_of}
 use Rattle.sysv_calls.specs.Sem.{semaphore, value_of}
-use Rattle.sysv_calls.proofs.Reaching.{IsFound, keys-kept, semaphore-ends}
-use Rattle.sysv_calls.proofs.sem.semctl_setval.Goals.{After-unwrap-set}
+use Rattle.sysv_calls.proofs.Lent.{state-alone, with_state}
+use Rattle.sysv_calls.proofs.Reaching.{IsFound, semaphore-ends}
+use Rattle.sysv_calls.proofs.sem.semctl_setval.Goals.{After-clear_adjustments, After-unwrap-set}
 use Rattle.sysv_calls.proofs.sem.semctl_setval.Goals as goal
 
 -- the semaphore of a caller that may set it
@@ -34,9 +31,7 @@ inside c = slice_get_within (found c).value.0.object.semaphores c.args.num (foun
 
 -- its set, as it is lent
 object : (c : After-unwrap-set) → c.unwrap-set.result.now ≡ (found c).value.0.object
-object c =
-    lent-object c.semset_mut.result.now c.args.state.now.state.semset c.args.id.0 (found c).value.0 c.semset_mut.ensures.sets (found c).holds.there
-    c.get_mut.result c.get_mut.ensures.object c.unwrap-set.result c.unwrap-set.ensures
+object c = let there = (found c).holds.there in search (rules, there)
 
 pub overflow_cast-num : goal.overflow_cast-num
 overflow_cast-num c =
@@ -47,29 +42,30 @@ overflow_cast-num c =
 pub set_value-requires-clause-num : goal.set_value-requires-clause-num
 set_value-requires-clause-num c = subst (λ (s : Set). c.args.num < length s.semaphores) (sym (object c)) (inside c)
 
+leaves : (c : After-clear_adjustments) (e : Entry Set) → semset_of c.args.state.now.state c.args.id.0 ≡ Some e → c.clear_adjustments.new.self
+    ≡ with_state c.args.state.now (without_adjustments c.args.id.0 (Some c.args.num)
+    (with_semset c.args.state.now.state c.args.id.0 (holding e c.set_value.new.self)))
+leaves c e there =
+    c.clear_adjustments.ensures
+    ∙ ap (λ (h : Held). with_state h (without_adjustments c.args.id.0 (Some c.args.num) h.state))
+    (c.semset_mut.follows.holds c.set_value.new.self e there)
+
 pub returns-clause-finish : goal.returns-clause-finish
 returns-clause-finish c =
-    let g = (goal.at.returns-clause-finish c).After-unwrap-set in
-    let old = c.args.state.now in
-    let id = c.args.id.0 in
+    let g = goal.at.returns-clause-finish c in
+    let u = g.After-unwrap-set in
+    let s = c.args.state.now.state in
     let num = c.args.num in
-    let e : Entry Set = (found g).value.0 in
-    let left = c.set_value.new.self in
-    let n : to_z w32 (of_z w32 c.args.value) ≡ c.args.value = to_z-of_z w32 c.args.value c.ranges.value in
-    let value : value_of c.args.value ≡ Some c.in-Some.value = ap value_of (sym n) ∙ (sym c.value_of.ensures ∙ c.in-Some.is) in
-    let puts = put-object c.semset_mut.result.now old.state.semset id e c.semset_mut.ensures.sets (found g).holds.there left (c.get_mut.follows.lender left)
-    (c.get_mut.follows.holds left) in
-    let sets : left ≡ with_value e.object num c.in-Some.value c.args.pid old.state.clock =
-    c.set_value.ensures ∙ (λ i. with_value (object g i) num c.in-Some.value c.args.pid (c.clock-now.ensures i)) in
-    ap (λ (h : Held). Finishes (done h.state Empty)) c.clear_adjustments.ensures
-    ∙ ap (λ (m : Keyed Set). Finishes (done (without_adjustments id (Some num) (record old.state { semset = m })) Empty))
-    (puts ∙ ap (λ (x : Set). with_entry old.state.semset id (holding e x)) sets)
-    ∙ rw (found g).was (rw value refl)
+    let e : Entry Set = (found u).value.0 in
+    let there = (found u).holds.there in
+    let value : value_of c.args.value ≡ Some c.in-Some.value = search rules in
+    let sets : c.set_value.new.self ≡ with_value e.object num c.in-Some.value c.args.pid s.clock = search (rules, there) in
+    ap (λ (h : Held). Finishes (done h.state Empty)) (leaves g.After-clear_adjustments e (found u).holds.there)
+    ∙ ap (λ (x : Set). Finishes (done (without_adjustments c.args.id.0 (Some num) (with_semset s c.args.id.0 (holding e x))) Empty)) sets
+    ∙ rw (found u).was (rw value refl)
 
-pub returns-clause-set_keys : goal.returns-clause-set_keys
-returns-clause-set_keys c =
-    let g = (goal.at.returns-clause-set_keys c).After-unwrap-set in
-    let left = c.set_value.new.self in
-    ap (λ (h : Held). h.room.set_keys) c.clear_adjustments.ensures
-    ∙ keys-kept c.semset_mut.result.now c.args.state.now.state.semset c.args.id.0 c.semset_mut.ensures.sets (ap is_some (found g).holds.there) left
-    (c.get_mut.follows.lender left) (c.get_mut.follows.holds left) ∙ c.semset_mut.ensures.keys
+pub returns-clause-held : goal.returns-clause-held
+returns-clause-held c =
+    let g = goal.at.returns-clause-held c in
+    let f = found g.After-unwrap-set in
+    state-alone c.args.state.now _ (leaves g.After-clear_adjustments f.value.0 f.holds.there)

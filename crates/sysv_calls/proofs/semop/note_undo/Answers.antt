@@ -5,17 +5,15 @@ use Rattle.ipc_base.specs.Table.{value_at}
 use Rattle.sem_undo.specs.Undo.{Undo}
 use Rattle.sysv_sem.specs.declared.operation.Operation.{Operation}
 use Rattle.ipc_state.specs.Held.{Held}
-use Rattle.ipc_state.specs.State.{State, undo_of, with_undo}
+use Rattle.ipc_state.specs.State.{undo_of, with_undo}
 use Rattle.sysv_calls.specs.Relations.{CanNote}
 use Rattle.sysv_calls.specs.Semop.{noted}
+use Rattle.sysv_calls.proofs.Lent.{with_state}
 use Rattle.sysv_calls.proofs.Noting.{undo-again, undo-kept, undo-now, undo-there}
 use Rattle.sysv_calls.proofs.semop.note_undo.Goals as goal
 
 abbrev none : Operation
 none = record { num = 0; sem_op = pos 0; flags = record { 0 = 0 } }
-
-abbrev with_state : Held → State → Held
-with_state h s = record h { state = s }
 
 pub loop-operation-init : goal.loop-operation-init
 loop-operation-init c = ap (with_state c.args.state.now) (sym (undo-kept c.args.state.now.state c.args.pid.0 c.requires.there))

@@ -1,9 +1,11 @@
 use Rattle.std.proofs.Common.{◌∙◌, ap}
 use Rattle.std.specs.Prelude.{Err}
 use Rattle.ipc_state.specs.declared.answers.Halt.{Halt as Stops}
+use Rattle.ipc_state.specs.Held.{Held}
 use Rattle.ipc_state.proofs.CallerLemmas.{ends-stopped}
+use Rattle.sysv_calls.proofs.Lent.{state-alone}
 use Rattle.sysv_calls.proofs.Trying.{IsAnswered, is-answered, operates-finish, operates-ready, receives-finish, receives-inside, receives-there}
-use Rattle.sysv_calls.proofs.Trying.{sends-finish, sends-room, sends-there}
+use Rattle.sysv_calls.proofs.Trying.{receive, send, sends-finish, sends-room, sends-there}
 use Rattle.sysv_calls.proofs.waiting.try_parked.Goals.{After-ready}
 use Rattle.sysv_calls.proofs.waiting.try_parked.Goals as goal
 
@@ -30,7 +32,8 @@ send-requires-clause-room c =
 
 pub returns-in-Msgsnd-clause-finish : goal.returns-in-Msgsnd-clause-finish
 returns-in-Msgsnd-clause-finish c =
-    sends-finish (tests (goal.at.returns-in-Msgsnd-clause-finish c).After-ready) c.in-Ok.is c.in-Msgsnd.is c.send.new.state.state c.send.ensures.state
+    sends-finish (tests (goal.at.returns-in-Msgsnd-clause-finish c).After-ready) c.in-Ok.is c.in-Msgsnd.is c.send.new.state.state
+    (λ e there. ap (λ (h : Held). h.state) (c.send.ensures e there))
 
 pub receive-requires-clause-there : goal.receive-requires-clause-there
 receive-requires-clause-there c = receives-there (tests (goal.at.receive-requires-clause-there c).After-ready) c.in-Ok.is c.in-Msgrcv.is
@@ -41,7 +44,7 @@ receive-requires-clause-inside c = receives-inside (tests (goal.at.receive-requi
 pub returns-in-Msgrcv-clause-finish : goal.returns-in-Msgrcv-clause-finish
 returns-in-Msgrcv-clause-finish c =
     receives-finish (tests (goal.at.returns-in-Msgrcv-clause-finish c).After-ready) c.in-Ok.is c.in-Msgrcv.is c.receive.new.state.state _
-    c.receive.ensures.state c.receive.ensures.body
+    (λ e there. ap (λ (h : Held). h.state) (c.receive.ensures.held e there)) c.receive.ensures.body
 
 pub operate-requires-clause-ready : goal.operate-requires-clause-ready
 operate-requires-clause-ready c =
@@ -51,4 +54,22 @@ operate-requires-clause-ready c =
 pub returns-in-Semop-clause-finish : goal.returns-in-Semop-clause-finish
 returns-in-Semop-clause-finish c =
     operates-finish (tests (goal.at.returns-in-Semop-clause-finish c).After-ready) c.in-Ok.is c.in-Semop.is c.in-Ok.ensures.passed _ c.lend.ensures
-    c.operate.new.state.state c.operate.ensures.state
+    c.operate.new.state.state (λ found p. ap (λ (h : Held). h.state) (c.operate.ensures found p))
+
+-- ---- what stays
+
+pub returns-in-Msgsnd-clause-held : goal.returns-in-Msgsnd-clause-held
+returns-in-Msgsnd-clause-held c =
+    let f = send (tests (goal.at.returns-in-Msgsnd-clause-held c).After-ready) c.in-Ok.is c.in-Msgsnd.is in
+    state-alone c.args.state.now _ (c.send.ensures f.value f.holds.there)
+
+pub returns-in-Msgrcv-clause-held : goal.returns-in-Msgrcv-clause-held
+returns-in-Msgrcv-clause-held c =
+    let f = receive (tests (goal.at.returns-in-Msgrcv-clause-held c).After-ready) c.in-Ok.is c.in-Msgrcv.is in
+    state-alone c.args.state.now _ (c.receive.ensures.held f.value.0 f.holds.there)
+
+pub returns-in-Semop-clause-held : goal.returns-in-Semop-clause-held
+returns-in-Semop-clause-held c =
+    let ready = operates-ready (tests (goal.at.returns-in-Semop-clause-held c).After-ready) c.in-Ok.is c.in-Semop.is c.in-Ok.ensures.passed _
+    c.lend.ensures c.requires.process in
+    state-alone c.args.state.now _ (c.operate.ensures ready.found.0 ready.found.1)

@@ -1,30 +1,33 @@
-use Rattle.std.proofs.Common.{◌≡◌, ◌≤◌, vec_capacity, sym, subst, ap, arith, rules}
+use Rattle.std.proofs.Common.{◌≡◌, ◌≤◌, vec_capacity, refl, sym, subst, ap, ◌∙◌, arith, rules}
 use Rattle.ipc_base.specs.declared.limits.Limits.{Limits}
 use Rattle.ipc_base.specs.Limits.{ArePassed, longest_body}
-use Rattle.ipc_state.specs.State.{State}
+use Rattle.ipc_state.specs.Held.{Held}
+use Rattle.ipc_state.specs.Held.Ready.{Nothing}
 use Rattle.ipc_engine.specs.Buffer.{HasBuffer}
 use Rattle.ipc_engine.specs.Sound.{IsSound}
 use Rattle.ipc_engine.specs.Step.{most_replies}
+use Rattle.ipc_engine.proofs.engine.Engine.of.Goals.{After-reserve_waits}
 use Rattle.ipc_engine.proofs.engine.Engine.of.Goals as goal
+
+-- what was reserved is given back, and there are places for calls that wait
+held : (c : After-reserve_waits) → c.reserve_waits.new.self ≡ record c.args.state { ready = Nothing; waits = c.reserve_waits.new.self.waits }
+held c = c.reserve_waits.ensures.held ∙ ap (λ (h : Held). let n : Held = record h { waits = c.reserve_waits.new.self.waits } in n) c.release.ensures
 
 pub invariant_of-result : goal.invariant_of-result
 invariant_of-result c =
     let old = c.args.state.limits in
-    let new = c.reserve_waits.new.self in
-    let same : new.limits ≡ old = c.reserve_waits.ensures.limits in
-    let room : most_replies old ≤ vec_capacity c.in_ok-outcomes.outcomes =
+    let os = c.in_ok-outcomes.outcomes in
+    let spare = c.in_ok-spare.spare in
+    let room : most_replies old ≤ vec_capacity os =
     omega (arith, c.in_ok-outcomes.ensures.exact, c.most_replies.ensures, ap (λ (l : Limits). l.processes) c.limits.ensures.limits) in
     let passed : ArePassed old = search rules in
-    let buffer : HasBuffer old c.in_ok-spare.spare c.in_ok-outcomes.outcomes.items =
-    omega (arith, c.in_ok-spare.ensures, ap longest_body c.limits-2.ensures.limits) in (
-      subst (λ (l : Limits). most_replies l ≤ vec_capacity c.in_ok-outcomes.outcomes) (sym same) room,
-      subst (λ (l : Limits). IsSound l new.state) (sym same) (subst (λ (s : State). IsSound old s) (sym c.reserve_waits.ensures.state) c.requires),
-      subst (λ (l : Limits). ArePassed l) (sym same) passed,
-      subst (λ (l : Limits). HasBuffer l c.in_ok-spare.spare c.in_ok-outcomes.outcomes.items) (sym same) buffer,
-      c.in_ok-reserve_waits.ensures.ok,
-    )
+    let buffer : HasBuffer old spare os.items = omega (arith, c.in_ok-spare.ensures, ap longest_body c.limits-2.ensures.limits) in
+    let waits : old.processes ≤ c.reserve_waits.new.self.waits =
+    omega (arith, c.in_ok-reserve_waits.ensures.ok, ap (λ (h : Held). h.limits.processes) c.release.ensures) in
+    subst (λ (h : Held). (most_replies h.limits ≤ vec_capacity os) × IsSound h.limits h.state × ArePassed h.limits × HasBuffer h.limits spare os.items
+    × (h.limits.processes ≤ h.waits) × (h.ready ≡ Nothing)) (sym (held (goal.at.invariant_of-result c).After-reserve_waits))
+    (room, c.requires, passed, buffer, waits, refl)
 
 pub returns-clause-sound : goal.returns-clause-sound
 returns-clause-sound c =
-    subst (λ (l : Limits). IsSound l c.reserve_waits.new.self.state) (sym c.reserve_waits.ensures.limits)
-    (subst (λ (s : State). IsSound c.args.state.limits s) (sym c.reserve_waits.ensures.state) c.requires)
+    subst (λ (h : Held). IsSound h.limits h.state) (sym (held (goal.at.returns-clause-sound c).After-reserve_waits)) c.requires

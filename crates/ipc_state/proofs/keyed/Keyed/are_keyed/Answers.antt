@@ -15,10 +15,10 @@ returns-then-are_numbered g c =
     let is = ap (map item_row) c.items.ensures ∙ ap (λ (h : HeldObjects _). h.objects.entries) c.self.view_is in
     let numbers = subst (λ (h : HeldObjects _). Decides c.are_numbered.result (AreNumbered c.args.most h.objects)) c.self.view_is c.are_numbered.ensures in
     let numbered = numbers.0 c.if-are_numbered.true in
-    let agree = subst (λ (h : HeldObjects _). Agree h.keys h.objects) c.self.view_is c.self.invariant in
+    let agree = subst (λ (h : HeldObjects _). Agree c.self.inside.keys h.objects) c.self.view_is c.self.invariant.0 in
     let agrees = agree (positive-names by_key o.entries (named-positive o.entries o.next numbered.numbers)) in
     subst (λ (b : Bool). Decides b (AreKeyed c.args.most (λ x. ⊤) o)) (sym c.are_named_with_modes.ensures)
-    (keyed-decides c.args.most o c.items.result.now is c.args.self.now.keys agrees numbered)
+    (keyed-decides c.args.most o c.items.result.now is c.self.inside.keys agrees numbered)
 
 pub returns-else-are_numbered : goal.returns-else-are_numbered
 returns-else-are_numbered g c =

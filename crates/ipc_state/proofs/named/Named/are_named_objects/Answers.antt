@@ -15,10 +15,10 @@ returns-then-are_numbered g c =
     let is = ap (map item_row) c.items.ensures ∙ ap (λ (h : HeldNamed _). h.objects.entries) c.self.view_is in
     let numbers = subst (λ (h : HeldNamed _). Decides c.are_numbered.result (AreNumbered c.args.most h.objects)) c.self.view_is c.are_numbered.ensures in
     let numbered = numbers.0 c.if-are_numbered.true in
-    let agree = subst (λ (h : HeldNamed _). AgreeNames h.names h.objects) c.self.view_is c.self.invariant in
+    let agree = subst (λ (h : HeldNamed _). AgreeNames c.self.inside.names h.objects) c.self.view_is c.self.invariant.0 in
     let agrees = agree (positive-names by_name o.entries (named-positive o.entries o.next numbered.numbers)) in
     subst (λ (b : Bool). Decides b (AreNamedObjects c.args.most (λ x. ⊤) o)) (sym c.are_named_with_modes.ensures)
-    (named-decides c.args.most o c.items.result.now is c.args.self.now.names agrees numbered)
+    (named-decides c.args.most o c.items.result.now is c.self.inside.names agrees numbered)
 
 pub returns-else-are_numbered : goal.returns-else-are_numbered
 returns-else-are_numbered g c =

@@ -1,9 +1,10 @@
-use Rattle.std.proofs.Common.{ℕ, List, map, ap, ◌∙◌}
+use Rattle.std.proofs.Common.{◌≡◌, ℕ, List, None, map, ap, ◌∙◌}
 use Rattle.ipc_state.specs.declared.named.NamedEntry.{NamedEntry}
 use Rattle.ipc_state.specs.Directory.{number_at}
 use Rattle.ipc_state.specs.Named.{Named, named}
 use Rattle.ipc_state.specs.Opening.{stays, still_open}
 use Rattle.ipc_state.specs.Tables.{HeldNamed, item_row, numbered_of}
+use Rattle.ipc_state.proofs.Ready.{of_names, none-vacant, ready-none}
 use Rattle.ipc_state.proofs.SoundMqs.{agrees-again, named-left, named-stay}
 use Rattle.ipc_state.proofs.named.Named.sweep.Goals as goal
 
@@ -12,11 +13,18 @@ invariant_of-self g c =
     let old = c.self.inside in
     let ps = map item_row c.args.processes.now in
     let with_entries : List (ℕ × NamedEntry _) → Named _ = λ es. record { next = old.objects.next; entries = es } in
-    agrees-again (number_at old.names) _ (named (numbered_of old.objects))
-    (λ name. ap (λ (es : List (ℕ × NamedEntry _)). named (with_entries es) name) c.sweep.ensures.rows
-    ∙ named-left (stays c.args.kind ps) (named-stay c.args.kind ps) (numbered_of old.objects) name) c.self.invariant
+    let nothing : old.ready ≡ None = ap (λ (h : HeldNamed _). h.ready) (c.self.view_is ∙ c.release-before.ensures) in (
+      agrees-again (number_at old.names) _ (named (numbered_of old.objects))
+          (λ name. ap (λ (es : List (ℕ × NamedEntry _)). named (with_entries es) name) c.sweep.ensures.rows
+          ∙ named-left (stays c.args.kind ps) (named-stay c.args.kind ps) (numbered_of old.objects) name) c.self.invariant.0,
+      rw nothing (ready-none of_names (none-vacant of_names (rw nothing at c.self.invariant.1))),
+    )
 
-pub returns-clause-objects : goal.returns-clause-objects
-returns-clause-objects g c =
+pub returns : goal.returns
+returns g c =
     let with_entries : List (ℕ × NamedEntry _) → Named _ = λ es. record { next = c.self.inside.objects.next; entries = es } in
-    ap with_entries c.sweep.ensures.rows ∙ ap (λ (h : HeldNamed _). still_open c.args.kind (map item_row c.args.processes.now) h.objects) c.self.view_is
+    let left = c.self.view_is ∙ c.release-before.ensures in
+    let objects = ap with_entries c.sweep.ensures.rows
+    ∙ ap (λ (h : HeldNamed _). still_open c.args.kind (map item_row c.args.processes.now) h.objects) left in
+    let nothing = ap (λ (h : HeldNamed _). h.ready) left in
+    λ i. record { objects = objects i; ready = nothing i }

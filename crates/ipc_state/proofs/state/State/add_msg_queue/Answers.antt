@@ -1,17 +1,42 @@
-use Rattle.std.proofs.Common.{◌≡◌, ◌≢◌, ℤ, pos, true, sym, subst, ap, ◌∙◌}
-use Rattle.ipc_keys.specs.Directory.{is_vacant}
-use Rattle.std.specs.Int.{w32, cast_signed as to_z, cast_unsigned as of_z}
-use Rattle.std.proofs.lemmas.Int.{to_z-of_z}
-use Rattle.ipc_state.specs.Held.{Held}
+use Rattle.std.proofs.Common.{◌≡◌, ◌∙◌, None, Some, refl, sym, subst, ap}
+use Rattle.sysv_msg.specs.Queue.{Queue}
+use Rattle.ipc_state.specs.contracts.state.State.{the_view}
+use Rattle.ipc_state.specs.Held.{Held, left}
+use Rattle.ipc_state.specs.Keyed.{keyed}
+use Rattle.ipc_state.specs.Numbered.{with_new}
+use Rattle.ipc_state.specs.State.{with_new_msg_queue}
+use Rattle.ipc_state.specs.Tables.{HeldObjects}
+use Rattle.ipc_state.proofs.Inside.{state_in, ready-in}
+use Rattle.ipc_state.proofs.Reserved.{MayCome, made-ready, may-come}
+use Rattle.ipc_state.proofs.state.State.add_msg_queue.Goals.{After-renew}
 use Rattle.ipc_state.proofs.state.State.add_msg_queue.Goals as goal
 
-pub add-requires-clause-key : goal.add-requires-clause-key
-add-requires-clause-key c some =
-    let n : to_z w32 (of_z w32 c.args.key) ≡ c.args.key = to_z-of_z w32 c.args.key c.ranges.key in
-    subst (λ (z : ℤ). is_vacant c.self.inside.msg.keys z ≡ true) (sym n)
-    (subst (λ (m : Held). is_vacant m.room.keys c.args.key ≡ true) (sym c.self.view_is) (c.requires.key (subst (λ (z : ℤ). z ≢ pos 0) n some)))
+-- what is ready, renewed
+made : (g : _) (c : After-renew g) → c.ready_mut.follows.lender c.renew.new.self ≡ record c.self.inside.msg { ready = Some (g.key, c.renew.new.self) }
+made g c =
+    let t = c.self.inside in
+    let reserved = ap (λ (m : Held). m.ready) c.self.view_is ∙ c.requires.0 in
+    made-ready (λ r. record t.msg { ready = r }) t.msg.ready c.renew.new.self (c.ready_mut.follows.lender c.renew.new.self) g.key
+    (ready-in t _ reserved) (c.ready_mut.follows.holds c.renew.new.self)
 
-pub returns-clause-others : goal.returns-clause-others
-returns-clause-others c other apart =
-    let n : to_z w32 (of_z w32 c.args.key) ≡ c.args.key = to_z-of_z w32 c.args.key c.ranges.key in
-    c.add.ensures.others other (λ same. apart (same ∙ n)) ∙ ap (λ (m : Held). is_vacant m.room.keys other) c.self.view_is
+pub add-id-requires : goal.add-id-requires
+add-id-requires g c =
+    let old = c.args.self.now in
+    let unused = subst (λ (m : Held). keyed m.state.msg g.key ≡ None) (sym c.self.view_is) c.requires.1.0 in
+    let more = subst (λ (m : Held). MayCome m.state.msg) (sym c.self.view_is) (may-come old.limits.msgmni old.state.msg c.requires.1.1.0 c.requires.1.1.1) in
+    rw (made g ((goal.at.add-id-requires g c).After-renew)) (record { ready = refl; unused = unused; positive = more.positive; number = more.number })
+
+pub returns-clause-added : goal.returns-clause-added
+returns-clause-added g c =
+    let t = c.self.inside in
+    let put = rw (made g ((goal.at.returns-clause-added g c).After-renew)) at c.add-id.ensures.added in
+    c.release.ensures ∙ (λ i. left (the_view t) (record (state_in t) { msg = (put i).objects }))
+    ∙ ap (λ (q : Queue). left (the_view t) (record (state_in t) {
+      msg = with_new t.msg.objects (record { key = g.key; perm = c.args.perm; object = q });
+    })) c.renew.ensures
+    ∙ ap (λ (m : Held). left m (with_new_msg_queue m.limits m.state g.key c.args.perm)) c.self.view_is
+
+pub returns-clause-id : goal.returns-clause-id
+returns-clause-id g c =
+    c.add-id.ensures.id ∙ ap (λ (h : HeldObjects Queue). h.objects.next) (made g ((goal.at.returns-clause-id g c).After-renew))
+    ∙ ap (λ (m : Held). m.state.msg.next) c.self.view_is

@@ -1,10 +1,43 @@
-use Rattle.std.proofs.Common.{◌≡◌, ◌∙◌, Some, true, sym, ap, subst}
-use Rattle.ipc_keys.specs.Directory.{is_vacant}
-use Rattle.ipc_state.specs.Held.{Held}
+use Rattle.std.proofs.Common.{◌≡◌, ◌∙◌, None, Some, refl, sym, subst, ap}
+use Rattle.shm_segment.specs.Segment.{Segment}
+use Rattle.ipc_state.specs.contracts.state.State.{the_view}
+use Rattle.ipc_state.specs.Held.{Held, left}
+use Rattle.ipc_state.specs.Named.{named}
+use Rattle.ipc_state.specs.Numbered.{with_new}
+use Rattle.ipc_state.specs.State.{with_new_pshm}
+use Rattle.ipc_state.specs.Tables.{HeldNamed}
+use Rattle.ipc_state.proofs.Inside.{state_in, ready-in}
+use Rattle.ipc_state.proofs.Reserved.{MayCome, made-ready, may-come}
+use Rattle.ipc_state.proofs.state.State.add_pshm.Goals.{After-unwrap}
 use Rattle.ipc_state.proofs.state.State.add_pshm.Goals as goal
 
-pub add-requires-clause-name : goal.add-requires-clause-name
-add-requires-clause-name c some =
-    let was : c.args.self.now.room.fresh_name ≡ Some c.unwrap-name.result =
-    ap (λ (m : Held). m.room.fresh_name) (sym c.self.view_is) ∙ (sym c.take.ensures.value ∙ c.unwrap-name.ensures) in
-    subst (λ (m : Held). is_vacant m.room.pshm_names c.unwrap-name.result ≡ true) (sym c.self.view_is) (c.requires.vacant c.unwrap-name.result was some)
+-- what is ready, another
+made : (g : _) (c : After-unwrap g) → c.ready_mut.follows.lender c.new.result ≡ record c.self.inside.pshm { ready = Some (g.name, c.new.result) }
+made g c =
+    let t = c.self.inside in
+    let reserved = ap (λ (m : Held). m.ready) c.self.view_is ∙ c.requires.0 in
+    made-ready (λ r. record t.pshm { ready = r }) t.pshm.ready c.new.result (c.ready_mut.follows.lender c.new.result) g.name
+    (ready-in t _ reserved) (c.ready_mut.follows.holds c.new.result)
+
+pub add-number-requires : goal.add-number-requires
+add-number-requires g c =
+    let old = c.args.self.now in
+    let unused = subst (λ (m : Held). named m.state.pshm g.name ≡ None) (sym c.self.view_is) c.requires.1.0 in
+    let one = may-come old.limits.segments old.state.pshm c.requires.1.1.0 c.requires.1.1.1 in
+    let more = subst (λ (m : Held). MayCome m.state.pshm) (sym c.self.view_is) one in
+    rw (made g ((goal.at.add-number-requires g c).After-unwrap)) (record { ready = refl; unused = unused; positive = more.positive; number = more.number })
+
+pub returns-clause-added : goal.returns-clause-added
+returns-clause-added g c =
+    let t = c.self.inside in
+    let put = rw (made g ((goal.at.returns-clause-added g c).After-unwrap)) at c.add-number.ensures.added in
+    c.release.ensures ∙ (λ i. left (the_view t) (record (state_in t) { pshm = (put i).objects }))
+    ∙ ap (λ (x : Segment). left (the_view t) (record (state_in t) {
+      pshm = with_new t.pshm.objects (record { name = g.name; owner = c.args.cred; mode = c.args.mode; object = x });
+    })) c.new.ensures
+    ∙ ap (λ (m : Held). left m (with_new_pshm m.state g.name c.args.cred c.args.mode)) c.self.view_is
+
+pub returns-clause-number : goal.returns-clause-number
+returns-clause-number g c =
+    c.add-number.ensures.number ∙ ap (λ (h : HeldNamed Segment). h.objects.next) (made g ((goal.at.returns-clause-number g c).After-unwrap))
+    ∙ ap (λ (m : Held). m.state.pshm.next) c.self.view_is

@@ -4,30 +4,24 @@ use Rattle.ipc_base.specs.Table.{without}
 use Rattle.sem_undo.specs.Undo.{Undo}
 use Rattle.ipc_state.specs.declared.processes.Process.{Process}
 use Rattle.ipc_state.specs.Held.{Held}
+use Rattle.ipc_state.specs.Held.Ready.{Nothing}
 use Rattle.ipc_state.specs.Numbered.{Numbered, without_entry}
 use Rattle.ipc_state.specs.State.{State, without_waiting}
 use Rattle.ipc_state.specs.Waiting.{PlainWaiting}
+use Rattle.ipc_state.proofs.Inside.{state_in}
 use Rattle.ipc_state.proofs.state.State.drop_process.Goals as goal
 
 -- it is taken out of the state that the adjustments have left
-pub returns-clause-state : goal.returns-clause-state
-returns-clause-state c =
+pub returns : goal.returns
+returns c =
     let t = c.self.inside in
-    let left : Numbered Process → Numbered Undo → List PlainWaiting → State =
-    λ (ps : Numbered Process) (us : Numbered Undo) (ws : List PlainWaiting).
-    record {
-      clock = t.clock.0;
-      processes = ps;
-      wait = ws;
-      undo = us.entries;
-      msg = t.msg.objects;
-      semset = t.semset.objects;
-      mq = t.mq.objects;
-      psem = t.psem.objects;
-      pshm = t.pshm.objects;
-    } in
-    (λ i. left (c.remove-2.ensures i) (c.remove.ensures i) (c.leave-waiting.ensures.others i))
+    let taken : Numbered Process → Numbered Undo → List PlainWaiting → State =
+    λ (ps : Numbered Process) (us : Numbered Undo) (ws : List PlainWaiting). record (state_in t) { processes = ps; wait = ws; undo = us.entries } in
+    let state = (λ i. taken (c.remove-2.ensures i) (c.remove.ensures i) (c.leave-waiting.ensures.others i))
     ∙ ap (λ (m : Held). without_waiting (record m.state {
       processes = without_entry m.state.processes c.args.pid.0;
       undo = without nat_eq m.state.undo c.args.pid.0;
-    }) c.args.pid.0) (c.self.view_is ∙ c.add_adjustments_of.ensures)
+    }) c.args.pid.0) (c.self.view_is ∙ c.add_adjustments_of.ensures) in
+    let limits = ap (λ (m : Held). m.limits) (c.self.view_is ∙ c.add_adjustments_of.ensures) in
+    let waits = c.leave-waiting.ensures.room ∙ ap (λ (m : Held). m.waits) (c.self.view_is ∙ c.add_adjustments_of.ensures) in
+    c.release.ensures ∙ (λ i. record { limits = limits i; state = state i; ready = Nothing; waits = waits i })

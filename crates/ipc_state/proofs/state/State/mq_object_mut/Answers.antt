@@ -1,33 +1,24 @@
-use Rattle.std.proofs.Common.{◌≡◌, ◌∙◌, true, Option, Some, None, refl, sym, ap}
-use Rattle.std.specs.Prelude.{is_some, option_map, unwrap_or}
+use Rattle.std.proofs.Common.{◌∙◌, refl, ap}
+use Rattle.std.specs.Prelude.{is_some, option_map}
 use Rattle.posix_mq.specs.Queue.{Queue as Mq}
 use Rattle.ipc_state.specs.contracts.state.State.{the_view}
 use Rattle.ipc_state.specs.declared.named.NamedEntry.{NamedEntry}
 use Rattle.ipc_state.specs.Held.{Held}
-use Rattle.ipc_state.specs.Named.{Named, with_object}
-use Rattle.ipc_state.specs.Numbered.{entry_of, with_entry}
+use Rattle.ipc_state.specs.Numbered.{entry_of}
 use Rattle.ipc_state.specs.State.{with_mq}
 use Rattle.ipc_state.specs.Tables.{HeldNamed}
+use Rattle.ipc_state.proofs.Lent.{put-named}
 use Rattle.ipc_state.proofs.state.State.mq_object_mut.Goals as goal
 
 pub returns : goal.returns
 returns c =
-    let o = c.self.inside.mq in
     let n = c.args.number in
-    let viewed : HeldNamed Mq → Held = λ (p : HeldNamed Mq). the_view (record c.self.inside { mq = p }) in
-    let with : Named Mq → Held = λ (t : Named Mq). viewed (record o { objects = t }) in
-    let put : (q : Mq) (r : Option (NamedEntry Mq)) → entry_of o.objects n ≡ r → is_some r ≡ true
-    → viewed (c.get_mut.follows.lender q) ≡ record c.args.self.now { state = with_mq c.args.self.now.state n q } =
-    λ q r. elim r as (λ r. entry_of o.objects n ≡ r → is_some r ≡ true
-    → viewed (c.get_mut.follows.lender q) ≡ record c.args.self.now { state = with_mq c.args.self.now.state n q }) [
-      | None ↦ λ is some. cc
-      | Some e ↦ λ is some. ap viewed (c.get_mut.follows.holds q e is)
-          ∙ (sym (ap (λ (f : Option (NamedEntry Mq)). with (unwrap_or (option_map (λ e. with_entry o.objects n (with_object e q)) f) o.objects)) is)
-          ∙ ap (λ (m : Held). let h : Held = record m { state = with_mq m.state n q } in h) c.self.view_is)
-    ] in (
+    let viewed : HeldNamed Mq → Held = λ (p : HeldNamed Mq). the_view (record c.self.inside { mq = p }) in (
       (
         refl,
-        λ q there. put q (entry_of o.objects n) refl (ap (λ (m : Held). is_some (entry_of m.state.mq n)) c.self.view_is ∙ there),
+        λ x there. let some = ap (λ (m : Held). is_some (entry_of m.state.mq n)) c.self.view_is ∙ there in
+            ap viewed (put-named c.self.inside.mq n x (c.get_mut.follows.lender x) (c.get_mut.follows.holds x) some)
+            ∙ ap (λ (m : Held). let h : Held = record m { state = with_mq m.state n x } in h) c.self.view_is,
         ap viewed c.get_mut.follows.holds-at-none ∙ c.self.view_is,
       ),
       record {

@@ -7,4 +7,4 @@ use Rattle.ipc_state.proofs.state.State.mq_of_name.Goals as goal
 pub returns : goal.returns
 returns c positive =
     subst (λ (m : Held). c.of_name.result ≡ named m.state.mq c.args.name.now) c.self.view_is
-    (c.of_name.ensures.named (subst (λ (m : Held). ArePositive m.state.mq.entries) (sym c.self.view_is) positive))
+    (c.of_name.ensures (subst (λ (m : Held). ArePositive m.state.mq.entries) (sym c.self.view_is) positive))

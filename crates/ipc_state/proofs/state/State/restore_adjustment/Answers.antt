@@ -1,5 +1,5 @@
 use Rattle.std.proofs.Common.{◌≡◌, ℕ, List, Some, None, sym, ap, ◌∙◌}
-use Rattle.std.specs.Prelude.{nat_eq, is_some, ◌&&◌, Bool}
+use Rattle.std.specs.Prelude.{nat_eq}
 use Rattle.std.specs.FinMap as fin
 use Rattle.std.proofs.lemmas.Result.{on_err_weaker}
 use Rattle.ipc_base.specs.Table.{value_at, with_value}
@@ -10,7 +10,8 @@ use Rattle.ipc_state.specs.declared.numbered.Numbered.{Numbered as Table}
 use Rattle.ipc_state.specs.Held.{Held}
 use Rattle.ipc_state.specs.Numbered.{Numbered}
 use Rattle.ipc_state.specs.State.{undo_of}
-use Rattle.ipc_state.specs.Tables.{numbered_of, has_place}
+use Rattle.ipc_state.specs.Tables.{numbered_of}
+use Rattle.ipc_state.proofs.Inside.{with_undo_in}
 use Rattle.ipc_state.proofs.Places.{with-none}
 use Rattle.ipc_state.proofs.state.State.restore_adjustment.Goals as goal
 
@@ -33,16 +34,10 @@ returns-clause-err c =
     let pid = c.args.pid.0 in
     let was : value_at nat_eq (numbered_of t.undo).entries pid ≡ Some c.in-Some.undo.now = sym (c.in-Some.ensures).value in
     let puts = c.get_mut.follows.holds c.restore.new.self in
-    let viewed : List (ℕ × Undo) → Bool → Held = λ (us : List (ℕ × Undo)) (place : Bool).
-    let v = the_view t in
-    record v {
-      state = record v.state { undo = us };
-      room = record v.room { process = has_place t.processes && (place && (is_some t.fresh_undo && is_some t.fresh_descriptors)) };
-    } in
     on_err_weaker c.restore.result
     (λ same.
     let back : (numbered_of (c.get_mut.follows.lender c.restore.new.self)).entries ≡ (numbered_of t.undo).entries =
     ap (λ (o : Numbered Undo). o.entries) puts.numbered
     ∙ ap (λ (x : Undo). with_value nat_eq (numbered_of t.undo).entries pid x) same ∙ own (numbered_of t.undo).entries pid c.in-Some.undo.now was in
-    (λ i. viewed (back i) (puts.place i)) ∙ c.self.view_is)
+    (λ i. with_undo_in t (back i) (puts.place i)) ∙ c.self.view_is)
     c.restore.ensures.err

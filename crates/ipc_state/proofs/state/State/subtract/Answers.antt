@@ -1,5 +1,5 @@
 use Rattle.std.proofs.Common.{◌≡◌, ◌<◌, ℕ, ◌-ℤ◌, List, Some, None, true, rules, FitsSigned, sym, ap, subst, ◌∙◌}
-use Rattle.std.specs.Prelude.{nat_eq, is_some, ◌&&◌, Bool, Option, unwrap_or}
+use Rattle.std.specs.Prelude.{nat_eq, Option, unwrap_or}
 use Rattle.std.specs.FinMap as fin
 use Rattle.std.specs.Int.{w16}
 use Rattle.std.proofs.lemmas.Int.{to_z-of_z}
@@ -10,7 +10,8 @@ use Rattle.ipc_state.specs.declared.numbered.Numbered.{Numbered as Table}
 use Rattle.ipc_state.specs.Held.{Held}
 use Rattle.ipc_state.specs.Numbered.{Numbered}
 use Rattle.ipc_state.specs.State.{undo_of, with_undo}
-use Rattle.ipc_state.specs.Tables.{numbered_of, has_place}
+use Rattle.ipc_state.specs.Tables.{numbered_of}
+use Rattle.ipc_state.proofs.Inside.{with_undo_in}
 use Rattle.ipc_state.proofs.Places.{with-none}
 use Rattle.ipc_state.proofs.state.State.subtract.Goals.{In-Some}
 use Rattle.ipc_state.proofs.state.State.subtract.Goals as goal
@@ -33,9 +34,6 @@ lent : (c : In-Some) → undo_of c.args.self.now.state c.args.pid.0 ≡ c.in-Som
 lent c =
     let was : value_at nat_eq (numbered_of c.self.inside.undo).entries c.args.pid.0 ≡ Some c.in-Some.undo.now = sym (c.in-Some.ensures).value in
     ap (λ (m : Held). undo_of m.state c.args.pid.0) (sym c.self.view_is) ∙ ap (λ (r : Option Undo). unwrap_or r fin.empty) was
-
-op : (c : In-Some) → c.args.sem_op ≡ c.args.sem_op
-op c = λ i. c.args.sem_op
 
 pub subtract-requires-clause-few : goal.subtract-requires-clause-few
 subtract-requires-clause-few c =
@@ -60,11 +58,5 @@ returns c =
     let entries : (numbered_of (c.get_mut.follows.lender c.subtract.new.self)).entries
     ≡ with_value nat_eq (numbered_of t.undo).entries pid (subtracted (undo_of old.state pid) (c.args.set.0, c.args.num) c.args.sem_op) =
     ap (λ (o : Numbered Undo). o.entries) puts.numbered ∙ ap (λ (x : Undo). with_value nat_eq (numbered_of t.undo).entries pid x) new in
-    let viewed : List (ℕ × Undo) → Bool → Held = λ (us : List (ℕ × Undo)) (place : Bool).
-    let v = the_view t in
-    record v {
-      state = record v.state { undo = us };
-      room = record v.room { process = has_place t.processes && (place && (is_some t.fresh_undo && is_some t.fresh_descriptors)) };
-    } in
-    (λ i. viewed (entries i) (puts.place i))
+    (λ i. with_undo_in t (entries i) (puts.place i))
     ∙ ap (λ (m : Held). record m { state = with_undo m.state pid (subtracted (undo_of old.state pid) (c.args.set.0, c.args.num) c.args.sem_op) }) c.self.view_is
