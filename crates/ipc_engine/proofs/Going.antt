@@ -11,8 +11,10 @@ use Rattle.ipc_wait.specs.Waits.{waiting_call_of, is_of, without}
 use Rattle.ipc_wait.proofs.CallerLemmas.{found-in}
 use Rattle.ipc_wire.specs.Request.{PlainSysv, PlainKind, Hello, Interrupt as Interrupts, Sysv, Posix}
 use Rattle.ipc_wire.specs.Request as requests
+use Rattle.ipc_keys.specs.declared.check.NameKind.TheVariants as names
 use Rattle.ipc_state.specs.declared.parked.Object.{Object}
-use Rattle.ipc_state.specs.declared.parked.Object.TheVariants as object
+use Rattle.ipc_state.specs.declared.parked.ObjectKind.{ObjectKind}
+use Rattle.ipc_state.specs.declared.parked.ObjectKind.TheVariants as kinds
 use Rattle.ipc_state.specs.Finish.{Finish, Finishes, IfFinishes, has_to_wait}
 use Rattle.ipc_state.specs.Sound.{HasSoundParts}
 use Rattle.ipc_state.specs.State.{State, is_process, is_waiting, without_waiting}
@@ -34,49 +36,44 @@ use Rattle.ipc_engine.proofs.Tries.{HasEnded, there-object, tried-there}
 abbrev IsOrNot : Object → Option Object → Type 0
 IsOrNot a o = (Some a ≡ o) ⊎ (Some a ≢ o)
 
--- an object by its kind and its number
-abbrev kind : Object → ℕ
-kind (object.MsgQueue a) = 0
-kind (object.Semset a) = 1
-kind (object.Mq n) = 2
-kind (object.Psem n) = 3
-kind (object.Pshm n) = 4
+-- a kind by a number
+abbrev rank : ObjectKind → ℕ
+rank kinds.MsgQueue = 0
+rank kinds.Semset = 1
+rank (kinds.Named names.Mq) = 2
+rank (kinds.Named names.Psem) = 3
+rank (kinds.Named names.Pshm) = 4
 
-abbrev number : Object → ℕ
-number (object.MsgQueue a) = a.0
-number (object.Semset a) = a.0
-number (object.Mq n) = n
-number (object.Psem n) = n
-number (object.Pshm n) = n
+abbrev of_rank : ℕ → ObjectKind
+of_rank zero = kinds.MsgQueue
+of_rank (suc zero) = kinds.Semset
+of_rank (suc (suc zero)) = kinds.Named names.Mq
+of_rank (suc (suc (suc zero))) = kinds.Named names.Psem
+of_rank (suc (suc (suc (suc k)))) = kinds.Named names.Pshm
 
-abbrev of_kind : ℕ → ℕ → Object
-of_kind zero n = object.MsgQueue (record { 0 = n })
-of_kind (suc zero) n = object.Semset (record { 0 = n })
-of_kind (suc (suc zero)) n = object.Mq n
-of_kind (suc (suc (suc zero))) n = object.Psem n
-of_kind (suc (suc (suc (suc k)))) n = object.Pshm n
-
-known : (a : Object) → of_kind (kind a) (number a) ≡ a
-known (object.MsgQueue a) = refl
-known (object.Semset a) = refl
-known (object.Mq n) = refl
-known (object.Psem n) = refl
-known (object.Pshm n) = refl
+known : (k : ObjectKind) → of_rank (rank k) ≡ k
+known kinds.MsgQueue = refl
+known kinds.Semset = refl
+known (kinds.Named names.Mq) = refl
+known (kinds.Named names.Psem) = refl
+known (kinds.Named names.Pshm) = refl
 
 same_object : (a : Object) (o : Option Object) → IsOrNot a o
 same_object a None = inr (λ no. cc)
-same_object a (Some b) = by_kind (test_cases (nat_eq (kind a) (kind b)))
+same_object a (Some b) = by_kind (test_cases (nat_eq (rank a.kind) (rank b.kind)))
   where
-    by_number : kind a ≡ kind b → (nat_eq (number a) (number b) ≡ true) ⊎ (nat_eq (number a) (number b) ≡ false) → IsOrNot a (Some b)
+    by_number : rank a.kind ≡ rank b.kind → (nat_eq a.number b.number ≡ true) ⊎ (nat_eq a.number b.number ≡ false) → IsOrNot a (Some b)
     by_number one (inl is) =
-        let also : number a ≡ number b = grind (arith, nat_tests) in
-        inl (ap Some (sym (known a) ∙ (λ i. of_kind (one i) (also i)) ∙ known b))
+        let kind : a.kind ≡ b.kind = sym (known a.kind) ∙ (ap of_rank one ∙ known b.kind) in
+        let number : a.number ≡ b.number = grind (arith, nat_tests) in
+        inl (λ i. Some (record { kind = kind i; number = number i }))
     by_number one (inr other) =
-        inr (λ same. absurd (let it : a ≡ b = cc in let also : number a ≡ number b = ap number it in grind (arith, nat_tests)))
+        inr (λ same. absurd (let it : a ≡ b = cc in let also : a.number ≡ b.number = ap (λ (c : Object). c.number) it in grind (arith, nat_tests)))
 
-    by_kind : (nat_eq (kind a) (kind b) ≡ true) ⊎ (nat_eq (kind a) (kind b) ≡ false) → IsOrNot a (Some b)
-    by_kind (inl is) = by_number (grind (arith, nat_tests)) (test_cases (nat_eq (number a) (number b)))
-    by_kind (inr other) = inr (λ same. absurd (let it : a ≡ b = cc in let also : kind a ≡ kind b = ap kind it in grind (arith, nat_tests)))
+    by_kind : (nat_eq (rank a.kind) (rank b.kind) ≡ true) ⊎ (nat_eq (rank a.kind) (rank b.kind) ≡ false) → IsOrNot a (Some b)
+    by_kind (inl is) = by_number (grind (arith, nat_tests)) (test_cases (nat_eq a.number b.number))
+    by_kind (inr other) =
+        inr (λ same. absurd (let it : a ≡ b = cc in let also : rank a.kind ≡ rank b.kind = ap (λ (c : Object). rank c.kind) it in grind (arith, nat_tests)))
 
 -- each call of a list is found there by its process
 all-waiting : (ws : List PlainWaiting) → All (λ (w : PlainWaiting). is_some (waiting_call_of w.pid ws) ≡ true) ws

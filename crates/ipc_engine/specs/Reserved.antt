@@ -21,6 +21,6 @@ abbrev pub kept_of : PlainRequest → Option PlainRequest
 kept_of request = if may_wait request.kind then Some request else None
 
 -- what a request needs is ready, and is kept; nothing of it, if a call of its process waits
-pub record IsReserved (waits : Bool) (now : Ready) (request : PlainRequest) (parked : Option PlainRequest) : Type 0 where
+pub record IsReserved (waits : Bool) (now : Ready) (request : PlainRequest) (saved : Option PlainRequest) : Type 0 where
   pub ready : now ≡ (if waits then Ready.Nothing else needs request.kind)
-  pub kept : parked ≡ (if waits then None else kept_of request)
+  pub kept : saved ≡ (if waits then None else kept_of request)

@@ -117,9 +117,9 @@ module _ (limits : Limits) (s : State) where
     named-few =
         omega (
           arith,
-          sound.parts.mq.held.named.numbered.count,
-          sound.parts.psem.named.numbered.count,
-          sound.parts.pshm.held.named.numbered.count,
+          (sound.parts.named names.Mq).held.named.numbered.count,
+          (sound.parts.named names.Psem).held.named.numbered.count,
+          (sound.parts.named names.Pshm).held.named.numbered.count,
         )
 
     -- their numbers rise
@@ -128,28 +128,28 @@ module _ (limits : Limits) (s : State) where
         let segments : PlainObjects = map pshm_object o.pshm.entries in
         let last : IsRising (5 * 2 ^ 32 + 1) (keys_of segments) (2 ^ 64) =
         subst (λ (os : PlainObjects). IsRising (5 * 2 ^ 32 + 1) (keys_of os) (2 ^ 64)) (append-nil segments)
-        (objects-rise (5 * 2 ^ 32) segment_bytes 1 o.pshm.next (2 ^ 64) o.pshm.entries [] sound.parts.pshm.held.named.numbered.numbers
-        (omega (arith, sound.parts.pshm.held.named.numbered.next))) in
+        (objects-rise (5 * 2 ^ 32) segment_bytes 1 o.pshm.next (2 ^ 64) o.pshm.entries [] (sound.parts.named names.Pshm).held.named.numbered.numbers
+        (omega (arith, (sound.parts.named names.Pshm).held.named.numbered.next))) in
         let sems : IsRising (4 * 2 ^ 32 + 1) (keys_of (psems_and_pshms o)) (2 ^ 64) =
-        objects-rise (4 * 2 ^ 32) psem_bytes 1 o.psem.next (2 ^ 64) o.psem.entries segments sound.parts.psem.named.numbered.numbers
-        (rising-lower (4 * 2 ^ 32 + o.psem.next) (5 * 2 ^ 32 + 1) (keys_of segments) (2 ^ 64) (omega (arith, sound.parts.psem.named.numbered.next)) last) in
-        objects-rise (3 * 2 ^ 32) mq_bytes 1 o.mq.next (2 ^ 64) o.mq.entries (psems_and_pshms o) sound.parts.mq.held.named.numbered.numbers
-        (rising-lower (3 * 2 ^ 32 + o.mq.next) (4 * 2 ^ 32 + 1) (keys_of (psems_and_pshms o)) (2 ^ 64) (omega (arith, sound.parts.mq.held.named.numbered.next)) sems)
+        objects-rise (4 * 2 ^ 32) psem_bytes 1 o.psem.next (2 ^ 64) o.psem.entries segments (sound.parts.named names.Psem).held.named.numbered.numbers
+        (rising-lower (4 * 2 ^ 32 + o.psem.next) (5 * 2 ^ 32 + 1) (keys_of segments) (2 ^ 64) (omega (arith, (sound.parts.named names.Psem).held.named.numbered.next)) last) in
+        objects-rise (3 * 2 ^ 32) mq_bytes 1 o.mq.next (2 ^ 64) o.mq.entries (psems_and_pshms o) (sound.parts.named names.Mq).held.named.numbered.numbers
+        (rising-lower (3 * 2 ^ 32 + o.mq.next) (4 * 2 ^ 32 + 1) (keys_of (psems_and_pshms o)) (2 ^ 64) (omega (arith, (sound.parts.named names.Mq).held.named.numbered.next)) sems)
 
     segment-names : All (λ e. length e.1.name ≤ 255) o.pshm.entries
     segment-names =
         All-weaker (λ (e : ℕ × NamedEntry Segment). is_named_so names.Pshm e ≡ true) (λ e. length e.1.name ≤ 255)
-        (λ e formed. name-short names.Pshm e formed) o.pshm.entries sound.parts.pshm.held.forms
+        (λ e formed. name-short names.Pshm e formed) o.pshm.entries (sound.parts.named names.Pshm).held.forms
 
     sem-names : All (λ e. length e.1.name ≤ 251) o.psem.entries
     sem-names =
         All-weaker (λ (e : ℕ × NamedEntry ℕ). is_named_so names.Psem e ≡ true) (λ e. length e.1.name ≤ 251)
-        (λ e formed. name-short names.Psem e formed) o.psem.entries sound.parts.psem.forms
+        (λ e formed. name-short names.Psem e formed) o.psem.entries (sound.parts.named names.Psem).held.forms
 
     mqs-short : All (λ e. length (mq_bytes e.1) ≤ most_mq limits) o.mq.entries
     mqs-short =
         each-held limits.queues (IsSoundMq limits) names.Mq s.processes.entries s.mq (λ e. length (mq_bytes e.1) ≤ most_mq limits)
-        (λ e good formed. mq-short limits e.0 e.1 good formed) sound.parts.mq.held
+        (λ e good formed. mq-short limits e.0 e.1 good formed) (sound.parts.named names.Mq).held
 
     -- they have some bytes, and not too many to be counted
     pub named-are : ArePassed limits → AreBytes (named_objects o)
@@ -158,7 +158,7 @@ module _ (limits : Limits) (s : State) where
         let most : most_mq limits < 2 ^ 64 = omega (arith, mul-le limits.maxmsg (8 + limits.msgsize) 10 8200 b.maxmsg (omega (arith, b.msgsize))) in
         let Some-bytes : ℕ × List ℕ → Type 0 = λ x. 0 < length x.1 in
         let Few-bytes : ℕ × List ℕ → Type 0 = λ x. length x.1 < 2 ^ 64 in
-        let segments = segment-within o.pshm.entries limits.segment_bytes sound.parts.pshm.bytes in
+        let segments = segment-within o.pshm.entries limits.segment_bytes (sound.parts.named names.Pshm).together in
         record {
           some = All-append Some-bytes (map mq_object o.mq.entries) (psems_and_pshms o)
               (All-map Some-bytes mq_object o.mq.entries
@@ -196,17 +196,17 @@ module _ (limits : Limits) (s : State) where
     -- and fit into these sectors
     pub named-sectors : sum_by of (named_objects o) ≤ named_most limits
     named-sectors =
-        let mqs = kind-sectors (3 * 2 ^ 32) limits.queues (most_mq limits) mq_bytes o.mq.entries mqs-short sound.parts.mq.held.named.numbered.count in
+        let mqs = kind-sectors (3 * 2 ^ 32) limits.queues (most_mq limits) mq_bytes o.mq.entries mqs-short (sound.parts.named names.Mq).held.named.numbered.count in
         let short : All (λ e. length (psem_bytes e.1) ≤ 271) o.psem.entries =
         All-weaker (λ (e : ℕ × NamedEntry ℕ). length e.1.name ≤ 251) (λ e. length (psem_bytes e.1) ≤ 271) (λ e less. omega (arith, less, psem-long e.1)) o.psem.entries sem-names in
-        let sems = kind-sectors (4 * 2 ^ 32) limits.named_semaphores 271 psem_bytes o.psem.entries short sound.parts.psem.named.numbered.count in
+        let sems = kind-sectors (4 * 2 ^ 32) limits.named_semaphores 271 psem_bytes o.psem.entries short (sound.parts.named names.Psem).held.named.numbered.count in
         omega (
           arith,
           mqs,
           sems,
           segment-sectors o.pshm.entries segment-names,
-          sound.parts.pshm.bytes,
-          sound.parts.pshm.held.named.numbered.count,
+          (sound.parts.named names.Pshm).together,
+          (sound.parts.named names.Pshm).held.named.numbered.count,
           sum_by-append of (map mq_object o.mq.entries) (psems_and_pshms o),
           sum_by-append of (map psem_object o.psem.entries) (map pshm_object o.pshm.entries),
         )
@@ -214,7 +214,7 @@ module _ (limits : Limits) (s : State) where
     pub mqs-small : ArePassed limits → All (λ e. IsSmallMq e.1) o.mq.entries
     mqs-small passed =
         each-held limits.queues (IsSoundMq limits) names.Mq s.processes.entries s.mq (λ e. IsSmallMq e.1)
-        (λ e good formed. mq-small limits e.0 e.1 good formed passed) sound.parts.mq.held
+        (λ e good formed. mq-small limits e.0 e.1 good formed passed) (sound.parts.named names.Mq).held
 
     pub names-small : (All (λ e. length e.1.name < 2 ^ 32) o.psem.entries) × (All (λ e. length e.1.name < 2 ^ 32) o.pshm.entries)
     names-small = (

@@ -23,9 +23,9 @@ use Rattle.sysv_sem.specs.Operation.{most_value}
 use Rattle.sysv_sem.specs.declared.set.Semaphore.{Semaphore}
 use Rattle.sysv_sem.specs.Set.{Set}
 use Rattle.ipc_perm.specs.declared.perm.Perm.{Perm}
+use Rattle.ipc_keys.specs.declared.check.NameKind.{NameKind}
+use Rattle.ipc_keys.specs.declared.check.NameKind.TheVariants as names
 use Rattle.ipc_state.specs.declared.descriptors.Descriptor.{Descriptor}
-use Rattle.ipc_state.specs.declared.descriptors.Opened.{Opened}
-use Rattle.ipc_state.specs.declared.descriptors.Opened.TheVariants as opened
 use Rattle.ipc_state.specs.declared.keyed.Entry.{Entry}
 use Rattle.ipc_state.specs.declared.named.NamedEntry.{NamedEntry}
 use Rattle.ipc_state.specs.declared.processes.Process.{Process}
@@ -57,19 +57,13 @@ count_bytes n = fields_bytes (Four ∷ []) (n ∷ [])
 abbrev pub counted_bytes : {X : Type 0} → (X → List ℕ) → List X → List ℕ
 counted_bytes bytes_of xs = count_bytes (length xs) ++ flat_map bytes_of xs
 
--- what a descriptor is open on: its kind, of which 3 is a POSIX queue, 4 a named semaphore and 5 a segment, and its
--- number
-abbrev pub opened_kind : Opened → ℕ
-opened_kind (opened.Mq number) = 3
-opened_kind (opened.Psem number) = 4
-opened_kind (opened.Pshm number) = 5
+-- the number of a kind of objects with a name
+abbrev pub kind_number : NameKind → ℕ
+kind_number names.Mq = 3
+kind_number names.Psem = 4
+kind_number names.Pshm = 5
 
-abbrev pub opened_number : Opened → ℕ
-opened_number (opened.Mq number) = number
-opened_number (opened.Psem number) = number
-opened_number (opened.Pshm number) = number
-
--- a descriptor: its number, what it is open on, and its flags
+-- a descriptor: its number, the kind and the number of what it is open on, and its flags
 abbrev pub descriptor_sizes : List Size
 descriptor_sizes = Four ∷ Four ∷ Four ∷ Four ∷ []
 
@@ -77,7 +71,7 @@ abbrev pub descriptor_shape : Shape
 descriptor_shape = Fields descriptor_sizes
 
 abbrev pub descriptor_numbers : ℕ × Descriptor → List ℕ
-descriptor_numbers d = d.0 ∷ opened_kind d.1.on ∷ opened_number d.1.on ∷ d.1.flags ∷ []
+descriptor_numbers d = d.0 ∷ kind_number d.1.on.kind ∷ d.1.on.number ∷ d.1.flags ∷ []
 
 abbrev pub descriptor_bytes : ℕ × Descriptor → List ℕ
 descriptor_bytes = bytes_in descriptor_shape descriptor_numbers

@@ -22,18 +22,18 @@ use Rattle.sysv_msg.specs.Queue.{Queue, PlainMessage}
 use Rattle.sysv_sem.specs.declared.set.Semaphore.{Semaphore}
 use Rattle.sysv_sem.specs.Set.{Set}
 use Rattle.ipc_perm.specs.declared.perm.Perm.{Perm}
+use Rattle.ipc_keys.specs.declared.check.NameKind.{NameKind}
+use Rattle.ipc_keys.specs.declared.check.NameKind.TheVariants as names
 use Rattle.ipc_state.specs.declared.parked.Awaited.{Awaited}
 use Rattle.ipc_state.specs.declared.parked.Awaited.TheVariants as awaited
 use Rattle.ipc_state.specs.declared.descriptors.Descriptor.{Descriptor}
-use Rattle.ipc_state.specs.declared.descriptors.Opened.{Opened}
-use Rattle.ipc_state.specs.declared.descriptors.Opened.TheVariants as opened
 use Rattle.ipc_state.specs.declared.processes.Process.{Process}
 use Rattle.ipc_state.specs.declared.keyed.Entry.{Entry}
 use Rattle.ipc_state.specs.declared.named.NamedEntry.{NamedEntry}
 use Rattle.ipc_state.specs.Descriptors.{Table}
 use Rattle.ipc_state.specs.declared.numbered.Item.{Item}
 use Rattle.ipc_state.specs.declared.state.Numbers.{Numbers}
-use Rattle.ipc_state.specs.Opening.{NamedObjects}
+use Rattle.ipc_state.specs.Opening.{NamedObjects, opened_as}
 use Rattle.ipc_state.specs.State.{State, named_in}
 use Rattle.ipc_state.specs.Tables.{item_row}
 use Rattle.ipc_state.specs.Waiting.{PlainWaiting, awaited_by}
@@ -185,14 +185,15 @@ process_from ns descriptors = (
   },
 )
 
--- what has this kind and this number; a kind that is none of them is taken for the last
-abbrev pub opened_from : ℕ → ℕ → Opened
-opened_from kind number =
-    if kind == 3 then opened.Mq number else if kind == 4 then opened.Psem number else opened.Pshm number
+-- the kind of this number; a number that is none of a kind is taken for that of the last
+abbrev pub kind_from : ℕ → NameKind
+kind_from number = if number == 3 then names.Mq else if number == 4 then names.Psem else names.Pshm
 
 abbrev pub descriptor_of : List ℕ → ℕ × Descriptor
-descriptor_of ns =
-    (slice_index ns 0, record { on = opened_from (slice_index ns 1) (slice_index ns 2); flags = slice_index ns 3 })
+descriptor_of ns = (
+  slice_index ns 0,
+  record { on = opened_as (kind_from (slice_index ns 1)) (slice_index ns 2); flags = slice_index ns 3 },
+)
 
 -- the adjustment of a process that a row is
 abbrev pub of_process : ℕ → UndoRow → Adjustment

@@ -3,13 +3,13 @@
 ghost use Rattle.std.specs.Prelude.{◌≡◌, ◌≢◌, ◌<◌, ◌^◌, ℕ, refl, IfSome, IfNone};
 ghost use Rattle.ipc_base.specs.declared.limits.Limits.{Limits};
 ghost use Rattle.ipc_state.specs.declared.descriptors.Descriptor.{Descriptor as PlainDescriptor};
-ghost use Rattle.ipc_state.specs.declared.descriptors.Opened.{Opened as PlainOpened};
+ghost use Rattle.ipc_keys.specs.declared.check.NameKind.{NameKind as PlainKind};
 ghost use Rattle.ipc_state.specs.declared.processes.Process.{Process as PlainProcess};
 ghost use Rattle.ipc_state.specs.Descriptors.{Table, descriptor_row};
 ghost use Rattle.ipc_state.specs.State.{State as PlainState};
 ghost use Rattle.ipc_state.specs.Tables.{item_row};
 ghost use Rattle.ipc_image.specs.Saved.{descriptor_shape, descriptor_numbers, FitsDescriptor};
-ghost use Rattle.ipc_image.specs.Saved.{opened_kind, opened_number};
+ghost use Rattle.ipc_image.specs.Saved.{kind_number};
 ghost use Rattle.ipc_image.specs.Saved.{process_shape, process_tree, FitsProcess};
 ghost use Rattle.ipc_image.specs.SavedParts.{put_processes};
 ghost use Rattle.ipc_image.specs.Relations.Trees.{descriptor_one, process_one};
@@ -19,9 +19,10 @@ use crate::saved::{Saved, put_from, take_list};
 use crate::window::Window;
 use ipc_base::{Cred, Field, Pid, take_fields};
 use ipc_engine::StateFault;
+use ipc_keys::NameKind;
 use ipc_state::{Descriptor, DescriptorRow, Descriptors, Item, Opened, Process, State};
 
-/// What a descriptor is open on, as a kind of objects: a POSIX queue, a named semaphore, a segment.
+/// The kinds of objects with a name: a POSIX queue, a named semaphore, a segment.
 const QUEUE: u32 = 3;
 
 const SEMAPHORE: u32 = 4;
@@ -65,8 +66,8 @@ impl Saved for DescriptorRow {
             window,
             &[
                 Field::U32(self.fd),
-                Field::U32(kind_of(descriptor.on)),
-                Field::U32(object_number(descriptor.on)),
+                Field::U32(kind_number(descriptor.on.kind)),
+                Field::U32(descriptor.on.number),
                 Field::U32(descriptor.flags),
             ],
         );
@@ -76,11 +77,12 @@ impl Saved for DescriptorRow {
         let (numbers, rest) = take_fields(bytes, &[FOUR, FOUR, FOUR, FOUR]).ok_or(
             StateFault::Unsound,
         )?;
-        let Some(on) = opened(numbers[1] as u32, numbers[2] as u32) else {
+        let Some(kind) = kind_of(numbers[1] as u32) else {
             return Err(StateFault::Unsound);
         };
+        let number = numbers[2] as u32;
         let descriptor = Descriptor {
-            on,
+            on: Opened { kind, number },
             flags: numbers[3] as u32,
         };
         into.restore(numbers[0] as u32, descriptor)?;
@@ -88,37 +90,26 @@ impl Saved for DescriptorRow {
     }
 }
 
-/// The kind of what a descriptor is open on.
-pub(crate) fn kind_of(on: Opened) -> u32
-    ensures { result ≡ opened_kind on }
-{
-    match on {
-        Opened::Mq(_) => QUEUE,
-        Opened::Psem(_) => SEMAPHORE,
-        Opened::Pshm(_) => SEGMENT,
-    }
-}
-
-/// And its number within the kind.
-pub(crate) fn object_number(on: Opened) -> u32
-    ensures { result ≡ opened_number on }
-{
-    match on {
-        Opened::Mq(number) => number,
-        Opened::Psem(number) => number,
-        Opened::Pshm(number) => number,
-    }
-}
-
-// What has this kind and this number, if there is such a kind.
-fn opened(kind: u32, number: u32) -> Option<Opened>
-    ensures some { IfSome result (λ on. (kind ≡ opened_kind on) × (number ≡ opened_number on)) }
-    ensures none { IfNone result ((on : PlainOpened) → kind ≢ opened_kind on) }
+/// The number of a kind of objects with a name.
+pub(crate) fn kind_number(kind: NameKind) -> u32
+    ensures { result ≡ kind_number kind }
 {
     match kind {
-        QUEUE => Some(Opened::Mq(number)),
-        SEMAPHORE => Some(Opened::Psem(number)),
-        SEGMENT => Some(Opened::Pshm(number)),
+        NameKind::Mq => QUEUE,
+        NameKind::Psem => SEMAPHORE,
+        NameKind::Pshm => SEGMENT,
+    }
+}
+
+// The kind of a number, if it is one of a kind.
+fn kind_of(number: u32) -> Option<NameKind>
+    ensures some { IfSome result (λ kind. number ≡ kind_number kind) }
+    ensures none { IfNone result ((kind : PlainKind) → number ≢ kind_number kind) }
+{
+    match number {
+        QUEUE => Some(NameKind::Mq),
+        SEMAPHORE => Some(NameKind::Psem),
+        SEGMENT => Some(NameKind::Pshm),
         _ => None,
     }
 }

@@ -15,7 +15,7 @@ ghost use Rattle.ipc_image.specs.Kind.{FitsIn};
 ghost use Rattle.ipc_image.specs.Saved.{clock_sizes, clock_numbers, adjustments_of, HasAllPlaces};
 ghost use Rattle.ipc_image.specs.Saved.{FitsAdjustment, FitsDescriptor, FitsProcess, FitsWaiting};
 
-use crate::process::{kind_of, object_number};
+use crate::process::kind_number;
 use crate::stored::Stored;
 use ipc_state::{Awaited, DescriptorRow, Item, Parked, Process, State};
 use ipc_wait::Waiting;
@@ -55,8 +55,8 @@ impl Wide for DescriptorRow {
 
     fn read(&self) {
         let _fd = self.fd;
-        let _kind = kind_of(self.descriptor.on);
-        let _number = object_number(self.descriptor.on);
+        let _kind = kind_number(self.descriptor.on.kind);
+        let _number = self.descriptor.on.number;
         let _flags = self.descriptor.flags;
     }
 }

@@ -27,6 +27,7 @@ use Rattle.std.specs.List.{remove}
 use Rattle.std.specs.Option.{option_map_or}
 use Rattle.std.specs.Result.{is_ok}
 use Rattle.ipc_keys.specs.Names.{check_name}
+use Rattle.ipc_keys.specs.declared.check.NameKind.{NameKind}
 use Rattle.ipc_keys.specs.declared.check.NameKind.TheVariants as names
 use Rattle.sysv_msg.specs.Queue.{Queue, new_queue}
 use Rattle.sysv_sem.specs.Set.{Set, new_set, after_exit}
@@ -42,17 +43,15 @@ use Rattle.ipc_state.specs.declared.descriptors.Descriptor.{Descriptor}
 use Rattle.ipc_state.specs.declared.named.NamedEntry.{NamedEntry}
 use Rattle.ipc_state.specs.Descriptors.{opened, with_flags}
 use Rattle.ipc_state.specs.Named.{Named, HaveNames, named, with_object}
-use Rattle.ipc_state.specs.Opening.{NamedObjects, descriptors_of, descriptor_at, has_access, is_by_descriptor, is_registered, is_sound_descriptor, stays}
+use Rattle.ipc_state.specs.Opening.{Content, NamedObjects, descriptors_of, descriptor_at, has_access, is_by_descriptor, is_registered}
+use Rattle.ipc_state.specs.Opening.{is_sound_descriptor, stays, with_kind}
 use Rattle.ipc_state.specs.Keyed.{Keyed, holding, permitting, keyed, AreKeyed, AreNamed}
 use Rattle.ipc_state.specs.State.{State, start, at_moment, has_all_processes, is_process, with_process, exit, restart}
 use Rattle.ipc_state.specs.State.{is_waiting, with_waiting, without_due, without_waiting, msg_queue_of, with_msg_queue, with_new_msg_queue}
 use Rattle.ipc_state.specs.State.{semset_of, with_semset, with_new_semset, adjusted, undone, undo_of, without_adjustments, with_undo}
-use Rattle.ipc_state.specs.State.{has_all_descriptors, has_all_mqs, with_descriptor, with_descriptor_flags, closed, with_mq, with_new_mq, unlinked}
-use Rattle.ipc_state.specs.State.{has_all_psems, has_all_pshms, named_in, unlinked_pshm, unlinked_psem, with_psem, with_new_psem}
-use Rattle.ipc_state.specs.State.{with_new_pshm, with_pshm}
-use Rattle.shm_segment.specs.Segment.{Segment}
-use Rattle.ipc_state.specs.Sound.{segment_bytes}
-use Rattle.ipc_state.specs.Sound.{IsSoundMq, IsSoundMqMessage}
+use Rattle.ipc_state.specs.State.{has_all_descriptors, with_descriptor, with_descriptor_flags, closed, named_in, named_of, unlinked}
+use Rattle.ipc_state.specs.State.{with_named_of, with_new_of, with_object_of}
+use Rattle.ipc_state.specs.Sound.{AreSoundNamed, IsSoundContent, IsSoundMq, IsSoundMqMessage, most_of}
 use Rattle.posix_sem.specs.Semaphore.{sem_value_max}
 use Rattle.ipc_state.specs.Sound.{HasSoundParts, IsSoundMsgQueue, IsSoundSemset, AreSoundSemsets, AreAt, AreAdjustments, semaphore_count}
 use Rattle.ipc_state.specs.Waiting.{PlainWaiting, AreSoundWaits, IsSoundWaiting, deadline_after, deadline_of, has_deadline}
@@ -65,15 +64,14 @@ use Rattle.ipc_state.proofs.SoundQueues as queues
 use Rattle.ipc_state.proofs.SoundSets as sets
 use Rattle.ipc_state.proofs.SoundMqs as mqs
 use Rattle.ipc_state.proofs.SoundOpening as opening
+pub use Rattle.ipc_state.proofs.SoundOpening.{MayStandFor, MayJoin}
 use Rattle.ipc_state.proofs.Naming.{entry-named, have-names}
 use Rattle.ipc_state.proofs.Adjusting.{HasAll, moved, has-new, has-with, has-adjusted, adjusted-by, exit-length, undone-keeps, all-undone-keeps}
 use Rattle.ipc_state.proofs.Adjusting.{each-moved, each-cleared, each-dropped, none-at, without-same, push-same, each-pushed, seen-keys}
 pub use Rattle.ipc_state.proofs.EntryKeys.{All-seen}
 pub use Rattle.ipc_state.proofs.Ending.{HasSameProcesses, IsGood, as_before, by-finish, refused-good, same-processes, same-but-table, same-connected}
 pub use Rattle.ipc_state.proofs.Ending.{same-objects}
-pub use Rattle.ipc_state.proofs.Elsewhere.{before-then, elsewhere-closed, elsewhere-mq, elsewhere-new_mq, elsewhere-table, elsewhere-unlinked}
-pub use Rattle.ipc_state.proofs.Elsewhere.{elsewhere-psem, elsewhere-new_psem, elsewhere-new_segment, elsewhere-segment}
-pub use Rattle.ipc_state.proofs.Elsewhere.{elsewhere-unlinked_pshm, elsewhere-unlinked_psem}
+pub use Rattle.ipc_state.proofs.Elsewhere.{before-then, elsewhere-closed, elsewhere-new, elsewhere-object, elsewhere-table, elsewhere-unlinked}
 pub use Rattle.ipc_state.proofs.Numbering.{neither}
 pub use Rattle.ipc_state.proofs.Steps.{AtEnd, after, after-orelse, after-orstop, after-refuse, after-stop, after-then, at-all, at-failure, at-halt, at-some}
 pub use Rattle.ipc_state.proofs.Steps.{at-value, by-if_some, by-test, may-wait, ok-same}
@@ -94,7 +92,7 @@ module _ (limits : Limits) where
   -- a state with another part that is sound is sound
   pub set-undo : (s : State) (undo : List (ℕ × Undo)) → HasSoundParts limits s → AreAdjustments (keys_of s.processes.entries) s.semset undo
       → HasSoundParts limits (record s { undo = undo })
-  set-undo s undo h good = record { processes = h.processes; wait = h.wait; undo = good; msg = h.msg; semset = h.semset; mq = h.mq; psem = h.psem; pshm = h.pshm }
+  set-undo s undo h good = record { processes = h.processes; wait = h.wait; undo = good; msg = h.msg; semset = h.semset; named = h.named }
 
   -- other adjustments of a process, at semaphores that are there
   pub with_undo-sound : (s : State) (pid : ℕ) (undo : Undo) → HasSoundParts limits s → AreAt s.semset undo → HasSoundParts limits (with_undo s pid undo)
@@ -114,11 +112,11 @@ module _ (limits : Limits) where
 
   pub set-wait : (s : State) (calls : List PlainWaiting) → HasSoundParts limits s → AreSoundWaits limits calls
       → HasSoundParts limits (record s { wait = calls })
-  set-wait s calls h good = record { processes = h.processes; wait = good; undo = h.undo; msg = h.msg; semset = h.semset; mq = h.mq; psem = h.psem; pshm = h.pshm }
+  set-wait s calls h good = record { processes = h.processes; wait = good; undo = h.undo; msg = h.msg; semset = h.semset; named = h.named }
 
   pub set-msg : (s : State) (msg : Keyed Queue) → HasSoundParts limits s → AreKeyed limits.msgmni (IsSoundMsgQueue limits) msg
       → HasSoundParts limits (record s { msg = msg })
-  set-msg s msg h good = record { processes = h.processes; wait = h.wait; undo = h.undo; msg = good; semset = h.semset; mq = h.mq; psem = h.psem; pshm = h.pshm }
+  set-msg s msg h good = record { processes = h.processes; wait = h.wait; undo = h.undo; msg = good; semset = h.semset; named = h.named }
 
   pub set-sem : (s : State) (sem : Keyed Set) → HasSoundParts limits s → HasAll s.semset sem → AreSoundSemsets limits sem
       → HasSoundParts limits (record s { semset = sem })
@@ -129,9 +127,7 @@ module _ (limits : Limits) where
         undo = moved (keys_of s.processes.entries) s.semset sem s.undo all h.undo;
         msg = h.msg;
         semset = good;
-        mq = h.mq;
-        psem = h.psem;
-        pshm = h.pshm;
+        named = h.named;
       }
 
   none-waits : AreSoundWaits limits []
@@ -173,7 +169,7 @@ module _ (limits : Limits) where
 
   -- the objects with a name, and the descriptors
   all-held : (s : State) → HasSoundParts limits s → mqs.AreAllHeld limits s.processes (named_in s)
-  all-held s h = record { processes = h.processes; mq = h.mq; psem = h.psem; pshm = h.pshm }
+  all-held s h = record { processes = h.processes; named = h.named }
 
   pub start-sound : HasSoundParts limits start
   start-sound =
@@ -183,13 +179,14 @@ module _ (limits : Limits) where
         undo = record { pids = refl; each = tt };
         msg = keying.none_yet-keyed limits.msgmni (IsSoundMsgQueue limits);
         semset = record { keyed = keying.none_yet-keyed limits.semmni (IsSoundSemset limits); count = omega arith };
-        mq = record { held = mqs.none-held names.Mq limits.queues (IsSoundMq limits) []; registered = All-nil _ };
-        psem = mqs.none-held names.Psem limits.named_semaphores (λ value. value ≤ sem_value_max) [];
-        pshm = record { held = mqs.none-held names.Pshm limits.segments (λ x. ⊤) []; bytes = omega arith };
+        named = mqs.on-kinds (AreSoundNamed limits []) (named_in start)
+            (record { held = mqs.none-held names.Mq limits.queues (IsSoundMq limits) []; together = All-nil _ })
+            (record { held = mqs.none-held names.Psem limits.named_semaphores (λ value. value ≤ sem_value_max) []; together = tt })
+            (record { held = mqs.none-held names.Pshm limits.segments (λ x. ⊤) []; together = omega arith });
       }
 
   pub set_moment-sound : (s : State) (moment : ℕ) → HasSoundParts limits s → HasSoundParts limits (at_moment s moment)
-  set_moment-sound s moment h = record { processes = h.processes; wait = h.wait; undo = h.undo; msg = h.msg; semset = h.semset; mq = h.mq; psem = h.psem; pshm = h.pshm }
+  set_moment-sound s moment h = record { processes = h.processes; wait = h.wait; undo = h.undo; msg = h.msg; semset = h.semset; named = h.named }
 
   pub without_due-sound : (s : State) → HasSoundParts limits s → HasSoundParts limits (without_due s)
   without_due-sound s h =
@@ -230,9 +227,7 @@ module _ (limits : Limits) where
         };
         msg = h.msg;
         semset = undone-sound s.semset p h.semset;
-        mq = left.mq;
-        psem = left.psem;
-        pshm = left.pshm;
+        named = left.named;
       }
 
   pub restart-sound : (s : State) → HasSoundParts limits s → HasSoundParts limits (restart s)
@@ -244,9 +239,7 @@ module _ (limits : Limits) where
         undo = record { pids = refl; each = tt };
         msg = h.msg;
         semset = all-undone-keeps (AreSoundSemsets limits) adjusted-sound s.semset s.undo h.semset;
-        mq = left.mq;
-        psem = left.psem;
-        pshm = left.pshm;
+        named = left.named;
       }
 
   pub with_process-sound : (s : State) (cred : Cred) → has_all_processes limits s ≡ false → HasSoundParts limits s → HasSoundParts limits (with_process s cred)
@@ -261,9 +254,7 @@ module _ (limits : Limits) where
         };
         msg = h.msg;
         semset = h.semset;
-        mq = come.mq;
-        psem = come.psem;
-        pshm = come.pshm;
+        named = come.named;
       }
 
   -- the identifiers of the sets stay, and the next one
@@ -351,9 +342,7 @@ module _ (limits : Limits) where
           keyed = keying.without_entry-keyed limits.semmni (IsSoundSemset limits) s.semset id h.semset.keyed;
           count = omega (arith, sets.count-without s.semset id, h.semset.count);
         };
-        mq = h.mq;
-        psem = h.psem;
-        pshm = h.pshm;
+        named = h.named;
       }
 
   pub set-sound : (s : State) (id : ℕ) (e : Entry Set) → semset_of s id ≡ Some e → HasSoundParts limits s → IsSoundSemset limits e.object
@@ -370,9 +359,7 @@ module _ (limits : Limits) where
         undo = record { pids = h.undo.pids ∙ sym same; each = h.undo.each };
         msg = h.msg;
         semset = h.semset;
-        mq = parts.mq;
-        psem = parts.psem;
-        pshm = parts.pshm;
+        named = parts.named;
       }
 
   -- a descriptor more of a process, open on what is there
@@ -386,7 +373,7 @@ module _ (limits : Limits) where
 
   -- other flags of one, with a way in which it is open
   pub with_descriptor_flags-sound : (s : State) (pid fd flags : ℕ)
-      → ((d : Descriptor) → descriptor_at s.processes.entries pid fd ≡ Some d → has_access d.on flags ≡ true)
+      → ((d : Descriptor) → descriptor_at s.processes.entries pid fd ≡ Some d → has_access d.on.kind flags ≡ true)
       → HasSoundParts limits s → HasSoundParts limits (with_descriptor_flags s pid fd flags)
   with_descriptor_flags-sound s pid fd flags right h =
       set-opened s _ (named_in s) h (opening.table-keys s.processes pid (with_flags (descriptors_of s.processes.entries pid) fd flags))
@@ -402,100 +389,46 @@ module _ (limits : Limits) where
       → is_sound_descriptor (named_in s) d ≡ true
   descriptor-sound s pid fd d is h = opening.descriptor-sound limits (named_in s) s.processes.entries pid fd d h.processes.descriptors is
 
-  -- another queue at a number that is there, with a registration, if one, by a descriptor that is open on it
-  pub with_mq-sound : (s : State) (n : ℕ) (e : NamedEntry Mq) (q : Mq) → entry_of s.mq n ≡ Some e → IsSoundMq limits q
-      → is_by_descriptor s.processes.entries n q.registration ≡ true → HasSoundParts limits s → HasSoundParts limits (with_mq s n q)
-  with_mq-sound s n e q is good registered h =
-      let put : Named Mq = with_entry s.mq n (with_object e q) in
-      let same : put ≡ (with_mq s n q).mq =
-      sym (ap (λ (r : Option (NamedEntry Mq)). unwrap_or (option_map (λ (f : NamedEntry Mq). with_entry s.mq n (with_object f q)) r) s.mq) is) in
-      subst (λ (o : Named Mq). HasSoundParts limits (record s { mq = o })) same
-      (set-opened s s.processes (record (named_in s) { mq = put }) h refl
-      (opening.with_mq-held limits s.processes (named_in s) (all-held s h) n e q is good registered))
+  -- another object of a kind at a number that is there
+  pub with_object-sound : (s : State) (kind : NameKind) (n : ℕ) (e : NamedEntry (Content kind)) (x : Content kind) → entry_of (named_of s kind) n ≡ Some e
+      → IsSoundContent limits kind x → MayStandFor limits s.processes.entries kind (named_of s kind) n e x
+      → HasSoundParts limits s → HasSoundParts limits (with_object_of s kind n x)
+  with_object-sound s kind n e x is good may h =
+      let those : Named (Content kind) = named_of s kind in
+      subst (λ (o : Named (Content kind)). HasSoundParts limits (with_named_of s kind o))
+      (sym (ap (λ (r : Option (NamedEntry (Content kind))). unwrap_or (option_map (λ f. with_entry those n (with_object f x)) r) those) is))
+      (set-opened s s.processes (with_kind (named_in s) kind (with_entry those n (with_object e x))) h refl
+      (opening.put-all limits s.processes (named_in s) (all-held s h) kind n e x is good may))
 
-  -- a new queue of a name that no queue has
-  pub with_new_mq-sound : (s : State) (name : List ℕ) (cred : Cred) (mode : ℕ) (q : Mq) → named s.mq name ≡ None → has_all_mqs limits s ≡ false → mode < 512
-      → is_ok (check_name names.Mq name) ≡ true → IsSoundMq limits q → q.registration ≡ None
-      → HasSoundParts limits s → HasSoundParts limits (with_new_mq s name cred mode q)
-  with_new_mq-sound s name cred mode q unused room few proper good free h =
+  -- a new object of a kind, of a name that names none
+  pub with_new-sound : (s : State) (kind : NameKind) (name : List ℕ) (cred : Cred) (mode : ℕ) (x : Content kind) → named (named_of s kind) name ≡ None
+      → is_full (most_of limits kind) (named_of s kind) ≡ false → mode < 512 → is_ok (check_name kind name) ≡ true → IsSoundContent limits kind x
+      → MayJoin limits kind (named_of s kind) x → HasSoundParts limits s → HasSoundParts limits (with_new_of s kind name cred mode x)
+  with_new-sound s kind name cred mode x unused room few proper good may h =
       set-opened s s.processes _ h refl
-      (opening.with_new_mq-held limits s.processes (named_in s) (all-held s h) name cred mode q unused room few proper good free)
+      (opening.new-all limits s.processes (named_in s) (all-held s h) kind name cred mode x unused room few proper good may)
 
-  pub unlinked-sound : (s : State) (n : ℕ) → HasSoundParts limits s → HasSoundParts limits (unlinked s n)
-  unlinked-sound s n h = set-opened s s.processes _ h refl (opening.unlinked-held limits s.processes (named_in s) (all-held s h) n)
+  -- one that loses its name, and goes if it is not open
+  pub unlinked-sound : (s : State) (kind : NameKind) (n : ℕ) → HasSoundParts limits s → HasSoundParts limits (unlinked s kind n)
+  unlinked-sound s kind n h = set-opened s s.processes _ h refl (opening.unlinked-all limits s.processes (named_in s) (all-held s h) kind n)
 
-  pub unlinked_psem-sound : (s : State) (n : ℕ) → HasSoundParts limits s → HasSoundParts limits (unlinked_psem s n)
-  unlinked_psem-sound s n h = set-opened s s.processes _ h refl (opening.unlinked_psem-held limits s.processes (named_in s) (all-held s h) n)
+  -- what holds of an object that is there
+  pub content-sound : (s : State) (kind : NameKind) (n : ℕ) (e : NamedEntry (Content kind)) → entry_of (named_of s kind) n ≡ Some e
+      → HasSoundParts limits s → IsSoundContent limits kind e.object
+  content-sound s kind n e is h =
+      (entry-named (most_of limits kind) (IsSoundContent limits kind) (named_of s kind) n e is (h.named kind).held.named).each
 
-  pub unlinked_pshm-sound : (s : State) (n : ℕ) → HasSoundParts limits s → HasSoundParts limits (unlinked_pshm s n)
-  unlinked_pshm-sound s n h = set-opened s s.processes _ h refl (opening.unlinked_pshm-held limits s.processes (named_in s) (all-held s h) n)
+  -- numbers are above 0, so that a directory of names tells them; and each name names the object that has it
+  pub kind-positive : (s : State) (kind : NameKind) → HasSoundParts limits s → ArePositive (named_of s kind).entries
+  kind-positive s kind h = named-positive (named_of s kind).entries (named_of s kind).next (h.named kind).held.named.numbered.numbers
 
-  -- another value of a semaphore that is there, and a new one
-  pub with_psem-sound : (s : State) (n : ℕ) (e : NamedEntry ℕ) (value : ℕ) → entry_of s.psem n ≡ Some e → value ≤ sem_value_max
-      → HasSoundParts limits s → HasSoundParts limits (with_psem s n value)
-  with_psem-sound s n e value is good h =
-      let put : Named ℕ = with_entry s.psem n (with_object e value) in
-      let same : put ≡ (with_psem s n value).psem =
-      sym (ap (λ (r : Option (NamedEntry ℕ)). unwrap_or (option_map (λ (f : NamedEntry ℕ). with_entry s.psem n (with_object f value)) r) s.psem) is) in
-      subst (λ (o : Named ℕ). HasSoundParts limits (record s { psem = o })) same
-      (set-opened s s.processes (record (named_in s) { psem = put }) h refl
-      (opening.with_psem-held limits s.processes (named_in s) (all-held s h) n e value is good))
+  pub kind-names : (s : State) (kind : NameKind) → HasSoundParts limits s → HaveNames (named_of s kind)
+  kind-names s kind h = have-names (most_of limits kind) (IsSoundContent limits kind) (named_of s kind) (h.named kind).held.named
 
-  pub with_new_psem-sound : (s : State) (name : List ℕ) (cred : Cred) (mode value : ℕ) → named s.psem name ≡ None
-      → has_all_psems limits s ≡ false → mode < 512 → is_ok (check_name names.Psem name) ≡ true → value ≤ sem_value_max
-      → HasSoundParts limits s → HasSoundParts limits (with_new_psem s name cred mode value)
-  with_new_psem-sound s name cred mode value unused room few proper good h =
-      set-opened s s.processes _ h refl
-      (opening.with_new_psem-held limits s.processes (named_in s) (all-held s h) name cred mode value unused room few proper good)
-
-  pub psem-sound : (s : State) (n : ℕ) (e : NamedEntry ℕ) → entry_of s.psem n ≡ Some e → HasSoundParts limits s → e.object ≤ sem_value_max
-  psem-sound s n e is h = (entry-named limits.named_semaphores (λ value. value ≤ sem_value_max) s.psem n e is h.psem.named).each
-
-  -- another segment in the place of one, and a new one
-  pub with_pshm-sound : (s : State) (n : ℕ) (e : NamedEntry Segment) (x : Segment) → entry_of s.pshm n ≡ Some e
-      → segment_bytes s.pshm - length e.object.bytes + length x.bytes ≤ limits.segment_bytes
-      → HasSoundParts limits s → HasSoundParts limits (with_pshm s n x)
-  with_pshm-sound s n e x is few h =
-      let put : Named Segment = with_entry s.pshm n (with_object e x) in
-      let same : put ≡ (with_pshm s n x).pshm =
-      sym (ap (λ (r : Option (NamedEntry Segment)). unwrap_or (option_map (λ (f : NamedEntry Segment). with_entry s.pshm n (with_object f x)) r) s.pshm) is) in
-      subst (λ (o : Named Segment). HasSoundParts limits (record s { pshm = o })) same
-      (set-opened s s.processes (record (named_in s) { pshm = put }) h refl
-      (opening.with_pshm-held limits s.processes (named_in s) (all-held s h) n e x is few))
-
-  pub with_new_pshm-sound : (s : State) (name : List ℕ) (cred : Cred) (mode : ℕ) → named s.pshm name ≡ None → has_all_pshms limits s ≡ false
-      → mode < 512 → is_ok (check_name names.Pshm name) ≡ true → HasSoundParts limits s → HasSoundParts limits (with_new_pshm s name cred mode)
-  with_new_pshm-sound s name cred mode unused room few proper h =
-      set-opened s s.processes _ h refl
-      (opening.with_new_pshm-held limits s.processes (named_in s) (all-held s h) name cred mode unused room few proper)
-
-  -- numbers are above 0, and each name names the object that has it
-  pub psem-positive : (s : State) → HasSoundParts limits s → ArePositive s.psem.entries
-  psem-positive s h = named-positive s.psem.entries s.psem.next h.psem.named.numbered.numbers
-
-  pub psem-names : (s : State) → HasSoundParts limits s → HaveNames s.psem
-  psem-names s h = have-names limits.named_semaphores (λ value. value ≤ sem_value_max) s.psem h.psem.named
-
-  pub segment-positive : (s : State) → HasSoundParts limits s → ArePositive s.pshm.entries
-  segment-positive s h = named-positive s.pshm.entries s.pshm.next h.pshm.held.named.numbered.numbers
-
-  pub segment-names : (s : State) → HasSoundParts limits s → HaveNames s.pshm
-  segment-names s h = have-names limits.segments (λ x. ⊤) s.pshm h.pshm.held.named
-
-  -- what holds of a queue that is there
-  pub mq-sound : (s : State) (n : ℕ) (e : NamedEntry Mq) → entry_of s.mq n ≡ Some e → HasSoundParts limits s → IsSoundMq limits e.object
-  mq-sound s n e is h = (entry-named limits.queues (IsSoundMq limits) s.mq n e is h.mq.held.named).each
-
+  -- whoever is registered with a queue has it open
   pub mq-registered : (s : State) (n : ℕ) (e : NamedEntry Mq) → entry_of s.mq n ≡ Some e → HasSoundParts limits s
       → is_by_descriptor s.processes.entries n e.object.registration ≡ true
-  mq-registered s n e is h = opening.All-found (λ (d : ℕ × NamedEntry Mq). is_registered s.processes.entries d ≡ true) s.mq.entries n e h.mq.registered is
-
-  -- numbers are above 0, so that a directory of names tells them; and each name names the queue that has it
-  pub mq-positive : (s : State) → HasSoundParts limits s → ArePositive s.mq.entries
-  mq-positive s h = named-positive s.mq.entries s.mq.next h.mq.held.named.numbered.numbers
-
-  pub mq-names : (s : State) → HasSoundParts limits s → HaveNames s.mq
-  mq-names s h = have-names limits.queues (IsSoundMq limits) s.mq h.mq.held.named
+  mq-registered s n e is h = opening.All-found (λ (d : ℕ × NamedEntry Mq). is_registered s.processes.entries d ≡ true) s.mq.entries n e (h.named names.Mq).together is
 
   -- a queue without messages, one with a message more, and one from which a message was received
   pub empty_mq-sound : (maxmsg msgsize : ℕ) → 0 < maxmsg → maxmsg ≤ limits.maxmsg → 0 < msgsize → msgsize ≤ limits.msgsize

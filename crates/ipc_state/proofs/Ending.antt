@@ -24,7 +24,7 @@ use Rattle.ipc_state.proofs.SoundOpening as opening
 pub as_before : (pid : ℕ) (on : Awaited) (s : State) → IsAsBefore pid on s s
 as_before pid (awaited.MsgQueue id) s = refl
 as_before pid (awaited.Semset id) s = (refl, λ pid num. refl)
-as_before pid (awaited.Descriptor fd) s = (refl, λ n is. refl, λ n is. refl)
+as_before pid (awaited.Descriptor fd) s = (refl, λ kind n may is. refl)
 
 -- the same keys have values
 same_keys : {X : Type 0} (es fs : List (ℕ × X)) (k : ℕ) → keys_of fs ≡ keys_of es → is_some (value_at nat_eq fs k) ≡ is_some (value_at nat_eq es k)

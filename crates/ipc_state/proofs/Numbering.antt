@@ -1,13 +1,14 @@
 -- Numbers in order, as one comes or changes, and how it is told whether they are.
-use Rattle.std.proofs.Common.{◌≡◌, ℕ, suc, ◌+◌, ◌<◌, ◌≤◌, Bool, true, false, List, [], ◌∷◌, ◌++◌, length, map, take, drop, get_or, refl, sym, ap, subst, ◌∙◌, arith}
-use Rattle.std.specs.Prelude.{nat_eq, nat_lt, nat_le, ◌||◌}
+use Rattle.std.proofs.Common.{◌≡◌, ℕ, suc, ◌+◌, ◌<◌, ◌≤◌, Bool, true, false, cond, Some, List, [], ◌∷◌, ◌++◌, length, map, take, drop, get_or, refl, sym, ap, subst, ◌∙◌, arith}
+use Rattle.std.specs.Prelude.{nat_eq, nat_lt, nat_le, ◌||◌, sum_by}
 use Rattle.std.specs.Bool.{Decides}
 use Rattle.std.proofs.Math.Dec.{leb}
 use Rattle.std.proofs.Math.Seq.{drop-cons}
 use Rattle.std.proofs.lemmas.Bool.Decides.{nat_tests}
 use Rattle.std.proofs.lemmas.Bool.{leb-true, le-leb}
 use Rattle.std.proofs.lemmas.List.{map-append, length-append, length-map, take_more, take-append-drop}
-use Rattle.ipc_base.specs.Table.{keys_of, seen_as, IsRising}
+use Rattle.std.proofs.lemmas.List.Sums.{sum_by-cons}
+use Rattle.ipc_base.specs.Table.{keys_of, seen_as, value_at, with_value, IsRising}
 use Rattle.ipc_base.proofs.CallerLemmas.{rising-push, rising-weaker, rising-bounds, rising-without, length-without, length-with_value, keys_of-with_value, keys-map}
 use Rattle.ipc_state.specs.declared.numbered.Item.{Item}
 use Rattle.ipc_state.specs.Tables.{item_row}
@@ -17,6 +18,23 @@ use Rattle.ipc_state.specs.Numbered.{Numbered, none_yet, is_full, with_entry, wi
 pub neither : (a b : Bool) → (a || b) ≡ false → (a ≡ false) × (b ≡ false)
 neither true b h = cc
 neither false b h = (refl, h)
+
+-- a sum over entries, with another in the place of one
+pub sum-with : {X : Type 0} (size : X → ℕ) (es : List (ℕ × X)) (n : ℕ) (e f : X) → value_at nat_eq es n ≡ Some e
+    → sum_by (λ (d : ℕ × X). size d.1) (with_value nat_eq es n f) + size e ≡ sum_by (λ (d : ℕ × X). size d.1) es + size f
+sum-with size [] n e f is = cc
+sum-with {X} size (d ∷ es) n e f is = by_test (nat_eq d.0 n) is (sum-with size es n e f)
+  where
+    of : ℕ × X → ℕ
+    of g = size g.1
+
+    by_test : (b : Bool) → cond b (Some d.1) (value_at nat_eq es n) ≡ Some e
+        → (value_at nat_eq es n ≡ Some e → sum_by of (with_value nat_eq es n f) + size e ≡ sum_by of es + size f)
+        → sum_by of (cond b ((d.0, f) ∷ es) (d ∷ with_value nat_eq es n f)) + size e ≡ sum_by of (d ∷ es) + size f
+    by_test true is rest =
+        let one : d.1 ≡ e = cc in
+        omega (arith, sum_by-cons of (d.0, f) es, sum_by-cons of d es, ap size one)
+    by_test false is rest = omega (arith, sum_by-cons of d es, sum_by-cons of d (with_value nat_eq es n f), rest is)
 
 -- numbers that rise to a further one, rise to each before it
 rising-part : (low : ℕ) (ns more : List ℕ) (n high : ℕ) → IsRising low (ns ++ n ∷ more) high → IsRising low ns n × (n < high)

@@ -1,6 +1,6 @@
 -- Objects with a name, and the descriptors that are open on them, stay sound as processes come and go.
 use Rattle.std.proofs.Common.{◌≡◌, ◌≢◌, ℕ, ◌<◌, ◌≤◌, Bool, true, false, cond, List, [], ◌∷◌, ◌++◌, Option, Some, None, refl, sym, ap, subst, ◌∙◌, arith}
-use Rattle.std.specs.Prelude.{⊤, All, is_some, not, ◌||◌, ◌&&◌, nat_eq, nat_lt, nat_le, length, map, option_map, unwrap_or, if◌then◌else◌}
+use Rattle.std.specs.Prelude.{All, is_some, not, ◌||◌, ◌&&◌, nat_eq, nat_lt, nat_le, length, map, option_map, unwrap_or, if◌then◌else◌}
 use Rattle.std.specs.Str.{bytes_eq}
 use Rattle.std.specs.Bool.{Decides}
 use Rattle.std.specs.List.{filter, list_all, list_any}
@@ -19,21 +19,20 @@ use Rattle.ipc_keys.specs.declared.check.NameKind.{NameKind}
 use Rattle.ipc_keys.specs.declared.check.NameKind.TheVariants as names
 use Rattle.posix_mq.specs.Queue.{Queue as Mq, PlainMessage}
 use Rattle.posix_mq.specs.declared.queue.Registration.{Registration}
-use Rattle.posix_sem.specs.Semaphore.{sem_value_max}
 use Rattle.shm_segment.specs.Segment.{Segment}
 use Rattle.ipc_state.specs.declared.descriptors.Descriptor.{Descriptor}
 use Rattle.ipc_state.specs.declared.descriptors.Opened.{Opened}
-use Rattle.ipc_state.specs.declared.descriptors.Opened.TheVariants as opened
 use Rattle.ipc_state.specs.declared.named.NamedEntry.{NamedEntry}
 use Rattle.ipc_state.specs.declared.processes.Process.{Process}
 use Rattle.ipc_state.specs.Descriptors.{Table}
 use Rattle.ipc_state.specs.Directory.{Agrees}
 use Rattle.ipc_state.specs.Named.{Named, name_row, named, kept_if, AreNamedObjects}
 use Rattle.ipc_state.specs.Numbered.{AreNumbered, Numbered, none_yet, entry_of, is_full, with_new, without_entry}
-use Rattle.ipc_state.specs.Opening.{NamedObjects, is_on, is_open, opened_as, stays, still_open, unless_so, deregistered, without_registrations, is_by}
+use Rattle.ipc_state.specs.Opening.{Content, NamedObjects, each_kind, is_on, is_open, of_kind, opened_as, same_kind, stays, still_open, with_kind}
+use Rattle.ipc_state.specs.Opening.{deregistered, is_by, unless_so, without_registrations}
 use Rattle.ipc_state.specs.Opening.{has_name, is_named_so, is_there_for, is_sound_descriptor, is_by_descriptor, is_registered}
-use Rattle.ipc_state.specs.Sound.{AreHeld, AreSoundDescriptors, AreSoundMqs, AreSoundPsems, AreSoundProcesses, AreSoundPshms, IsSoundMq}
-use Rattle.ipc_state.specs.Sound.{IsSoundMqMessage, segment_bytes}
+use Rattle.ipc_state.specs.Sound.{AreHeld, AreSoundDescriptors, AreSoundNamed, AreSoundProcesses, AreSoundTogether, IsSoundContent, IsSoundMq}
+use Rattle.ipc_state.specs.Sound.{IsSoundMqMessage, most_of, segment_bytes}
 use Rattle.ipc_state.specs.Tests.{is_sound_mq, is_sound_mq_message}
 use Rattle.ipc_state.proofs.EntryKeys.{each-decides}
 use Rattle.ipc_state.proofs.Naming.{none_yet-named, kept_if-named}
@@ -116,9 +115,12 @@ is_some-map f (Some x) = refl
 
 -- what is open on an object is on it
 pub is_on-same : (on : Opened) → is_on on on ≡ true
-is_on-same (opened.Mq n) = grind (arith, nat_tests)
-is_on-same (opened.Psem n) = grind (arith, nat_tests)
-is_on-same (opened.Pshm n) = grind (arith, nat_tests)
+is_on-same on = rw (kind-itself on.kind) (grind (arith, nat_tests))
+  where
+    kind-itself : (kind : NameKind) → same_kind kind kind ≡ true
+    kind-itself names.Mq = refl
+    kind-itself names.Psem = refl
+    kind-itself names.Pshm = refl
 
 -- the objects on which descriptors of these processes are open are there among others too
 abbrev pub AllThere : NamedObjects → NamedObjects → List (ℕ × Process) → Type 0
@@ -172,11 +174,12 @@ module _ {X : Type 0} (kind : NameKind) where
 
   module _ (most : ℕ) (P : X → Type 0) where
     -- those that stay are held
-    pub held-left : (ps left : List (ℕ × Process)) (o : Named X) → AreHeld most P kind ps o → AreHeld most P kind left (still_open kind left o)
-    held-left ps left o h =
+    pub kept-held : (left : List (ℕ × Process)) (o : Named X) → AreNamedObjects most P o → All (λ (e : ℕ × NamedEntry X). is_named_so kind e ≡ true) o.entries
+        → AreHeld most P kind left (still_open kind left o)
+    kept-held left o named forms =
         record {
-          named = kept_if-named most P (stays kind left) (named-stay left) o h.named;
-          forms = All-filter (stays kind left) (λ (e : ℕ × NamedEntry X). is_named_so kind e ≡ true) o.entries h.forms;
+          named = kept_if-named most P (stays kind left) (named-stay left) o named;
+          forms = All-filter (stays kind left) (λ (e : ℕ × NamedEntry X). is_named_so kind e ≡ true) o.entries forms;
           stay = All-passed (stays kind left) o.entries;
         }
 
@@ -206,45 +209,33 @@ fewer-bytes test o =
 -- what a descriptor of a process, if it is there, says of a registration with a queue
 abbrev pub told : ℕ → Registration → Option Process → Bool
 told n r p =
-    unwrap_or (option_map (λ (d : Descriptor). is_on (opened.Mq n) d.on) (value_at nat_eq (unwrap_or (option_map (λ (q : Process). q.descriptors) p) []) r.descriptor)) false
+    unwrap_or (option_map (λ (d : Descriptor). is_on (opened_as names.Mq n) d.on) (value_at nat_eq (unwrap_or (option_map (λ (q : Process). q.descriptors) p) []) r.descriptor)) false
 
 abbrev pub IsRegistered : List (ℕ × Process) → ℕ × NamedEntry Mq → Type 0
 IsRegistered ps e = is_registered ps e ≡ true
 
 -- after an exit, those of others are by descriptors that are open still
-pub registered-exit : (ps : List (ℕ × Process)) (pid : ℕ) (o : Named Mq) → All (IsRegistered ps) o.entries
-    → All (IsRegistered (without nat_eq ps pid)) (still_open names.Mq (without nat_eq ps pid) (without_registrations (is_by (Some pid) None) o)).entries
-registered-exit ps pid o all =
-    All-filter (stays names.Mq left) (IsRegistered left) _ (All-seen_as (IsRegistered ps) (IsRegistered left) (deregistered (is_by (Some pid) None)) one o.entries all)
+registered-exit : (ps : List (ℕ × Process)) (pid : ℕ) (e : ℕ × NamedEntry Mq) → IsRegistered ps e
+    → IsRegistered (without nat_eq ps pid) (e.0, deregistered (is_by (Some pid) None) e.1)
+registered-exit ps pid e h = by_registration e.1.object.registration h
   where
     left : List (ℕ × Process)
     left = without nat_eq ps pid
 
-    one : (e : ℕ × NamedEntry Mq) → IsRegistered ps e → IsRegistered left (e.0, deregistered (is_by (Some pid) None) e.1)
-    one e h = by_registration e.1.object.registration h
+    by_registration : (r : Option Registration) → is_by_descriptor ps e.0 r ≡ true → is_by_descriptor left e.0 (unless_so (is_by (Some pid) None) r) ≡ true
+    by_registration None h = refl
+    by_registration (Some r) h = by_test (nat_eq pid r.pid.0) refl
       where
-        by_registration : (r : Option Registration) → is_by_descriptor ps e.0 r ≡ true → is_by_descriptor left e.0 (unless_so (is_by (Some pid) None) r) ≡ true
-        by_registration None h = refl
-        by_registration (Some r) h = by_test (nat_eq pid r.pid.0) refl
-          where
-            by_test : (b : Bool) → nat_eq pid r.pid.0 ≡ b → is_by_descriptor left e.0 (if b && true then None else Some r) ≡ true
-            by_test true same = refl
-            by_test false apart =
-                let other : r.pid.0 ≢ pid = λ same. grind (arith, nat_tests) in
-                ap (told e.0 r) (value_at-without ps pid r.pid.0 other) ∙ h
+        by_test : (b : Bool) → nat_eq pid r.pid.0 ≡ b → is_by_descriptor left e.0 (if b && true then None else Some r) ≡ true
+        by_test true same = refl
+        by_test false apart =
+            let other : r.pid.0 ≢ pid = λ same. grind (arith, nat_tests) in
+            ap (told e.0 r) (value_at-without ps pid r.pid.0 other) ∙ h
 
 -- nobody is left registered
-pub registered-none : (ps : List (ℕ × Process)) (o : Named Mq) → All (IsRegistered ps) (still_open names.Mq ps (without_registrations (is_by None None) o)).entries
-registered-none ps o =
-    All-filter (stays names.Mq ps) (IsRegistered ps) _
-    (All-seen_as (λ (e : ℕ × NamedEntry Mq). Unit {0}) (IsRegistered ps) (deregistered (is_by None None)) one o.entries (λ k d i. tt))
-  where
-    one : (e : ℕ × NamedEntry Mq) → Unit {0} → IsRegistered ps (e.0, deregistered (is_by None None) e.1)
-    one e h = by_registration e.1.object.registration
-      where
-        by_registration : (r : Option Registration) → is_by_descriptor ps e.0 (unless_so (is_by None None) r) ≡ true
-        by_registration None = refl
-        by_registration (Some r) = refl
+none-registered : (ps : List (ℕ × Process)) (n : ℕ) (r : Option Registration) → is_by_descriptor ps n (unless_so (is_by None None) r) ≡ true
+none-registered ps n None = refl
+none-registered ps n (Some r) = refl
 
 -- ---- a process more
 
@@ -341,78 +332,121 @@ All-without {X} P (e ∷ es) n all = by_test (nat_eq e.0 n) (All-without P es n 
     by_test true left = All-tail P e es all
     by_test false left = All-cons P e _ (All-head P e es all) left
 
+-- ---- kinds
+
+-- what holds of those of each kind
+pub on-kinds : (P : (kind : NameKind) → Named (Content kind) → Type 0) (o : NamedObjects) → P names.Mq o.mq → P names.Psem o.psem → P names.Pshm o.pshm
+    → (kind : NameKind) → P kind (of_kind o kind)
+on-kinds P o mq psem pshm names.Mq = mq
+on-kinds P o mq psem pshm names.Psem = psem
+on-kinds P o mq psem pshm names.Pshm = pshm
+
+module _ (P : (kind : NameKind) → Named (Content kind) → Type 0) (o : NamedObjects) where
+  -- and holds of others of a kind
+  pub put-holds : (kind : NameKind) (m : Named (Content kind)) → ((other : NameKind) → P other (of_kind o other)) → P kind m
+      → (other : NameKind) → P other (of_kind (with_kind o kind m) other)
+  put-holds names.Mq m all one = on-kinds P (record o { mq = m }) one (all names.Psem) (all names.Pshm)
+  put-holds names.Psem m all one = on-kinds P (record o { psem = m }) (all names.Mq) one (all names.Pshm)
+  put-holds names.Pshm m all one = on-kinds P (record o { pshm = m }) (all names.Mq) (all names.Psem) one
+
+  -- and of what is made of those of each
+  pub each-holds : (f : (kind : NameKind) → Named (Content kind) → Named (Content kind)) → ((kind : NameKind) → P kind (f kind (of_kind o kind)))
+      → (kind : NameKind) → P kind (of_kind (each_kind f o) kind)
+  each-holds f all = on-kinds P (each_kind f o) (all names.Mq) (all names.Psem) (all names.Pshm)
+
+module _ (limits : Limits) where
+  -- those of a kind are sound together if registrations stay, if some go, and if one loses its name
+  pub together-by : (ps qs : List (ℕ × Process)) → ((e : ℕ × NamedEntry Mq) → IsRegistered ps e → IsRegistered qs e) → (kind : NameKind)
+      (o : Named (Content kind)) → AreSoundTogether limits ps kind o → AreSoundTogether limits qs kind o
+  together-by ps qs step names.Mq o h = All-weaker (IsRegistered ps) (IsRegistered qs) step o.entries h
+  together-by ps qs step names.Psem o h = h
+  together-by ps qs step names.Pshm o h = h
+
+  together-left : (ps : List (ℕ × Process)) (kind : NameKind) (test : ℕ × NamedEntry (Content kind) → Bool) (o : Named (Content kind))
+      → AreSoundTogether limits ps kind o → AreSoundTogether limits ps kind (kept_if test o)
+  together-left ps names.Mq test o h = All-filter test (IsRegistered ps) o.entries h
+  together-left ps names.Psem test o h = h
+  together-left ps names.Pshm test o h = omega (arith, fewer-bytes test o, h)
+
 -- the objects with a name, and the descriptors that are open on them
 pub record AreAllHeld (limits : Limits) (ps : Numbered Process) (o : NamedObjects) : Type 0 where
   pub processes : AreSoundProcesses limits o ps
-  pub mq : AreSoundMqs limits ps.entries o.mq
-  pub psem : AreSoundPsems limits ps.entries o.psem
-  pub pshm : AreSoundPshms limits ps.entries o.pshm
+  pub named : (kind : NameKind) → AreSoundNamed limits ps.entries kind (of_kind o kind)
 
--- what processes leave, with their registrations
+-- objects of a kind of which some may have to go: all holds, but that each has a name or is open
+pub record MayGo (limits : Limits) (ps : List (ℕ × Process)) (kind : NameKind) (o : Named (Content kind)) : Type 0 where
+  pub named : AreNamedObjects (most_of limits kind) (IsSoundContent limits kind) o
+  pub forms : All (λ e. is_named_so kind e ≡ true) o.entries
+  pub together : AreSoundTogether limits ps kind o
+
+-- each number that is in use there is in use here
+abbrev pub HasThose : NamedObjects → (kind : NameKind) → Named (Content kind) → Type 0
+HasThose old kind o = (n : ℕ) → is_some (entry_of (of_kind old kind) n) ≡ true → is_some (entry_of o n) ≡ true
+
+-- what processes leave, with these registrations
 abbrev pub left_by : List (ℕ × Process) → (Registration → Bool) → NamedObjects → NamedObjects
-left_by left goes o =
-    record {
-      mq = still_open names.Mq left (without_registrations goes o.mq);
-      psem = still_open names.Psem left o.psem;
-      pshm = still_open names.Pshm left o.pshm;
-    }
+left_by left goes o = each_kind (λ kind. still_open kind left) (record o { mq = without_registrations goes o.mq })
 
 module _ (limits : Limits) where
-  -- registrations are no matter of names
-  deregistered-held : (goes : Registration → Bool) (ps : List (ℕ × Process)) (o : Named Mq)
-      → AreHeld limits.queues (IsSoundMq limits) names.Mq ps o → AreHeld limits.queues (IsSoundMq limits) names.Mq ps (without_registrations goes o)
-  deregistered-held goes ps o h =
-      record {
-        named = deregistered-sound limits goes limits.queues o h.named;
-        forms = All-seen_as (λ (e : ℕ × NamedEntry Mq). is_named_so names.Mq e ≡ true) (λ (e : ℕ × NamedEntry Mq). is_named_so names.Mq e ≡ true)
-            (deregistered goes) (λ e f. f) o.entries h.forms;
-        stay = All-seen_as (λ (e : ℕ × NamedEntry Mq). stays names.Mq ps e ≡ true) (λ (e : ℕ × NamedEntry Mq). stays names.Mq ps e ≡ true)
-            (deregistered goes) (λ e f. f) o.entries h.stay;
-      }
-
-  -- what is open stays there
-  pub all-there : (left : List (ℕ × Process)) (goes : Registration → Bool) (o : NamedObjects) → AllThere o (left_by left goes o) left
-  all-there left goes o (opened.Mq n) used there =
-      open-stay names.Mq left (without_registrations goes o.mq) n used
-      (ap is_some (at-map (deregistered goes) o.mq.entries n) ∙ (is_some-map (deregistered goes) (entry_of o.mq n) ∙ there))
-  all-there left goes o (opened.Psem n) used there = open-stay names.Psem left o.psem n used there
-  all-there left goes o (opened.Pshm n) used there = open-stay names.Pshm left o.pshm n used there
-
-  -- if some processes are left, with what is open
-  pub all-left : (ps left : Numbered Process) (goes : Registration → Bool) (o : NamedObjects) → AreAllHeld limits ps o → AreNumbered limits.processes left
-      → All (Has limits o) left.entries → All (IsRegistered left.entries) (left_by left.entries goes o).mq.entries
-      → AreAllHeld limits left (left_by left.entries goes o)
-  all-left ps left goes o h numbered each registered =
+  -- those go that have to
+  pub swept-held : (left : Numbered Process) (old o : NamedObjects) → AreNumbered limits.processes left → All (Has limits old) left.entries
+      → ((kind : NameKind) → HasThose old kind (of_kind o kind)) → ((kind : NameKind) → MayGo limits left.entries kind (of_kind o kind))
+      → AreAllHeld limits left (each_kind (λ kind. still_open kind left.entries) o)
+  swept-held left old o numbered each those all =
+      let ps = left.entries in
+      let stay : (kind : NameKind) → Named (Content kind) → Named (Content kind) = λ kind. still_open kind ps in
       record {
         processes = record {
           numbered = numbered;
-          descriptors = each-there limits o (left_by left.entries goes o) left.entries (all-there left.entries goes o) each;
+          descriptors = each-there limits old (each_kind stay o) ps
+              (λ on used there. each-holds (λ kind m. (n : ℕ) → is_open ps (opened_as kind n) ≡ true → is_some (entry_of (of_kind old kind) n) ≡ true
+              → is_some (entry_of m n) ≡ true) o stay
+              (λ kind n used there. open-stay kind ps (of_kind o kind) n used (those kind n there)) on.kind on.number used there) each;
         };
-        mq = record {
-          held = held-left names.Mq limits.queues (IsSoundMq limits) ps.entries left.entries (without_registrations goes o.mq)
-              (deregistered-held goes ps.entries o.mq h.mq.held);
-          registered = registered;
-        };
-        psem = held-left names.Psem limits.named_semaphores (λ value. value ≤ sem_value_max) ps.entries left.entries o.psem h.psem;
-        pshm = record {
-          held = held-left names.Pshm limits.segments (λ x. ⊤) ps.entries left.entries o.pshm h.pshm.held;
-          bytes = omega (arith, fewer-bytes (stays names.Pshm left.entries) o.pshm, h.pshm.bytes);
-        };
+        named = each-holds (AreSoundNamed limits ps) o stay (λ kind. record {
+          held = kept-held kind (most_of limits kind) (IsSoundContent limits kind) ps (of_kind o kind) (all kind).named (all kind).forms;
+          together = together-left limits ps kind (stays kind ps) (of_kind o kind) (all kind).together;
+        });
       }
+
+  pub may-go : (ps qs : List (ℕ × Process)) (kind : NameKind) (o : Named (Content kind)) → AreSoundNamed limits ps kind o
+      → AreSoundTogether limits qs kind o → MayGo limits qs kind o
+  may-go ps qs kind o h together = record { named = h.held.named; forms = h.held.forms; together = together }
+
+  -- if some processes are left, with what is open
+  pub all-left : (ps left : Numbered Process) (goes : Registration → Bool) (o : NamedObjects) → AreAllHeld limits ps o → AreNumbered limits.processes left
+      → All (Has limits o) left.entries
+      → ((e : ℕ × NamedEntry Mq) → IsRegistered ps.entries e → IsRegistered left.entries (e.0, deregistered goes e.1))
+      → AreAllHeld limits left (left_by left.entries goes o)
+  all-left ps left goes o h numbered each registered =
+      let mq : Named Mq = without_registrations goes o.mq in
+      let old = h.named names.Mq in
+      swept-held left o (record o { mq = mq }) numbered each
+      (put-holds (HasThose o) o names.Mq mq (λ kind n there. there)
+      (λ n there. ap is_some (at-map (deregistered goes) o.mq.entries n) ∙ (is_some-map (deregistered goes) (entry_of o.mq n) ∙ there)))
+      (on-kinds (MayGo limits left.entries) (record o { mq = mq })
+      (record {
+        named = deregistered-sound limits goes limits.queues o.mq old.held.named;
+        forms = All-seen_as (λ (e : ℕ × NamedEntry Mq). is_named_so names.Mq e ≡ true) (λ (e : ℕ × NamedEntry Mq). is_named_so names.Mq e ≡ true)
+            (deregistered goes) (λ e f. f) o.mq.entries old.held.forms;
+        together = All-seen_as (IsRegistered ps.entries) (IsRegistered left.entries) (deregistered goes) registered o.mq.entries old.together;
+      })
+      (may-go ps.entries left.entries names.Psem o.psem (h.named names.Psem) tt)
+      (may-go ps.entries left.entries names.Pshm o.pshm (h.named names.Pshm) (h.named names.Pshm).together))
 
   -- a process leaves
   pub exit-held : (ps : Numbered Process) (pid : ℕ) (o : NamedObjects) → AreAllHeld limits ps o
       → AreAllHeld limits (without_entry ps pid) (left_by (without nat_eq ps.entries pid) (is_by (Some pid) None) o)
   exit-held ps pid o h =
       all-left ps (without_entry ps pid) (is_by (Some pid) None) o h (without_entry-numbered limits.processes ps pid h.processes.numbered)
-      (All-without (Has limits o) ps.entries pid h.processes.descriptors) (registered-exit ps.entries pid o.mq h.mq.registered)
+      (All-without (Has limits o) ps.entries pid h.processes.descriptors) (registered-exit ps.entries pid)
 
   -- all leave
   pub restart-held : (ps : Numbered Process) (o : NamedObjects) → AreAllHeld limits ps o
       → AreAllHeld limits (record { next = ps.next; entries = [] }) (left_by [] (is_by None None) o)
   restart-held ps o h =
       all-left ps (record { next = ps.next; entries = [] }) (is_by None None) o h (cleared-numbered limits.processes ps h.processes.numbered) (All-nil _)
-      (registered-none [] o.mq)
+      (λ e _. none-registered [] e.0 e.1.object.registration)
 
   -- one comes
   pub with_process-held : (ps : Numbered Process) (cred : Cred) (o : NamedObjects) → is_full limits.processes ps ≡ false → AreAllHeld limits ps o
@@ -425,14 +459,9 @@ module _ (limits : Limits) where
           numbered = with_new-numbered limits.processes ps p room h.processes.numbered;
           descriptors = All-push (Has limits o) ps.entries (ps.next, p) h.processes.descriptors (record { numbers = omega arith; each = All-nil _ });
         };
-        mq = record {
-          held = held-more names.Mq limits.queues (IsSoundMq limits) ps.entries more o.mq h.mq.held;
-          registered = All-weaker (IsRegistered ps.entries) (IsRegistered (ps.entries ++ more)) (registered-more ps.entries more) o.mq.entries h.mq.registered;
-        };
-        psem = held-more names.Psem limits.named_semaphores (λ value. value ≤ sem_value_max) ps.entries more o.psem h.psem;
-        pshm = record {
-          held = held-more names.Pshm limits.segments (λ x. ⊤) ps.entries more o.pshm h.pshm.held;
-          bytes = h.pshm.bytes;
+        named = λ kind. record {
+          held = held-more kind (most_of limits kind) (IsSoundContent limits kind) ps.entries more (of_kind o kind) (h.named kind).held;
+          together = together-by limits ps.entries (ps.entries ++ more) (registered-more ps.entries more) kind (of_kind o kind) (h.named kind).together;
         };
       }
 

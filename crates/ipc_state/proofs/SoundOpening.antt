@@ -2,12 +2,12 @@
 -- as descriptors are opened, changed and closed.
 use Rattle.std.proofs.Common.{◌≡◌, ◌≢◌, ℕ, ◌<◌, Bool, true, false, cond, List, [], ◌∷◌, length, Option, Some, None, refl, sym}
 use Rattle.std.proofs.Common.{ap, subst, ◌∙◌, arith}
-use Rattle.std.specs.Prelude.{⊤, ◌+◌, ◌-◌, ◌≤◌, All, sum_by, is_some, not, ◌||◌, ◌&&◌, nat_eq, nat_lt, option_map, unwrap_or, if◌then◌else◌}
+use Rattle.std.specs.Prelude.{⊤, ◌+◌, ◌-◌, ◌≤◌, All, is_some, not, ◌||◌, ◌&&◌, nat_eq, nat_lt, option_map, unwrap_or, if◌then◌else◌}
 use Rattle.std.specs.List.{list_any}
 use Rattle.std.specs.Result.{is_ok}
 use Rattle.std.proofs.lemmas.Bool.Decides.{nat_tests}
-use Rattle.std.proofs.lemmas.List.Sums.{sum_by-append, sum_by-cons}
-use Rattle.std.proofs.lemmas.List.Elements.{All-nil, All-cons, All-head, All-tail, All-filter, All-push, All-weaker}
+use Rattle.std.proofs.lemmas.List.Sums.{sum_by-append}
+use Rattle.std.proofs.lemmas.List.Elements.{All-nil, All-cons, All-head, All-tail, All-push, All-weaker}
 use Rattle.ipc_base.specs.declared.identity.Cred.{Cred}
 use Rattle.ipc_base.specs.declared.limits.Limits.{Limits}
 use Rattle.ipc_base.specs.Table.{keys_of, value_at, with_value, with_entry as with_row, without}
@@ -18,25 +18,23 @@ use Rattle.ipc_keys.specs.declared.check.NameKind.{NameKind}
 use Rattle.ipc_keys.specs.declared.check.NameKind.TheVariants as names
 use Rattle.posix_mq.specs.Queue.{Queue as Mq}
 use Rattle.posix_mq.specs.declared.queue.Registration.{Registration}
-use Rattle.posix_sem.specs.Semaphore.{sem_value_max}
-use Rattle.shm_segment.specs.Segment.{Segment, empty_segment}
+use Rattle.shm_segment.specs.Segment.{Segment}
 use Rattle.ipc_state.specs.declared.descriptors.Descriptor.{Descriptor}
 use Rattle.ipc_state.specs.declared.descriptors.Opened.{Opened}
-use Rattle.ipc_state.specs.declared.descriptors.Opened.TheVariants as objects
 use Rattle.ipc_state.specs.declared.named.NamedEntry.{NamedEntry}
 use Rattle.ipc_state.specs.declared.processes.Process.{Process}
 use Rattle.ipc_state.specs.Descriptors.{Table, lowest_unused, opened, with_flags}
 use Rattle.ipc_state.specs.Named.{Named, named, with_object, nameless, without_name, unnamed}
 use Rattle.ipc_state.specs.Numbered.{Numbered, entry_of, is_full, with_entry, with_new, AreNumbered}
-use Rattle.ipc_state.specs.Opening.{NamedObjects, descriptors_of, descriptor_at, has_access, has_name, is_by, is_by_descriptor, is_named_so, is_on, is_open, opened_as}
-use Rattle.ipc_state.specs.Opening.{is_sound_descriptor, is_there_for, stays, still_open, unless_so, deregistered, with_table}
-use Rattle.ipc_state.specs.Sound.{AreHeld, AreSoundDescriptors, AreSoundMqs, AreSoundPsems, AreSoundProcesses, AreSoundPshms, IsSoundMq}
-use Rattle.ipc_state.specs.Sound.{segment_bytes}
-use Rattle.ipc_state.proofs.Naming.{kept_if-named, unnamed-named, with_new-named, with_object-named}
-use Rattle.ipc_state.proofs.Numbering.{with_entry-numbered}
+use Rattle.ipc_state.specs.Opening.{Content, NamedObjects, descriptors_of, descriptor_at, each_kind, has_access, has_name, is_by, is_by_descriptor}
+use Rattle.ipc_state.specs.Opening.{is_named_so, is_on, is_open, is_sound_descriptor, is_there_for, of_kind, opened_as, stays, still_open, unless_so}
+use Rattle.ipc_state.specs.Opening.{deregistered, with_kind, with_table}
+use Rattle.ipc_state.specs.Sound.{AreHeld, AreSoundDescriptors, AreSoundNamed, AreSoundTogether, IsSoundContent, most_of, segment_bytes}
+use Rattle.ipc_state.proofs.Naming.{unnamed-named, with_new-named, with_object-named}
+use Rattle.ipc_state.proofs.Numbering.{sum-with, with_entry-numbered}
 use Rattle.ipc_state.proofs.Opening.{few, unused}
-use Rattle.ipc_state.proofs.SoundMqs.{AllThere, All-passed, All-seen_as, All-without, AreAllHeld, Has, IsRegistered, all-left, both_true, each-there, either}
-use Rattle.ipc_state.proofs.SoundMqs.{fewer-bytes, first, held-left, left_by, named-stay, open-stay, told}
+use Rattle.ipc_state.proofs.SoundMqs.{All-without, AreAllHeld, Has, HasThose, IsRegistered, MayGo, all-left, both_true, each-there, either, first}
+use Rattle.ipc_state.proofs.SoundMqs.{left_by, may-go, put-holds, swept-held, together-by, told}
 
 -- what holds of each entry holds with another in the place of one
 All-put : {X : Type 0} (P : ℕ × X → Type 0) (es : List (ℕ × X)) (n : ℕ) (x : X) → All P es → P (n, x) → All P (with_value nat_eq es n x)
@@ -107,274 +105,118 @@ module _ {X : Type 0} (kind : NameKind) (most : ℕ) (P : X → Type 0) (ps : Li
         stay = All-push Stays o.entries (o.next, e) h.stay (first _ _ (some_name kind name proper));
       }
 
-  -- what does not tell of names holds without one
-  pub unnamed-all : (n : ℕ) (Q : ℕ × NamedEntry X → Type 0) → ((e : ℕ × NamedEntry X) → Q e → Q (e.0, nameless e.1)) → All Q o.entries
-      → All Q (unnamed o n).entries
-  unnamed-all n Q step all = by_entry (entry_of o n) refl
-    where
-      found : (es : List (ℕ × NamedEntry X)) (e : NamedEntry X) → All Q es → value_at nat_eq es n ≡ Some e → All Q (with_value nat_eq es n (nameless e))
-      found [] e all is = all
-      found (d ∷ es) e all is = by_test (nat_eq d.0 n) is (found es e (All-tail Q d es all))
-        where
-          by_test : (b : Bool) → cond b (Some d.1) (value_at nat_eq es n) ≡ Some e
-              → (value_at nat_eq es n ≡ Some e → All Q (with_value nat_eq es n (nameless e)))
-              → All Q (cond b ((d.0, nameless e) ∷ es) (d ∷ with_value nat_eq es n (nameless e)))
-          by_test true is rest =
-              let one : d.1 ≡ e = cc in
-              All-cons Q (d.0, nameless e) es (subst (λ (f : NamedEntry X). Q (d.0, nameless f)) one (step d (All-head Q d es all))) (All-tail Q d es all)
-          by_test false is rest = All-cons Q d _ (All-head Q d es all) (rest is)
+-- what does not tell of names holds without one
+unnamed-all : {X : Type 0} (o : Named X) (n : ℕ) (Q : ℕ × NamedEntry X → Type 0) → ((e : ℕ × NamedEntry X) → Q e → Q (e.0, nameless e.1)) → All Q o.entries
+    → All Q (unnamed o n).entries
+unnamed-all {X} o n Q step all = by_entry (entry_of o n) refl
+  where
+    by_entry : (r : Option (NamedEntry X)) → entry_of o n ≡ r → All Q (without_name o n r).entries
+    by_entry None is = all
+    by_entry (Some e) is = All-put Q o.entries n (nameless e) all (step (n, e) (All-found Q o.entries n e all is))
 
-      by_entry : (r : Option (NamedEntry X)) → entry_of o n ≡ r → All Q (without_name o n r).entries
-      by_entry None is = all
-      by_entry (Some e) is = found o.entries e all is
+-- each number that is in use is in use after one lost its name
+unnamed-there : {X : Type 0} (o : Named X) (n m : ℕ) → is_some (entry_of o m) ≡ true → is_some (entry_of (unnamed o n) m) ≡ true
+unnamed-there {X} o n m there = by_there (entry_of o n)
+  where
+    by_there : (r : Option (NamedEntry X)) → is_some (entry_of (without_name o n r) m) ≡ true
+    by_there None = there
+    by_there (Some e) = is_some-with_value nat_eq o.entries n m (nameless e) ∙ there
 
-  -- one loses its name, and goes if it is not open
-  pub unnamed-held : (n : ℕ) → AreHeld most P kind ps (still_open kind ps (unnamed o n))
-  unnamed-held n =
-      record {
-        named = kept_if-named most P (stays kind ps) (named-stay kind ps) (unnamed o n) (unnamed-named most P o n h.named);
-        forms = All-filter (stays kind ps) Formed (unnamed o n).entries (unnamed-all n Formed (λ e d. refl) h.forms);
-        stay = All-passed (stays kind ps) (unnamed o n).entries;
-      }
+-- how many bytes a segment has
+abbrev bytes : NamedEntry Segment → ℕ
+bytes e = length e.object.bytes
 
-  -- what is open is there still
-  pub unnamed-there : (n m : ℕ) → is_open ps (opened_as kind m) ≡ true → is_some (entry_of o m) ≡ true
-      → is_some (entry_of (still_open kind ps (unnamed o n)) m) ≡ true
-  unnamed-there n m used there = open-stay kind ps (unnamed o n) m used (by_there (entry_of o n) refl)
-    where
-      by_there : (r : Option (NamedEntry X)) → entry_of o n ≡ r → is_some (entry_of (without_name o n r) m) ≡ true
-      by_there None is = there
-      by_there (Some e) is = is_some-with_value nat_eq o.entries n m (nameless e) ∙ there
-
--- without its name it has as many bytes
+-- without its name it has as many
 unnamed-bytes : (o : Named Segment) (n : ℕ) → segment_bytes (unnamed o n) ≡ segment_bytes o
 unnamed-bytes o n = by_entry (entry_of o n) refl
   where
-    bytes : ℕ × NamedEntry Segment → ℕ
-    bytes e = length e.1.object.bytes
-
-    found : (es : List (ℕ × NamedEntry Segment)) (e : NamedEntry Segment) → value_at nat_eq es n ≡ Some e
-        → sum_by bytes (with_value nat_eq es n (nameless e)) ≡ sum_by bytes es
-    found [] e is = refl
-    found (d ∷ es) e is = by_test (nat_eq d.0 n) is (found es e)
-      where
-        by_test : (b : Bool) → cond b (Some d.1) (value_at nat_eq es n) ≡ Some e
-            → (value_at nat_eq es n ≡ Some e → sum_by bytes (with_value nat_eq es n (nameless e)) ≡ sum_by bytes es)
-            → sum_by bytes (cond b ((d.0, nameless e) ∷ es) (d ∷ with_value nat_eq es n (nameless e))) ≡ sum_by bytes (d ∷ es)
-        by_test true is rest =
-            let one : d.1 ≡ e = cc in
-            let new : ℕ × NamedEntry Segment = (d.0, nameless e) in
-            let same : length e.object.bytes ≡ length d.1.object.bytes = ap (λ (f : NamedEntry Segment). length f.object.bytes) (sym one) in
-            omega (arith, sum_by-cons bytes new es, sum_by-cons bytes d es, same)
-        by_test false is rest = omega (arith, sum_by-cons bytes d es, sum_by-cons bytes d (with_value nat_eq es n (nameless e)), rest is)
-
     by_entry : (r : Option (NamedEntry Segment)) → entry_of o n ≡ r → segment_bytes (without_name o n r) ≡ segment_bytes o
     by_entry None is = refl
-    by_entry (Some e) is = found o.entries e is
+    by_entry (Some e) is = omega (arith, sum-with bytes o.entries n e (nameless e) is)
 
--- with another segment in the place of one
-bytes-with : (o : Named Segment) (n : ℕ) (e : NamedEntry Segment) (x : Segment) → entry_of o n ≡ Some e
-    → segment_bytes (with_entry o n (with_object e x)) + length e.object.bytes ≡ segment_bytes o + length x.bytes
-bytes-with o n e x is = found o.entries is
-  where
-    bytes : ℕ × NamedEntry Segment → ℕ
-    bytes d = length d.1.object.bytes
+-- ---- objects of a kind
 
-    found : (es : List (ℕ × NamedEntry Segment)) → value_at nat_eq es n ≡ Some e
-        → sum_by bytes (with_value nat_eq es n (with_object e x)) + length e.object.bytes ≡ sum_by bytes es + length x.bytes
-    found [] is = cc
-    found (d ∷ es) is = by_test (nat_eq d.0 n) is (found es)
-      where
-        by_test : (b : Bool) → cond b (Some d.1) (value_at nat_eq es n) ≡ Some e
-            → (value_at nat_eq es n ≡ Some e
-            → sum_by bytes (with_value nat_eq es n (with_object e x)) + length e.object.bytes ≡ sum_by bytes es + length x.bytes)
-            → sum_by bytes (cond b ((d.0, with_object e x) ∷ es) (d ∷ with_value nat_eq es n (with_object e x))) + length e.object.bytes
-            ≡ sum_by bytes (d ∷ es) + length x.bytes
-        by_test true is rest =
-            let one : d.1 ≡ e = cc in
-            let new : ℕ × NamedEntry Segment = (d.0, with_object e x) in
-            let same : length e.object.bytes ≡ length d.1.object.bytes = ap (λ (f : NamedEntry Segment). length f.object.bytes) (sym one) in
-            omega (arith, sum_by-cons bytes new es, sum_by-cons bytes d es, same)
-        by_test false is rest =
-            omega (arith, sum_by-cons bytes d es, sum_by-cons bytes d (with_value nat_eq es n (with_object e x)), rest is)
+-- An object may stand in the place of one, and a new one may come, as far as those of the kind are sound together: whoever
+-- is registered with a queue has it open, and segments have no more bytes than the limit says.
+abbrev pub MayStandFor : Limits → List (ℕ × Process) → (kind : NameKind) → Named (Content kind) → ℕ → NamedEntry (Content kind) → Content kind → Type 0
+MayStandFor limits ps names.Mq o n e q = is_by_descriptor ps n q.registration ≡ true
+MayStandFor limits ps names.Psem o n e value = ⊤
+MayStandFor limits ps names.Pshm o n e x = segment_bytes o - length e.object.bytes + length x.bytes ≤ limits.segment_bytes
 
-module _ (limits : Limits) (ps : Numbered Process) (o : NamedObjects) (h : AreAllHeld limits ps o) where
-  -- as other objects hold the same numbers, descriptors are open on what is there
-  same-there : (new : NamedObjects) → AllThere o new ps.entries → AreSoundProcesses limits new ps
-  same-there new all = record { numbered = h.processes.numbered; descriptors = each-there limits o new ps.entries all h.processes.descriptors }
+abbrev pub MayJoin : Limits → (kind : NameKind) → Named (Content kind) → Content kind → Type 0
+MayJoin limits names.Mq o q = q.registration ≡ None
+MayJoin limits names.Psem o value = ⊤
+MayJoin limits names.Pshm o x = segment_bytes o + length x.bytes ≤ limits.segment_bytes
 
-  -- other queues, sound ones
-  mq-all : (m : Named Mq) → ((n : ℕ) → is_some (entry_of o.mq n) ≡ true → is_some (entry_of m n) ≡ true) → AreSoundMqs limits ps.entries m
-      → AreAllHeld limits ps (record o { mq = m })
-  mq-all m all good = record { processes = same-there (record o { mq = m }) there; mq = good; psem = h.psem; pshm = h.pshm }
-    where
-      there : AllThere o (record o { mq = m }) ps.entries
-      there (objects.Mq n) used is = all n is
-      there (objects.Psem n) used is = is
-      there (objects.Pshm n) used is = is
+module _ (limits : Limits) (ps : List (ℕ × Process)) where
+  together-put : (kind : NameKind) (o : Named (Content kind)) (n : ℕ) (e : NamedEntry (Content kind)) (x : Content kind) → entry_of o n ≡ Some e
+      → MayStandFor limits ps kind o n e x → AreSoundTogether limits ps kind o → AreSoundTogether limits ps kind (with_entry o n (with_object e x))
+  together-put names.Mq o n e q is may h = All-put (IsRegistered ps) o.entries n (with_object e q) h may
+  together-put names.Psem o n e value is may h = tt
+  together-put names.Pshm o n e x is may h = omega (arith, sum-with bytes o.entries n e (with_object e x) is, may)
 
-  -- other semaphores
-  sem-all : (m : Named ℕ) → ((n : ℕ) → is_some (entry_of o.psem n) ≡ true → is_some (entry_of m n) ≡ true) → AreSoundPsems limits ps.entries m
-      → AreAllHeld limits ps (record o { psem = m })
-  sem-all m all good = record { processes = same-there (record o { psem = m }) there; mq = h.mq; psem = good; pshm = h.pshm }
-    where
-      there : AllThere o (record o { psem = m }) ps.entries
-      there (objects.Mq n) used is = is
-      there (objects.Psem n) used is = all n is
-      there (objects.Pshm n) used is = is
+  together-new : (kind : NameKind) (o : Named (Content kind)) (e : NamedEntry (Content kind)) → MayJoin limits kind o e.object
+      → AreSoundTogether limits ps kind o → AreSoundTogether limits ps kind (with_new o e)
+  together-new names.Mq o e may h =
+      All-push (IsRegistered ps) o.entries (o.next, e) h (ap (λ (r : Option Registration). is_by_descriptor ps o.next r) may)
+  together-new names.Psem o e may h = tt
+  together-new names.Pshm o e may h =
+      omega (arith, sum_by-append (λ (d : ℕ × NamedEntry Segment). bytes d.1) o.entries ((o.next, e) ∷ []), may)
 
-  -- other segments
-  pshm-all : (m : Named Segment) → ((n : ℕ) → is_some (entry_of o.pshm n) ≡ true → is_some (entry_of m n) ≡ true) → AreSoundPshms limits ps.entries m
-      → AreAllHeld limits ps (record o { pshm = m })
-  pshm-all m all good = record { processes = same-there (record o { pshm = m }) there; mq = h.mq; psem = h.psem; pshm = good }
-    where
-      there : AllThere o (record o { pshm = m }) ps.entries
-      there (objects.Mq n) used is = is
-      there (objects.Psem n) used is = is
-      there (objects.Pshm n) used is = all n is
+  together-unnamed : (kind : NameKind) (o : Named (Content kind)) (n : ℕ) → AreSoundTogether limits ps kind o → AreSoundTogether limits ps kind (unnamed o n)
+  together-unnamed names.Mq o n h = unnamed-all o n (IsRegistered ps) (λ e r. r) h
+  together-unnamed names.Psem o n h = tt
+  together-unnamed names.Pshm o n h = omega (arith, unnamed-bytes o n, h)
 
-  -- another queue at a number that is there
-  pub with_mq-held : (n : ℕ) (e : NamedEntry Mq) (q : Mq) → entry_of o.mq n ≡ Some e → IsSoundMq limits q → is_by_descriptor ps.entries n q.registration ≡ true
-      → AreAllHeld limits ps (record o { mq = with_entry o.mq n (with_object e q) })
-  with_mq-held n e q is good registered =
-      let f : NamedEntry Mq = with_object e q in
-      mq-all (with_entry o.mq n f) (λ m there. is_some-with_value nat_eq o.mq.entries n m f ∙ there)
-      (record {
-        held = put-held names.Mq limits.queues (IsSoundMq limits) ps.entries o.mq h.mq.held n e q is good;
-        registered = All-put (IsRegistered ps.entries) o.mq.entries n f h.mq.registered registered;
-      })
+module _ (limits : Limits) (ps : Numbered Process) (o : NamedObjects) (h : AreAllHeld limits ps o) (kind : NameKind) where
+  abbrev those : Named (Content kind)
+  those = of_kind o kind
 
-  -- a new queue of a name that names none
-  pub with_new_mq-held : (name : List ℕ) (cred : Cred) (mode : ℕ) (q : Mq) → named o.mq name ≡ None → is_full limits.queues o.mq ≡ false → mode < 512
-      → is_ok (check_name names.Mq name) ≡ true → IsSoundMq limits q → q.registration ≡ None
-      → AreAllHeld limits ps (record o { mq = with_new o.mq (record { name = name; owner = cred; mode = mode; object = q }) })
-  with_new_mq-held name cred mode q unnamed room few proper good free =
-      let e : NamedEntry Mq = record { name = name; owner = cred; mode = mode; object = q } in
-      mq-all (with_new o.mq e) (λ m there. is_some-append nat_eq o.mq.entries ((o.mq.next, e) ∷ []) m there)
-      (record {
-        held = new-held names.Mq limits.queues (IsSoundMq limits) ps.entries o.mq h.mq.held name cred mode q unnamed room few proper good;
-        registered = All-push (IsRegistered ps.entries) o.mq.entries (o.mq.next, e) h.mq.registered
-            (ap (λ (r : Option Registration). is_by_descriptor ps.entries o.mq.next r) free);
-      })
-
-  -- what is left when those without a name go that are not open
-  abbrev swept_of : NamedObjects → NamedObjects
-  swept_of m =
+  -- others that are sound, each number that is in use among them
+  others-held : (m : Named (Content kind)) → HasThose o kind m → AreSoundNamed limits ps.entries kind m → AreAllHeld limits ps (with_kind o kind m)
+  others-held m all good =
       record {
-        mq = still_open names.Mq ps.entries m.mq;
-        psem = still_open names.Psem ps.entries m.psem;
-        pshm = still_open names.Pshm ps.entries m.pshm;
-      }
-
-  -- those of each kind
-  swept-mqs : AreSoundMqs limits ps.entries (still_open names.Mq ps.entries o.mq)
-  swept-mqs =
-      record {
-        held = held-left names.Mq limits.queues (IsSoundMq limits) ps.entries ps.entries o.mq h.mq.held;
-        registered = All-filter (stays names.Mq ps.entries) (IsRegistered ps.entries) o.mq.entries h.mq.registered;
-      }
-
-  swept-sems : AreSoundPsems limits ps.entries (still_open names.Psem ps.entries o.psem)
-  swept-sems = held-left names.Psem limits.named_semaphores (λ value. value ≤ sem_value_max) ps.entries ps.entries o.psem h.psem
-
-  swept-segments : AreSoundPshms limits ps.entries (still_open names.Pshm ps.entries o.pshm)
-  swept-segments =
-      record {
-        held = held-left names.Pshm limits.segments (λ x. ⊤) ps.entries ps.entries o.pshm h.pshm.held;
-        bytes = omega (arith, fewer-bytes (stays names.Pshm ps.entries) o.pshm, h.pshm.bytes);
-      }
-
-  -- a queue loses its name, and goes if it is not open
-  pub unlinked-held : (n : ℕ) → AreAllHeld limits ps (swept_of (record o { mq = unnamed o.mq n }))
-  unlinked-held n =
-      record {
-        processes = same-there (swept_of (record o { mq = unnamed o.mq n })) there;
-        mq = record {
-          held = unnamed-held names.Mq limits.queues (IsSoundMq limits) ps.entries o.mq h.mq.held n;
-          registered = All-filter (stays names.Mq ps.entries) (IsRegistered ps.entries) (unnamed o.mq n).entries
-              (unnamed-all names.Mq limits.queues (IsSoundMq limits) ps.entries o.mq h.mq.held n (IsRegistered ps.entries) (λ e r. r) h.mq.registered);
+        processes = record {
+          numbered = h.processes.numbered;
+          descriptors = each-there limits o (with_kind o kind m) ps.entries
+              (λ on used. put-holds (HasThose o) o kind m (λ other n there. there) all on.kind on.number) h.processes.descriptors;
         };
-        psem = swept-sems;
-        pshm = swept-segments;
+        named = put-holds (AreSoundNamed limits ps.entries) o kind m h.named good;
       }
-    where
-      there : AllThere o (swept_of (record o { mq = unnamed o.mq n })) ps.entries
-      there (objects.Mq m) used is = unnamed-there names.Mq limits.queues (IsSoundMq limits) ps.entries o.mq h.mq.held n m used is
-      there (objects.Psem m) used is = open-stay names.Psem ps.entries o.psem m used is
-      there (objects.Pshm m) used is = open-stay names.Pshm ps.entries o.pshm m used is
 
-  -- a semaphore
-  pub unlinked_psem-held : (n : ℕ) → AreAllHeld limits ps (swept_of (record o { psem = unnamed o.psem n }))
-  unlinked_psem-held n =
-      record {
-        processes = same-there (swept_of (record o { psem = unnamed o.psem n })) there;
-        mq = swept-mqs;
-        psem = unnamed-held names.Psem limits.named_semaphores (λ value. value ≤ sem_value_max) ps.entries o.psem h.psem n;
-        pshm = swept-segments;
-      }
-    where
-      there : AllThere o (swept_of (record o { psem = unnamed o.psem n })) ps.entries
-      there (objects.Mq m) used is = open-stay names.Mq ps.entries o.mq m used is
-      there (objects.Psem m) used is =
-          unnamed-there names.Psem limits.named_semaphores (λ value. value ≤ sem_value_max) ps.entries o.psem h.psem n m used is
-      there (objects.Pshm m) used is = open-stay names.Pshm ps.entries o.pshm m used is
-
-  -- a segment
-  pub unlinked_pshm-held : (n : ℕ) → AreAllHeld limits ps (swept_of (record o { pshm = unnamed o.pshm n }))
-  unlinked_pshm-held n =
-      record {
-        processes = same-there (swept_of (record o { pshm = unnamed o.pshm n })) there;
-        mq = swept-mqs;
-        psem = swept-sems;
-        pshm = record {
-          held = unnamed-held names.Pshm limits.segments (λ x. ⊤) ps.entries o.pshm h.pshm.held n;
-          bytes = omega (arith, fewer-bytes (stays names.Pshm ps.entries) (unnamed o.pshm n), unnamed-bytes o.pshm n, h.pshm.bytes);
-        };
-      }
-    where
-      there : AllThere o (swept_of (record o { pshm = unnamed o.pshm n })) ps.entries
-      there (objects.Mq m) used is = open-stay names.Mq ps.entries o.mq m used is
-      there (objects.Psem m) used is = open-stay names.Psem ps.entries o.psem m used is
-      there (objects.Pshm m) used is = unnamed-there names.Pshm limits.segments (λ x. ⊤) ps.entries o.pshm h.pshm.held n m used is
-
-  -- another segment at a number that is there, and a new one
-  pub with_pshm-held : (n : ℕ) (e : NamedEntry Segment) (x : Segment) → entry_of o.pshm n ≡ Some e
-      → segment_bytes o.pshm - length e.object.bytes + length x.bytes ≤ limits.segment_bytes
-      → AreAllHeld limits ps (record o { pshm = with_entry o.pshm n (with_object e x) })
-  with_pshm-held n e x is few =
-      pshm-all (with_entry o.pshm n (with_object e x)) (λ m there. is_some-with_value nat_eq o.pshm.entries n m (with_object e x) ∙ there)
+  -- another object at a number that is there
+  pub put-all : (n : ℕ) (e : NamedEntry (Content kind)) (x : Content kind) → entry_of those n ≡ Some e → IsSoundContent limits kind x
+      → MayStandFor limits ps.entries kind those n e x → AreAllHeld limits ps (with_kind o kind (with_entry those n (with_object e x)))
+  put-all n e x is good may =
+      others-held (with_entry those n (with_object e x)) (λ m there. is_some-with_value nat_eq those.entries n m (with_object e x) ∙ there)
       (record {
-        held = put-held names.Pshm limits.segments (λ x. ⊤) ps.entries o.pshm h.pshm.held n e x is tt;
-        bytes = omega (arith, bytes-with o.pshm n e x is, few);
+        held = put-held kind (most_of limits kind) (IsSoundContent limits kind) ps.entries those (h.named kind).held n e x is good;
+        together = together-put limits ps.entries kind those n e x is may (h.named kind).together;
       })
 
-  pub with_new_pshm-held : (name : List ℕ) (cred : Cred) (mode : ℕ) → named o.pshm name ≡ None → is_full limits.segments o.pshm ≡ false → mode < 512
-      → is_ok (check_name names.Pshm name) ≡ true
-      → AreAllHeld limits ps (record o { pshm = with_new o.pshm (record { name = name; owner = cred; mode = mode; object = empty_segment }) })
-  with_new_pshm-held name cred mode unnamed room few proper =
-      let e : NamedEntry Segment = record { name = name; owner = cred; mode = mode; object = empty_segment } in
-      pshm-all (with_new o.pshm e) (λ m there. is_some-append nat_eq o.pshm.entries ((o.pshm.next, e) ∷ []) m there)
+  -- a new one of a name that names none
+  pub new-all : (name : List ℕ) (cred : Cred) (mode : ℕ) (x : Content kind) → named those name ≡ None → is_full (most_of limits kind) those ≡ false
+      → mode < 512 → is_ok (check_name kind name) ≡ true → IsSoundContent limits kind x → MayJoin limits kind those x
+      → AreAllHeld limits ps (with_kind o kind (with_new those (record { name = name; owner = cred; mode = mode; object = x })))
+  new-all name cred mode x unnamed room few proper good may =
+      let e : NamedEntry (Content kind) = record { name = name; owner = cred; mode = mode; object = x } in
+      others-held (with_new those e) (λ m there. is_some-append nat_eq those.entries ((those.next, e) ∷ []) m there)
       (record {
-        held = new-held names.Pshm limits.segments (λ x. ⊤) ps.entries o.pshm h.pshm.held name cred mode empty_segment unnamed room few proper tt;
-        bytes = omega (arith, sum_by-append (λ (d : ℕ × NamedEntry Segment). length d.1.object.bytes) o.pshm.entries ((o.pshm.next, e) ∷ []), h.pshm.bytes);
+        held = new-held kind (most_of limits kind) (IsSoundContent limits kind) ps.entries those (h.named kind).held name cred mode x unnamed room few proper good;
+        together = together-new limits ps.entries kind those e may (h.named kind).together;
       })
 
-  -- another value at a number that is there, and a new semaphore
-  pub with_psem-held : (n : ℕ) (e : NamedEntry ℕ) (value : ℕ) → entry_of o.psem n ≡ Some e → value ≤ sem_value_max
-      → AreAllHeld limits ps (record o { psem = with_entry o.psem n (with_object e value) })
-  with_psem-held n e value is good =
-      sem-all (with_entry o.psem n (with_object e value))
-      (λ m there. is_some-with_value nat_eq o.psem.entries n m (with_object e value) ∙ there)
-      (put-held names.Psem limits.named_semaphores (λ value. value ≤ sem_value_max) ps.entries o.psem h.psem n e value is good)
-
-  pub with_new_psem-held : (name : List ℕ) (cred : Cred) (mode value : ℕ) → named o.psem name ≡ None
-      → is_full limits.named_semaphores o.psem ≡ false → mode < 512 → is_ok (check_name names.Psem name) ≡ true → value ≤ sem_value_max
-      → AreAllHeld limits ps (record o { psem = with_new o.psem (record { name = name; owner = cred; mode = mode; object = value }) })
-  with_new_psem-held name cred mode value unnamed room few proper good =
-      let e : NamedEntry ℕ = record { name = name; owner = cred; mode = mode; object = value } in
-      sem-all (with_new o.psem e) (λ m there. is_some-append nat_eq o.psem.entries ((o.psem.next, e) ∷ []) m there)
-      (new-held names.Psem limits.named_semaphores (λ value. value ≤ sem_value_max) ps.entries o.psem h.psem name cred mode value unnamed room few
-      proper good)
+  -- one loses its name, and goes if it is not open
+  pub unlinked-all : (n : ℕ) → AreAllHeld limits ps (each_kind (λ other. still_open other ps.entries) (with_kind o kind (unnamed those n)))
+  unlinked-all n =
+      swept-held limits ps o (with_kind o kind (unnamed those n)) h.processes.numbered h.processes.descriptors
+      (put-holds (HasThose o) o kind (unnamed those n) (λ other m there. there) (unnamed-there those n))
+      (put-holds (MayGo limits ps.entries) o kind (unnamed those n) (λ other. may-go limits ps.entries ps.entries other (of_kind o other) (h.named other) (h.named other).together)
+      (record {
+        named = unnamed-named (most_of limits kind) (IsSoundContent limits kind) those n (h.named kind).held.named;
+        forms = unnamed-all those n (λ (e : ℕ × NamedEntry (Content kind)). is_named_so kind e ≡ true) (λ e d. refl) (h.named kind).held.forms;
+        together = together-unnamed limits ps.entries kind those n (h.named kind).together;
+      }))
 
 -- ---- descriptors
 
@@ -493,14 +335,14 @@ module _ (ps : Numbered Process) (pid : ℕ) (table : Table) where
     registered-table n r h = by_pid (nat_eq r.pid.0 pid) refl
       where
         on_same : (v w : Option Descriptor) → ((d : Descriptor) → v ≡ Some d → option_map (λ (c : Descriptor). c.on) w ≡ Some d.on)
-            → unwrap_or (option_map (λ (d : Descriptor). is_on (objects.Mq n) d.on) v) false ≡ true
-            → unwrap_or (option_map (λ (d : Descriptor). is_on (objects.Mq n) d.on) w) false ≡ true
+            → unwrap_or (option_map (λ (d : Descriptor). is_on (opened_as names.Mq n) d.on) v) false ≡ true
+            → unwrap_or (option_map (λ (d : Descriptor). is_on (opened_as names.Mq n) d.on) w) false ≡ true
         on_same None w same h = cc
         on_same (Some d) None same h = let none = same d refl in cc
         on_same (Some d) (Some c) same h =
             let on : Some c.on ≡ Some d.on = same d refl in
             let one : c.on ≡ d.on = cc in
-            subst (λ (k : Opened). is_on (objects.Mq n) k ≡ true) (sym one) h
+            subst (λ (k : Opened). is_on (opened_as names.Mq n) k ≡ true) (sym one) h
 
         by_process : (q : Option Process) → entry_of ps pid ≡ q → told n r (entry_of ps pid) ≡ true → told n r (entry_of (with_table ps pid table) pid) ≡ true
         by_process None is h = subst (λ (t : Numbered Process). told n r (entry_of t pid) ≡ true) (sym (table-none is)) h
@@ -537,12 +379,10 @@ module _ (ps : Numbered Process) (pid : ℕ) (table : Table) where
             numbered = table-numbered limits.processes h.processes.numbered;
             descriptors = table-each limits o h.processes.descriptors good;
           };
-          mq = record {
-            held = table-stay names.Mq limits.queues (IsSoundMq limits) o.mq h.mq.held;
-            registered = All-weaker (IsRegistered ps.entries) (IsRegistered (with_table ps pid table).entries) by_entry o.mq.entries h.mq.registered;
+          named = λ kind. record {
+            held = table-stay kind (most_of limits kind) (IsSoundContent limits kind) (of_kind o kind) (h.named kind).held;
+            together = together-by limits ps.entries (with_table ps pid table).entries by_entry kind (of_kind o kind) (h.named kind).together;
           };
-          psem = table-stay names.Psem limits.named_semaphores (λ value. value ≤ sem_value_max) o.psem h.psem;
-          pshm = record { held = table-stay names.Pshm limits.segments (λ x. ⊤) o.pshm h.pshm.held; bytes = h.pshm.bytes };
         }
       where
         by_entry : (e : ℕ × NamedEntry Mq) → IsRegistered ps.entries e → IsRegistered (with_table ps pid table).entries e
@@ -627,14 +467,14 @@ module _ (limits : Limits) (o : NamedObjects) (table : Table) (good : AreSoundDe
               same = λ k c found. put d is k c found (nat_eq k fd) refl;
             }
 
-    flags-sound : ((d : Descriptor) → value_at nat_eq table fd ≡ Some d → has_access d.on flags ≡ true) → AreSoundDescriptors limits o (with_flags table fd flags)
+    flags-sound : ((d : Descriptor) → value_at nat_eq table fd ≡ Some d → has_access d.on.kind flags ≡ true) → AreSoundDescriptors limits o (with_flags table fd flags)
     flags-sound right = by_value (value_at nat_eq table fd) refl
       where
         by_value : (r : Option Descriptor) → value_at nat_eq table fd ≡ r → AreSoundDescriptors limits o (flagged r)
         by_value None is = good
         by_value (Some d) is =
             let was : Right d = All-value_at nat_eq Right table fd d good.each is in
-            let there = (both_true (is_there_for o d.on) (has_access d.on d.flags) was).0 in
+            let there = (both_true (is_there_for o d.on) (has_access d.on.kind d.flags) was).0 in
             record {
               numbers = rw keys_of-with_value good.numbers;
               each = All-with_value nat_eq Right table fd (record d { flags = flags }) good.each (rw there (right d is));
@@ -655,7 +495,7 @@ module _ (limits : Limits) (ps : Numbered Process) (pid : ℕ) (o : NamedObjects
       (opened-sound limits o own-table good-table d fewer right) h
 
   -- or changes the flags of one
-  pub flags-held : (fd flags : ℕ) → ((d : Descriptor) → value_at nat_eq own-table fd ≡ Some d → has_access d.on flags ≡ true)
+  pub flags-held : (fd flags : ℕ) → ((d : Descriptor) → value_at nat_eq own-table fd ≡ Some d → has_access d.on.kind flags ≡ true)
       → AreAllHeld limits (with_table ps pid (with_flags own-table fd flags)) o
   flags-held fd flags right =
       table-held ps pid (with_flags own-table fd flags) (flags-covers limits o own-table good-table fd flags) limits o
@@ -676,9 +516,7 @@ module _ (limits : Limits) (ps : Numbered Process) (pid : ℕ) (o : NamedObjects
           each = All-without (λ (e : ℕ × Descriptor). is_sound_descriptor o e.1 ≡ true) own-table fd good-table.each;
         } in
         all-left limits ps shorter goes o h (table-numbered ps pid (without nat_eq own-table fd) limits.processes h.processes.numbered)
-        (table-each ps pid (without nat_eq own-table fd) limits o h.processes.descriptors good)
-        (All-filter (stays names.Mq shorter.entries) (IsRegistered shorter.entries) _
-        (All-seen_as (IsRegistered ps.entries) (IsRegistered shorter.entries) (deregistered goes) by_entry o.mq.entries h.mq.registered))
+        (table-each ps pid (without nat_eq own-table fd) limits o h.processes.descriptors good) by_entry
       where
         -- the other descriptors are as they were
         elsewhere : (p k : ℕ) → (nat_eq pid p && nat_eq fd k) ≡ false → descriptor_at shorter.entries p k ≡ descriptor_at ps.entries p k
@@ -716,5 +554,5 @@ module _ (limits : Limits) (ps : Numbered Process) (pid : ℕ) (o : NamedObjects
                 by_test : (b : Bool) → goes r ≡ b → is_by_descriptor shorter.entries e.0 (if b then None else Some r) ≡ true
                 by_test true is = refl
                 by_test false is =
-                    ap (λ (v : Option Descriptor). unwrap_or (option_map (λ (d : Descriptor). is_on (objects.Mq e.0) d.on) v) false)
+                    ap (λ (v : Option Descriptor). unwrap_or (option_map (λ (d : Descriptor). is_on (opened_as names.Mq e.0) d.on) v) false)
                     (elsewhere r.pid.0 r.descriptor is) ∙ h

@@ -1,11 +1,11 @@
 -- Semaphore sets stay sound as they come and change, each by itself and together.
-use Rattle.std.proofs.Common.{◌≡◌, ℕ, ℤ, ◌+◌, ◌<◌, ◌≤◌, Bool, true, false, cond, List, [], ◌∷◌, length, Some, refl, ap, arith}
+use Rattle.std.proofs.Common.{◌≡◌, ℕ, ℤ, ◌+◌, ◌<◌, ◌≤◌, Bool, true, false, cond, List, [], ◌∷◌, length, Some, arith}
 use Rattle.std.specs.Prelude.{All, sum_by, nat_eq, min, slice_index}
 use Rattle.std.proofs.Math.Nat.{min-le_right}
 use Rattle.std.proofs.lemmas.List.{length-map, length-replicate, length-set}
 use Rattle.std.proofs.lemmas.List.Elements.{All-map, All-replicate, All-set}
 use Rattle.std.proofs.lemmas.List.Sums.{sum_by-cons, sum_by-append}
-use Rattle.ipc_base.specs.Table.{value_at, with_value as put_at, without}
+use Rattle.ipc_base.specs.Table.{without}
 use Rattle.ipc_base.specs.declared.identity.Pid.{Pid}
 use Rattle.ipc_base.specs.declared.limits.Limits.{Limits}
 use Rattle.sysv_sem.specs.declared.set.Semaphore.{Semaphore}
@@ -17,6 +17,7 @@ use Rattle.ipc_state.specs.declared.keyed.Entry.{Entry}
 use Rattle.ipc_state.specs.Keyed.{Keyed}
 use Rattle.ipc_state.specs.Numbered.{entry_of, with_entry, with_new, without_entry}
 use Rattle.ipc_state.specs.Sound.{IsSoundSemset, semaphore_count}
+use Rattle.ipc_state.proofs.Numbering.{sum-with}
 
 -- a value in its range
 abbrev IsValue : Semaphore → Type 0
@@ -71,22 +72,9 @@ pub count-new : (o : Keyed Set) (e : Entry Set) → semaphore_count (with_new o 
 count-new o e = omega (arith, sum_by-append size o.entries ((o.next, e) ∷ []), sum_by-cons size (o.next, e) [])
 
 -- a set in the place of another that has as many
-same-count : (es : List (ℕ × Entry Set)) (id : ℕ) (e f : Entry Set) → value_at nat_eq es id ≡ Some e
-    → length f.object.semaphores ≡ length e.object.semaphores → sum_by size (put_at nat_eq es id f) ≡ sum_by size es
-same-count [] id e f there same = refl
-same-count (g ∷ es) id e f there same = by_test (nat_eq g.0 id) there (λ later. same-count es id e f later same)
-  where
-    by_test : (b : Bool) → cond b (Some g.1) (value_at nat_eq es id) ≡ Some e
-        → (value_at nat_eq es id ≡ Some e → sum_by size (put_at nat_eq es id f) ≡ sum_by size es)
-        → sum_by size (cond b ((g.0, f) ∷ es) (g ∷ put_at nat_eq es id f)) ≡ sum_by size (g ∷ es)
-    by_test true is later =
-        let here : g.1 ≡ e = cc in
-        omega (arith, sum_by-cons size (g.0, f) es, sum_by-cons size g es, same, ap (λ (h : Entry Set). length h.object.semaphores) here)
-    by_test false is later = omega (arith, sum_by-cons size g (put_at nat_eq es id f), sum_by-cons size g es, later is)
-
 pub count-with : (o : Keyed Set) (id : ℕ) (e f : Entry Set) → entry_of o id ≡ Some e → length f.object.semaphores ≡ length e.object.semaphores
     → semaphore_count (with_entry o id f) ≡ semaphore_count o
-count-with o id e f there same = same-count o.entries id e f there same
+count-with o id e f there same = omega (arith, sum-with (λ (g : Entry Set). length g.object.semaphores) o.entries id e f there, same)
 
 no-more : (es : List (ℕ × Entry Set)) (id : ℕ) → sum_by size (without nat_eq es id) ≤ sum_by size es
 no-more [] id = omega arith

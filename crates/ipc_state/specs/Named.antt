@@ -3,7 +3,7 @@
 -- is there while it has a name or a descriptor is open on it; which descriptors are open is not told here. Unlink takes
 -- the name, and an object without one goes with its last descriptor.
 use Rattle.std.specs.Prelude.{◌≡◌, ◌≢◌, ℕ, ◌<◌, Bool, if◌then◌else◌}
-use Rattle.std.specs.Prelude.{List, [], map, filter, All, Option, Some, None}
+use Rattle.std.specs.Prelude.{List, [], map, filter, All, Option, Some, None, option_map, unwrap_or}
 use Rattle.std.specs.Str.{bytes_eq}
 use Rattle.ipc_base.specs.Table.{value_at, keys_of, IsRising}
 use Rattle.ipc_keys.specs.Names.{is_none}
@@ -35,6 +35,10 @@ abbrev pub nameless : {X : Type 0} → NamedEntry X → NamedEntry X
 nameless e = record { name = []; owner = e.owner; mode = e.mode; object = e.object }
 
 -- ---- calls
+
+-- another object at a number, if it is there, under the same name
+abbrev pub putting : {X : Type 0} → Named X → ℕ → X → Named X
+putting o n x = unwrap_or (option_map (λ e. with_entry o n (with_object e x)) (entry_of o n)) o
 
 -- without the name of an entry of the number, if it is there
 abbrev pub without_name : {X : Type 0} → Named X → ℕ → Option (NamedEntry X) → Named X

@@ -14,19 +14,22 @@ use Rattle.posix_mq.specs.declared.queue.Registration.{Registration}
 use Rattle.shm_segment.specs.Segment.{Segment}
 use Rattle.ipc_state.specs.declared.descriptors.Descriptor.{Descriptor}
 use Rattle.ipc_state.specs.declared.descriptors.Opened.{Opened}
-use Rattle.ipc_state.specs.declared.descriptors.Opened.TheVariants as opened
 use Rattle.ipc_state.specs.declared.named.NamedEntry.{NamedEntry}
 use Rattle.ipc_state.specs.declared.processes.Process.{Process}
 use Rattle.ipc_state.specs.Descriptors.{Table}
 use Rattle.ipc_state.specs.Named.{Named, kept_if}
 use Rattle.ipc_state.specs.Numbered.{Numbered, entry_of, with_entry}
 
+-- whether two kinds are one
+abbrev pub same_kind : NameKind → NameKind → Bool
+same_kind names.Mq names.Mq = true
+same_kind names.Psem names.Psem = true
+same_kind names.Pshm names.Pshm = true
+same_kind kind this = false
+
 -- whether what it is open on is this
 abbrev pub is_on : Opened → Opened → Bool
-is_on (opened.Mq n) (opened.Mq m) = nat_eq m n
-is_on (opened.Psem n) (opened.Psem m) = nat_eq m n
-is_on (opened.Pshm n) (opened.Pshm m) = nat_eq m n
-is_on this on = false
+is_on this on = same_kind on.kind this.kind && nat_eq on.number this.number
 
 -- whether some descriptor of these processes is open on it
 abbrev pub is_open : List (ℕ × Process) → Opened → Bool
@@ -37,9 +40,7 @@ has_name e = not (is_none e.name)
 
 -- an object of a kind, as a descriptor is open on it
 abbrev pub opened_as : NameKind → ℕ → Opened
-opened_as names.Mq n = opened.Mq n
-opened_as names.Psem n = opened.Psem n
-opened_as names.Pshm n = opened.Pshm n
+opened_as kind n = record { kind = kind; number = n }
 
 -- whether an object of the kind has a name, or a descriptor is open on it
 abbrev pub stays : {X : Type 0} → NameKind → List (ℕ × Process) → ℕ × NamedEntry X → Bool
@@ -49,11 +50,41 @@ stays kind processes e = has_name e.1 || is_open processes (opened_as kind e.0)
 abbrev pub still_open : {X : Type 0} → NameKind → List (ℕ × Process) → Named X → Named X
 still_open kind processes o = kept_if (stays kind processes) o
 
+-- ---- kinds
+
+-- what an object of a kind is
+abbrev pub Content : NameKind → Type 0
+Content names.Mq = Mq
+Content names.Psem = ℕ
+Content names.Pshm = Segment
+
 -- the objects with a name of each kind
 pub record NamedObjects : Type 0 where
   pub mq : Named Mq
   pub psem : Named ℕ
   pub pshm : Named Segment
+
+-- those of a kind
+abbrev pub of_kind : NamedObjects → (kind : NameKind) → Named (Content kind)
+of_kind o names.Mq = o.mq
+of_kind o names.Psem = o.psem
+of_kind o names.Pshm = o.pshm
+
+-- with others of a kind
+abbrev pub with_kind : NamedObjects → (kind : NameKind) → Named (Content kind) → NamedObjects
+with_kind o names.Mq others = record o { mq = others }
+with_kind o names.Psem others = record o { psem = others }
+with_kind o names.Pshm others = record o { pshm = others }
+
+-- with those of each kind changed so
+abbrev pub each_kind : ((kind : NameKind) → Named (Content kind) → Named (Content kind)) → NamedObjects → NamedObjects
+each_kind f o = record { mq = f names.Mq o.mq; psem = f names.Psem o.psem; pshm = f names.Pshm o.pshm }
+
+-- an object of the kind may be open with these flags: a queue to read, to write, or both; a segment to read, or both
+abbrev pub has_access : NameKind → ℕ → Bool
+has_access names.Mq flags = not (nat_eq (bit_and flags 3) 3)
+has_access names.Psem flags = true
+has_access names.Pshm flags = nat_eq (bit_and flags 1) 0
 
 -- ---- registrations
 
@@ -97,25 +128,17 @@ with_table processes pid table =
 
 -- what it is open on is there
 abbrev pub is_there_for : NamedObjects → Opened → Bool
-is_there_for o (opened.Mq n) = is_some (entry_of o.mq n)
-is_there_for o (opened.Psem n) = is_some (entry_of o.psem n)
-is_there_for o (opened.Pshm n) = is_some (entry_of o.pshm n)
-
--- it may be open with these flags: a queue to read, to write, or both; a segment to read, or both
-abbrev pub has_access : Opened → ℕ → Bool
-has_access (opened.Mq n) flags = not (nat_eq (bit_and flags 3) 3)
-has_access (opened.Psem n) flags = true
-has_access (opened.Pshm n) flags = nat_eq (bit_and flags 1) 0
+is_there_for o on = is_some (entry_of (of_kind o on.kind) on.number)
 
 -- what a descriptor is open on is there, and it may be open so
 abbrev pub is_sound_descriptor : NamedObjects → Descriptor → Bool
-is_sound_descriptor o d = is_there_for o d.on && has_access d.on d.flags
+is_sound_descriptor o d = is_there_for o d.on && has_access d.on.kind d.flags
 
 -- a registration, if there is one, is by a descriptor that is open on the queue of this number
 abbrev pub is_by_descriptor : List (ℕ × Process) → ℕ → Option Registration → Bool
 is_by_descriptor processes n None = true
 is_by_descriptor processes n (Some r) =
-    unwrap_or (option_map (λ d. is_on (opened.Mq n) d.on) (descriptor_at processes r.pid.0 r.descriptor)) false
+    unwrap_or (option_map (λ d. is_on (opened_as names.Mq n) d.on) (descriptor_at processes r.pid.0 r.descriptor)) false
 
 -- whoever is registered with the queue has it open, by the descriptor of the registration
 abbrev pub is_registered : List (ℕ × Process) → ℕ × NamedEntry Mq → Bool

@@ -23,8 +23,8 @@ use Rattle.ipc_state.specs.Descriptors.{Table}
 use Rattle.ipc_state.specs.Numbered.{Numbered, AreNumbered, entry_of}
 use Rattle.ipc_state.specs.Keyed.{Keyed, AreKeyed}
 use Rattle.ipc_state.specs.Named.{Named, AreNamedObjects}
-use Rattle.ipc_state.specs.Opening.{NamedObjects, is_named_so, is_registered, is_sound_descriptor, stays}
-use Rattle.ipc_state.specs.State.{State, named_in}
+use Rattle.ipc_state.specs.Opening.{Content, NamedObjects, is_named_so, is_registered, is_sound_descriptor, stays}
+use Rattle.ipc_state.specs.State.{State, named_in, named_of}
 use Rattle.ipc_state.specs.Waiting.{AreSoundWaits}
 
 -- a message has a type above 0 and at most msgmax bytes
@@ -94,24 +94,34 @@ pub record AreHeld {X : Type 0} (most : ℕ) (IsSoundOne : X → Type 0) (kind :
   pub forms : All (λ e. is_named_so kind e ≡ true) o.entries
   pub stay : All (λ e. stays kind processes e ≡ true) o.entries
 
--- each POSIX queue is, and whoever is registered with it has it open
-pub record AreSoundMqs (limits : Limits) (processes : List (ℕ × Process)) (o : Named Mq) : Type 0 where
-  pub held : AreHeld limits.queues (IsSoundMq limits) names.Mq processes o
-  pub registered : All (λ e. is_registered processes e ≡ true) o.entries
-
--- each named semaphore is; its value is no greater than the greatest
-abbrev pub AreSoundPsems : Limits → List (ℕ × Process) → Named ℕ → Type 0
-AreSoundPsems limits processes o =
-    AreHeld limits.named_semaphores (λ value. value ≤ sem_value_max) names.Psem processes o
-
 -- how many bytes the segments have together
 abbrev pub segment_bytes : Named Segment → ℕ
 segment_bytes o = sum_by (λ e. length e.1.object.bytes) o.entries
 
--- each segment is, and together they have no more bytes than the limit says
-pub record AreSoundPshms (limits : Limits) (processes : List (ℕ × Process)) (o : Named Segment) : Type 0 where
-  pub held : AreHeld limits.segments (λ x. ⊤) names.Pshm processes o
-  pub bytes : segment_bytes o ≤ limits.segment_bytes
+-- how many objects of a kind there may be
+abbrev pub most_of : Limits → NameKind → ℕ
+most_of limits names.Mq = limits.queues
+most_of limits names.Psem = limits.named_semaphores
+most_of limits names.Pshm = limits.segments
+
+-- an object of a kind by itself: the value of a semaphore is no greater than the greatest
+abbrev pub IsSoundContent : Limits → (kind : NameKind) → Content kind → Type 0
+IsSoundContent limits names.Mq q = IsSoundMq limits q
+IsSoundContent limits names.Psem value = value ≤ sem_value_max
+IsSoundContent limits names.Pshm x = ⊤
+
+-- those of a kind together: whoever is registered with a queue has it open; the segments have no more bytes than the
+-- limit says
+abbrev pub AreSoundTogether : Limits → List (ℕ × Process) → (kind : NameKind) → Named (Content kind) → Type 0
+AreSoundTogether limits processes names.Mq o = All (λ e. is_registered processes e ≡ true) o.entries
+AreSoundTogether limits processes names.Psem o = ⊤
+AreSoundTogether limits processes names.Pshm o = segment_bytes o ≤ limits.segment_bytes
+
+-- the objects of a kind, each by itself and all together
+pub record AreSoundNamed (limits : Limits) (processes : List (ℕ × Process)) (kind : NameKind)
+    (o : Named (Content kind)) : Type 0 where
+  pub held : AreHeld (most_of limits kind) (IsSoundContent limits kind) kind processes o
+  pub together : AreSoundTogether limits processes kind o
 
 -- the numbers of a process's descriptors rise, each below the limit; what each is open on is there
 pub record AreSoundDescriptors (limits : Limits) (o : NamedObjects) (table : Table) : Type 0 where
@@ -130,9 +140,7 @@ pub record HasSoundParts (limits : Limits) (s : State) : Type 0 where
   pub undo : AreAdjustments (keys_of s.processes.entries) s.semset s.undo
   pub msg : AreKeyed limits.msgmni (IsSoundMsgQueue limits) s.msg
   pub semset : AreSoundSemsets limits s.semset
-  pub mq : AreSoundMqs limits s.processes.entries s.mq
-  pub psem : AreSoundPsems limits s.processes.entries s.psem
-  pub pshm : AreSoundPshms limits s.processes.entries s.pshm
+  pub named : (kind : NameKind) → AreSoundNamed limits s.processes.entries kind (named_of s kind)
 
 -- the body of a reply is no longer than the longest one
 abbrev pub FitsBody : Limits → PlainBody → Type 0

@@ -7,6 +7,7 @@ use Rattle.std.specs.FinMap as fin
 use Rattle.ipc_base.specs.declared.identity.Cred.{Cred}
 use Rattle.ipc_base.specs.declared.limits.Limits.{Limits}
 use Rattle.ipc_base.specs.Table.{value_at, with_value, seen_as, without as without_value}
+use Rattle.ipc_keys.specs.declared.check.NameKind.{NameKind}
 use Rattle.ipc_keys.specs.declared.check.NameKind.TheVariants as names
 use Rattle.ipc_wait.specs.Waits.{waiting_call_of, calls_due, calls_left, without}
 use Rattle.ipc_wire.specs.Posix as posix
@@ -23,8 +24,10 @@ use Rattle.ipc_state.specs.declared.processes.Process.{Process}
 use Rattle.ipc_state.specs.Descriptors.{Table, opened, with_flags}
 use Rattle.ipc_state.specs.Numbered.{Numbered, none_yet, entry_of, is_full, with_entry, with_new, without_entry}
 use Rattle.ipc_state.specs.Keyed.{Keyed, holding}
-use Rattle.ipc_state.specs.Named.{Named, unnamed, with_object}
-use Rattle.ipc_state.specs.Opening.{NamedObjects, is_by, is_on, opened_as, still_open, without_registrations}
+use Rattle.ipc_state.specs.Named.{Named, putting, unnamed}
+use Rattle.ipc_state.specs.Opening.{Content, NamedObjects, each_kind, is_by, is_on, of_kind, opened_as, still_open}
+use Rattle.ipc_state.specs.Opening.{with_kind}
+use Rattle.ipc_state.specs.Opening.{without_registrations}
 use Rattle.ipc_state.specs.Opening.{descriptors_of, descriptor_at, with_table}
 use Rattle.ipc_state.specs.Waiting.{PlainWaiting}
 
@@ -119,18 +122,39 @@ without_adjustments set num s = record s { undo = seen_as (cleared set num) s.un
 abbrev pub deregistered_by : Option ℕ → Option ℕ → State → State
 deregistered_by pid fd s = record s { mq = without_registrations (is_by pid fd) s.mq }
 
--- objects go that have no name and on which no descriptor is open
-abbrev pub swept : State → State
-swept s =
-    record s {
-      mq = still_open names.Mq s.processes.entries s.mq;
-      psem = still_open names.Psem s.processes.entries s.psem;
-      pshm = still_open names.Pshm s.processes.entries s.pshm;
-    }
-
 -- those of every kind
 abbrev pub named_in : State → NamedObjects
 named_in s = record { mq = s.mq; psem = s.psem; pshm = s.pshm }
+
+-- those of a kind
+abbrev pub named_of : State → (kind : NameKind) → Named (Content kind)
+named_of s kind = of_kind (named_in s) kind
+
+-- with others
+abbrev pub with_named : State → NamedObjects → State
+with_named s o = record s { mq = o.mq; psem = o.psem; pshm = o.pshm }
+
+-- objects go that have no name and on which no descriptor is open
+abbrev pub swept : State → State
+swept s = with_named s (each_kind (λ kind. still_open kind s.processes.entries) (named_in s))
+
+-- with others of a kind
+abbrev pub with_named_of : State → (kind : NameKind) → Named (Content kind) → State
+with_named_of s kind others = with_named s (with_kind (named_in s) kind others)
+
+-- with another object of a kind at a number, if it is there, under the same name
+abbrev pub with_object_of : State → (kind : NameKind) → ℕ → Content kind → State
+with_object_of s kind n x = with_named_of s kind (putting (named_of s kind) n x)
+
+-- with a new object of a kind, of this name, owner and mode
+abbrev pub with_new_of : State → (kind : NameKind) → List ℕ → Cred → ℕ → Content kind → State
+with_new_of s kind name cred mode x =
+    with_named_of s kind
+    (with_new (named_of s kind) (record { name = name; owner = cred; mode = mode; object = x }))
+
+-- the name of an object of a kind is unlinked, and the object goes, if it is not open
+abbrev pub unlinked : State → NameKind → ℕ → State
+unlinked s kind n = swept (with_named_of s kind (unnamed (named_of s kind) n))
 
 -- ---- processes
 
@@ -215,17 +239,11 @@ has_all_mqs limits s = is_full limits.queues s.mq
 
 -- with another queue at a number, if it is there, under the same name
 abbrev pub with_mq : State → ℕ → Mq → State
-with_mq s n q =
-    record s { mq = unwrap_or (option_map (λ e. with_entry s.mq n (with_object e q)) (entry_of s.mq n)) s.mq }
+with_mq s n q = with_object_of s names.Mq n q
 
 -- with a new queue of this name, owner and mode
 abbrev pub with_new_mq : State → List ℕ → Cred → ℕ → Mq → State
-with_new_mq s name cred mode q =
-    record s { mq = with_new s.mq (record { name = name; owner = cred; mode = mode; object = q }) }
-
--- the name of a queue is unlinked, and the queue goes, if it is not open
-abbrev pub unlinked : State → ℕ → State
-unlinked s n = swept (record s { mq = unnamed s.mq n })
+with_new_mq s name cred mode q = with_new_of s names.Mq name cred mode q
 
 -- ---- named semaphores
 
@@ -235,22 +253,11 @@ has_all_psems limits s = is_full limits.named_semaphores s.psem
 
 -- another value at a number, if it is there, under the same name
 abbrev pub with_psem : State → ℕ → ℕ → State
-with_psem s n value =
-    record s {
-      psem = unwrap_or (option_map (λ e. with_entry s.psem n (with_object e value)) (entry_of s.psem n))
-          s.psem;
-    }
+with_psem s n value = with_object_of s names.Psem n value
 
 -- with a new semaphore of this name, owner, mode and value
 abbrev pub with_new_psem : State → List ℕ → Cred → ℕ → ℕ → State
-with_new_psem s name cred mode value =
-    record s {
-      psem = with_new s.psem (record { name = name; owner = cred; mode = mode; object = value });
-    }
-
--- the name of a semaphore is unlinked, and it goes, if it is not open
-abbrev pub unlinked_psem : State → ℕ → State
-unlinked_psem s n = swept (record s { psem = unnamed s.psem n })
+with_new_psem s name cred mode value = with_new_of s names.Psem name cred mode value
 
 -- ---- segments
 
@@ -260,17 +267,11 @@ has_all_pshms limits s = is_full limits.segments s.pshm
 
 -- another segment at a number, if it is there, under the same name
 abbrev pub with_pshm : State → ℕ → Segment → State
-with_pshm s n x =
-    record s { pshm = unwrap_or (option_map (λ e. with_entry s.pshm n (with_object e x)) (entry_of s.pshm n)) s.pshm }
+with_pshm s n x = with_object_of s names.Pshm n x
 
 -- with a new segment of this name, owner and mode, which has no bytes
 abbrev pub with_new_pshm : State → List ℕ → Cred → ℕ → State
-with_new_pshm s name cred mode =
-    record s { pshm = with_new s.pshm (record { name = name; owner = cred; mode = mode; object = empty_segment }) }
-
--- the name of a segment is unlinked, and it goes, if it is not open
-abbrev pub unlinked_pshm : State → ℕ → State
-unlinked_pshm s n = swept (record s { pshm = unnamed s.pshm n })
+with_new_pshm s name cred mode = with_new_of s names.Pshm name cred mode empty_segment
 
 -- ---- calls that wait on POSIX queues
 

@@ -7,18 +7,15 @@ ghost use Rattle.ipc_state.specs.Descriptors.{Table, lowest_unused, opened, with
 ghost use Rattle.ipc_state.specs.Descriptors.{most_descriptors, descriptor_row};
 
 use crate::numbered::{HasNumber, rise};
+use ipc_keys::NameKind;
 use std::alloc::{AllocError, Global};
 use std::marker::Model;
 
 /// An object on which a descriptor is open: its kind and its number.
 #[derive(Clone, Copy, Debug, PartialEq, Eq)]
-pub enum Opened {
-    /// A message queue of mq_overview(7).
-    Mq(u32),
-    /// A semaphore of sem_overview(7).
-    Psem(u32),
-    /// A segment of shm_overview(7).
-    Pshm(u32),
+pub struct Opened {
+    pub kind: NameKind,
+    pub number: u32,
 }
 
 /// What a descriptor is open on, and the flags that still mean something after the open.

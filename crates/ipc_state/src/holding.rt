@@ -2,18 +2,19 @@
 //! and shm_overview(7).
 
 ghost use Rattle.std.specs.Prelude.{◌≡◌, ◌↔◌, ◌&&◌, true, map, All, IsTrue, None};
-ghost use Rattle.std.specs.Prelude.{filter};
+ghost use Rattle.std.specs.Prelude.{filter, is_some};
 ghost use Rattle.std.specs.List.{list_all, list_any};
 ghost use Rattle.ipc_state.specs.Held.{left};
 ghost use Rattle.ipc_state.specs.Opening.{descriptor_at, has_access, is_named_so, is_on, is_open, is_sound_descriptor};
-ghost use Rattle.ipc_state.specs.Opening.{is_there_for, opened_as, stays, still_open};
+ghost use Rattle.ipc_state.specs.Numbered.{entry_of};
+ghost use Rattle.ipc_state.specs.Opening.{stays, still_open};
 ghost use Rattle.ipc_state.specs.Sound.{AreHeld, AreSoundDescriptors, AreSoundProcesses};
-ghost use Rattle.ipc_state.specs.State.{named_in, swept};
-ghost use Rattle.ipc_state.specs.Tables.{item_row};
+ghost use Rattle.ipc_state.specs.State.{named_in, named_of, swept};
+ghost use Rattle.ipc_state.specs.Tables.{item_row, numbered_of};
 
 use crate::descriptors::{Descriptor, DescriptorRow, Opened};
 use crate::named::{Named, NamedEntry};
-use crate::numbered::Item;
+use crate::numbered::{Item, Numbered};
 use crate::processes::Process;
 use crate::rows::Rows;
 use crate::sound::SoundAlone;
@@ -80,17 +81,18 @@ impl State {
     fn is_open(&self, descriptor: &Descriptor) -> bool
         ensures { result ≡ is_sound_descriptor (named_in self.now.state) descriptor.now }
     {
-        self.is_there(descriptor.on) && has_access(descriptor.on, descriptor.flags)
+        let Opened { kind, number } = descriptor.on;
+        self.is_there(kind, number) && has_access(kind, descriptor.flags)
     }
 
-    /// Whether what a descriptor is open on is there.
-    fn is_there(&self, on: Opened) -> bool
-        ensures { result ≡ is_there_for (named_in self.now.state) on }
+    /// Whether an object of a kind is there.
+    fn is_there(&self, kind: NameKind, number: u32) -> bool
+        ensures { result ≡ is_some (entry_of (named_of self.now.state kind) number) }
     {
-        match on {
-            Opened::Mq(number) => self.mq.get(number).is_some(),
-            Opened::Psem(number) => self.psem.get(number).is_some(),
-            Opened::Pshm(number) => self.pshm.get(number).is_some(),
+        match kind {
+            NameKind::Mq => self.mq.get(number).is_some(),
+            NameKind::Psem => self.psem.get(number).is_some(),
+            NameKind::Pshm => self.pshm.get(number).is_some(),
         }
     }
 }
@@ -123,13 +125,13 @@ impl<T: SoundAlone> Named<T> {
         &self,
         most: u32,
         limits: &Limits,
-        processes: &[Item<Process>],
+        processes: &Numbered<Process>,
         kind: NameKind,
     ) -> bool
         ensures { IsTrue result
-            ↔ AreHeld most (T.IsSound limits.now) kind (map item_row processes.now) self.now.objects }
+            ↔ AreHeld most (T.IsSound limits.now) kind (numbered_of processes.now).entries self.now.objects }
     {
-        self.are_sound(most, limits) && have_names_or_stay(self.items(), processes, kind)
+        self.are_sound(most, limits) && have_names_or_stay(self.items(), processes.items(), kind)
     }
 }
 
@@ -169,28 +171,18 @@ fn all_stay<T>(items: &[Item<NamedEntry<T>>], processes: &[Item<Process>], kind:
 fn stays<T>(processes: &[Item<Process>], item: &Item<NamedEntry<T>>, kind: NameKind) -> bool
     ensures { result ≡ stays kind (map item_row processes.now) (item_row item.now) }
 {
-    !item.value.name.is_none() || is_open(processes, opened_as(kind, item.number))
+    let number = item.number;
+    !item.value.name.is_none() || is_open(processes, Opened { kind, number })
 }
 
-/// Whether an object may be open with these flags.
-fn has_access(on: Opened, flags: u32) -> bool
-    ensures { result ≡ has_access on flags }
-{
-    match on {
-        Opened::Mq(_) => flags & 3 != 3,
-        Opened::Psem(_) => true,
-        Opened::Pshm(_) => flags & 1 == 0,
-    }
-}
-
-/// An object of a kind, as a descriptor is open on it.
-fn opened_as(kind: NameKind, number: u32) -> Opened
-    ensures { result ≡ opened_as kind number }
+/// Whether an object of a kind may be open with these flags.
+fn has_access(kind: NameKind, flags: u32) -> bool
+    ensures { result ≡ has_access kind flags }
 {
     match kind {
-        NameKind::Mq => Opened::Mq(number),
-        NameKind::Psem => Opened::Psem(number),
-        NameKind::Pshm => Opened::Pshm(number),
+        NameKind::Mq => flags & 3 != 3,
+        NameKind::Psem => true,
+        NameKind::Pshm => flags & 1 == 0,
     }
 }
 
@@ -223,10 +215,5 @@ fn open_it(rows: &[DescriptorRow], this: Opened) -> bool
 pub(crate) fn is_on(this: Opened, on: Opened) -> bool
     ensures { result ≡ is_on this on }
 {
-    match (this, on) {
-        (Opened::Mq(number), Opened::Mq(other)) => other == number,
-        (Opened::Psem(number), Opened::Psem(other)) => other == number,
-        (Opened::Pshm(number), Opened::Pshm(other)) => other == number,
-        _ => false,
-    }
+    on == this
 }

@@ -33,6 +33,6 @@ pub use keyed::{Entry, IPC_PRIVATE, Keyed};
 pub use named::{Named, NamedEntry};
 pub use numbered::{Item, LAST_NUMBER};
 pub use operations::Operations;
-pub use parked::{Awaited, Object, Parked, ParkedKind, ParkedPosix, ParkedSysv};
+pub use parked::{Awaited, Object, ObjectKind, Parked, ParkedKind, ParkedPosix, ParkedSysv};
 pub use processes::Process;
 pub use state::{Numbers, State};

@@ -17,7 +17,7 @@ ghost use Rattle.ipc_state.specs.LendsMq.{lends_mq};
 ghost use Rattle.ipc_state.specs.Named.{HaveNames, named};
 ghost use Rattle.ipc_state.specs.Numbered.{entry_of};
 ghost use Rattle.ipc_state.specs.Restored.{with_last_mq};
-ghost use Rattle.ipc_state.specs.Sound.{AreHeld, AreSoundMqs, IsSoundMq};
+ghost use Rattle.ipc_state.specs.Sound.{AreSoundNamed, IsSoundMq};
 ghost use Rattle.ipc_state.specs.State.{deregistered_by, has_all_mqs, receives_from, receiver_waits};
 ghost use Rattle.ipc_state.specs.State.{unlinked, with_new_mq};
 ghost use Rattle.ipc_state.specs.Rows.{has_room, item_row};
@@ -125,7 +125,7 @@ impl State {
     pub fn unlink_mq(&mut self, number: u32)
         requires named { HaveNames self.old.state.mq }
         requires there { is_some (entry_of self.old.state.mq number) ≡ true }
-        ensures { self.new ≡ left self.old (unlinked self.old.state number) }
+        ensures { self.new ≡ left self.old (unlinked self.old.state names.Mq number) }
     {
         self.mq.unname(number);
         self.sweep();
@@ -149,8 +149,9 @@ impl State {
         let ParkedKind::Posix(ParkedPosix::MqReceive { fd, .. }) = kind else {
             return false;
         };
+        let kind = NameKind::Mq;
         match self.descriptor(pid, *fd) {
-            Some(descriptor) => is_on(Opened::Mq(number), descriptor.on),
+            Some(descriptor) => is_on(Opened { kind, number }, descriptor.on),
             None => false,
         }
     }
@@ -173,21 +174,13 @@ impl State {
 
     /// Whether the queues are sound.
     pub(crate) fn are_mqs_sound(&self) -> bool
-        ensures { IsTrue result ↔ AreSoundMqs self.now.limits self.now.state.processes.entries self.now.state.mq }
+        ensures { IsTrue result
+            ↔ AreSoundNamed self.now.limits self.now.state.processes.entries names.Mq self.now.state.mq }
     {
-        self.are_mqs_held() && self.are_registered(self.mq.items())
-    }
-
-    fn are_mqs_held(&self) -> bool
-        ensures { IsTrue result ↔ AreHeld self.now.limits.queues (IsSoundMq self.now.limits) names.Mq
-            self.now.state.processes.entries self.now.state.mq }
-    {
-        self.mq.are_held(
-            self.limits.queues,
-            &self.limits,
-            self.processes.items(),
-            NameKind::Mq,
-        )
+        let most = self.limits.queues;
+        self.mq
+            .are_held(most, &self.limits, &self.processes, NameKind::Mq)
+            && self.are_registered(self.mq.items())
     }
 
     /// Whether whoever is registered with a queue has it open.
@@ -203,8 +196,12 @@ impl State {
         let Some(registration) = item.value.object.registration() else {
             return true;
         };
+        let queue = Opened {
+            kind: NameKind::Mq,
+            number: item.number,
+        };
         match self.descriptor(registration.pid, registration.descriptor) {
-            Some(descriptor) => is_on(Opened::Mq(item.number), descriptor.on),
+            Some(descriptor) => is_on(queue, descriptor.on),
             None => false,
         }
     }

@@ -10,6 +10,7 @@ ghost use Rattle.ipc_state.specs.Waiting.{parked_sysv, parked_kind, parked_posix
 
 use crate::operations::Operations;
 use ipc_base::{Errno, Id, Moment, MsgFlags};
+use ipc_keys::NameKind;
 use ipc_wire::{PosixCall, Request, RequestKind, SysvCall};
 use posix_mq::Message as MqMessage;
 use std::alloc::{AllocError, Global};
@@ -27,19 +28,22 @@ pub enum Awaited {
     Descriptor(u32),
 }
 
-/// An object on which calls may wait.
+/// What an object is.
 #[derive(Clone, Copy, Debug, PartialEq, Eq)]
-pub enum Object {
+pub enum ObjectKind {
     /// A message queue of msgget(2).
-    MsgQueue(Id),
+    MsgQueue,
     /// A semaphore set.
-    Semset(Id),
-    /// A message queue of mq_overview(7), by its number.
-    Mq(u32),
-    /// A semaphore of sem_overview(7), by its number.
-    Psem(u32),
-    /// A segment of shm_overview(7), by its number.
-    Pshm(u32),
+    Semset,
+    /// An object with a name.
+    Named(NameKind),
+}
+
+/// An object that a call may change, and on which calls may wait: its kind, and its identifier or number.
+#[derive(Clone, Copy, Debug, PartialEq, Eq)]
+pub struct Object {
+    pub kind: ObjectKind,
+    pub number: u32,
 }
 
 /// A System V call that waits, with its fields. See msgop(2) and semop(2).

@@ -6,14 +6,15 @@ ghost use Rattle.std.specs.Borrow.{sem};
 ghost use Rattle.std.specs.Option.{option_copied_mut};
 ghost use Rattle.ipc_base.specs.Limits.{ArePassed};
 ghost use Rattle.ipc_base.specs.Table.{IsRising, keys_of};
+ghost use Rattle.ipc_keys.specs.declared.check.NameKind.TheVariants as names;
 ghost use Rattle.posix_sem.specs.Semaphore.{sem_value_max};
 ghost use Rattle.ipc_state.specs.Held.{Ready, left};
 ghost use Rattle.ipc_state.specs.LendsNamed.{lends_psem};
 ghost use Rattle.ipc_state.specs.Numbered.{entry_of};
 ghost use Rattle.ipc_state.specs.Named.{HaveNames, named};
 ghost use Rattle.ipc_state.specs.Restored.{with_last_psem};
-ghost use Rattle.ipc_state.specs.Sound.{AreSoundPsems};
-ghost use Rattle.ipc_state.specs.State.{has_all_psems, unlinked_psem, with_new_psem};
+ghost use Rattle.ipc_state.specs.Sound.{AreSoundNamed};
+ghost use Rattle.ipc_state.specs.State.{has_all_psems, unlinked, with_new_psem};
 
 use crate::named::{Named, NamedEntry};
 use crate::sound::SoundAlone;
@@ -72,7 +73,7 @@ impl State {
     pub fn unlink_psem(&mut self, number: u32)
         requires named { HaveNames self.old.state.psem }
         requires there { is_some (entry_of self.old.state.psem number) ≡ true }
-        ensures { self.new ≡ left self.old (unlinked_psem self.old.state number) }
+        ensures { self.new ≡ left self.old (unlinked self.old.state names.Psem number) }
     {
         self.psem.unname(number);
         self.sweep();
@@ -94,14 +95,11 @@ impl State {
     /// Whether the semaphores are sound.
     pub(crate) fn are_psems_sound(&self) -> bool
         ensures { IsTrue result
-            ↔ AreSoundPsems self.now.limits self.now.state.processes.entries self.now.state.psem }
+            ↔ AreSoundNamed self.now.limits self.now.state.processes.entries names.Psem self.now.state.psem }
     {
-        self.psem.are_held(
-            self.limits.named_semaphores,
-            &self.limits,
-            self.processes.items(),
-            NameKind::Psem,
-        )
+        let most = self.limits.named_semaphores;
+        self.psem
+            .are_held(most, &self.limits, &self.processes, NameKind::Psem)
     }
 }
 

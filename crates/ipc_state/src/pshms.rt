@@ -12,9 +12,9 @@ ghost use Rattle.ipc_state.specs.LendsNamed.{lends_pshm};
 ghost use Rattle.ipc_state.specs.Numbered.{entry_of};
 ghost use Rattle.ipc_state.specs.Named.{HaveNames, named};
 ghost use Rattle.ipc_state.specs.Restored.{with_last_pshm};
-ghost use Rattle.ipc_state.specs.Sound.{AreHeld, AreSoundPshms, segment_bytes};
+ghost use Rattle.ipc_state.specs.Sound.{AreSoundNamed, segment_bytes};
 ghost use Rattle.shm_segment.specs.Segment.{Segment, empty_segment, truncated};
-ghost use Rattle.ipc_state.specs.State.{has_all_pshms, unlinked_pshm, with_new_pshm};
+ghost use Rattle.ipc_state.specs.State.{has_all_pshms, unlinked, with_new_pshm};
 
 use crate::named::{Named, NamedEntry};
 use crate::numbered::Item;
@@ -100,7 +100,7 @@ impl State {
     pub fn unlink_pshm(&mut self, number: u32)
         requires named { HaveNames self.old.state.pshm }
         requires there { is_some (entry_of self.old.state.pshm number) ≡ true }
-        ensures { self.new ≡ left self.old (unlinked_pshm self.old.state number) }
+        ensures { self.new ≡ left self.old (unlinked self.old.state names.Pshm number) }
     {
         self.pshm.unname(number);
         self.sweep();
@@ -122,21 +122,12 @@ impl State {
     /// Whether the segments are sound.
     pub(crate) fn are_pshms_sound(&self) -> bool
         ensures { IsTrue result
-            ↔ AreSoundPshms self.now.limits self.now.state.processes.entries self.now.state.pshm }
+            ↔ AreSoundNamed self.now.limits self.now.state.processes.entries names.Pshm self.now.state.pshm }
     {
-        self.are_pshms_held() && self.have_at_most_bytes(self.limits.segment_bytes as usize)
-    }
-
-    fn are_pshms_held(&self) -> bool
-        ensures { IsTrue result ↔ AreHeld self.now.limits.segments (λ x. ⊤) names.Pshm
-            self.now.state.processes.entries self.now.state.pshm }
-    {
-        self.pshm.are_held(
-            self.limits.segments,
-            &self.limits,
-            self.processes.items(),
-            NameKind::Pshm,
-        )
+        let most = self.limits.segments;
+        self.pshm
+            .are_held(most, &self.limits, &self.processes, NameKind::Pshm)
+            && self.have_at_most_bytes(self.limits.segment_bytes as usize)
     }
 }
 

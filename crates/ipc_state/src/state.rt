@@ -4,8 +4,9 @@ ghost use Rattle.std.specs.Prelude.{◌≡◌, ◌↔◌, IsTrue};
 ghost use Rattle.ipc_base.specs.Limits.{ArePassed};
 ghost use Rattle.ipc_state.specs.Held.Ready.{Nothing};
 ghost use Rattle.ipc_state.specs.Restored.{with_numbers};
-ghost use Rattle.ipc_state.specs.Sound.{HasSoundParts};
-ghost use Rattle.ipc_state.specs.State.{start, at_moment};
+ghost use Rattle.ipc_state.specs.Sound.{AreSoundNamed, HasSoundParts};
+ghost use Rattle.ipc_state.specs.State.{start, at_moment, named_of};
+ghost use Rattle.ipc_keys.specs.declared.check.NameKind.{NameKind};
 
 use crate::descriptors::Descriptors;
 use crate::keyed::Keyed;
@@ -216,8 +217,15 @@ impl State {
             && self.are_adjustments_sound()
             && self.are_msg_queues_sound()
             && self.are_semsets_sound()
-            && self.are_mqs_sound()
-            && self.are_psems_sound()
-            && self.are_pshms_sound()
+            && self.are_named_sound()
+    }
+
+    /// Whether the objects with a name are sound.
+    fn are_named_sound(&self) -> bool
+        ensures { IsTrue result
+            ↔ ((kind : NameKind) → AreSoundNamed self.now.limits self.now.state.processes.entries kind
+            (named_of self.now.state kind)) }
+    {
+        self.are_mqs_sound() && self.are_psems_sound() && self.are_pshms_sound()
     }
 }

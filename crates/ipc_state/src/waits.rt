@@ -9,7 +9,7 @@ ghost use Rattle.ipc_state.specs.Waiting.{AreSoundWaits, IsSoundWaiting, has_dea
 ghost use Rattle.ipc_wait.specs.Waits.{waiting_call_of, next_deadline};
 
 use crate::descriptors::Opened;
-use crate::parked::{Awaited, Object, Parked};
+use crate::parked::{Awaited, Object, ObjectKind, Parked};
 use crate::state::State;
 use ipc_base::{Moment, Pid};
 use ipc_wait::{WaitList, Waiting};
@@ -43,8 +43,14 @@ impl State {
         ensures { result ≡ object_of self.now.state pid.0 awaited }
     {
         match awaited {
-            Awaited::MsgQueue(id) => Some(Object::MsgQueue(id)),
-            Awaited::Semset(id) => Some(Object::Semset(id)),
+            Awaited::MsgQueue(id) => Some(Object {
+                kind: ObjectKind::MsgQueue,
+                number: id.0,
+            }),
+            Awaited::Semset(id) => Some(Object {
+                kind: ObjectKind::Semset,
+                number: id.0,
+            }),
             Awaited::Descriptor(fd) => match self.descriptor(pid, fd) {
                 Some(descriptor) => Some(object_on(descriptor.on)),
                 None => None,
@@ -122,10 +128,9 @@ impl State {
 fn object_on(on: Opened) -> Object
     ensures { result ≡ object_on on }
 {
-    match on {
-        Opened::Mq(number) => Object::Mq(number),
-        Opened::Psem(number) => Object::Psem(number),
-        Opened::Pshm(number) => Object::Pshm(number),
+    Object {
+        kind: ObjectKind::Named(on.kind),
+        number: on.number,
     }
 }
 

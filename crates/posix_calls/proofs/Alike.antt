@@ -4,6 +4,7 @@ use Rattle.std.specs.Prelude.{option_map}
 use Rattle.std.proofs.lemmas.Option.{none-some}
 use Rattle.ipc_base.specs.declared.errno.Errno.TheVariants.{EBADF, EINVAL}
 use Rattle.ipc_base.specs.declared.limits.Limits.{Limits}
+use Rattle.ipc_keys.specs.declared.check.NameKind.TheVariants as names
 use Rattle.ipc_wire.specs.Posix.{PlainPosix}
 use Rattle.ipc_wire.specs.Posix as requests
 use Rattle.ipc_wire.specs.Request.{Posix}
@@ -18,10 +19,10 @@ use Rattle.ipc_state.specs.Touching.{object_on, is_there, IsAsBefore}
 use Rattle.ipc_state.specs.Waiting.{awaited_by}
 use Rattle.ipc_state.proofs.CallerLemmas.{AreAlike, alike-waits, orelse-alike, past-alike, same-alike, then-alike, waits-for}
 use Rattle.posix_calls.specs.Calls.{attempt}
-use Rattle.posix_calls.specs.Mq.{open_mq, mq_number, open_to, receivable, sendable}
-use Rattle.posix_calls.specs.Open.{reads, writes}
-use Rattle.posix_calls.specs.Psem.{lowerable, open_semaphore, semaphore_number}
-use Rattle.posix_calls.proofs.Reaching.{lowers, number-is, receives, semaphore-is, sends}
+use Rattle.posix_calls.specs.Mq.{open_mq, open_to, receivable, sendable}
+use Rattle.posix_calls.specs.Open.{number_in, reads, writes}
+use Rattle.posix_calls.specs.Psem.{lowerable, open_semaphore}
+use Rattle.posix_calls.proofs.Reaching.{lowers, number-is, receives, sends}
 
 -- ---- two states that have the same descriptor and the same object
 
@@ -33,13 +34,13 @@ module _ (s t : State) (pid fd : ℕ) (alike : IsAsBefore pid (awaited.Descripto
 
   open-alike : AreAlike (open_mq t pid fd) (open_mq s pid fd)
   open-alike =
-      orelse-alike EBADF EBADF alike.0 (λ d is. orelse-alike EBADF EBADF {o = mq_number d.on} refl (λ n on.
-      orelse-alike EBADF EBADF (alike.1 n (on-it d is ∙ ap (λ (o : Opened). Some (object_on o)) (number-is d.on n on))) (λ q _. same-alike refl)))
+      orelse-alike EBADF EBADF alike.0 (λ d is. orelse-alike EBADF EBADF {o = number_in names.Mq d.on} refl (λ n on.
+      orelse-alike EBADF EBADF (alike.1 names.Mq n refl (on-it d is ∙ ap (λ (o : Opened). Some (object_on o)) (number-is names.Mq d.on n on))) (λ q _. same-alike refl)))
 
   sem-alike : AreAlike (open_semaphore t pid fd) (open_semaphore s pid fd)
   sem-alike =
-      orelse-alike EINVAL EINVAL alike.0 (λ d is. orelse-alike EINVAL EINVAL {o = semaphore_number d.on} refl (λ n on.
-      orelse-alike EINVAL EINVAL (alike.2 n (on-it d is ∙ ap (λ (o : Opened). Some (object_on o)) (semaphore-is d.on n on))) (λ v _. same-alike refl)))
+      orelse-alike EINVAL EINVAL alike.0 (λ d is. orelse-alike EINVAL EINVAL {o = number_in names.Psem d.on} refl (λ n on.
+      orelse-alike EINVAL EINVAL (alike.1 names.Psem n refl (on-it d is ∙ ap (λ (o : Opened). Some (object_on o)) (number-is names.Psem d.on n on))) (λ v _. same-alike refl)))
 
   opens-alike : (allows : ℕ → Bool) → AreAlike (open_to allows t pid fd) (open_to allows s pid fd)
   opens-alike allows = then-alike open-alike (λ f. same-alike refl)

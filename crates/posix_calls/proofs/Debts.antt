@@ -17,12 +17,12 @@ use Rattle.ipc_state.specs.declared.parked.Awaited.TheVariants as awaited
 use Rattle.ipc_state.specs.Descriptors.{Table}
 use Rattle.ipc_state.specs.Named.{nameless, unnamed, with_object, without_name}
 use Rattle.ipc_state.specs.Numbered.{entry_of, with_entry}
-use Rattle.ipc_state.specs.declared.descriptors.Opened.TheVariants as objects
+use Rattle.ipc_keys.specs.declared.check.NameKind.{NameKind}
 use Rattle.ipc_keys.specs.declared.check.NameKind.TheVariants as names
-use Rattle.ipc_state.specs.Opening.{deregistered, is_by, is_by_descriptor, is_on, is_registered, stays, unless_so}
+use Rattle.ipc_state.specs.Opening.{deregistered, is_by, is_by_descriptor, is_on, is_registered, opened_as, stays, unless_so}
 use Rattle.ipc_state.specs.Sound.{HasSoundParts}
 use Rattle.ipc_state.specs.State.{State, closed, exit, is_process, restart, unlinked, with_descriptors}
-use Rattle.ipc_state.specs.State.{swept, with_mq, without_descriptor, without_process}
+use Rattle.ipc_state.specs.State.{with_mq, without_descriptor, without_process}
 use Rattle.ipc_state.specs.declared.processes.Process.{Process}
 use Rattle.ipc_state.specs.Touching.{mq_object, object_of, object_on}
 use Rattle.ipc_state.proofs.CallerLemmas.{elsewhere-table}
@@ -78,7 +78,7 @@ module _ (p : ℕ) where
   pub put-mq : (s : State) (n : ℕ) (q new : Mq) → mq_object s n ≡ Some q
       → registrations (with_mq s n new) p + own p q.registration ≡ registrations s p + own p new.registration
   put-mq s n q new is =
-      let e = has-entry s n q is in
+      let e = has-entry s names.Mq n q is in
       let whole = put s.mq.entries n e.entry (with_object e.entry new) e.there in
       let same : own p e.entry.object.registration ≡ own p q.registration = ap (λ (r : Mq). own p r.registration) e.object in
       let state : registrations (with_mq s n new) p ≡ sum_by of-entry (with_value nat_eq s.mq.entries n (with_object e.entry new)) =
@@ -122,7 +122,7 @@ module _ (p : ℕ) where
       )
     where
       no-descriptor : (r : Option Process) → is_some r ≡ false → (fd : ℕ)
-          → unwrap_or (option_map (λ (d : Descriptor). is_on (objects.Mq e.0) d.on)
+          → unwrap_or (option_map (λ (d : Descriptor). is_on (opened_as names.Mq e.0) d.on)
           (value_at nat_eq (unwrap_or (option_map (λ (q : Process). q.descriptors) r) []) fd)) false ≡ false
       no-descriptor None is fd = refl
       no-descriptor (Some q) is fd = cc
@@ -138,16 +138,14 @@ module _ (p : ℕ) where
               let none = no-descriptor (value_at nat_eq ps r.pid.0) (ap (λ (q : ℕ). is_some (value_at nat_eq ps q)) one ∙ gone) r.descriptor in
               absurd (let both : true ≡ false = sym is ∙ none in cc)
 
-  pub fewer-unlinked : (s : State) (n : ℕ) → registrations (unlinked s n) p ≤ registrations s p
-  fewer-unlinked s n = omega (arith, fewer-kept (stays names.Mq s.processes.entries) (unnamed s.mq n).entries, by_entry (entry_of s.mq n) refl)
+  pub fewer-unlinked : (s : State) (kind : NameKind) (n : ℕ) → registrations (unlinked s kind n) p ≤ registrations s p
+  fewer-unlinked s names.Psem n = fewer-kept (stays names.Mq s.processes.entries) s.mq.entries
+  fewer-unlinked s names.Pshm n = fewer-kept (stays names.Mq s.processes.entries) s.mq.entries
+  fewer-unlinked s names.Mq n = omega (arith, fewer-kept (stays names.Mq s.processes.entries) (unnamed s.mq n).entries, by_entry (entry_of s.mq n) refl)
     where
       by_entry : (r : Option (NamedEntry Mq)) → entry_of s.mq n ≡ r → sum_by of-entry (without_name s.mq n r).entries ≤ registrations s p
       by_entry None is = omega arith
       by_entry (Some e) is = omega (arith, put s.mq.entries n e (nameless e) is)
-
-  -- those that are open, or have a name, are left
-  pub fewer-swept_all : (s : State) → registrations (swept s) p ≤ registrations s p
-  fewer-swept_all s = fewer-kept (stays names.Mq s.processes.entries) s.mq.entries
 
   -- what is sent is no more than was registered
   fewer-notifies : (r : Option Registration) → own p (notified r) ≤ own p r
@@ -200,7 +198,7 @@ pub registrations-restarted : (s : State) (p : ℕ) → registrations (restart s
 registrations-restarted s p = fewer-restarted p s
 
 pub registrations-few : (limits : Limits) (s : State) (p : ℕ) → HasSoundParts limits s → registrations s p ≤ limits.queues
-registrations-few limits s p h = omega (arith, few-registrations p s.mq.entries, h.mq.held.named.numbered.count)
+registrations-few limits s p h = omega (arith, few-registrations p s.mq.entries, (h.named names.Mq).held.named.numbered.count)
 
 pub registrations-none : (limits : Limits) (s : State) (p : ℕ) → HasSoundParts limits s → is_process s p ≡ false → registrations s p ≡ 0
-registrations-none limits s p h gone = none-registered p s.processes.entries gone s.mq.entries h.mq.registered
+registrations-none limits s p h gone = none-registered p s.processes.entries gone s.mq.entries (h.named names.Mq).together

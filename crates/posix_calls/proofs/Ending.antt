@@ -22,6 +22,7 @@ use Rattle.ipc_base.specs.declared.limits.Limits.{Limits}
 use Rattle.ipc_base.specs.Numbers.{record_bytes}
 use Rattle.ipc_base.proofs.CallerLemmas.{at-push, at-with, rising-found, same_key}
 use Rattle.ipc_keys.specs.Names.{check_name}
+use Rattle.ipc_keys.specs.declared.check.NameKind.{NameKind}
 use Rattle.ipc_keys.specs.declared.check.NameKind.TheVariants as names
 use Rattle.ipc_wire.specs.Posix.{PlainPosix}
 use Rattle.ipc_wire.specs.Posix as requests
@@ -32,15 +33,13 @@ use Rattle.posix_mq.specs.Queue.{Queue as Mq, PlainMessage, deregistered, empty_
 use Rattle.posix_mq.specs.declared.queue.Registration.{Registration}
 use Rattle.ipc_state.specs.declared.descriptors.Descriptor.{Descriptor}
 use Rattle.ipc_state.specs.declared.descriptors.Opened.{Opened}
-use Rattle.ipc_state.specs.declared.descriptors.Opened.TheVariants as opened
 use Rattle.ipc_state.specs.declared.named.NamedEntry.{NamedEntry}
 use Rattle.ipc_state.specs.declared.parked.Awaited.{Awaited}
 use Rattle.ipc_state.specs.declared.parked.Object.{Object}
-use Rattle.ipc_state.specs.declared.parked.Object.TheVariants as object
 use Rattle.ipc_state.specs.Descriptors.{lowest_unused}
 use Rattle.ipc_state.specs.Named.{named}
 use Rattle.ipc_state.specs.Numbered.{entry_of}
-use Rattle.ipc_state.specs.Opening.{descriptor_at, descriptors_of, has_access, is_by_descriptor, is_on, is_there_for}
+use Rattle.ipc_state.specs.Opening.{descriptor_at, descriptors_of, has_access, is_by_descriptor, is_on, is_there_for, opened_as}
 use Rattle.ipc_state.specs.Finish.{Done, answer, answer_firing, done_firing}
 use Rattle.ipc_state.specs.Sound.{FitsBody, HasSoundParts, IsSoundMq, IsSoundMqMessage}
 use Rattle.ipc_state.specs.State.{State, closed, cred_of, has_all_descriptors, is_waiting, unlinked, with_descriptor, with_descriptor_flags, with_mq}
@@ -49,23 +48,21 @@ use Rattle.ipc_state.specs.State.{with_descriptors}
 use Rattle.ipc_state.specs.Descriptors.{Table}
 use Rattle.ipc_state.specs.Opening.{with_table}
 use Rattle.ipc_state.specs.Descriptors.{opened as opened_table}
-use Rattle.ipc_state.specs.Named.{Named, unnamed, with_object}
+use Rattle.ipc_state.specs.Named.{Named, with_object}
 use Rattle.ipc_state.specs.Numbered.{Numbered, with_entry, with_new}
 use Rattle.ipc_state.specs.declared.processes.Process.{Process}
 use Rattle.posix_sem.specs.Semaphore.{post_answer, posted, sem_value_max, wait_answer, waited}
 use Rattle.shm_segment.specs.Segment.{Segment, empty_segment, is_within, part, truncated, written}
 use Rattle.ipc_state.specs.Sound.{segment_bytes}
-use Rattle.ipc_state.specs.State.{named_in, unlinked_pshm, unlinked_psem, with_psem, with_new_psem, with_new_pshm, with_pshm}
+use Rattle.ipc_state.specs.State.{named_in, with_psem, with_new_psem, with_new_pshm, with_pshm}
 use Rattle.ipc_state.specs.Touching.{IsAsBefore, object_of, object_on}
 use Rattle.ipc_state.specs.Waiting.{may_wait}
 use Rattle.ipc_state.proofs.CallerLemmas.{IsGood, as_before, same-but-table, same-objects, same-processes}
 use Rattle.ipc_state.proofs.CallerLemmas.{AtEnd, after, after-refuse, after-then, at-all, at-some, at-value, by-if_some, by-test}
-use Rattle.ipc_state.proofs.CallerLemmas.{closed-sound, unlinked-sound, with_descriptor-sound, with_descriptor_flags-sound, with_mq-sound, with_new_mq-sound}
+use Rattle.ipc_state.proofs.CallerLemmas.{closed-sound, unlinked-sound, with_descriptor-sound, with_descriptor_flags-sound}
 use Rattle.ipc_state.proofs.CallerLemmas.{descriptor-sound, mq-registered, received_mq-sound, sent_mq-sound}
-use Rattle.ipc_state.proofs.CallerLemmas.{elsewhere-psem, elsewhere-new_psem, elsewhere-new_segment, elsewhere-segment}
-use Rattle.ipc_state.proofs.CallerLemmas.{elsewhere-unlinked_pshm, elsewhere-unlinked_psem, psem-sound, unlinked_pshm-sound, unlinked_psem-sound}
-use Rattle.ipc_state.proofs.CallerLemmas.{with_psem-sound, with_new_psem-sound, with_new_pshm-sound, with_pshm-sound}
-use Rattle.ipc_state.proofs.CallerLemmas.{before-then, elsewhere-closed, elsewhere-mq, elsewhere-new_mq, elsewhere-table, elsewhere-unlinked}
+use Rattle.ipc_state.proofs.CallerLemmas.{content-sound, with_new-sound, with_object-sound}
+use Rattle.ipc_state.proofs.CallerLemmas.{before-then, elsewhere-closed, elsewhere-new, elsewhere-object, elsewhere-table, elsewhere-unlinked}
 use Rattle.posix_calls.specs.Calls.{definition_of, on_descriptor, touched}
 use Rattle.posix_calls.specs.Mq.{Found, arrived, attr_fields, close, firing, given_up, is_own, is_to_notify, kept_flags, made_mq}
 use Rattle.posix_calls.specs.Mq.{message_body, mq_getattr, mq_notify, mq_open, mq_receive, mq_send, mq_setattr, mq_unlink, opened_mq}
@@ -80,8 +77,7 @@ use Rattle.posix_calls.proofs.Debts.{fewer-arrived, fewer-closed, fewer-given_up
 use Rattle.posix_calls.proofs.Debts.{table-objects}
 use Rattle.posix_calls.proofs.Reaching.{IsOpen, attributes-ends, has-entry, open-ends, proper-ends, queue-sound, receives, sends, sought-ends}
 use Rattle.posix_calls.proofs.Reaching.{unlinkable-ends, usable-ends}
-use Rattle.posix_calls.proofs.Debts.{fewer-swept_all}
-use Rattle.posix_calls.proofs.Reaching.{IsOpenPshm, IsOpenPsem, has-sem_entry, lowers, open_pshm-ends, open_psem-ends, passed-ends, writable-ends}
+use Rattle.posix_calls.proofs.Reaching.{IsOpenPshm, IsOpenPsem, lowers, open_pshm-ends, open_psem-ends, passed-ends, writable-ends}
 
 same-some : {X : Type 0} {x y : X} → Some x ≡ Some y → x ≡ y
 same-some is = cc
@@ -171,7 +167,8 @@ module _ (flags : ℕ) (s : State) (n : ℕ) (e : NamedEntry Segment) where
   cut-sound limits there h = by_test (has flags trunc)
     where
       by_test : (b : Bool) → HasSoundParts limits (cut_if b)
-      by_test true = with_pshm-sound limits s n e (truncated 0 e.object) there (omega (arith, h.pshm.bytes, truncated-length e.object 0)) h
+      by_test true = with_object-sound limits s names.Pshm n e (truncated 0 e.object) there tt
+          (omega (arith, (h.named names.Pshm).together, truncated-length e.object 0)) h
       by_test false = h
 
   cut-there : entry_of s.pshm n ≡ Some e → is_some (entry_of (cut_as flags s n e).pshm n) ≡ true
@@ -185,7 +182,7 @@ module _ (flags : ℕ) (s : State) (n : ℕ) (e : NamedEntry Segment) where
   cut-elsewhere p on = by_test (has flags trunc)
     where
       by_test : (b : Bool) → IsAsBefore p on s (cut_if b)
-      by_test true = elsewhere-segment s n (truncated 0 e.object) p on
+      by_test true = elsewhere-object s names.Pshm n (truncated 0 e.object) p on (λ no. cc)
       by_test false = as_before p on s
 
 -- all but the segments is as it was
@@ -199,15 +196,15 @@ cut-same f same flags s n e = by_test (has flags trunc)
 
 -- ---- a queue that is open
 
-on-queue : (s : State) (pid fd : ℕ) (f : Found) → IsOpen s pid fd f → on_descriptor s pid fd ≡ Some (object.Mq f.number)
+on-queue : (s : State) (pid fd : ℕ) (f : Found) → IsOpen s pid fd f → on_descriptor s pid fd ≡ Some (object_on (opened_as names.Mq f.number))
 on-queue s pid fd f o = ap (option_map (λ (d : Descriptor). object_on d.on)) o.at ∙ ap (λ (on : Opened). Some (object_on on)) o.on
 
 -- a registration by that descriptor
 registers-by : (s : State) (pid fd : ℕ) (f : Found) → IsOpen s pid fd f
-    → unwrap_or (option_map (λ (d : Descriptor). is_on (opened.Mq f.number) d.on) (descriptor_at s.processes.entries pid fd)) false ≡ true
+    → unwrap_or (option_map (λ (d : Descriptor). is_on (opened_as names.Mq f.number) d.on) (descriptor_at s.processes.entries pid fd)) false ≡ true
 registers-by s pid fd f o =
-    ap (λ (r : Option Descriptor). unwrap_or (option_map (λ (d : Descriptor). is_on (opened.Mq f.number) d.on) r) false) o.at
-    ∙ (ap (is_on (opened.Mq f.number)) o.on ∙ same_key f.number)
+    ap (λ (r : Option Descriptor). unwrap_or (option_map (λ (d : Descriptor). is_on (opened_as names.Mq f.number) d.on) r) false) o.at
+    ∙ (ap (is_on (opened_as names.Mq f.number)) o.on ∙ same_key f.number)
 
 module _ (limits : Limits) where
   arrived-sound : (notifies : Bool) (q : Mq) (m : PlainMessage) → IsSoundMq limits (with_message q m) → IsSoundMq limits (arrived notifies q m)
@@ -296,13 +293,13 @@ module _ (limits : Limits) where
 
     -- other flags with the access mode that it had
     keeps-access : {fd : ℕ} (f : Found) (o : IsOpen s pid fd f) (flags : ℕ) → bit_and flags 3 ≡ bit_and o.descriptor.flags 3 → HasSoundParts limits s
-        → (d : Descriptor) → descriptor_at s.processes.entries pid fd ≡ Some d → has_access d.on flags ≡ true
+        → (d : Descriptor) → descriptor_at s.processes.entries pid fd ≡ Some d → has_access d.on.kind flags ≡ true
     keeps-access {fd} f o flags same h d at =
         let good = (and_parts (is_there_for (named_in s) o.descriptor.on) _ (descriptor-sound limits s pid fd o.descriptor o.at h)).1 in
         let one : d ≡ o.descriptor = same-some (sym at ∙ o.at) in
-        let on : d.on ≡ opened.Mq f.number = ap (λ (e : Descriptor). e.on) one ∙ o.on in
-        let was : not (nat_eq (bit_and o.descriptor.flags 3) 3) ≡ true = subst (λ (k : Opened). has_access k o.descriptor.flags ≡ true) o.on good in
-        subst (λ (k : Opened). has_access k flags ≡ true) (sym on) (rw same was)
+        let on : d.on ≡ opened_as names.Mq f.number = ap (λ (e : Descriptor). e.on) one ∙ o.on in
+        let was : not (nat_eq (bit_and o.descriptor.flags 3) 3) ≡ true = subst (λ (k : Opened). has_access k.kind o.descriptor.flags ≡ true) o.on good in
+        subst (λ (k : Opened). has_access k.kind flags ≡ true) (sym on) (rw same was)
 
     -- ---- each call
 
@@ -314,14 +311,14 @@ module _ (limits : Limits) where
         → ((p : ℕ) → own p fired + own p q.registration ≤ own p f.queue.registration + may_make pid body p)
         → AtEnd never (Leaves (on_descriptor s pid fd)) (answer_firing (with_mq s f.number q) body fired)
     put-ends fd f q body fired o good stays fits owes =
-        let e = has-entry s f.number f.queue o.there in
+        let e = has-entry s names.Mq f.number f.queue o.there in
         let was : HasSoundParts limits s → IsSoundMq limits f.queue = queue-sound limits s f.number f.queue o.there in
         same-ends (with_mq s f.number q) body fired refl refl refl
         (λ h. let by = subst (λ (r : Mq). is_by_descriptor s.processes.entries f.number r.registration ≡ true) e.object
         (mq-registered limits s f.number e.entry e.there h) in
-        with_mq-sound limits s f.number e.entry q e.there (good (was h)) (stays by) h)
+        with_object-sound limits s names.Mq f.number e.entry q e.there (good (was h)) (stays by) h)
         (λ h. fits (was h))
-        (λ h p on apart. elsewhere-mq s f.number q p on (λ same. apart (on-queue s pid fd f o ∙ same)))
+        (λ h p on apart. elsewhere-object s names.Mq f.number q p on (λ _ same. apart (on-queue s pid fd f o ∙ same)))
         (λ p. omega (arith, put-mq p s f.number f.queue q o.there, owes p))
 
     mq_send-ends : (fd priority : ℕ) (text : List ℕ) → AtEnd false (Leaves (on_descriptor s pid fd)) (mq_send s pid fd priority text)
@@ -370,11 +367,16 @@ module _ (limits : Limits) where
       mq_getattr-ends : (fd : ℕ) → AtEnd never (Leaves None) (mq_getattr s pid fd)
       mq_getattr-ends fd = after (open-ends s pid fd) (λ f o. read-ends (Record (record_bytes (attr_fields f))) (omega arith))
 
+      -- the name of an object is gone, and it, if it is not open
+      unlinked-ends : (kind : NameKind) (n : ℕ) → AtEnd never (Leaves None) (answer (unlinked s kind n) Empty)
+      unlinked-ends kind n =
+          same-ends (unlinked s kind n) Empty None refl refl refl (unlinked-sound limits s kind n) (λ _. omega arith)
+          (λ h p on apart. elsewhere-unlinked limits s h kind n p on) (λ p. omega (arith, fewer-unlinked p s kind n))
+
       mq_unlink-ends : (cred : Cred) (name : List ℕ) → AtEnd never (Leaves None) (mq_unlink s cred name)
       mq_unlink-ends cred name =
           after-then (proper-ends names.Mq name) (λ _. after (unlinkable-ends s.mq cred name) (λ n _.
-          same-ends (unlinked s n) Empty None refl refl refl (unlinked-sound limits s n) (λ _. omega arith)
-          (λ h p on apart. elsewhere-unlinked limits s h n p on) (λ p. omega (arith, fewer-unlinked p s n))))
+          unlinked-ends names.Mq n))
 
       close-ends : (fd : ℕ) → AtEnd never (Leaves (on_descriptor s pid fd)) (close s pid fd)
       close-ends fd =
@@ -394,7 +396,7 @@ module _ (limits : Limits) where
       -- a descriptor on an object that is there, in a state of which others see nothing new
       opens-ends : (t : State) (flags : ℕ) (on : Opened) → t.processes ≡ s.processes → t.clock ≡ s.clock → t.wait ≡ s.wait
           → has_all_descriptors limits t pid ≡ false → (HasSoundParts limits s → HasSoundParts limits t)
-          → (HasSoundParts limits s → is_there_for (named_in t) on ≡ true) → has_access on flags ≡ true
+          → (HasSoundParts limits s → is_there_for (named_in t) on ≡ true) → has_access on.kind flags ≡ true
           → (HasSoundParts limits s → (p : ℕ) (on : Awaited) → IsAsBefore p on s t) → ((p : ℕ) → registrations t p ≤ registrations s p)
           → AtEnd never (Leaves None) (opens t pid flags on)
       opens-ends t flags on same clock wait few sound there access others owes =
@@ -410,7 +412,7 @@ module _ (limits : Limits) where
           → AtEnd never (Leaves None) (opened_mq s cred pid flags n)
       opened-ends cred flags n mode few =
           after (usable-ends s.mq cred n (asked_by flags)) (λ e there.
-          opens-ends s (kept_flags flags) (opened.Mq n) refl refl refl few (λ h. h) (λ _. ap is_some there) (kept-mode flags mode) as_it_is
+          opens-ends s (kept_flags flags) (opened_as names.Mq n) refl refl refl few (λ h. h) (λ _. ap is_some there) (kept-mode flags mode) as_it_is
           (λ p. omega arith))
 
       made-ends : (cred : Cred) (flags mode attr : ℕ) (maxmsg msgsize : ℤ) (name : List ℕ) → (access_of flags == 3) ≡ false
@@ -421,10 +423,10 @@ module _ (limits : Limits) where
           let bits : ℕ = bit_and mode 511 in
           let q : Mq = empty_queue given.0 given.1 None in
           let e : NamedEntry Mq = record { name = name; owner = cred; mode = bits; object = q } in
-          opens-ends (with_new_mq s name cred bits q) (kept_flags flags) (opened.Mq s.mq.next) refl refl refl few
-          (with_new_mq-sound limits s name cred bits q unused room (omega (arith, and_le_r mode 511)) right good refl)
-          (λ h. new-there s.mq e h.mq.held.named.numbered.numbers) (kept-mode flags access)
-          (λ h p on. elsewhere-new_mq limits s h name cred bits q p on)
+          opens-ends (with_new_mq s name cred bits q) (kept_flags flags) (opened_as names.Mq s.mq.next) refl refl refl few
+          (with_new-sound limits s names.Mq name cred bits q unused room (omega (arith, and_le_r mode 511)) right good refl)
+          (λ h. new-there s.mq e (h.named names.Mq).held.named.numbered.numbers) (kept-mode flags access)
+          (λ h p on. elsewhere-new limits s h names.Mq name cred bits q p on)
           (λ p. omega (arith, sum_by-append (of-entry p) s.mq.entries ((s.mq.next, e) ∷ [])))))
 
       mq_open-ends : (cred : Cred) (flags mode attr : ℕ) (maxmsg msgsize : ℤ) (name : List ℕ)
@@ -437,18 +439,18 @@ module _ (limits : Limits) where
 
     -- ---- named semaphores
 
-    on-semaphore : (fd : ℕ) (f : FoundPsem) → IsOpenPsem s pid fd f → on_descriptor s pid fd ≡ Some (object.Psem f.number)
+    on-semaphore : (fd : ℕ) (f : FoundPsem) → IsOpenPsem s pid fd f → on_descriptor s pid fd ≡ Some (object_on (opened_as names.Psem f.number))
     on-semaphore fd f o = ap (option_map (λ (d : Descriptor). object_on d.on)) o.at ∙ ap (λ (on : Opened). Some (object_on on)) o.on
 
     -- another value of one that is open
     change-ends : {never : Bool} (fd : ℕ) (f : FoundPsem) (value : ℕ) → IsOpenPsem s pid fd f → (f.value ≤ sem_value_max → value ≤ sem_value_max)
         → AtEnd never (Leaves (on_descriptor s pid fd)) (answer (with_psem s f.number value) Empty)
     change-ends fd f value o good =
-        let e = has-sem_entry s f.number f.value o.there in
+        let e = has-entry s names.Psem f.number f.value o.there in
         same-ends (with_psem s f.number value) Empty None refl refl refl
-        (λ h. let most = psem-sound limits s f.number e.entry e.there h in
-        with_psem-sound limits s f.number e.entry value e.there (good (subst (λ (n : ℕ). n ≤ sem_value_max) e.object most)) h)
-        (λ _. omega arith) (λ h p on apart. elsewhere-psem s f.number value p on (λ same. apart (on-semaphore fd f o ∙ same))) (λ p. omega arith)
+        (λ h. let most = content-sound limits s names.Psem f.number e.entry e.there h in
+        with_object-sound limits s names.Psem f.number e.entry value e.there (good (subst (λ (n : ℕ). n ≤ sem_value_max) e.object most)) tt h)
+        (λ _. omega arith) (λ h p on apart. elsewhere-object s names.Psem f.number value p on (λ _ same. apart (on-semaphore fd f o ∙ same))) (λ p. omega arith)
 
     posted-few : (n : ℕ) → n ≤ sem_value_max → posted n ≤ sem_value_max
     posted-few n few = by_test (n == sem_value_max) refl
@@ -479,22 +481,20 @@ module _ (limits : Limits) where
           after-then (proper-ends names.Psem name) (λ right. after-refuse EMFILE (λ few. after (sought-ends s.psem name flags) (λ found unused.
           by-if_some {o = found}
           (λ n _. after (usable-ends s.psem cred n 6) (λ e there.
-          opens-ends s 0 (opened.Psem n) refl refl refl few (λ h. h) (λ _. ap is_some there) refl as_it_is (λ p. omega arith)))
+          opens-ends s 0 (opened_as names.Psem n) refl refl refl few (λ h. h) (λ _. ap is_some there) refl as_it_is (λ p. omega arith)))
           (λ none. after-refuse EINVAL (λ most. after-refuse ENOSPC (λ room.
           let bits : ℕ = bit_and mode 511 in
           let e : NamedEntry ℕ = record { name = name; owner = cred; mode = bits; object = value } in
           let short : value ≤ sem_value_max = grind (arith, nat_tests) in
-          opens-ends (with_new_psem s name cred bits value) 0 (opened.Psem s.psem.next) refl refl refl few
-          (with_new_psem-sound limits s name cred bits value (unused none) room (omega (arith, and_le_r mode 511)) right short)
-          (λ h. new-there s.psem e h.psem.named.numbered.numbers) refl
-          (λ h p on. elsewhere-new_psem limits s h name cred bits value p on) (λ p. omega arith)))))))
+          opens-ends (with_new_psem s name cred bits value) 0 (opened_as names.Psem s.psem.next) refl refl refl few
+          (with_new-sound limits s names.Psem name cred bits value (unused none) room (omega (arith, and_le_r mode 511)) right short tt)
+          (λ h. new-there s.psem e (h.named names.Psem).held.named.numbered.numbers) refl
+          (λ h p on. elsewhere-new limits s h names.Psem name cred bits value p on) (λ p. omega arith)))))))
 
       sem_unlink-ends : (cred : Cred) (name : List ℕ) → AtEnd never (Leaves None) (sem_unlink s cred name)
       sem_unlink-ends cred name =
           after-then (proper-ends names.Psem name) (λ _. after (unlinkable-ends s.psem cred name) (λ n _.
-          same-ends (unlinked_psem s n) Empty None refl refl refl (unlinked_psem-sound limits s n) (λ _. omega arith)
-          (λ h p on apart. elsewhere-unlinked_psem limits s h n p on)
-          (λ p. omega (arith, fewer-swept_all p (record s { psem = unnamed s.psem n })))))
+          unlinked-ends names.Psem n))
 
       -- ---- segments
 
@@ -503,8 +503,8 @@ module _ (limits : Limits) where
           → (HasSoundParts limits s → segment_bytes s.pshm - length f.entry.object.bytes + length x.bytes ≤ limits.segment_bytes)
           → AtEnd never (Leaves None) (answer (with_pshm s f.number x) Empty)
       put_segment-ends fd f x o few =
-          same-ends (with_pshm s f.number x) Empty None refl refl refl (λ h. with_pshm-sound limits s f.number f.entry x o.there (few h) h)
-          (λ _. omega arith) (λ h p on apart. elsewhere-segment s f.number x p on) (λ p. omega arith)
+          same-ends (with_pshm s f.number x) Empty None refl refl refl (λ h. with_object-sound limits s names.Pshm f.number f.entry x o.there tt (few h) h)
+          (λ _. omega arith) (λ h p on apart. elsewhere-object s names.Pshm f.number x p on (λ no. cc)) (λ p. omega arith)
 
       ftruncate-ends : (fd len : ℕ) → AtEnd never (Leaves None) (ftruncate limits s pid fd len)
       ftruncate-ends fd len =
@@ -515,7 +515,7 @@ module _ (limits : Limits) where
       shm_write-ends fd offset bytes =
           after (writable-ends s pid fd) (λ f o. after-refuse EINVAL (λ _. after-refuse EINVAL (λ within.
           put_segment-ends fd f (written offset bytes f.entry.object) o (λ h.
-          omega (arith, h.pshm.bytes, written-length f.entry.object offset bytes (not-false _ within), fewer-of s.pshm f.number f.entry o.there)))))
+          omega (arith, (h.named names.Pshm).together, written-length f.entry.object offset bytes (not-false _ within), fewer-of s.pshm f.number f.entry o.there)))))
 
       shm_read-ends : (fd offset len : ℕ) → AtEnd never (Leaves None) (shm_read limits s pid fd offset len)
       shm_read-ends fd offset len =
@@ -529,16 +529,14 @@ module _ (limits : Limits) where
       shm_unlink-ends : (cred : Cred) (name : List ℕ) → AtEnd never (Leaves None) (shm_unlink s cred name)
       shm_unlink-ends cred name =
           after-then (proper-ends names.Pshm name) (λ _. after (unlinkable-ends s.pshm cred name) (λ n _.
-          same-ends (unlinked_pshm s n) Empty None refl refl refl (unlinked_pshm-sound limits s n) (λ _. omega arith)
-          (λ h p on apart. elsewhere-unlinked_pshm limits s h n p on)
-          (λ p. omega (arith, fewer-swept_all p (record s { pshm = unnamed s.pshm n })))))
+          unlinked-ends names.Pshm n))
 
       opened_pshm-ends : (cred : Cred) (flags n : ℕ) → (bit_and flags 1 == 1) ≡ false → has_all_descriptors limits s pid ≡ false
           → AtEnd never (Leaves None) (opened_pshm s cred pid flags n)
       opened_pshm-ends cred flags n access few =
           after (usable-ends s.pshm cred n (asked_of_pshm flags)) (λ e there.
           let t : State = cut_as flags s n e in
-          opens-ends t (access_of flags) (opened.Pshm n) (cut-same (λ (u : State). u.processes) (λ x t m. refl) flags s n e)
+          opens-ends t (access_of flags) (opened_as names.Pshm n) (cut-same (λ (u : State). u.processes) (λ x t m. refl) flags s n e)
           (cut-same (λ (u : State). u.clock) (λ x t m. refl) flags s n e) (cut-same (λ (u : State). u.wait) (λ x t m. refl) flags s n e)
           (ap (λ (ps : Numbered Process). nat_le limits.descriptors (length (descriptors_of ps.entries pid)))
           (cut-same (λ (u : State). u.processes) (λ x t m. refl) flags s n e) ∙ few)
@@ -554,10 +552,11 @@ module _ (limits : Limits) where
           (λ none. after-refuse ENOSPC (λ room.
           let bits : ℕ = bit_and mode 511 in
           let e : NamedEntry Segment = record { name = name; owner = cred; mode = bits; object = empty_segment } in
-          opens-ends (with_new_pshm s name cred bits) (access_of flags) (opened.Pshm s.pshm.next) refl refl refl few
-          (with_new_pshm-sound limits s name cred bits (unused none) room (omega (arith, and_le_r mode 511)) right)
-          (λ h. new-there s.pshm e h.pshm.held.named.numbered.numbers) (segment-mode flags access)
-          (λ h p on. elsewhere-new_segment s name cred bits p on) (λ p. omega arith)))))))
+          opens-ends (with_new_pshm s name cred bits) (access_of flags) (opened_as names.Pshm s.pshm.next) refl refl refl few
+          (λ h. with_new-sound limits s names.Pshm name cred bits empty_segment (unused none) room (omega (arith, and_le_r mode 511)) right tt
+          (omega (arith, (h.named names.Pshm).together)) h)
+          (λ h. new-there s.pshm e (h.named names.Pshm).held.named.numbered.numbers) (segment-mode flags access)
+          (λ h p on. elsewhere-new limits s h names.Pshm name cred bits empty_segment p on) (λ p. omega arith)))))))
 
     pub call-ends : (call : PlainPosix) → AtEnd (not (may_wait (Posix call))) (Leaves (touched s pid call)) (definition_of limits s pid call)
     call-ends (requests.Close fd) = close-ends fd

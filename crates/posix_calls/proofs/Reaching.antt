@@ -1,11 +1,11 @@
 -- What it says that a call went on.
 use Rattle.std.proofs.Common.{◌≡◌, ℕ, ℤ, pos, negsuc, ◌<◌, ◌≤◌, Bool, true, false, List, [], Option, Some, None, refl, subst, arith}
-use Rattle.std.specs.Prelude.{Ok, Err, Result, is_some, not, option_map, length, ◌==◌, ◌||◌, min, nat_lt}
+use Rattle.std.specs.Prelude.{Ok, Err, Result, if◌then◌else◌, is_some, not, option_map, length, ◌==◌, ◌||◌, min, nat_lt}
 use Rattle.std.specs.Result.{is_ok}
 use Rattle.std.proofs.lemmas.Bool.Decides.{nat_tests}
 use Rattle.ipc_base.specs.declared.limits.Limits.{Limits}
 use Rattle.ipc_state.specs.Sound.{HasSoundParts, IsSoundMq}
-use Rattle.ipc_state.proofs.CallerLemmas.{empty_mq-sound, mq-sound}
+use Rattle.ipc_state.proofs.CallerLemmas.{content-sound, empty_mq-sound}
 use Rattle.ipc_state.specs.Finish.{Blocks}
 use Rattle.ipc_state.proofs.CallerLemmas.{AtEnd, after, after-orelse, after-orstop, after-refuse, after-stop, at-failure, at-value, by-if_some, may-wait}
 use Rattle.ipc_base.specs.declared.errno.Errno.{Errno}
@@ -13,23 +13,23 @@ use Rattle.ipc_base.specs.declared.errno.Errno.TheVariants.{EACCES, EBADF, EEXIS
 use Rattle.ipc_base.specs.declared.identity.Cred.{Cred}
 use Rattle.ipc_keys.specs.Names.{check_name}
 use Rattle.ipc_keys.specs.declared.check.NameKind.{NameKind}
+use Rattle.ipc_keys.specs.declared.check.NameKind.TheVariants as names
 use Rattle.posix_mq.specs.Queue.{Queue as Mq, PlainMessage, empty_queue, is_full, received_message}
 use Rattle.ipc_state.specs.declared.descriptors.Descriptor.{Descriptor}
 use Rattle.ipc_state.specs.declared.descriptors.Opened.{Opened}
-use Rattle.ipc_state.specs.declared.descriptors.Opened.TheVariants as opened
 use Rattle.ipc_state.specs.declared.named.NamedEntry.{NamedEntry}
 use Rattle.ipc_state.specs.Named.{Named, named}
 use Rattle.ipc_state.specs.Numbered.{entry_of}
-use Rattle.ipc_state.specs.Opening.{descriptor_at}
-use Rattle.ipc_state.specs.State.{State}
-use Rattle.ipc_state.specs.Touching.{mq_object, psem_value}
+use Rattle.ipc_state.specs.Opening.{Content, descriptor_at, opened_as, same_kind}
+use Rattle.ipc_state.specs.State.{State, named_of}
+use Rattle.ipc_state.specs.Touching.{mq_object, named_object, psem_value}
 use Rattle.ipc_state.specs.Held.{Ready}
 use Rattle.ipc_state.specs.Held.Ready.{Mq as ForMq, Psem as ForPsem, Pshm as ForPshm}
-use Rattle.posix_calls.specs.Mq.{Found, asked_or, attributes, limited, open_mq, open_to, mq_number, receivable, sendable, waits_or_fails}
+use Rattle.posix_calls.specs.Mq.{Found, asked_or, attributes, limited, open_mq, open_to, receivable, sendable, waits_or_fails}
 use Rattle.posix_calls.specs.declared.psem.FoundPsem.{FoundPsem}
-use Rattle.posix_calls.specs.Psem.{lowerable, open_semaphore, semaphore_number}
-use Rattle.posix_calls.specs.Pshm.{FoundPshm, open_pshm, segment_number, writable}
-use Rattle.posix_calls.specs.Open.{passed, proper, reads, sought, unlinkable, usable, writes}
+use Rattle.posix_calls.specs.Psem.{lowerable, open_semaphore}
+use Rattle.posix_calls.specs.Pshm.{FoundPshm, open_pshm, writable}
+use Rattle.posix_calls.specs.Open.{number_in, passed, proper, reads, sought, unlinkable, usable, writes}
 
 -- ---- a queue that is open
 
@@ -37,36 +37,42 @@ use Rattle.posix_calls.specs.Open.{passed, proper, reads, sought, unlinkable, us
 pub record IsOpen (s : State) (pid fd : ℕ) (found : Found) : Type 0 where
   pub descriptor : Descriptor
   pub at : descriptor_at s.processes.entries pid fd ≡ Some descriptor
-  pub on : descriptor.on ≡ opened.Mq found.number
+  pub on : descriptor.on ≡ opened_as names.Mq found.number
   pub flags : descriptor.flags ≡ found.flags
   pub there : mq_object s found.number ≡ Some found.queue
 
-pub number-is : (on : Opened) (n : ℕ) → mq_number on ≡ Some n → on ≡ opened.Mq n
-number-is (opened.Mq m) n is = cc
-number-is (opened.Psem m) n is = cc
-number-is (opened.Pshm m) n is = cc
+pub number-is : (kind : NameKind) (on : Opened) (n : ℕ) → number_in kind on ≡ Some n → on ≡ opened_as kind n
+number-is kind on n = by_kinds on.kind kind
+  where
+    by_kinds : (k this : NameKind) → (if same_kind k this then Some on.number else None) ≡ Some n → opened_as k on.number ≡ opened_as this n
+    by_kinds names.Mq names.Mq is = cc
+    by_kinds names.Psem names.Psem is = cc
+    by_kinds names.Pshm names.Pshm is = cc
+    by_kinds k this is = cc
 
 pub open-ends : {never : Bool} (s : State) (pid fd : ℕ) → AtEnd never (IsOpen s pid fd) (open_mq s pid fd)
 open-ends s pid fd =
     after-orelse EBADF (λ d at. after-orelse EBADF (λ n on. after-orelse EBADF (λ q there.
-    at-value _ (record { descriptor = d; at = at; on = number-is d.on n on; flags = refl; there = there }))))
+    at-value _ (record { descriptor = d; at = at; on = number-is names.Mq d.on n on; flags = refl; there = there }))))
 
--- the queue of a number has an entry
-pub record HasEntry (s : State) (n : ℕ) (q : Mq) : Type 0 where
-  pub entry : NamedEntry Mq
-  pub there : entry_of s.mq n ≡ Some entry
-  pub object : entry.object ≡ q
+-- the object of a number has an entry
+pub record HasEntry (s : State) (kind : NameKind) (n : ℕ) (x : Content kind) : Type 0 where
+  pub entry : NamedEntry (Content kind)
+  pub there : entry_of (named_of s kind) n ≡ Some entry
+  pub object : entry.object ≡ x
 
-pub has-entry : (s : State) (n : ℕ) (q : Mq) → mq_object s n ≡ Some q → HasEntry s n q
-has-entry s n q is = by_entry (entry_of s.mq n) refl is
+pub has-entry : (s : State) (kind : NameKind) (n : ℕ) (x : Content kind) → named_object s kind n ≡ Some x → HasEntry s kind n x
+has-entry s kind n x is = by_entry (entry_of (named_of s kind) n) refl is
   where
-    by_entry : (r : Option (NamedEntry Mq)) → entry_of s.mq n ≡ r → option_map (λ (e : NamedEntry Mq). e.object) r ≡ Some q → HasEntry s n q
+    by_entry : (r : Option (NamedEntry (Content kind))) → entry_of (named_of s kind) n ≡ r
+        → option_map (λ (e : NamedEntry (Content kind)). e.object) r ≡ Some x → HasEntry s kind n x
     by_entry None there is = cc
     by_entry (Some e) there is = record { entry = e; there = there; object = cc }
 
 -- it is sound, and whoever is registered with it has it open
 pub queue-sound : (limits : Limits) (s : State) (n : ℕ) (q : Mq) → mq_object s n ≡ Some q → HasSoundParts limits s → IsSoundMq limits q
-queue-sound limits s n q is h = let e = has-entry s n q is in subst (IsSoundMq limits) e.object (mq-sound limits s n e.entry e.there h)
+queue-sound limits s n q is h =
+    let e = has-entry s names.Mq n q is in subst (IsSoundMq limits) e.object (content-sound limits s names.Mq n e.entry e.there h)
 
 -- ---- what is reserved
 
@@ -113,18 +119,13 @@ receives s pid fd size =
 pub record IsOpenPsem (s : State) (pid fd : ℕ) (found : FoundPsem) : Type 0 where
   pub descriptor : Descriptor
   pub at : descriptor_at s.processes.entries pid fd ≡ Some descriptor
-  pub on : descriptor.on ≡ opened.Psem found.number
+  pub on : descriptor.on ≡ opened_as names.Psem found.number
   pub there : psem_value s found.number ≡ Some found.value
-
-pub semaphore-is : (on : Opened) (n : ℕ) → semaphore_number on ≡ Some n → on ≡ opened.Psem n
-semaphore-is (opened.Mq m) n is = cc
-semaphore-is (opened.Psem m) n is = cc
-semaphore-is (opened.Pshm m) n is = cc
 
 pub open_psem-ends : {never : Bool} (s : State) (pid fd : ℕ) → AtEnd never (IsOpenPsem s pid fd) (open_semaphore s pid fd)
 open_psem-ends s pid fd =
     after-orelse EINVAL (λ d at. after-orelse EINVAL (λ n on. after-orelse EINVAL (λ value there.
-    at-value _ (record { descriptor = d; at = at; on = semaphore-is d.on n on; there = there }))))
+    at-value _ (record { descriptor = d; at = at; on = number-is names.Psem d.on n on; there = there }))))
 
 -- one that may be lowered now
 pub record Lowers (s : State) (pid fd : ℕ) (found : FoundPsem) : Type 0 where
@@ -135,37 +136,19 @@ pub lowers : (s : State) (pid fd : ℕ) → AtEnd (not (is_some (descriptor_at s
 lowers s pid fd =
     after (open_psem-ends s pid fd) (λ f o. after-stop (may-wait o.at) Blocks (λ some. at-value f (record { semaphore = o; some = some })))
 
--- the semaphore of a number has an entry
-pub record HasSemEntry (s : State) (n value : ℕ) : Type 0 where
-  pub entry : NamedEntry ℕ
-  pub there : entry_of s.psem n ≡ Some entry
-  pub object : entry.object ≡ value
-
-pub has-sem_entry : (s : State) (n value : ℕ) → psem_value s n ≡ Some value → HasSemEntry s n value
-has-sem_entry s n value is = by_entry (entry_of s.psem n) refl is
-  where
-    by_entry : (r : Option (NamedEntry ℕ)) → entry_of s.psem n ≡ r → option_map (λ (e : NamedEntry ℕ). e.object) r ≡ Some value → HasSemEntry s n value
-    by_entry None there is = cc
-    by_entry (Some e) there is = record { entry = e; there = there; object = cc }
-
 -- ---- a segment that is open
 
 -- the descriptor by which it is
 pub record IsOpenPshm (s : State) (pid fd : ℕ) (found : FoundPshm) : Type 0 where
   pub descriptor : Descriptor
   pub at : descriptor_at s.processes.entries pid fd ≡ Some descriptor
-  pub on : descriptor.on ≡ opened.Pshm found.number
+  pub on : descriptor.on ≡ opened_as names.Pshm found.number
   pub there : entry_of s.pshm found.number ≡ Some found.entry
-
-segment-is : (on : Opened) (n : ℕ) → segment_number on ≡ Some n → on ≡ opened.Pshm n
-segment-is (opened.Mq m) n is = cc
-segment-is (opened.Psem m) n is = cc
-segment-is (opened.Pshm m) n is = cc
 
 pub open_pshm-ends : {never : Bool} (s : State) (pid fd : ℕ) → AtEnd never (IsOpenPshm s pid fd) (open_pshm s pid fd)
 open_pshm-ends s pid fd =
     after-orelse EBADF (λ d at. after-orelse EBADF (λ n on. after-orelse EBADF (λ e there.
-    at-value _ (record { descriptor = d; at = at; on = segment-is d.on n on; there = there }))))
+    at-value _ (record { descriptor = d; at = at; on = number-is names.Pshm d.on n on; there = there }))))
 
 pub writable-ends : {never : Bool} (s : State) (pid fd : ℕ) → AtEnd never (IsOpenPshm s pid fd) (writable s pid fd)
 writable-ends s pid fd = after (open_pshm-ends s pid fd) (λ f o. after-refuse EBADF (λ _. at-value f o))

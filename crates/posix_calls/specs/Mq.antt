@@ -16,8 +16,7 @@ use Rattle.ipc_wire.specs.Reply.{PlainBody}
 use Rattle.posix_mq.specs.Queue.{Queue as Mq, PlainMessage, empty_queue, is_full as is_full_mq, with_message}
 use Rattle.posix_mq.specs.Queue.{received, received_message, registered, deregistered}
 use Rattle.posix_mq.specs.declared.queue.Registration.{Registration}
-use Rattle.ipc_state.specs.declared.descriptors.Opened.{Opened}
-use Rattle.ipc_state.specs.declared.descriptors.Opened.TheVariants as opened
+use Rattle.ipc_state.specs.Opening.{opened_as}
 use Rattle.ipc_state.specs.State.{State, closed, has_all_descriptors, has_all_mqs, receiver_waits, unlinked}
 use Rattle.ipc_state.specs.Touching.{mq_object}
 use Rattle.ipc_state.specs.State.{with_descriptor_flags, with_mq, with_new_mq}
@@ -25,7 +24,7 @@ use Rattle.ipc_state.specs.Finish.{Halt, Fails, Blocks, Attempt, Done, answer, a
 use Rattle.ipc_state.specs.Finish.{◌orelse◌, ◌orstop◌, ◌>>◌, ◌>>=◌}
 use Rattle.posix_calls.specs.Open.{has, nonblock, access_of, asked_by, reads, writes, proper}
 use Rattle.posix_calls.specs.Open.{sought, usable, unlinkable}
-use Rattle.posix_calls.specs.Open.{described, opens}
+use Rattle.posix_calls.specs.Open.{number_in, described, opens}
 
 -- ---- a queue that is open
 
@@ -35,16 +34,11 @@ pub record Found : Type 0 where
   pub queue : Mq
   pub flags : ℕ
 
--- the number of the queue that it is
-abbrev pub mq_number : Opened → Option ℕ
-mq_number (opened.Mq n) = Some n
-mq_number on = None
-
 -- the queue on which a descriptor of the process is open
 abbrev pub open_mq : State → ℕ → ℕ → Attempt Found
 open_mq s pid fd = do
   d ← described s pid fd
-  n ← mq_number d.on orelse EBADF
+  n ← number_in names.Mq d.on orelse EBADF
   q ← mq_object s n orelse EBADF
   Ok (record { number = n; queue = q; flags = d.flags })
 
@@ -85,7 +79,7 @@ attributes limits attr maxmsg msgsize = do
 abbrev pub opened_mq : State → Cred → ℕ → ℕ → ℕ → Attempt Done
 opened_mq s cred pid flags n = do
   e ← usable s.mq cred n (asked_by flags)
-  opens s pid (kept_flags flags) (opened.Mq n)
+  opens s pid (kept_flags flags) (opened_as names.Mq n)
 
 -- a new queue of the caller
 abbrev pub made_mq : Limits → State → Cred → ℕ → ℕ → ℕ → ℕ → ℤ → ℤ → List ℕ → Attempt Done
@@ -93,7 +87,7 @@ made_mq limits s cred pid flags mode attr maxmsg msgsize name = do
   most ← attributes limits attr maxmsg msgsize
   refuse ENOSPC (has_all_mqs limits s)
   opens (with_new_mq s name cred (bit_and mode 0o777) (empty_queue most.0 most.1 None)) pid (kept_flags flags)
-      (opened.Mq s.mq.next)
+      (opened_as names.Mq s.mq.next)
 
 -- mq_open(3): the queue that the name names, or a new one
 abbrev pub mq_open : Limits → State → Cred → ℕ → ℕ → ℕ → ℕ → ℤ → ℤ → List ℕ → Attempt Done
@@ -109,7 +103,7 @@ abbrev pub mq_unlink : State → Cred → List ℕ → Attempt Done
 mq_unlink s cred name = do
   proper names.Mq name
   n ← unlinkable s.mq cred name
-  answer (unlinked s n) Empty
+  answer (unlinked s names.Mq n) Empty
 
 -- close(2), and so mq_close(3)
 abbrev pub close : State → ℕ → ℕ → Attempt Done

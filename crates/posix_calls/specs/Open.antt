@@ -18,9 +18,13 @@ use Rattle.ipc_state.specs.declared.named.NamedEntry.{NamedEntry}
 use Rattle.ipc_state.specs.Numbered.{entry_of}
 use Rattle.ipc_state.specs.Named.{Named, named}
 use Rattle.ipc_state.specs.Descriptors.{lowest_unused}
-use Rattle.ipc_state.specs.Opening.{descriptor_at, descriptors_of}
+use Rattle.ipc_state.specs.Opening.{descriptor_at, descriptors_of, same_kind}
 use Rattle.ipc_state.specs.State.{State, with_descriptor}
 use Rattle.ipc_state.specs.Finish.{Attempt, Done, Fails, answer, refuse, if_some, ◌orelse◌, ◌>>◌, ◌>>=◌}
+
+-- the number of what a descriptor is open on, if it is of this kind
+abbrev pub number_in : NameKind → Opened → Option ℕ
+number_in kind on = if same_kind on.kind kind then Some on.number else None
 
 -- ---- flags
 

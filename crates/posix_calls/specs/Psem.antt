@@ -1,6 +1,6 @@
 -- The calls of named semaphores (sem_overview(7)), in this server's profile. Refusals stand in the order in which they
 -- are tested. A wait that cannot go on waits, and is tried again by all rules of a new one.
-use Rattle.std.specs.Prelude.{ℕ, ◌==◌, nat_lt, List, Option, Some, None, Ok}
+use Rattle.std.specs.Prelude.{ℕ, ◌==◌, nat_lt, List, Ok}
 use Rattle.std.specs.Int.RustNames.{bit_and}
 use Rattle.ipc_base.specs.declared.errno.Errno.TheVariants.{EINVAL, EMFILE, ENOSPC}
 use Rattle.ipc_base.specs.declared.identity.Cred.{Cred}
@@ -8,25 +8,19 @@ use Rattle.ipc_base.specs.declared.limits.Limits.{Limits}
 use Rattle.ipc_keys.specs.declared.check.NameKind.TheVariants as names
 use Rattle.ipc_wire.specs.declared.reply.Body.TheVariants.{Empty, Number}
 use Rattle.posix_sem.specs.Semaphore.{sem_value_max, post_answer, posted, wait_answer, waited}
-use Rattle.ipc_state.specs.declared.descriptors.Opened.{Opened}
-use Rattle.ipc_state.specs.declared.descriptors.Opened.TheVariants as opened
-use Rattle.ipc_state.specs.State.{State, has_all_descriptors, has_all_psems, unlinked_psem, with_psem}
+use Rattle.ipc_state.specs.Opening.{opened_as}
+use Rattle.ipc_state.specs.State.{State, has_all_descriptors, has_all_psems, unlinked, with_psem}
 use Rattle.ipc_state.specs.State.{with_new_psem}
 use Rattle.ipc_state.specs.Touching.{psem_value}
 use Rattle.ipc_state.specs.Finish.{Attempt, Done, Blocks, answer, refuse, stop, if_some, ◌orelse◌, ◌>>◌, ◌>>=◌}
 use Rattle.posix_calls.specs.declared.psem.FoundPsem.{FoundPsem}
-use Rattle.posix_calls.specs.Open.{described_or, opens, passed, proper, sought, unlinkable, usable}
-
--- the number of the semaphore that it is
-abbrev pub semaphore_number : Opened → Option ℕ
-semaphore_number (opened.Psem n) = Some n
-semaphore_number on = None
+use Rattle.posix_calls.specs.Open.{number_in, described_or, opens, passed, proper, sought, unlinkable, usable}
 
 -- the semaphore on which a descriptor of the process is open
 abbrev pub open_semaphore : State → ℕ → ℕ → Attempt FoundPsem
 open_semaphore s pid fd = do
   d ← described_or EINVAL s pid fd
-  n ← semaphore_number d.on orelse EINVAL
+  n ← number_in names.Psem d.on orelse EINVAL
   value ← psem_value s n orelse EINVAL
   Ok (record { number = n; value = value })
 
@@ -36,14 +30,14 @@ open_semaphore s pid fd = do
 abbrev pub opened_semaphore : State → Cred → ℕ → ℕ → Attempt Done
 opened_semaphore s cred pid n = do
   e ← usable s.psem cred n 6
-  opens s pid 0 (opened.Psem n)
+  opens s pid 0 (opened_as names.Psem n)
 
 -- a new semaphore of the caller
 abbrev pub made_semaphore : Limits → State → Cred → ℕ → ℕ → ℕ → List ℕ → Attempt Done
 made_semaphore limits s cred pid mode value name = do
   refuse EINVAL (nat_lt sem_value_max value)
   refuse ENOSPC (has_all_psems limits s)
-  opens (with_new_psem s name cred (bit_and mode 0o777) value) pid 0 (opened.Psem s.psem.next)
+  opens (with_new_psem s name cred (bit_and mode 0o777) value) pid 0 (opened_as names.Psem s.psem.next)
 
 -- sem_open(3): the semaphore that the name names, or a new one
 abbrev pub sem_open : Limits → State → Cred → ℕ → ℕ → ℕ → ℕ → List ℕ → Attempt Done
@@ -58,7 +52,7 @@ abbrev pub sem_unlink : State → Cred → List ℕ → Attempt Done
 sem_unlink s cred name = do
   proper names.Psem name
   n ← unlinkable s.psem cred name
-  answer (unlinked_psem s n) Empty
+  answer (unlinked s names.Psem n) Empty
 
 -- ---- sem_post(3), sem_wait(3), sem_trywait(3), sem_getvalue(3)
 

@@ -1,7 +1,7 @@
 -- The calls of shared memory segments (shm_overview(7)), in this server's profile: a client reads and writes a segment
 -- by requests. Refusals stand in the order in which they are tested.
 use Rattle.std.specs.Prelude.{ℕ, ◌+◌, ◌-◌, ◌==◌, Bool, not, nat_lt, if◌then◌else◌, List, [], ◌∷◌, length}
-use Rattle.std.specs.Prelude.{Option, Some, None, Ok}
+use Rattle.std.specs.Prelude.{Ok}
 use Rattle.std.specs.Int.RustNames.{bit_and}
 use Rattle.ipc_base.specs.declared.errno.Errno.TheVariants.{EBADF, EINVAL, EMFILE, ENOSPC}
 use Rattle.ipc_base.specs.declared.field.Field.{Field}
@@ -12,16 +12,15 @@ use Rattle.ipc_base.specs.Numbers.{record_bytes}
 use Rattle.ipc_keys.specs.declared.check.NameKind.TheVariants as names
 use Rattle.ipc_wire.specs.declared.reply.Body.TheVariants.{Empty, Record}
 use Rattle.shm_segment.specs.Segment.{Segment, is_within, part, truncated, written}
-use Rattle.ipc_state.specs.declared.descriptors.Opened.{Opened}
-use Rattle.ipc_state.specs.declared.descriptors.Opened.TheVariants as opened
+use Rattle.ipc_state.specs.Opening.{opened_as}
 use Rattle.ipc_state.specs.declared.named.NamedEntry.{NamedEntry}
 use Rattle.ipc_state.specs.Numbered.{entry_of}
 use Rattle.ipc_state.specs.Sound.{segment_bytes}
-use Rattle.ipc_state.specs.State.{State, has_all_descriptors, has_all_pshms, unlinked_pshm, with_new_pshm}
+use Rattle.ipc_state.specs.State.{State, has_all_descriptors, has_all_pshms, unlinked, with_new_pshm}
 use Rattle.ipc_state.specs.State.{with_pshm}
 use Rattle.ipc_state.specs.Finish.{Attempt, Done, answer, refuse, if_some, ◌orelse◌, ◌>>◌, ◌>>=◌}
-use Rattle.posix_calls.specs.Open.{access_of, asked_by, described, has, opens, proper, sought, unlinkable, usable}
-use Rattle.posix_calls.specs.Open.{writes}
+use Rattle.posix_calls.specs.Open.{access_of, asked_by, described, has, number_in, opens, proper, sought, unlinkable}
+use Rattle.posix_calls.specs.Open.{usable, writes}
 
 -- what a descriptor finds: its segment's number, the segment with whose it is, and the descriptor's flags
 pub record FoundPshm : Type 0 where
@@ -29,16 +28,11 @@ pub record FoundPshm : Type 0 where
   pub entry : NamedEntry Segment
   pub flags : ℕ
 
--- the number of the segment that it is
-abbrev pub segment_number : Opened → Option ℕ
-segment_number (opened.Pshm n) = Some n
-segment_number on = None
-
 -- the segment on which a descriptor of the process is open
 abbrev pub open_pshm : State → ℕ → ℕ → Attempt FoundPshm
 open_pshm s pid fd = do
   d ← described s pid fd
-  n ← segment_number d.on orelse EBADF
+  n ← number_in names.Pshm d.on orelse EBADF
   e ← entry_of s.pshm n orelse EBADF
   Ok (record { number = n; entry = e; flags = d.flags })
 
@@ -66,13 +60,13 @@ cut_as flags s n e = if has flags trunc then with_pshm s n (truncated 0 e.object
 abbrev pub opened_pshm : State → Cred → ℕ → ℕ → ℕ → Attempt Done
 opened_pshm s cred pid flags n = do
   e ← usable s.pshm cred n (asked_of_pshm flags)
-  opens (cut_as flags s n e) pid (access_of flags) (opened.Pshm n)
+  opens (cut_as flags s n e) pid (access_of flags) (opened_as names.Pshm n)
 
 -- a new segment of the caller
 abbrev pub made_pshm : Limits → State → Cred → ℕ → ℕ → ℕ → List ℕ → Attempt Done
 made_pshm limits s cred pid flags mode name = do
   refuse ENOSPC (has_all_pshms limits s)
-  opens (with_new_pshm s name cred (bit_and mode 0o777)) pid (access_of flags) (opened.Pshm s.pshm.next)
+  opens (with_new_pshm s name cred (bit_and mode 0o777)) pid (access_of flags) (opened_as names.Pshm s.pshm.next)
 
 -- shm_open(3): the segment that the name names, or a new one; to read, or to read and write
 abbrev pub shm_open : Limits → State → Cred → ℕ → ℕ → ℕ → List ℕ → Attempt Done
@@ -88,7 +82,7 @@ abbrev pub shm_unlink : State → Cred → List ℕ → Attempt Done
 shm_unlink s cred name = do
   proper names.Pshm name
   n ← unlinkable s.pshm cred name
-  answer (unlinked_pshm s n) Empty
+  answer (unlinked s names.Pshm n) Empty
 
 -- ---- ftruncate(2), reads and writes, fstat(2)
 

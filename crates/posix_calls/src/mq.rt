@@ -43,7 +43,11 @@ pub(crate) fn open_mq(state: &State, pid: Pid, fd: u32) -> Result<Found<'_>, Err
     ensures passed { OnOk result (ArePassed state.now.limits) }
 {
     let descriptor = described(state, pid, fd)?;
-    let Opened::Mq(number) = descriptor.on else {
+    let Opened {
+        kind: NameKind::Mq,
+        number,
+    } = descriptor.on
+    else {
         return Err(Errno::EBADF);
     };
     let Some(entry) = state.mq(number) else {

@@ -92,7 +92,10 @@ fn open_mq(state: &mut State, cred: Cred, pid: Pid, flags: OpenFlags, number: u3
     ensures held { state.new ≡ record state.old { state = state.new.state } }
 {
     usable(state.named_mqs(), cred, number, asked_by(flags))?;
-    let on = Opened::Mq(number);
+    let on = Opened {
+        kind: NameKind::Mq,
+        number,
+    };
     Ok(Body::Number(open_on(state, pid, on, flags.0 & KEPT_FLAGS)))
 }
 
@@ -144,6 +147,9 @@ fn make_mq(state: &mut State, cred: Cred, pid: Pid, flags: OpenFlags, wanted: Wa
         return Err(Errno::ENOSPC);
     }
     let number = state.add_mq(cred, wanted.mode & 0o777, maxmsg, msgsize);
-    let on = Opened::Mq(number);
+    let on = Opened {
+        kind: NameKind::Mq,
+        number,
+    };
     Ok(Body::Number(open_on(state, pid, on, flags.0 & KEPT_FLAGS)))
 }

@@ -40,7 +40,11 @@ pub(crate) fn open_semaphore(state: &State, pid: Pid, fd: u32) -> Result<FoundPs
     ensures there { IfOk result (λ found. is_some (entry_of state.now.state.psem found.number) ≡ true) }
 {
     let descriptor = described_or(Errno::EINVAL, state, pid, fd)?;
-    let Opened::Psem(number) = descriptor.on else {
+    let Opened {
+        kind: NameKind::Psem,
+        number,
+    } = descriptor.on
+    else {
         return Err(Errno::EINVAL);
     };
     let Some(entry) = state.psems().get(number) else {
@@ -116,7 +120,11 @@ fn open_at(state: &mut State, cred: Cred, pid: Pid, number: u32) -> Answer
         number,
         Access(Access::READ.0 + Access::WRITE.0),
     )?;
-    Ok(Body::Number(open_on(state, pid, Opened::Psem(number), 0)))
+    let on = Opened {
+        kind: NameKind::Psem,
+        number,
+    };
+    Ok(Body::Number(open_on(state, pid, on, 0)))
 }
 
 /// Opens a new semaphore of the name that is ready.
@@ -139,7 +147,11 @@ fn make_semaphore(state: &mut State, cred: Cred, pid: Pid, mode: u32, value: u32
         return Err(Errno::ENOSPC);
     }
     let number = state.add_psem(cred, mode & 0o777, value);
-    Ok(Body::Number(open_on(state, pid, Opened::Psem(number), 0)))
+    let on = Opened {
+        kind: NameKind::Psem,
+        number,
+    };
+    Ok(Body::Number(open_on(state, pid, on, 0)))
 }
 
 /// sem_unlink(3).

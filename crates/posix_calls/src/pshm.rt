@@ -46,7 +46,11 @@ fn open_pshm(state: &State, pid: Pid, fd: u32) -> Result<FoundPshm<'_>, Errno>
     ensures passed { IfOk result (λ found. ArePassed state.now.limits) }
 {
     let descriptor = described(state, pid, fd)?;
-    let Opened::Pshm(number) = descriptor.on else {
+    let Opened {
+        kind: NameKind::Pshm,
+        number,
+    } = descriptor.on
+    else {
         return Err(Errno::EBADF);
     };
     let Some(entry) = state.pshms().get(number) else {
@@ -137,7 +141,10 @@ fn open_at(state: &mut State, cred: Cred, pid: Pid, flags: OpenFlags, number: u3
 {
     usable(state.pshms(), cred, number, asked_of_pshm(flags))?;
     cut(state, number, flags);
-    let on = Opened::Pshm(number);
+    let on = Opened {
+        kind: NameKind::Pshm,
+        number,
+    };
     Ok(Body::Number(open_on(state, pid, on, flags.access_mode())))
 }
 
@@ -170,7 +177,10 @@ fn make_pshm(state: &mut State, cred: Cred, pid: Pid, flags: OpenFlags, mode: u3
         return Err(Errno::ENOSPC);
     }
     let number = state.add_pshm(cred, mode & 0o777);
-    let on = Opened::Pshm(number);
+    let on = Opened {
+        kind: NameKind::Pshm,
+        number,
+    };
     Ok(Body::Number(open_on(state, pid, on, flags.access_mode())))
 }
 

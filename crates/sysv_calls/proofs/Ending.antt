@@ -14,7 +14,7 @@ use Rattle.sysv_sem.specs.Set.{Set}
 use Rattle.ipc_state.specs.declared.parked.Awaited.{Awaited}
 use Rattle.ipc_state.specs.declared.parked.Awaited.TheVariants as awaited
 use Rattle.ipc_state.specs.declared.parked.Object.{Object}
-use Rattle.ipc_state.specs.declared.parked.Object.TheVariants as object
+use Rattle.sysv_calls.specs.Calls.{queue_at, set_at}
 use Rattle.ipc_state.specs.Finish.{Done, Finish, answer, done_firing}
 use Rattle.ipc_state.specs.Keyed.{Keyed}
 use Rattle.ipc_state.specs.Numbered.{entry_of}
@@ -35,15 +35,15 @@ pub record Leaves (limits : Limits) (s : State) (touches : Option Object) (d : D
 
 -- a queue and a set by their identifier, as what a call may change
 abbrev pub queue : ℕ → Option Object
-queue id = Some (object.MsgQueue (record { 0 = id }))
+queue id = Some (queue_at id)
 
 abbrev pub set : ℕ → Option Object
-set id = Some (object.Semset (record { 0 = id }))
+set id = Some (set_at id)
 
-pub other_queue : {id : ℕ} {n : Id} → queue id ≢ Some (object.MsgQueue n) → n.0 ≢ id
+pub other_queue : {id : ℕ} {n : Id} → queue id ≢ Some (queue_at n.0) → n.0 ≢ id
 other_queue apart same = apart (ap queue (sym same))
 
-other_set : {id : ℕ} {n : Id} → set id ≢ Some (object.Semset n) → n.0 ≢ id
+other_set : {id : ℕ} {n : Id} → set id ≢ Some (set_at n.0) → n.0 ≢ id
 other_set apart same = apart (ap set (sym same))
 
 -- the adjustments of a process in a table of them
@@ -56,8 +56,8 @@ module _ {limits : Limits} {s : State} {never : Bool} where
     ends-with : (msg : Keyed Queue) (semset : Keyed Set) (undo : List (ℕ × Undo)) (body : PlainBody)
         → (HasSoundParts limits s → HasSoundParts limits (record s { msg = msg; semset = semset; undo = undo }))
         → (HasSoundParts limits s → FitsBody limits body)
-        → ((n : Id) → touches ≢ Some (object.MsgQueue n) → is_some (entry_of s.msg n.0) ≡ true → entry_of msg n.0 ≡ entry_of s.msg n.0)
-        → ((n : Id) → touches ≢ Some (object.Semset n) → is_some (entry_of s.semset n.0) ≡ true → (entry_of semset n.0 ≡ entry_of s.semset n.0)
+        → ((n : Id) → touches ≢ Some (queue_at n.0) → is_some (entry_of s.msg n.0) ≡ true → entry_of msg n.0 ≡ entry_of s.msg n.0)
+        → ((n : Id) → touches ≢ Some (set_at n.0) → is_some (entry_of s.semset n.0) ≡ true → (entry_of semset n.0 ≡ entry_of s.semset n.0)
         × ((pid num : ℕ) → adjustment (those undo pid) (n.0, num) ≡ adjustment (those s.undo pid) (n.0, num)))
         → AtEnd never (Leaves limits s touches) (answer (record s { msg = msg; semset = semset; undo = undo }) body)
     ends-with msg semset undo body sound fits queues sets =
@@ -77,7 +77,7 @@ module _ {limits : Limits} {s : State} {never : Bool} where
             → IsAsBefore pid on s (record s { msg = msg; semset = semset; undo = undo })
         same pid (awaited.MsgQueue n) apart there = queues n apart there
         same pid (awaited.Semset n) apart there = sets n apart there
-        same pid (awaited.Descriptor fd) apart there = (refl, λ n is. refl, λ n is. refl)
+        same pid (awaited.Descriptor fd) apart there = (refl, λ kind n waits is. refl)
 
     -- all is as it was
     pub read-ends : (body : PlainBody) → (HasSoundParts limits s → FitsBody limits body) → AtEnd never (Leaves limits s touches) (answer s body)
@@ -86,7 +86,7 @@ module _ {limits : Limits} {s : State} {never : Bool} where
     -- the queues alone are others
     pub queues-ends : (msg : Keyed Queue) (body : PlainBody) → (HasSoundParts limits s → HasSoundParts limits (record s { msg = msg }))
         → (HasSoundParts limits s → FitsBody limits body)
-        → ((n : Id) → touches ≢ Some (object.MsgQueue n) → is_some (entry_of s.msg n.0) ≡ true → entry_of msg n.0 ≡ entry_of s.msg n.0)
+        → ((n : Id) → touches ≢ Some (queue_at n.0) → is_some (entry_of s.msg n.0) ≡ true → entry_of msg n.0 ≡ entry_of s.msg n.0)
         → AtEnd never (Leaves limits s touches) (answer (record s { msg = msg }) body)
     queues-ends msg body sound fits queues = ends-with msg s.semset s.undo body sound fits queues (λ n apart there. (refl, λ pid num. refl))
 

@@ -4,7 +4,7 @@ use Rattle.ipc_base.specs.declared.limits.Limits.{Limits}
 use Rattle.ipc_wire.specs.Request.{PlainSysv, PlainKind, Sysv}
 use Rattle.ipc_wire.specs.Request as requests
 use Rattle.ipc_state.specs.declared.parked.Object.{Object}
-use Rattle.ipc_state.specs.declared.parked.Object.TheVariants as object
+use Rattle.ipc_state.specs.declared.parked.ObjectKind.TheVariants.{MsgQueue, Semset}
 use Rattle.ipc_state.specs.State.{State, cred_of}
 use Rattle.ipc_state.specs.Finish.{Tried, Attempt, Done, ended}
 use Rattle.sysv_calls.specs.Msg.{msgget, msgsnd, msgrcv, msgctl_stat, msgctl_set, msgctl_rmid}
@@ -37,17 +37,24 @@ definition_of limits s pid again (requests.SemctlStat id) = semctl_stat s (cred_
 definition_of limits s pid again (requests.SemctlSet id uid gid mode) = semctl_set s (cred_of s pid) id uid gid mode
 definition_of limits s pid again (requests.SemctlRmid id) = semctl_rmid s (cred_of s pid) id
 
+-- the queue of an identifier, and the set
+abbrev pub queue_at : ℕ → Object
+queue_at id = record { kind = MsgQueue; number = id }
+
+abbrev pub set_at : ℕ → Object
+set_at id = record { kind = Semset; number = id }
+
 -- the object that a call may change, so that those that wait on it may go on
 abbrev pub touched : PlainSysv → Option Object
-touched (requests.Msgsnd id flags mtype text) = Some (object.MsgQueue (record { 0 = id }))
-touched (requests.Msgrcv id flags size mtype) = Some (object.MsgQueue (record { 0 = id }))
-touched (requests.MsgctlSet id uid gid mode qbytes) = Some (object.MsgQueue (record { 0 = id }))
-touched (requests.MsgctlRmid id) = Some (object.MsgQueue (record { 0 = id }))
-touched (requests.Semop id timeout operations) = Some (object.Semset (record { 0 = id }))
-touched (requests.SemctlSetVal id num value) = Some (object.Semset (record { 0 = id }))
-touched (requests.SemctlSetAll id values) = Some (object.Semset (record { 0 = id }))
-touched (requests.SemctlSet id uid gid mode) = Some (object.Semset (record { 0 = id }))
-touched (requests.SemctlRmid id) = Some (object.Semset (record { 0 = id }))
+touched (requests.Msgsnd id flags mtype text) = Some (queue_at id)
+touched (requests.Msgrcv id flags size mtype) = Some (queue_at id)
+touched (requests.MsgctlSet id uid gid mode qbytes) = Some (queue_at id)
+touched (requests.MsgctlRmid id) = Some (queue_at id)
+touched (requests.Semop id timeout operations) = Some (set_at id)
+touched (requests.SemctlSetVal id num value) = Some (set_at id)
+touched (requests.SemctlSetAll id values) = Some (set_at id)
+touched (requests.SemctlSet id uid gid mode) = Some (set_at id)
+touched (requests.SemctlRmid id) = Some (set_at id)
 touched call = None
 
 -- whether it is a receive from a queue: one takes a message away, so that no other receive goes on by it

@@ -20,7 +20,7 @@ use crate::sem::{
 };
 use crate::semop::semctl_getcnt;
 use ipc_base::{Errno, Pid};
-use ipc_state::{Answer, Object, Parked, State};
+use ipc_state::{Answer, Object, ObjectKind, Parked, State};
 use ipc_wire::{Body, Request, RequestKind, SysvCall};
 use std::alloc::{AllocError, Global};
 
@@ -109,12 +109,18 @@ pub fn touched(call: &SysvCall<'_>) -> Option<Object>
         SysvCall::Msgsnd { id, .. }
         | SysvCall::Msgrcv { id, .. }
         | SysvCall::MsgctlSet { id, .. }
-        | SysvCall::MsgctlRmid { id } => Some(Object::MsgQueue(*id)),
+        | SysvCall::MsgctlRmid { id } => Some(Object {
+            kind: ObjectKind::MsgQueue,
+            number: id.0,
+        }),
         SysvCall::Semop { id, .. }
         | SysvCall::SemctlSetVal { id, .. }
         | SysvCall::SemctlSetAll { id, .. }
         | SysvCall::SemctlSet { id, .. }
-        | SysvCall::SemctlRmid { id } => Some(Object::Semset(*id)),
+        | SysvCall::SemctlRmid { id } => Some(Object {
+            kind: ObjectKind::Semset,
+            number: id.0,
+        }),
         SysvCall::Msgget { .. }
         | SysvCall::MsgctlStat { .. }
         | SysvCall::Semget { .. }

@@ -1,6 +1,6 @@
 -- A named semaphore, and a segment, is known by the bytes of its object.
-use Rattle.std.proofs.Common.{◌≡◌, ℕ, List, [], ◌++◌, length, take, drop, refl, sym, ap, ◌∙◌}
-use Rattle.std.proofs.lemmas.List.{append-nil, take_at, drop_at}
+use Rattle.std.proofs.Common.{◌≡◌, ℕ, List, [], ◌++◌, length, refl, ap}
+use Rattle.std.proofs.lemmas.List.{take_at, drop_at}
 use Rattle.shm_segment.specs.Segment.{Segment}
 use Rattle.ipc_state.specs.declared.named.NamedEntry.{NamedEntry}
 use Rattle.ipc_image.specs.Saved.{psem_shape, psem_tree, psem_bytes, FitsPsem}

@@ -7,8 +7,9 @@ use Rattle.std.proofs.lemmas.Int.{ints, to_z-of_z}
 use Rattle.ipc_base.specs.declared.identity.Moment.{Moment}
 use Rattle.ipc_base.proofs.CallerLemmas.{spelled-same}
 use Rattle.ipc_state.specs.declared.descriptors.Descriptor.{Descriptor}
-use Rattle.ipc_state.specs.declared.descriptors.Opened.{Opened}
-use Rattle.ipc_state.specs.declared.descriptors.Opened.TheVariants as opened
+use Rattle.ipc_keys.specs.declared.check.NameKind.{NameKind}
+use Rattle.ipc_keys.specs.declared.check.NameKind.TheVariants as names
+use Rattle.ipc_state.specs.Opening.{opened_as}
 use Rattle.ipc_state.specs.declared.processes.Process.{Process}
 use Rattle.ipc_state.specs.Waiting.{PlainWaiting, awaited_by}
 use Rattle.ipc_wire.specs.Request.{PlainRequest}
@@ -19,12 +20,12 @@ use Rattle.sem_undo.specs.Undo.{is_adjustment}
 use Rattle.sysv_msg.specs.Queue.{PlainMessage}
 use Rattle.sysv_sem.specs.declared.set.Semaphore.{Semaphore}
 use Rattle.ipc_image.specs.Saved.{descriptor_shape, descriptor_numbers, descriptor_bytes, FitsDescriptor}
-use Rattle.ipc_image.specs.Saved.{opened_kind, opened_number}
+use Rattle.ipc_image.specs.Saved.{kind_number}
 use Rattle.ipc_image.specs.Saved.{process_numbers, process_tree, FitsProcess, deadline_number, waiting_tree}
 use Rattle.ipc_image.specs.Saved.{FitsWaiting}
 use Rattle.ipc_image.specs.Saved.{Adjustment, adjustment_numbers, FitsAdjustment, message_tree, FitsMessage}
 use Rattle.ipc_image.specs.Saved.{semaphore_numbers, FitsSemaphore}
-use Rattle.ipc_image.specs.SavedParts.{descriptor_of, opened_from, process_from}
+use Rattle.ipc_image.specs.SavedParts.{descriptor_of, kind_from, process_from}
 use Rattle.ipc_image.specs.SavedParts.{request_in, awaited_or_any, deadline_from}
 use Rattle.ipc_image.specs.SavedParts.{waiting_of, adjustment_of}
 use Rattle.ipc_image.specs.SavedParts.{message_from, message_of, semaphore_from}
@@ -37,16 +38,17 @@ pub one_if_back : {X T : Type 0} (tree : X → T) (back : T → X) (Fits : X →
 one_if_back tree back Fits known x y fit also same = sym (known x fit) ∙ ap back same ∙ known y also
 
 -- two descriptors
-opened_known : (on : Opened) → opened_from (opened_kind on) (opened_number on) ≡ on
-opened_known (opened.Mq n) = refl
-opened_known (opened.Psem n) = refl
-opened_known (opened.Pshm n) = refl
+kind_known : (kind : NameKind) → kind_from (kind_number kind) ≡ kind
+kind_known names.Mq = refl
+kind_known names.Psem = refl
+kind_known names.Pshm = refl
 
 pub descriptor_one : (d e : ℕ × Descriptor) → FitsDescriptor d → FitsDescriptor e
     → descriptor_numbers d ≡ descriptor_numbers e → d ≡ e
 descriptor_one =
     one_if_back descriptor_numbers descriptor_of FitsDescriptor
-    (λ d fit. ap (λ (on : Opened). (d.0, record { on = on; flags = d.1.flags })) (opened_known d.1.on))
+    (λ d fit. ap (λ (kind : NameKind). (d.0, record { on = opened_as kind d.1.on.number; flags = d.1.flags }))
+    (kind_known d.1.on.kind))
 
 -- two processes
 pub process_one : (p q : ℕ × Process) → FitsProcess p → FitsProcess q → process_tree p ≡ process_tree q → p ≡ q

@@ -3,11 +3,12 @@ use Rattle.std.proofs.lemmas.Nat.{and_le_r}
 use Rattle.std.specs.Int.RustNames.{bit_and}
 use Rattle.ipc_base.specs.declared.limits.Limits.{Limits}
 use Rattle.posix_sem.specs.Semaphore.{sem_value_max}
+use Rattle.ipc_keys.specs.declared.check.NameKind.TheVariants as names
 use Rattle.ipc_state.specs.Held.{Held}
 use Rattle.ipc_state.specs.Numbered.{is_full}
 use Rattle.ipc_state.specs.Sound.{HasSoundParts}
 use Rattle.ipc_state.specs.State.{has_all_psems}
-use Rattle.ipc_state.proofs.CallerLemmas.{psem-names, with_new_psem-sound}
+use Rattle.ipc_state.proofs.CallerLemmas.{kind-names, with_new-sound}
 use Rattle.posix_calls.proofs.psem.make_semaphore.Goals.{Else-is_full}
 use Rattle.posix_calls.proofs.psem.make_semaphore.Goals as goal
 
@@ -23,7 +24,7 @@ short g c = omega (arith, c.if-value-gt-SEM_VALUE_MAX.false)
 pub add_psem-number-requires : goal.add_psem-number-requires
 add_psem-number-requires g c =
     let a = (goal.at.add_psem-number-requires g c).Else-is_full in
-    let rising = (psem-names c.args.state.now.limits c.args.state.now.state c.requires.0).numbers in
+    let rising = (kind-names c.args.state.now.limits c.args.state.now.state names.Psem c.requires.0).numbers in
     (c.requires.1.1.1.1.1, (c.requires.1.1.1.1.0, (rising, (more g a, short g a))))
 
 pub open_on-requires-clause-sound : goal.open_on-requires-clause-sound
@@ -32,5 +33,5 @@ open_on-requires-clause-sound g c =
     let old = c.args.state.now in
     let mode : bit_and c.args.mode 511 < 512 = omega (arith, and_le_r c.args.mode 511) in
     subst (λ (h : Held). HasSoundParts h.limits h.state) (sym c.add_psem-number.ensures.added)
-    (with_new_psem-sound old.limits old.state g.name c.args.cred (bit_and c.args.mode 511) c.args.value c.requires.1.1.1.1.0 (more g a) mode
-    c.requires.1.1.1.0 (short g a) c.requires.0)
+    (with_new-sound old.limits old.state names.Psem g.name c.args.cred (bit_and c.args.mode 511) c.args.value c.requires.1.1.1.1.0 (more g a) mode
+    c.requires.1.1.1.0 (short g a) tt c.requires.0)

@@ -2,11 +2,13 @@ use Rattle.std.proofs.Common.{◌≡◌, ◌∙◌, ◌<◌, false, sym, subst, 
 use Rattle.std.proofs.lemmas.Nat.{and_le_r}
 use Rattle.std.specs.Int.RustNames.{bit_and}
 use Rattle.ipc_base.specs.declared.limits.Limits.{Limits}
+use Rattle.shm_segment.specs.Segment.{empty_segment}
+use Rattle.ipc_keys.specs.declared.check.NameKind.TheVariants as names
 use Rattle.ipc_state.specs.Held.{Held}
 use Rattle.ipc_state.specs.Numbered.{is_full}
 use Rattle.ipc_state.specs.Sound.{HasSoundParts}
 use Rattle.ipc_state.specs.State.{has_all_pshms}
-use Rattle.ipc_state.proofs.CallerLemmas.{segment-names, with_new_pshm-sound}
+use Rattle.ipc_state.proofs.CallerLemmas.{kind-names, with_new-sound}
 use Rattle.posix_calls.proofs.pshm.make_pshm.Goals.{Else-is_full}
 use Rattle.posix_calls.proofs.pshm.make_pshm.Goals as goal
 
@@ -19,7 +21,7 @@ more g c =
 pub add_pshm-number-requires : goal.add_pshm-number-requires
 add_pshm-number-requires g c =
     let a = (goal.at.add_pshm-number-requires g c).Else-is_full in
-    let rising = (segment-names c.args.state.now.limits c.args.state.now.state c.requires.0).numbers in
+    let rising = (kind-names c.args.state.now.limits c.args.state.now.state names.Pshm c.requires.0).numbers in
     (c.requires.1.1.1.1.1, (c.requires.1.1.1.1.0, (rising, more g a)))
 
 pub open_on-requires-clause-sound : goal.open_on-requires-clause-sound
@@ -28,5 +30,5 @@ open_on-requires-clause-sound g c =
     let old = c.args.state.now in
     let mode : bit_and c.args.mode 511 < 512 = omega (arith, and_le_r c.args.mode 511) in
     subst (λ (h : Held). HasSoundParts h.limits h.state) (sym c.add_pshm-number.ensures.added)
-    (with_new_pshm-sound old.limits old.state g.name c.args.cred (bit_and c.args.mode 511) c.requires.1.1.1.1.0 (more g a) mode
-    c.requires.1.1.1.0 c.requires.0)
+    (with_new-sound old.limits old.state names.Pshm g.name c.args.cred (bit_and c.args.mode 511) empty_segment c.requires.1.1.1.1.0 (more g a) mode
+    c.requires.1.1.1.0 tt (omega (arith, (c.requires.0.named names.Pshm).together)) c.requires.0)

@@ -1,10 +1,11 @@
 use Rattle.std.proofs.Common.{sym, subst}
 use Rattle.shm_segment.specs.Segment.{Segment}
+use Rattle.ipc_keys.specs.declared.check.NameKind.TheVariants as names
 use Rattle.ipc_state.specs.Directory.{ArePositive}
 use Rattle.ipc_state.specs.Named.{Named}
-use Rattle.ipc_state.proofs.CallerLemmas.{segment-positive}
+use Rattle.ipc_state.proofs.CallerLemmas.{kind-positive}
 use Rattle.posix_calls.proofs.pshm.open.Goals as goal
 
 pub seek-requires : goal.seek-requires
 seek-requires c =
-    subst (λ (o : Named Segment). ArePositive o.entries) (sym c.pshms.ensures.objects) (segment-positive c.args.state.now.limits c.args.state.now.state c.requires.sound)
+    subst (λ (o : Named Segment). ArePositive o.entries) (sym c.pshms.ensures.objects) (kind-positive c.args.state.now.limits c.args.state.now.state names.Pshm c.requires.sound)

@@ -2,6 +2,7 @@ use Rattle.std.proofs.Common.{◌≡◌, ◌∙◌, ◌≤◌, ◌^◌, Some, fa
 use Rattle.std.specs.Prelude.{Bool, nat_lt, ◌+◌, ◌-◌}
 use Rattle.ipc_base.specs.declared.errno.Errno.TheVariants.{ENOSPC}
 use Rattle.ipc_wire.specs.declared.reply.Body.TheVariants.{Empty}
+use Rattle.ipc_keys.specs.declared.check.NameKind.TheVariants as names
 use Rattle.ipc_state.specs.Finish.{Attempt, Done, Finishes, answer, done, ended, refuse, ◌>>◌, ◌>>=◌}
 use Rattle.ipc_state.specs.Held.{Held}
 use Rattle.ipc_state.specs.State.{State, with_pshm}
@@ -20,7 +21,7 @@ is_past_all-requires c =
     omega (
       arith,
       fewer-of c.args.state.now.state.pshm f.number f.entry.now c.in_ok-found.ensures.there,
-      c.requires.sound.pshm.bytes,
+      (c.requires.sound.named names.Pshm).together,
       (passed-bounds c.args.state.now.limits c.in_ok-found.ensures.passed).segment_bytes,
     )
 

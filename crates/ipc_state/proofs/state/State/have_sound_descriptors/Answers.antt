@@ -1,4 +1,6 @@
-use Rattle.std.proofs.Common.{subst, sym}
+use Rattle.std.proofs.Common.{arith, refl, subst, sym}
+use Rattle.std.specs.Prelude.{All}
+use Rattle.std.proofs.lemmas.List.{take_all}
 use Rattle.std.proofs.lemmas.List.Elements.{All-more}
 use Rattle.ipc_state.specs.declared.numbered.Item.{Item}
 use Rattle.ipc_state.specs.declared.processes.Process.{Process}
@@ -19,3 +21,8 @@ returns-then-not-has_sound_descriptors c =
       λ all. absurd (let yes = c.has_sound_descriptors.ensures.1 (subst P (sym c.item-item.is) (all c.loop-item.item-index c.item-item.result c.loop-item-test.true)) in
           let no = c.if-not-has_sound_descriptors.true in cc),
     )
+
+pub returns : goal.returns
+returns c =
+    let P : Item Process → Type 0 = λ p. AreSoundDescriptors c.args.self.now.limits (named_in c.args.self.now.state) p.value.descriptors in
+    (λ _. subst (All P) (take_all c.loop-item.item-index c.args.items.now (omega arith)) c.loop-item.invariant, λ _. refl)
