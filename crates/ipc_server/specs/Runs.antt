@@ -28,8 +28,8 @@ pub data Steps {D : Type 0} (medium : D → Medium) (moment : ℕ) (limits : Lim
 
 -- These calls were made, and the hub goes on: it matches what they come to, and its store has taken the events that
 -- they accept.
-pub record CallsMade {D : Type 0} (medium : D → Medium) (moment : ℕ) (limits : Limits) (old new : StoredHub D) (h : Clients)
-    (acts : List Act) : Type 0 where
+pub record CallsMade {D : Type 0} (medium : D → Medium) (moment : ℕ) (limits : Limits) (old new : StoredHub D)
+    (h : Clients) (acts : List Act) : Type 0 where
   pub steps : Steps medium moment limits old h new acts
   pub comes : Comes medium limits old new h (after limits h acts)
 
@@ -46,8 +46,8 @@ RunsRound medium moment old new =
     → (acts : List Act) × CallsMade medium moment limits old new h (Ticks moment ∷ acts)
 
 -- Pieces of one client were fed at one moment, and they are what was there of its bytes and is no more.
-abbrev pub FeedsInput : {D : Type 0} → (D → Medium) → ℕ → ℕ → StoredHub D → StoredHub D → Option (List ℕ) → Option (List ℕ)
-    → Type 0
+abbrev pub FeedsInput : {D : Type 0} → (D → Medium) → ℕ → ℕ → StoredHub D → StoredHub D → Option (List ℕ)
+    → Option (List ℕ) → Type 0
 FeedsInput medium conn moment old new there left =
     (limits : Limits) (h : Clients) → StoredMatches limits old h
     → (pieces : List Piece) × CallsMade medium moment limits old new h (feeds conn moment pieces)
