@@ -1,9 +1,9 @@
 //! The checkpoint: its value, and the calls on it.
 
-ghost use Rattle.std.specs.Prelude.{◌≡◌, ◌⊎◌, ◌↔◌, ◌<◌, ◌≤◌, ℕ, List, IfOk, IfErr, OnOk, OnErr, IsErrOf};
+ghost use Rattle.std.specs.Prelude.{◌≡◌, ◌<◌, ℕ, IfOk, OnOk, OnErr, IsErrOf};
 ghost use Rattle.ipc_base.specs.Objects.{PlainObjects};
-ghost use Rattle.ipc_disk.specs.Counts.{counted};
-ghost use Rattle.ipc_disk.specs.Medium.{Image, IsHonest, IsDurable, Stays};
+ghost use Rattle.ipc_disk.specs.Calls.{IsSameDisk, CountsFault, OnlyReads};
+ghost use Rattle.ipc_disk.specs.Medium.{IsHonest, IsDurable};
 ghost use Rattle.ipc_disk.specs.Since.{EachImageSince, LeavesAlone};
 
 use crate::area::{AreaFault, read_objects};
@@ -46,12 +46,9 @@ impl Checkpoint {
         // A crash at any moment: no other sector is touched.
         ensures others { IsHonest (D.medium disk.old)
             → LeavesAlone (IsElsewhere layout) (D.medium disk.old) (D.medium disk.new) }
-        ensures honest { IsHonest (D.medium disk.old) ↔ IsHonest (D.medium disk.new) }
         // Failures.
-        ensures size { D.size disk.new ≡ D.size disk.old }
-        ensures failure { OnErr result ((D.counts disk.new).failures
-            ≡ counted (D.counts disk.old).failures 1) }
-        ensures no_failure { OnOk result ((D.counts disk.new).failures ≡ (D.counts disk.old).failures) }
+        ensures same { IsSameDisk D.size D.medium disk.old disk.new }
+        ensures counts { CountsFault D.counts result disk.old disk.new }
     {
         let len = write_objects(disk, layout.sectors(0), objects)?;
         let root = Root {
@@ -80,16 +77,7 @@ impl Checkpoint {
             → IsHonest (D.medium disk.old) → (epoch : ℕ) (objects : PlainObjects)
             → ¬ Holds layout epoch objects (D.medium disk.old).contents }
         ensures named { (sector : ℕ) → IsErrOf result (LoadError.Damaged sector) → IsOwn layout sector }
-        // A crash at any moment: the call only reads.
-        ensures reads { IsHonest (D.medium disk.old) → Stays (D.medium disk.old) (D.medium disk.new) }
-        // Failures.
-        ensures honest { IsHonest (D.medium disk.old) ↔ IsHonest (D.medium disk.new) }
-        ensures size { D.size disk.new ≡ D.size disk.old }
-        ensures failure { IsErrOf result LoadError.Device
-            → (D.counts disk.new).failures ≡ counted (D.counts disk.old).failures 1 }
-        ensures no_failure { IsErrOf result LoadError.Device
-            ⊎ ((D.counts disk.new).failures ≡ (D.counts disk.old).failures) }
-        ensures no_write { (D.counts disk.new).writes ≡ (D.counts disk.old).writes }
+        ensures reads { OnlyReads D.size D.medium D.counts (IsErrOf result LoadError.Device) disk.old disk.new }
     {
         let root = read_root(disk, layout)?;
         let range = layout.sectors(root.live);
@@ -146,12 +134,9 @@ impl Checkpoint {
             (HoldsEither (layout_of self.old) (epoch_of self.old) saved epoch (O.objects objects.now)) }
         ensures others { IsHonest (D.medium disk.old)
             → LeavesAlone (IsElsewhere (layout_of self.old)) (D.medium disk.old) (D.medium disk.new) }
-        ensures honest { IsHonest (D.medium disk.old) ↔ IsHonest (D.medium disk.new) }
         // Failures.
-        ensures size { D.size disk.new ≡ D.size disk.old }
-        ensures failure { OnErr result ((D.counts disk.new).failures
-            ≡ counted (D.counts disk.old).failures 1) }
-        ensures no_failure { OnOk result ((D.counts disk.new).failures ≡ (D.counts disk.old).failures) }
+        ensures same { IsSameDisk D.size D.medium disk.old disk.new }
+        ensures counts { CountsFault D.counts result disk.old disk.new }
     {
         let live = 1 - self.live;
         let len = write_objects(disk, self.layout.sectors(live), objects)?;

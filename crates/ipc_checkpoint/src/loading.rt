@@ -1,9 +1,9 @@
 //! What is read of a checkpoint before its bytes are looked into.
 
-ghost use Rattle.std.specs.Prelude.{◌≡◌, ◌⊎◌, ◌↔◌, ◌<◌, ◌+◌, ◌-◌, ◌/◌, ◌^◌, ◌≤◌, ℕ, length, min, IfOk, IsErrOf};
+ghost use Rattle.std.specs.Prelude.{◌≡◌, ◌<◌, ◌+◌, ◌-◌, ◌/◌, ◌^◌, ◌≤◌, ℕ, length, min, IfOk, IsErrOf};
 ghost use Rattle.ipc_base.specs.Objects.{PlainObjects};
-ghost use Rattle.ipc_disk.specs.Counts.{counted};
-ghost use Rattle.ipc_disk.specs.Medium.{IsHonest, Stays};
+ghost use Rattle.ipc_disk.specs.Calls.{OnlyReads};
+ghost use Rattle.ipc_disk.specs.Medium.{IsHonest};
 ghost use Rattle.ipc_disk.specs.Standing.{sectors_for, sector_at, StandsAt};
 ghost use Rattle.ipc_checkpoint.specs.Checkpoint.{Holds};
 ghost use Rattle.ipc_checkpoint.specs.Relations.Root.{IsRead};
@@ -23,13 +23,7 @@ pub(crate) fn read_root<D: SectorDisk>(disk: &mut D, layout: Layout) -> Result<R
         → IsHonest (D.medium disk.old) → (epoch : ℕ) (objects : PlainObjects)
         → ¬ Holds layout epoch objects (D.medium disk.old).contents }
     ensures named { (sector : ℕ) → IsErrOf result (LoadError.Damaged sector) → sector ≡ layout.root }
-    ensures reads { Stays (D.medium disk.old) (D.medium disk.new) }
-    ensures size { D.size disk.new ≡ D.size disk.old }
-    ensures failure { IsErrOf result LoadError.Device
-        → (D.counts disk.new).failures ≡ counted (D.counts disk.old).failures 1 }
-    ensures no_failure { IsErrOf result LoadError.Device
-        ⊎ ((D.counts disk.new).failures ≡ (D.counts disk.old).failures) }
-    ensures no_write { (D.counts disk.new).writes ≡ (D.counts disk.old).writes }
+    ensures reads { OnlyReads D.size D.medium D.counts (IsErrOf result LoadError.Device) disk.old disk.new }
 {
     let mut sector = [0; 512];
     disk.read(layout.root, &mut sector)?;
@@ -54,14 +48,7 @@ pub(crate) fn read_area<D: SectorDisk>(
         → StandsAt first bytes.items (D.medium disk.old).contents) }
     ensures long { IfOk result (λ bytes. length bytes.items ≡ len) }
     ensures not_damaged { (sector : ℕ) → IsErrOf result (LoadError.Damaged sector) → ⊥ }
-    ensures reads { IsHonest (D.medium disk.old) → Stays (D.medium disk.old) (D.medium disk.new) }
-    ensures honest { IsHonest (D.medium disk.old) ↔ IsHonest (D.medium disk.new) }
-    ensures size { D.size disk.new ≡ D.size disk.old }
-    ensures failure { IsErrOf result LoadError.Device
-        → (D.counts disk.new).failures ≡ counted (D.counts disk.old).failures 1 }
-    ensures no_failure { IsErrOf result LoadError.Device
-        ⊎ ((D.counts disk.new).failures ≡ (D.counts disk.old).failures) }
-    ensures no_write { (D.counts disk.new).writes ≡ (D.counts disk.old).writes }
+    ensures reads { OnlyReads D.size D.medium D.counts (IsErrOf result LoadError.Device) disk.old disk.new }
 {
     let mut bytes = vec![in alloc; 0; len]?;
     let mut sector = [0; 512];

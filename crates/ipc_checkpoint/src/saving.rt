@@ -1,9 +1,9 @@
 //! Objects as bytes on their way to a disk.
 
-ghost use Rattle.std.specs.Prelude.{◌≡◌, ◌↔◌, ◌<◌, ◌++◌, ◌+◌, ◌*◌, ◌^◌, ◌≤◌, List, ℕ, length, take};
-ghost use Rattle.std.specs.Prelude.{OnOk, OnErr, IfOk};
+ghost use Rattle.std.specs.Prelude.{◌≡◌, ◌<◌, ◌++◌, ◌+◌, ◌*◌, ◌^◌, ◌≤◌, List, ℕ, length};
+ghost use Rattle.std.specs.Prelude.{OnOk, IfOk};
 ghost use Rattle.ipc_base.specs.Objects.{AreObjects};
-ghost use Rattle.ipc_disk.specs.Counts.{counted};
+ghost use Rattle.ipc_disk.specs.Calls.{IsSameDisk, CountsFault};
 ghost use Rattle.ipc_disk.specs.Medium.{IsHonest};
 ghost use Rattle.ipc_disk.specs.Range.{IsWithin, IsOutside};
 ghost use Rattle.ipc_disk.specs.Since.{LeavesAlone};
@@ -30,11 +30,8 @@ pub(crate) fn write_objects<D: SectorDisk, O: Objects>(
     ensures objects { OnOk result (AreObjects (O.objects objects.now)) }
     ensures others { IsHonest (D.medium disk.old)
         → LeavesAlone (IsOutside range) (D.medium disk.old) (D.medium disk.new) }
-    ensures honest { IsHonest (D.medium disk.old) ↔ IsHonest (D.medium disk.new) }
-    ensures size { D.size disk.new ≡ D.size disk.old }
-    ensures failure { OnErr result ((D.counts disk.new).failures
-        ≡ counted (D.counts disk.old).failures 1) }
-    ensures no_failure { OnOk result ((D.counts disk.new).failures ≡ (D.counts disk.old).failures) }
+    ensures same { IsSameDisk D.size D.medium disk.old disk.new }
+    ensures counts { CountsFault D.counts result disk.old disk.new }
 {
     let mut writer = Writer::new(range);
     writer.put(disk, &objects.count().to_be_bytes())?;
@@ -67,11 +64,8 @@ fn put_object<D: SectorDisk, O: Objects>(
         ≡ length_of writer.old + length (entry_bytes (object_at (O.objects objects.now) i))) }
     ensures others { IsHonest (D.medium disk.old)
         → LeavesAlone (IsOutside (range_of writer.old)) (D.medium disk.old) (D.medium disk.new) }
-    ensures honest { IsHonest (D.medium disk.old) ↔ IsHonest (D.medium disk.new) }
-    ensures size { D.size disk.new ≡ D.size disk.old }
-    ensures failure { OnErr result ((D.counts disk.new).failures
-        ≡ counted (D.counts disk.old).failures 1) }
-    ensures no_failure { OnOk result ((D.counts disk.new).failures ≡ (D.counts disk.old).failures) }
+    ensures same { IsSameDisk D.size D.medium disk.old disk.new }
+    ensures counts { CountsFault D.counts result disk.old disk.new }
 {
     writer.put(disk, &objects.number(i).to_be_bytes())?;
     writer.put(disk, &objects.len(i).to_be_bytes())?;
@@ -100,11 +94,8 @@ fn put_content<D: SectorDisk, O: Objects>(
         ≡ length_of writer.old + length (object_at (O.objects objects.now) i).1) }
     ensures others { IsHonest (D.medium disk.old)
         → LeavesAlone (IsOutside (range_of writer.old)) (D.medium disk.old) (D.medium disk.new) }
-    ensures honest { IsHonest (D.medium disk.old) ↔ IsHonest (D.medium disk.new) }
-    ensures size { D.size disk.new ≡ D.size disk.old }
-    ensures failure { OnErr result ((D.counts disk.new).failures
-        ≡ counted (D.counts disk.old).failures 1) }
-    ensures no_failure { OnOk result ((D.counts disk.new).failures ≡ (D.counts disk.old).failures) }
+    ensures same { IsSameDisk D.size D.medium disk.old disk.new }
+    ensures counts { CountsFault D.counts result disk.old disk.new }
 {
     let len = objects.len(i);
     let mut mark = objects.start(i);

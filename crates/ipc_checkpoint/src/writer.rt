@@ -1,8 +1,8 @@
 //! Bytes on their way to a run of sectors, without memory.
 
-ghost use Rattle.std.specs.Prelude.{◌≡◌, ◌↔◌, ◌<◌, ◌++◌, ◌+◌, ◌*◌, ◌^◌, ◌≤◌, List, ℕ, length, take, drop, []};
-ghost use Rattle.std.specs.Prelude.{OnOk, OnErr, IfOk};
-ghost use Rattle.ipc_disk.specs.Counts.{counted};
+ghost use Rattle.std.specs.Prelude.{◌≡◌, ◌<◌, ◌++◌, ◌+◌, ◌*◌, ◌^◌, ◌≤◌, List, ℕ, length, take, drop};
+ghost use Rattle.std.specs.Prelude.{OnOk, IfOk};
+ghost use Rattle.ipc_disk.specs.Calls.{IsSameDisk, CountsFault};
 ghost use Rattle.ipc_disk.specs.Medium.{IsHonest};
 ghost use Rattle.ipc_disk.specs.Range.{IsWithin, IsOutside};
 ghost use Rattle.ipc_disk.specs.Since.{LeavesAlone};
@@ -48,11 +48,8 @@ impl Writer {
         ensures len { OnOk result (length_of self.new ≡ length_of self.old + length bytes.now) }
         ensures others { IsHonest (D.medium disk.old)
             → LeavesAlone (IsOutside (range_of self.old)) (D.medium disk.old) (D.medium disk.new) }
-        ensures honest { IsHonest (D.medium disk.old) ↔ IsHonest (D.medium disk.new) }
-        ensures size { D.size disk.new ≡ D.size disk.old }
-        ensures failure { OnErr result ((D.counts disk.new).failures
-            ≡ counted (D.counts disk.old).failures 1) }
-        ensures no_failure { OnOk result ((D.counts disk.new).failures ≡ (D.counts disk.old).failures) }
+        ensures same { IsSameDisk D.size D.medium disk.old disk.new }
+        ensures counts { CountsFault D.counts result disk.old disk.new }
     {
         let filled = (self.len % 512) as usize;
         let room = 512 - filled;
@@ -78,11 +75,8 @@ impl Writer {
         ensures len { IfOk result (λ len. len ≡ length_of self.now) }
         ensures others { IsHonest (D.medium disk.old)
             → LeavesAlone (IsOutside (range_of self.now)) (D.medium disk.old) (D.medium disk.new) }
-        ensures honest { IsHonest (D.medium disk.old) ↔ IsHonest (D.medium disk.new) }
-        ensures size { D.size disk.new ≡ D.size disk.old }
-        ensures failure { OnErr result ((D.counts disk.new).failures
-            ≡ counted (D.counts disk.old).failures 1) }
-        ensures no_failure { OnOk result ((D.counts disk.new).failures ≡ (D.counts disk.old).failures) }
+        ensures same { IsSameDisk D.size D.medium disk.old disk.new }
+        ensures counts { CountsFault D.counts result disk.old disk.new }
     {
         let filled = (self.len % 512) as usize;
         write_bytes(

@@ -1,13 +1,14 @@
 -- What the crates above cite of runs of calls: how what holds of each image since goes on over the next call, and from
 -- one run of calls to the next; and of bytes that stand on a disk.
 use Rattle.std.specs.Prelude.{◌≡◌, ◌≢◌, ◌⊎◌, ◌↔◌, ℕ, zero, suc, ◌+◌, ◌-◌, ◌*◌, ◌<◌, ◌≤◌, List, [], ◌∷◌, ◌++◌, length, take, drop, replicate}
-use Rattle.std.specs.Prelude.{slice_get, slice_set, refl}
+use Rattle.std.specs.Prelude.{slice_get, slice_set, refl, Result}
 use Rattle.std.specs.Option.{unwrap_or}
 use Rattle.std.proofs.Common.{inl, inr, ⊎_elim, sym, ◌∙◌, ap, subst, arith, take-append-drop}
 use Rattle.std.proofs.lemmas.List.{get_or-set_same, get_or-set_other, length-set, take_at, take_all, take-take, drop-take, length-take, length-drop}
 use Rattle.std.proofs.lemmas.Option.{unwrap_or-slice_get}
 use Rattle.ipc_disk.specs.declared.range.Range.{Range}
-use Rattle.ipc_disk.specs.Counts.{Counts, counted, with_calls}
+use Rattle.ipc_disk.specs.Calls.{IsSameDisk, IsOneCall, OnlyReads}
+use Rattle.ipc_disk.specs.Counts.{Counts, counted, with_calls, with_failure}
 use Rattle.ipc_disk.specs.Medium.{Image, Medium, IsHonest, Elapses, SetOrNot, Stays, Writes}
 use Rattle.ipc_disk.specs.Range.{IsOutside}
 use Rattle.ipc_disk.specs.Since.{EachImageSince, SameAt, LeavesAlone}
@@ -40,6 +41,54 @@ Stays-join old mid new honest first next = record {
 -- honesty is kept both ways over a run of calls, and then another
 pub honest-join : (old mid new : Medium) → IsHonest old ↔ IsHonest mid → IsHonest mid ↔ IsHonest new → IsHonest old ↔ IsHonest new
 honest-join old mid new first next = (λ h. next.0 (first.0 h), λ h. first.1 (next.1 h))
+
+-- calls, and then more of them
+pub IsSameDisk-then : {D : Type 0} {size : D → ℕ} {medium : D → Medium} {old mid new : D} → IsSameDisk size medium old mid
+    → IsSameDisk size medium mid new → IsSameDisk size medium old new
+IsSameDisk-then {D} {size} {medium} {old} {mid} {new} first next = record {
+  sectors = next.sectors ∙ first.sectors;
+  honest = honest-join (medium old) (medium mid) (medium new) first.honest next.honest;
+}
+
+pub IsSameDisk-call : {D T E : Type 0} {size : D → ℕ} {medium : D → Medium} {counts : D → Counts} {result : Result T E} {call : Counts → Counts}
+    {old new : D} → IsOneCall size counts result call old new → Elapses (medium old) (medium new) → IsSameDisk size medium old new
+IsSameDisk-call {D} {T} {E} {size} {medium} {counts} {result} {call} {old} {new} one time = record { sectors = one.sectors; honest = time.honest }
+
+-- no read yet
+pub OnlyReads-start : {D : Type 0} {size : D → ℕ} {medium : D → Medium} {counts : D → Counts} (disk : D) → OnlyReads size medium counts ⊥ disk disk
+OnlyReads-start {D} {size} {medium} {counts} disk = record {
+  same = record { sectors = refl; honest = (λ h. h, λ h. h) };
+  stays = λ honest. Stays-start (medium disk);
+  failure = λ never. absurd never;
+  no_failure = inr refl;
+}
+
+-- reads none of which failed, and then more of them
+pub OnlyReads-then : {D : Type 0} {size : D → ℕ} {medium : D → Medium} {counts : D → Counts} {failed : Type 0} {old mid new : D}
+    → OnlyReads size medium counts ⊥ old mid → OnlyReads size medium counts failed mid new → OnlyReads size medium counts failed old new
+OnlyReads-then {D} {size} {medium} {counts} {failed} {old} {mid} {new} first next =
+    let same : counts mid ≡ counts old = ⊎_elim (λ never. absurd never) (λ kept. kept) first.no_failure in
+    record {
+      same = IsSameDisk-then first.same next.same;
+      stays = λ honest. Stays-join (medium old) (medium mid) (medium new) honest (first.stays honest) (next.stays (first.same.honest.0 honest));
+      failure = λ bad. next.failure bad ∙ ap with_failure same;
+      no_failure = ⊎_elim inl (λ kept. inr (kept ∙ same)) next.no_failure;
+    }
+
+-- the same reads, where failed means the same
+pub OnlyReads-as : {D : Type 0} {size : D → ℕ} {medium : D → Medium} {counts : D → Counts} {failed other : Type 0} {old new : D} → (failed → other)
+    → (other → failed) → OnlyReads size medium counts failed old new → OnlyReads size medium counts other old new
+OnlyReads-as {D} {size} {medium} {counts} {failed} {other} {old} {new} to from reads = record {
+  same = reads.same;
+  stays = reads.stays;
+  failure = λ bad. reads.failure (from bad);
+  no_failure = ⊎_elim (λ bad. inl (to bad)) inr reads.no_failure;
+}
+
+-- reads that went well
+pub OnlyReads-ok : {D : Type 0} {size : D → ℕ} {medium : D → Medium} {counts : D → Counts} {failed : Type 0} {old new : D} → (failed → ⊥)
+    → OnlyReads size medium counts failed old new → OnlyReads size medium counts ⊥ old new
+OnlyReads-ok ok reads = OnlyReads-as ok (λ never. absurd never) reads
 
 -- before the first call; the law is the trait's `only_now`
 pub EachImageSince-start : (old : Medium) (P : Image → Type 0)

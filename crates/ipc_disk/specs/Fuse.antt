@@ -4,7 +4,7 @@ use Rattle.ipc_disk.specs.declared.fuse.FuseDisk.{FuseDisk}
 use Rattle.ipc_disk.specs.declared.memory.MemoryDisk.{MemoryDisk}
 use Rattle.ipc_disk.specs.Counts.{Counts}
 use Rattle.ipc_disk.specs.Medium.{Medium}
-use Rattle.ipc_disk.specs.Memory.{memory_medium, memory_counts}
+use Rattle.ipc_disk.specs.Memory.{memory_size, memory_medium, memory_counts}
 
 -- the disk that it passes calls on to
 abbrev pub disk_of : FuseDisk → MemoryDisk
@@ -17,6 +17,10 @@ calls_left fuse = fuse.calls
 -- the number that chooses what a crash leaves
 abbrev pub keep_of : FuseDisk → ℕ
 keep_of fuse = fuse.keep
+
+-- its number of sectors
+abbrev pub fuse_size : FuseDisk → ℕ
+fuse_size fuse = memory_size fuse.disk
 
 -- what it reads, and what a crash may leave
 abbrev pub fuse_medium : FuseDisk → Medium

@@ -1,5 +1,5 @@
 -- What a disk that joins neighbouring writes shows, over a disk of type D that takes runs.
-use Rattle.std.specs.Prelude.{ℕ, Bool}
+use Rattle.std.specs.Prelude.{◌≡◌, ℕ, Bool, IsTrue, []}
 use Rattle.ipc_disk.specs.declared.joined.JoinedDisk.{JoinedDisk}
 use Rattle.ipc_disk.specs.declared.range.Range.{Range}
 use Rattle.ipc_disk.specs.Counts.{Counts}
@@ -34,3 +34,9 @@ joined_medium {D} {R} disk = with_waiting (waiting_range disk).first (waiting_va
 -- its failures, and its writes of a sector that were Ok; its syncs that were are those of the disk under it
 abbrev pub joined_counts : {D : Type 0} → {R : _} → JoinedDisk D R → Counts
 joined_counts {D} {R} disk = record { failures = disk.failures; writes = disk.writes; syncs = R.syncs disk.disk }
+
+-- it was just made over a disk with so many syncs: no call of it is counted, nothing waits, and no sync has failed
+pub record IsUnused {D : Type 0} {R : _} (syncs : ℕ) (disk : JoinedDisk D R) : Type 0 where
+  pub counts : joined_counts disk ≡ record { failures = 0; writes = 0; syncs = syncs }
+  pub nothing_waits : waiting_values disk ≡ []
+  pub sure : ¬ IsTrue (has_failed_sync disk)

@@ -1,4 +1,5 @@
 -- What clauses of this crate, and of those above it, speak of.
+pub mod Calls
 pub mod Counts
 pub mod Crash
 pub mod File

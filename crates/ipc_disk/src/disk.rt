@@ -1,7 +1,8 @@
 //! A disk of sectors: its four calls, and what they mean.
 
-ghost use Rattle.std.specs.Prelude.{◌≡◌, ◌<◌, ◌^◌, ℕ, Some, OnOk, OnErr, slice_get, slice_set};
-ghost use Rattle.ipc_disk.specs.Counts.{Counts, InRange, with_failure, with_write, with_sync};
+ghost use Rattle.std.specs.Prelude.{◌≡◌, ◌<◌, ◌^◌, ℕ, Some, OnOk, slice_get, slice_set};
+ghost use Rattle.ipc_disk.specs.Calls.{IsOneCall};
+ghost use Rattle.ipc_disk.specs.Counts.{Counts, InRange, with_write, with_sync};
 ghost use Rattle.ipc_disk.specs.Medium.{Image, Medium, IsShaped, IsHonest, IsDurable, Stays, Writes};
 
 use thiserror::Error;
@@ -36,9 +37,7 @@ pub trait SectorDisk {
         // A crash at any moment: the call makes no new image.
         ensures medium { Stays (medium self.old) (medium self.new) }
         // Failures and counts.
-        ensures size { size self.new ≡ size self.old }
-        ensures ok { OnOk result (counts self.new ≡ counts self.old) }
-        ensures err { OnErr result (counts self.new ≡ with_failure (counts self.old)) };
+        ensures call { IsOneCall size counts result (λ n. n) self.old self.new };
 
     /// Writes the sector `at`. Until a sync is Ok, a crash may leave the sector as it was.
     fn write(&mut self, at: u32, from: &[u8; 512]) -> Result<(), DiskFault>
@@ -49,9 +48,7 @@ pub trait SectorDisk {
         // A crash at any moment, also of a write that fails: the sector is as it was, or written.
         ensures medium { Writes at from.now (medium self.old) (medium self.new) }
         // Failures and counts.
-        ensures size { size self.new ≡ size self.old }
-        ensures ok { OnOk result (counts self.new ≡ with_write (counts self.old)) }
-        ensures err { OnErr result (counts self.new ≡ with_failure (counts self.old)) };
+        ensures call { IsOneCall size counts result with_write self.old self.new };
 
     /// Once it is Ok, a crash leaves what is read. After an `Err` a crash leaves what it could before.
     fn sync(&mut self) -> Result<(), DiskFault>
@@ -60,9 +57,7 @@ pub trait SectorDisk {
         // A crash at any moment: the call makes no new image.
         ensures medium { Stays (medium self.old) (medium self.new) }
         // Failures and counts.
-        ensures size { size self.new ≡ size self.old }
-        ensures ok { OnOk result (counts self.new ≡ with_sync (counts self.old)) }
-        ensures err { OnErr result (counts self.new ≡ with_failure (counts self.old)) };
+        ensures call { IsOneCall size counts result with_sync self.old self.new };
 
     /// The number of a sector fits its type.
     ghost fits: { (disk : Self) → size disk < 2 ^ 32 };

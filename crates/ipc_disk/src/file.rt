@@ -1,6 +1,6 @@
 //! A disk in a file of the system: how the file is made, opened and locked.
 
-ghost use Rattle.std.specs.Prelude.{◌≡◌, ◌^◌, ◌*◌, ◌/◌, ◌+◌, ◌-◌, ◌%◌, [], min, IsTrue, IfOk};
+ghost use Rattle.std.specs.Prelude.{◌≡◌, ◌^◌, ◌/◌, ◌+◌, ◌-◌, ◌%◌, min, IfOk};
 
 use crate::progress::Silent;
 use crate::system::{FileRuns, offset};
@@ -102,9 +102,8 @@ fn resize<P: Progress>(file: &File, len: u64, progress: &mut P) -> io::Result<()
 }
 
 impl FileDisk {
-    ghost use Rattle.ipc_disk.specs.Joined.{disk_under, waiting_values, has_failed_sync};
-    ghost use Rattle.ipc_disk.specs.Joined.{joined_counts};
-    ghost use Rattle.ipc_disk.specs.File.{file_size, file_syncs};
+    ghost use Rattle.ipc_disk.specs.Joined.{disk_under, IsUnused};
+    ghost use Rattle.ipc_disk.specs.File.{file_size};
 
     /// A disk of so many sectors, in a new file or in one that is there. A new file has mode 0600.
     /// One that is there keeps its mode; a longer one is cut, a shorter one keeps its bytes and gets
@@ -116,10 +115,7 @@ impl FileDisk {
         sectors: u32,
     ) -> Result<FileDisk, DiskFault>
         ensures size { IfOk result (λ disk. file_size (disk_under disk) ≡ sectors) }
-        ensures unused { IfOk result (λ disk. joined_counts disk
-            ≡ record { failures = 0; writes = 0; syncs = 0 }) }
-        ensures nothing_waits { IfOk result (λ disk. waiting_values disk ≡ []) }
-        ensures sure { IfOk result (λ disk. ¬ IsTrue (has_failed_sync disk)) }
+        ensures unused { IfOk result (λ disk. IsUnused 0 disk) }
     {
         FileDisk::create_with(rt, path, sectors, &mut Silent)
     }
@@ -134,10 +130,7 @@ impl FileDisk {
         progress: &mut T,
     ) -> Result<FileDisk, DiskFault>
         ensures size { IfOk result (λ disk. file_size (disk_under disk) ≡ sectors) }
-        ensures unused { IfOk result (λ disk. joined_counts disk
-            ≡ record { failures = 0; writes = 0; syncs = 0 }) }
-        ensures nothing_waits { IfOk result (λ disk. waiting_values disk ≡ []) }
-        ensures sure { IfOk result (λ disk. ¬ IsTrue (has_failed_sync disk)) }
+        ensures unused { IfOk result (λ disk. IsUnused 0 disk) }
     {
         let Ok(file) = create_locked(rt, path) else {
             return Err(DiskFault);
@@ -154,10 +147,7 @@ impl FileDisk {
         rt: &R,
         path: P,
     ) -> Result<FileDisk, DiskFault>
-        ensures unused { IfOk result (λ disk. joined_counts disk
-            ≡ record { failures = 0; writes = 0; syncs = 0 }) }
-        ensures nothing_waits { IfOk result (λ disk. waiting_values disk ≡ []) }
-        ensures sure { IfOk result (λ disk. ¬ IsTrue (has_failed_sync disk)) }
+        ensures unused { IfOk result (λ disk. IsUnused 0 disk) }
     {
         let Ok(file) = open_locked(rt, path) else {
             return Err(DiskFault);
@@ -171,10 +161,7 @@ impl FileDisk {
     // A disk of so many sectors in an open file. `DiskFault` if there is no memory for what waits.
     pub(crate) fn over(alloc: Global, file: File, sectors: u32) -> Result<FileDisk, DiskFault>
         ensures size { IfOk result (λ disk. file_size (disk_under disk) ≡ sectors) }
-        ensures unused { IfOk result (λ disk. joined_counts disk
-            ≡ record { failures = 0; writes = 0; syncs = 0 }) }
-        ensures nothing_waits { IfOk result (λ disk. waiting_values disk ≡ []) }
-        ensures sure { IfOk result (λ disk. ¬ IsTrue (has_failed_sync disk)) }
+        ensures unused { IfOk result (λ disk. IsUnused 0 disk) }
     {
         let Ok(disk) = JoinedDisk::new(alloc, FileRuns::new(file, sectors)) else {
             return Err(DiskFault);

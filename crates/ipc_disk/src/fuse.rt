@@ -1,8 +1,9 @@
 //! A disk in memory that fails from some call on, and then crashes.
 
-ghost use Rattle.std.specs.Prelude.{◌≡◌, ◌<◌, ◌-◌, ◌^◌, ◌+◌, ◌↔◌, min, Some, IsOk, IsErr};
+ghost use Rattle.std.specs.Prelude.{◌≡◌, ◌<◌, ◌-◌, ◌^◌, ◌↔◌, Some, IsOk};
 ghost use Rattle.std.specs.Prelude.{OnOk, OnErr, slice_get, slice_set};
-ghost use Rattle.ipc_disk.specs.Counts.{counted, with_failure, with_write, with_sync};
+ghost use Rattle.ipc_disk.specs.Calls.{IsOneCall};
+ghost use Rattle.ipc_disk.specs.Counts.{counted, with_write, with_sync};
 ghost use Rattle.ipc_disk.specs.Medium.{IsHonest, IsDurable, Stays, Writes};
 ghost use Rattle.ipc_disk.specs.Memory.{memory_size, memory_medium, memory_counts};
 ghost use Rattle.ipc_disk.specs.Memory.{synced_image, unsynced_count, chosen_image};
@@ -85,10 +86,10 @@ fn spend(calls: &mut u64, failures: &mut u64) -> Result<(), DiskFault>
 }
 
 impl SectorDisk for FuseDisk {
-    ghost use Rattle.ipc_disk.specs.Fuse.{disk_of, calls_left, keep_of, fuse_medium, fuse_counts};
+    ghost use Rattle.ipc_disk.specs.Fuse.{disk_of, calls_left, keep_of, fuse_size, fuse_medium, fuse_counts};
     ghost use Rattle.ipc_disk.specs.Relations.Slots.{IsShaped-MayLeave};
 
-    ghost size = { λ fuse. memory_size (disk_of fuse) };
+    ghost size = { fuse_size };
 
     ghost medium = { fuse_medium };
 
@@ -111,14 +112,12 @@ impl SectorDisk for FuseDisk {
     }
 
     fn read(&mut self, at: u32, into: &mut [u8; 512]) -> Result<(), DiskFault>
-        requires { at < memory_size (disk_of self.old) }
+        requires { at < fuse_size self.old }
         // What the trait says.
         ensures bytes { OnOk result (IsHonest (fuse_medium self.old)
             → slice_get (fuse_medium self.old).contents at ≡ Some into.new) }
         ensures medium { Stays (fuse_medium self.old) (fuse_medium self.new) }
-        ensures size { memory_size (disk_of self.new) ≡ memory_size (disk_of self.old) }
-        ensures ok { OnOk result (fuse_counts self.new ≡ fuse_counts self.old) }
-        ensures err { OnErr result (fuse_counts self.new ≡ with_failure (fuse_counts self.old)) }
+        ensures call { IsOneCall fuse_size fuse_counts result (λ n. n) self.old self.new }
         // The fuse, and what is synced.
         ensures passes { IsOk result ↔ (0 < calls_left self.old) }
         ensures spent { calls_left self.new ≡ calls_left self.old - 1 }
@@ -130,14 +129,12 @@ impl SectorDisk for FuseDisk {
     }
 
     fn write(&mut self, at: u32, from: &[u8; 512]) -> Result<(), DiskFault>
-        requires { at < memory_size (disk_of self.old) }
+        requires { at < fuse_size self.old }
         // What the trait says.
         ensures written { OnOk result (IsHonest (fuse_medium self.old)
             → (fuse_medium self.new).contents ≡ slice_set (fuse_medium self.old).contents at from.now) }
         ensures medium { Writes at from.now (fuse_medium self.old) (fuse_medium self.new) }
-        ensures size { memory_size (disk_of self.new) ≡ memory_size (disk_of self.old) }
-        ensures ok { OnOk result (fuse_counts self.new ≡ with_write (fuse_counts self.old)) }
-        ensures err { OnErr result (fuse_counts self.new ≡ with_failure (fuse_counts self.old)) }
+        ensures call { IsOneCall fuse_size fuse_counts result with_write self.old self.new }
         // The fuse, and what is synced.
         ensures passes { IsOk result ↔ (0 < calls_left self.old) }
         ensures spent { calls_left self.new ≡ calls_left self.old - 1 }
@@ -153,9 +150,7 @@ impl SectorDisk for FuseDisk {
         // What the trait says.
         ensures durable { OnOk result (IsDurable (fuse_medium self.new)) }
         ensures medium { Stays (fuse_medium self.old) (fuse_medium self.new) }
-        ensures size { memory_size (disk_of self.new) ≡ memory_size (disk_of self.old) }
-        ensures ok { OnOk result (fuse_counts self.new ≡ with_sync (fuse_counts self.old)) }
-        ensures err { OnErr result (fuse_counts self.new ≡ with_failure (fuse_counts self.old)) }
+        ensures call { IsOneCall fuse_size fuse_counts result with_sync self.old self.new }
         // The fuse, and what is synced.
         ensures passes { IsOk result ↔ (0 < calls_left self.old) }
         ensures spent { calls_left self.new ≡ calls_left self.old - 1 }

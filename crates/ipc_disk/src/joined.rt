@@ -2,7 +2,8 @@
 
 ghost use Rattle.std.specs.Prelude.{◌≡◌, ◌<◌, ◌≤◌, ◌^◌, ◌+◌, ◌-◌, ◌↔◌, ◌++◌, [], ◌∷◌, Some};
 ghost use Rattle.std.specs.Prelude.{IsOk, IsErr, IsTrue, IfOk, OnOk, OnErr, slice_get, slice_set};
-ghost use Rattle.ipc_disk.specs.Counts.{counted, with_failure, with_write, with_sync};
+ghost use Rattle.ipc_disk.specs.Calls.{IsOneCall};
+ghost use Rattle.ipc_disk.specs.Counts.{counted, with_write, with_sync};
 ghost use Rattle.ipc_disk.specs.Medium.{IsHonest, IsDurable, Stays, Writes};
 ghost use Rattle.ipc_disk.specs.Range.{IsInside, IsWithin};
 
@@ -40,16 +41,12 @@ fn count_fault(done: Result<(), DiskFault>, failures: &mut u64) -> Result<(), Di
 }
 
 impl<D: RunDisk + Drop> JoinedDisk<D> {
-    ghost use Rattle.ipc_disk.specs.Joined.{disk_under, waiting_values, has_failed_sync};
-    ghost use Rattle.ipc_disk.specs.Joined.{joined_counts};
+    ghost use Rattle.ipc_disk.specs.Joined.{disk_under, IsUnused};
 
     /// A disk over this one. Nothing waits, and no sync has failed.
     pub fn new(alloc: Global, disk: D) -> Result<JoinedDisk<D>, AllocError>
         ensures under { IfOk result (λ joined. disk_under joined ≡ disk) }
-        ensures unused { IfOk result (λ joined. joined_counts joined
-            ≡ record { failures = 0; writes = 0; syncs = D.syncs disk }) }
-        ensures nothing_waits { IfOk result (λ joined. waiting_values joined ≡ []) }
-        ensures sure { IfOk result (λ joined. ¬ IsTrue (has_failed_sync joined)) }
+        ensures unused { IfOk result (λ joined. IsUnused (D.syncs disk) joined) }
     {
         let run = Box::new(alloc, Run::new(0))?;
         Ok(JoinedDisk {
@@ -88,10 +85,7 @@ impl<D: RunDisk> JoinedDisk<D> {
     fn put(&mut self, first: u32) -> Result<(), DiskFault>
         requires { first ≤ joined_size self.old }
         ensures medium { Stays (joined_medium self.old) (joined_medium self.new) }
-        ensures size { joined_size self.new ≡ joined_size self.old }
-        ensures ok { OnOk result (joined_counts self.new ≡ joined_counts self.old) }
-        ensures err { OnErr result (joined_counts self.new
-            ≡ with_failure (joined_counts self.old)) }
+        ensures call { IsOneCall joined_size joined_counts result (λ n. n) self.old self.new }
         ensures range { OnOk result (waiting_range self.new ≡ record { first = first; count = 0 }) }
         ensures values { OnOk result (waiting_values self.new ≡ []) }
         ensures kept { OnErr result (self.new.run ≡ self.old.run) }
@@ -132,10 +126,7 @@ impl<D: RunDisk> JoinedDisk<D> {
     fn flush(&mut self) -> Result<(), DiskFault>
         ensures medium { Stays (joined_medium self.old) (joined_medium self.new) }
         ensures durable { OnOk result (IsDurable (joined_medium self.new)) }
-        ensures size { joined_size self.new ≡ joined_size self.old }
-        ensures ok { OnOk result (joined_counts self.new ≡ with_sync (joined_counts self.old)) }
-        ensures err { OnErr result (joined_counts self.new
-            ≡ with_failure (joined_counts self.old)) }
+        ensures call { IsOneCall joined_size joined_counts result with_sync self.old self.new }
         ensures nothing_waits { OnOk result (waiting_values self.new ≡ []) }
         ensures sure { has_failed_sync self.new ≡ has_failed_sync self.old }
     {
@@ -183,10 +174,7 @@ impl<D: RunDisk> SectorDisk for JoinedDisk<D> {
         ensures bytes { OnOk result (IsHonest (joined_medium self.old)
             → slice_get (joined_medium self.old).contents at ≡ Some into.new) }
         ensures medium { Stays (joined_medium self.old) (joined_medium self.new) }
-        ensures size { joined_size self.new ≡ joined_size self.old }
-        ensures ok { OnOk result (joined_counts self.new ≡ joined_counts self.old) }
-        ensures err { OnErr result (joined_counts self.new
-            ≡ with_failure (joined_counts self.old)) }
+        ensures call { IsOneCall joined_size joined_counts result (λ n. n) self.old self.new }
         // A sector that waits is read as it was written, and the disk under it is left alone.
         ensures waits { IsInside (waiting_range self.old) at → IsOk result }
         ensures written { IsInside (waiting_range self.old) at
@@ -212,10 +200,7 @@ impl<D: RunDisk> SectorDisk for JoinedDisk<D> {
             → (joined_medium self.new).contents
             ≡ slice_set (joined_medium self.old).contents at from.now) }
         ensures medium { Writes at from.now (joined_medium self.old) (joined_medium self.new) }
-        ensures size { joined_size self.new ≡ joined_size self.old }
-        ensures ok { OnOk result (joined_counts self.new ≡ with_write (joined_counts self.old)) }
-        ensures err { OnErr result (joined_counts self.new
-            ≡ with_failure (joined_counts self.old)) }
+        ensures call { IsOneCall joined_size joined_counts result with_write self.old self.new }
         // What waits then. A write that joins it cannot fail, and leaves the disk under it alone.
         ensures joins { Joins (waiting_range self.old) at → IsOk result }
         ensures alone { Joins (waiting_range self.old) at
@@ -245,10 +230,7 @@ impl<D: RunDisk> SectorDisk for JoinedDisk<D> {
         // What the trait says. The syncs are counted by the disk under it, which is synced once.
         ensures durable { OnOk result (IsDurable (joined_medium self.new)) }
         ensures medium { Stays (joined_medium self.old) (joined_medium self.new) }
-        ensures size { joined_size self.new ≡ joined_size self.old }
-        ensures ok { OnOk result (joined_counts self.new ≡ with_sync (joined_counts self.old)) }
-        ensures err { OnErr result (joined_counts self.new
-            ≡ with_failure (joined_counts self.old)) }
+        ensures call { IsOneCall joined_size joined_counts result with_sync self.old self.new }
         // Nothing waits then. After a sync that failed none is Ok, nor tried.
         ensures nothing_waits { OnOk result (waiting_values self.new ≡ []) }
         ensures sure { IsTrue (has_failed_sync self.old) → IsErr result }

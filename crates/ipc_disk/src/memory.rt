@@ -1,10 +1,11 @@
 //! A disk in memory, which never fails.
 
-ghost use Rattle.std.specs.Prelude.{◌≡◌, ◌<◌, ◌≤◌, ◌^◌, ◌++◌, [], ◌∷◌, ℕ, length, map};
+ghost use Rattle.std.specs.Prelude.{◌≡◌, ◌<◌, ◌≤◌, ◌^◌, ◌++◌, [], ◌∷◌, length, map};
 ghost use Rattle.std.specs.Prelude.{All, Some, IfOk, IsOk, OnOk};
-ghost use Rattle.std.specs.Prelude.{OnErr, replicate, slice_get, slice_set, vec_capacity};
+ghost use Rattle.std.specs.Prelude.{replicate, slice_get, slice_set, vec_capacity};
 ghost use Rattle.std.proofs.Common.{lit<};
-ghost use Rattle.ipc_disk.specs.Counts.{with_failure, with_write, with_sync};
+ghost use Rattle.ipc_disk.specs.Calls.{IsOneCall};
+ghost use Rattle.ipc_disk.specs.Counts.{with_write, with_sync};
 ghost use Rattle.ipc_disk.specs.Medium.{IsHonest, IsDurable, Stays, Writes};
 ghost use Rattle.ipc_disk.specs.Crash.{survivors, survivor, is_unsynced, survives as kept};
 ghost use Rattle.ipc_disk.specs.Relations.Slots.{IsWhole, ListsUnsynced, flushed, synced_slot};
@@ -236,10 +237,7 @@ impl SectorDisk for MemoryDisk {
         ensures bytes { OnOk result (IsHonest (memory_medium self.old)
             → slice_get (memory_medium self.old).contents at ≡ Some into.new) }
         ensures medium { Stays (memory_medium self.old) (memory_medium self.new) }
-        ensures size { memory_size self.new ≡ memory_size self.old }
-        ensures ok { OnOk result (memory_counts self.new ≡ memory_counts self.old) }
-        ensures err { OnErr result (memory_counts self.new
-            ≡ with_failure (memory_counts self.old)) }
+        ensures call { IsOneCall memory_size memory_counts result (λ n. n) self.old self.new }
         // It never fails.
         ensures never_fails { IsOk result }
         ensures unchanged { self.new ≡ self.old }
@@ -254,10 +252,7 @@ impl SectorDisk for MemoryDisk {
         ensures written { OnOk result (IsHonest (memory_medium self.old)
             → (memory_medium self.new).contents ≡ slice_set (memory_medium self.old).contents at from.now) }
         ensures medium { Writes at from.now (memory_medium self.old) (memory_medium self.new) }
-        ensures size { memory_size self.new ≡ memory_size self.old }
-        ensures ok { OnOk result (memory_counts self.new ≡ with_write (memory_counts self.old)) }
-        ensures err { OnErr result (memory_counts self.new
-            ≡ with_failure (memory_counts self.old)) }
+        ensures call { IsOneCall memory_size memory_counts result with_write self.old self.new }
         // It never fails.
         ensures never_fails { IsOk result }
         ensures synced { synced_image self.new ≡ synced_image self.old }
@@ -272,10 +267,7 @@ impl SectorDisk for MemoryDisk {
         // What the trait says.
         ensures durable { OnOk result (IsDurable (memory_medium self.new)) }
         ensures medium { Stays (memory_medium self.old) (memory_medium self.new) }
-        ensures size { memory_size self.new ≡ memory_size self.old }
-        ensures ok { OnOk result (memory_counts self.new ≡ with_sync (memory_counts self.old)) }
-        ensures err { OnErr result (memory_counts self.new
-            ≡ with_failure (memory_counts self.old)) }
+        ensures call { IsOneCall memory_size memory_counts result with_sync self.old self.new }
         // It never fails.
         ensures never_fails { IsOk result }
         ensures synced { synced_image self.new ≡ (memory_medium self.old).contents }

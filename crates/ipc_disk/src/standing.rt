@@ -1,10 +1,11 @@
 //! Bytes as they stand on a disk: written and read sector by sector, and a sector that is to last.
 
-ghost use Rattle.std.specs.Prelude.{◌≡◌, ◌↔◌, ◌+◌, ◌*◌, ◌-◌, ◌<◌, ◌≤◌, ◌++◌};
+ghost use Rattle.std.specs.Prelude.{◌≡◌, ◌+◌, ◌*◌, ◌-◌, ◌<◌, ◌≤◌, ◌++◌};
 ghost use Rattle.std.specs.Prelude.{length, take, replicate, Some};
-ghost use Rattle.std.specs.Prelude.{OnOk, OnErr, slice_get, slice_set};
-ghost use Rattle.ipc_disk.specs.Counts.{counted, with_failure, with_calls};
-ghost use Rattle.ipc_disk.specs.Medium.{IsHonest, IsDurable, SetOrNot, Stays};
+ghost use Rattle.std.specs.Prelude.{OnOk, IsErr, slice_get, slice_set};
+ghost use Rattle.ipc_disk.specs.Calls.{IsSameDisk, CountsCalls, OnlyReads};
+ghost use Rattle.ipc_disk.specs.Counts.{with_calls};
+ghost use Rattle.ipc_disk.specs.Medium.{IsHonest, IsDurable, SetOrNot};
 ghost use Rattle.ipc_disk.specs.Range.{IsOutside};
 ghost use Rattle.ipc_disk.specs.Since.{EachImageSince, LeavesAlone};
 ghost use Rattle.ipc_disk.specs.Standing.{sectors_for, piece, IsWrittenAt, StandsAt};
@@ -45,12 +46,8 @@ pub fn write_bytes<D: SectorDisk>(disk: &mut D, first: u32, bytes: &[u8]) -> Res
     ensures others { IsHonest (D.medium disk.old)
         → LeavesAlone (IsOutside (record { first = first; count = sectors_for (length bytes.now) }))
         (D.medium disk.old) (D.medium disk.new) }
-    ensures honest { IsHonest (D.medium disk.old) ↔ IsHonest (D.medium disk.new) }
-    ensures size { D.size disk.new ≡ D.size disk.old }
-    ensures failure { OnErr result ((D.counts disk.new).failures
-        ≡ counted (D.counts disk.old).failures 1) }
-    ensures counts { OnOk result (D.counts disk.new
-        ≡ with_calls (sectors_for (length bytes.now)) 0 (D.counts disk.old)) }
+    ensures same { IsSameDisk D.size D.medium disk.old disk.new }
+    ensures counts { CountsCalls D.counts result (with_calls (sectors_for (length bytes.now)) 0) disk.old disk.new }
 {
     let count = sectors_for_len(bytes.len());
     for i in 0..count {
@@ -73,14 +70,11 @@ pub fn write_durably<D: SectorDisk>(
     ensures any_moment { IsHonest (D.medium disk.old)
         → EachImageSince (D.medium disk.old) (D.medium disk.new)
         (SetOrNot at sector.now (D.medium disk.old)) }
-    ensures honest { IsHonest (D.medium disk.old) ↔ IsHonest (D.medium disk.new) }
     ensures others { IsHonest (D.medium disk.old)
         → LeavesAlone (IsOutside (record { first = at; count = 1 }))
         (D.medium disk.old) (D.medium disk.new) }
-    ensures size { D.size disk.new ≡ D.size disk.old }
-    ensures failure { OnErr result ((D.counts disk.new).failures
-        ≡ counted (D.counts disk.old).failures 1) }
-    ensures counts { OnOk result (D.counts disk.new ≡ with_calls 1 1 (D.counts disk.old)) }
+    ensures same { IsSameDisk D.size D.medium disk.old disk.new }
+    ensures counts { CountsCalls D.counts result (with_calls 1 1) disk.old disk.new }
 {
     disk.write(at, sector)?;
     disk.sync()
@@ -114,11 +108,7 @@ pub fn read_bytes<D: SectorDisk>(
     ensures stands { OnOk result (IsHonest (D.medium disk.old)
         → slice_get (D.medium disk.old).contents at ≡ Some first.now
         → StandsAt at into.new (D.medium disk.old).contents) }
-    ensures reads { IsHonest (D.medium disk.old) → Stays (D.medium disk.old) (D.medium disk.new) }
-    ensures honest { IsHonest (D.medium disk.old) ↔ IsHonest (D.medium disk.new) }
-    ensures size { D.size disk.new ≡ D.size disk.old }
-    ensures failure { OnErr result (D.counts disk.new ≡ with_failure (D.counts disk.old)) }
-    ensures no_failure { OnOk result (D.counts disk.new ≡ D.counts disk.old) }
+    ensures reads { OnlyReads D.size D.medium D.counts (IsErr result) disk.old disk.new }
 {
     put_piece(into, 0, first);
     for i in 1..sectors_for_len(into.len()) {

@@ -15,16 +15,16 @@ use Rattle.ipc_engine.specs.Sound.{IsSound}
 use Rattle.ipc_engine.specs.Step.{Step, step}
 use Rattle.ipc_engine.specs.View.{reply_of}
 use Rattle.ipc_wire.proofs.CallerLemmas.{length-reply_bytes}
-use Rattle.ipc_engine.proofs.CallerLemmas.{owed-none, unanswered-waits}
+use Rattle.ipc_engine.proofs.CallerLemmas.{owed-none, step-fits, unanswered-waits}
 use Rattle.ipc_hub.specs.Hub.{last_reply, greeted as as_greeted, told as as_told}
 use Rattle.ipc_hub.specs.View.{ConnectionView, HubView, kept}
 use Rattle.ipc_hub.specs.Relations.Delivery.{last_frames, owed_to, unanswered_of, pushed, hears, put_all, answered, with_answer, view_endpoint}
 use Rattle.ipc_hub.specs.Relations.Rows.{Table, process_in}
 use Rattle.ipc_hub.specs.Relations.Delivery.{HaveSpace, HasSpaceToGreet, HasSpaceToAnswer}
 use Rattle.ipc_hub.specs.Relations.Invariant.{AreApart, AreOwn, IsSoundConnection, IsSoundIn, HubInvariant, Continues}
-use Rattle.ipc_hub.proofs.Keeping.{owing, owing-some, owing-none, kept-owing, kept-pushed, length-pushed, nothing, length-heard, owing-have_space}
+use Rattle.ipc_hub.proofs.Keeping.{owing, sent_to, sent-some, sent-none, kept-owing, kept-pushed, length-pushed, length-heard, owing-have_space}
 use Rattle.ipc_hub.proofs.Keeping.{quiet-kept, delivery-goes-on, process-with}
-use Rattle.ipc_hub.proofs.Requests.{Asks, last-fits, last-is, last-sent, asked-owes, connected-above, connected-below, next-above, step-short}
+use Rattle.ipc_hub.proofs.Requests.{Asks, last-fits, last-is, last-sent, asked-owes, connected-above, connected-below, next-above}
 
 -- ---- the connection that asked
 
@@ -49,8 +49,7 @@ module _ (h : HubView) (conn : ℕ) (v : ConnectionView) (e : PlainEvent) (inv :
   IsFresh pid = (v.process ≡ None) × (pid ≡ h.state.processes.next) × (is_process now.state pid ≡ true) × (0 < bytes_to pid now.outcomes)
 
   -- With no process it has the reply, or the new process that this names; else it is as it was.
-  by-told : (P : ConnectionView → Type 0)
-      → ((o : PlainOutcome) → v.process ≡ None → last_reply now.outcomes ≡ Some o → P (pushed (reply_of o) v))
+  by-told : (P : ConnectionView → Type 0) → ((o : PlainOutcome) → v.process ≡ None → last_reply now.outcomes ≡ Some o → P (pushed (reply_of o) v))
       → ((pid : ℕ) → IsFresh pid → P (record v { process = Some pid })) → ((pid : ℕ) → v.process ≡ Some pid → P v) → P told
   by-told P none new same = by_process v.process (λ is. greeted is (a.greets is)) same
     where
@@ -62,8 +61,7 @@ module _ (h : HubView) (conn : ℕ) (v : ConnectionView) (e : PlainEvent) (inv :
       fresh : v.process ≡ None → (g : IsGreeted h.state now) → nat_eq g.reply.pid 0 ≡ false
           → (g.reply.pid ≡ 0) ⊎ ((g.reply.pid ≡ h.state.processes.next) × (is_process now.state g.reply.pid ≡ true)) → IsFresh g.reply.pid
       fresh is g t (inl zero) = absurd (grind (arith, nat_tests, t, zero))
-      fresh is g t (inr new) =
-          (is, new.0, new.1, subst (λ (os : List PlainOutcome). 0 < bytes_to g.reply.pid os) (sym g.last) (last-sent g.front g.reply))
+      fresh is g t (inr new) = (is, new.0, new.1, subst (λ (os : List PlainOutcome). 0 < bytes_to g.reply.pid os) (sym g.last) (last-sent g.front g.reply))
 
       greeted : v.process ≡ None → IsGreeted h.state now → P (as_greeted view_endpoint 0 (last_reply now.outcomes) v)
       greeted is g =
@@ -94,7 +92,7 @@ module _ (h : HubView) (conn : ℕ) (v : ConnectionView) (e : PlainEvent) (inv :
   fresh-owes pid new =
       let none : owed h.limits h.state pid ≡ 0 = owed-none h.limits h.state pid sound
       (elim (test_cases (is_process h.state pid)) [ inl is ↦ absurd (fresh-nobodys pid new is) | inr not ↦ not ]) in
-      omega (arith, none, asked-owes h.limits h.state e pid sound (fresh-above pid new), owing-some now.outcomes (owed_to h.limits now.state) pid)
+      omega (arith, none, asked-owes h.limits h.state e pid sound (fresh-above pid new), sent-some now.outcomes pid)
 
   -- it has room for what it is sent, and is owed then
   told-kept : IsSoundConnection h.limits debt told
@@ -105,14 +103,14 @@ module _ (h : HubView) (conn : ℕ) (v : ConnectionView) (e : PlainEvent) (inv :
       let owes = ap (owed_to h.limits h.state) none in
       let less = ap debt none in
       kept-pushed h.limits (owed_to h.limits h.state) debt o v here (omega (arith, fits, space))
-      (λ _. omega (arith, fits, space, owes, less, owing-none now.outcomes (owed_to h.limits now.state))))
+      (λ _. omega (arith, fits, space, owes, less, sent-none now.outcomes)))
       (λ pid new. kept-owing h.limits (owed_to h.limits h.state) debt v (Some pid) here live (omega (arith, fresh-owes pid new, space)))
       (λ pid some.
       let above = connected-above h.limits h.state pid sound (inv.own.connected conn pid (mine ∙ some)) in
       let owes = ap (owed_to h.limits h.state) some in
       let less = ap debt some in
       kept-owing h.limits (owed_to h.limits h.state) debt v v.process here live
-      (omega (arith, asked-owes h.limits h.state e pid sound above, space, owes, less, owing-some now.outcomes (owed_to h.limits now.state) pid)))
+      (omega (arith, asked-owes h.limits h.state e pid sound above, space, owes, less, sent-some now.outcomes pid)))
 
   -- If it keeps no frame after its replies, it kept none before, and its request is the one that is not answered yet.
   pub told-none : kept (hears now.outcomes told).outbox ≡ []
@@ -125,10 +123,10 @@ module _ (h : HubView) (conn : ℕ) (v : ConnectionView) (e : PlainEvent) (inv :
       absurd (pushed-long o (omega (arith, ap length empty, length-heard now.outcomes w))))
       (λ pid new empty.
       let w : ConnectionView = record v { process = Some pid } in
-      absurd (omega (arith, new.3, ap length empty, length-heard now.outcomes w, owing-some now.outcomes nothing pid)))
+      absurd (omega (arith, new.3, ap length empty, length-heard now.outcomes w, sent-some now.outcomes pid)))
       (λ pid some empty.
       let long = length-heard now.outcomes v in
-      let sent = ap (owing now.outcomes nothing) some ∙ owing-some now.outcomes nothing pid in
+      let sent = ap (sent_to now.outcomes) some ∙ sent-some now.outcomes pid in
       let quiet : bytes_to pid now.outcomes ≡ 0 = omega (arith, ap length empty, long, sent) in
       let waits = unanswered-waits h.limits h.state e pid sound (inv.own.connected conn pid (mine ∙ some)) (a.own pid some) quiet in (
         omega (arith, ap length empty, long),
@@ -159,7 +157,7 @@ module _ (h : HubView) (conn : ℕ) (v : ConnectionView) (e : PlainEvent) (inv :
           (is, a.others pid is (λ same. apart (inv.own.one k conn pid (ap process_of there ∙ some) (mine ∙ same)))))
 
   all-space : HaveSpace now.outcomes table
-  all-space = owing-have_space h.limits (owed_to h.limits now.state) now.outcomes table (step-short h.limits h.state e passed sound) each-now
+  all-space = owing-have_space h.limits (owed_to h.limits now.state) now.outcomes table passed (step-fits h.limits h.state e sound) each-now
 
   greet-space : (r : Option PlainOutcome) → last_reply now.outcomes ≡ r → HasSpaceToGreet r v
   greet-space None last = tt
@@ -168,35 +166,30 @@ module _ (h : HubView) (conn : ℕ) (v : ConnectionView) (e : PlainEvent) (inv :
   pub answer-space : HasSpaceToAnswer now.outcomes conn h.connections
   answer-space = record { own = rw found (λ _. greet-space (last_reply now.outcomes) refl); all = rw found all-space }
 
+  -- a process of a connection is new, or has it still
+  had-or-new : (k pid : ℕ) → process_in table k ≡ Some pid → (process_in h.connections k ≡ Some pid) ⊎ ((k ≡ conn) × IsFresh pid)
+  had-or-new k pid is =
+      elim (process-with h.connections conn k pid v told found is) [
+        | inl here ↦ elim (told-process pid here.1) [ inl had ↦ inl (ap (process_in h.connections) here.0 ∙ mine ∙ had) | inr new ↦ inr (here.0, new) ]
+        | inr there ↦ inl there.1
+      ]
+
   own : AreOwn now.state table
   own =
       record {
-        connected = λ k pid is. elim (process-with h.connections conn k pid v told found is) [
-          | inl here ↦ elim (told-process pid here.1) [
-            | inl before ↦ a.stay pid (inv.own.connected conn pid (mine ∙ before))
-            | inr new ↦ new.2
-          ]
-          | inr there ↦ a.stay pid (inv.own.connected k pid there.1)
-        ];
+        connected = λ k pid is. elim (had-or-new k pid is) [ inl had ↦ a.stay pid (inv.own.connected k pid had) | inr new ↦ new.1.2 ];
         one = λ k j pid is too.
-            elim (process-with h.connections conn k pid v told found is) [
-              | inl here ↦ elim (process-with h.connections conn j pid v told found too) [
-                | inl here' ↦ here.0 ∙ sym here'.0
-                | inr there' ↦ absurd (alone j pid there'.0 here.1 there'.1)
+            elim (had-or-new k pid is) [
+              | inl had ↦ elim (had-or-new j pid too) [
+                | inl had' ↦ inv.own.one k j pid had had'
+                | inr new ↦ absurd (fresh-nobodys pid new.1 (inv.own.connected k pid had))
               ]
-              | inr there ↦ elim (process-with h.connections conn j pid v told found too) [
-                | inl here' ↦ absurd (alone k pid there.0 here'.1 there.1)
-                | inr there' ↦ inv.own.one k j pid there.1 there'.1
+              | inr new ↦ elim (had-or-new j pid too) [
+                | inl had ↦ absurd (fresh-nobodys pid new.1 (inv.own.connected j pid had))
+                | inr new' ↦ new.0 ∙ sym new'.0
               ]
             ];
       }
-    where
-      alone : (j pid : ℕ) → j ≢ conn → told.process ≡ Some pid → process_in h.connections j ≡ Some pid → ⊥
-      alone j pid apart told is =
-          elim (told-process pid told) [
-            | inl before ↦ apart (inv.own.one j conn pid is (mine ∙ before))
-            | inr new ↦ fresh-nobodys pid new (inv.own.connected j pid is)
-          ]
 
   -- when it has been told, no two connections have one process
   pub answer-apart : AreApart (with_answer now.outcomes conn h.connections)

@@ -14,8 +14,7 @@ same-outgoing a b v w f = λ i. record { visible = v i; waiting = w i; free = f 
 
 -- a front is its own front and the rest of it
 pub front-parts : (xs : List ℕ) (n end : ℕ) → n ≤ end → take n xs ++ drop n (take end xs) ≡ take end xs
-front-parts xs n end le =
-    ap (λ (ws : List ℕ). ws ++ drop n (take end xs)) (sym (take-take n end xs le)) ∙ take-append-drop n (take end xs)
+front-parts xs n end le = ap (λ (ws : List ℕ). ws ++ drop n (take end xs)) (sym (take-take n end xs le)) ∙ take-append-drop n (take end xs)
 
 -- nothing of a front stands behind it
 pub front-rest : (xs : List ℕ) (end : ℕ) → end ≤ length xs → drop end (take end xs) ≡ []
@@ -40,8 +39,7 @@ front-grown xs bytes ys zs end long =
 
 -- the front of a front stays when more is written
 pub front-stays : (xs ys : List ℕ) (n end : ℕ) → n ≤ end → end ≤ length xs → take n (take end xs ++ ys) ≡ take n xs
-front-stays xs ys n end le long =
-    take-append-le n (take end xs) ys (omega (arith, length-take-le end xs long)) ∙ take-take n end xs le
+front-stays xs ys n end le long = take-append-le n (take end xs) ys (omega (arith, length-take-le end xs long)) ∙ take-take n end xs le
 
 -- what a vector has when bytes were written behind a place in it
 pub written : {Z : Type 0} (v : Vec ℕ Z) (xs out bytes : List ℕ) (end : ℕ) → xs ≡ v.items → end ≤ length xs → length bytes ≤ length xs - end

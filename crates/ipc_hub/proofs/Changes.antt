@@ -1,16 +1,16 @@
 -- The calls of the hub over its rows: a connection comes, goes, is released, or has its output consumed, and the disk has failed.
 use Rattle.std.proofs.Common.{◌≡◌, ◌≢◌, ℕ, ◌+◌, ◌<◌, ◌≤◌, ◌^◌, List, [], ◌++◌, length, drop, Option, Some, None, refl, sym, ap, ◌∙◌, subst, arith, inl, false}
-use Rattle.std.proofs.Common.{true}
+use Rattle.std.proofs.Common.{true, rules}
 use Rattle.std.proofs.Common.{inr, ◌∷◌, append-nil}
 use Rattle.std.specs.Prelude.{nat_eq, option_map, unwrap_or, nat_le, is_some, not, ◌==◌, ◌&&◌, ◌||◌}
 use Rattle.std.proofs.lemmas.Bool.{cases_eq}
 use Rattle.std.proofs.lemmas.List.{length-append, drop_all, drop-drop, drop-append-le, length-drop}
-use Rattle.std.proofs.lemmas.List.Elements.{All-weaker, All-cons, All-head, All-tail, All-push}
+use Rattle.std.proofs.lemmas.List.Elements.{All-weaker, All-push}
 use Rattle.ipc_base.specs.Limits.{longest_reply}
 use Rattle.ipc_base.specs.Table.{value_at, with_entry, without, keys_of, seen_as, ArePaired, IsRising}
 use Rattle.ipc_base.specs.declared.limits.Limits.{Limits}
 use Rattle.ipc_base.proofs.CallerLemmas.{nobody, each-entry, each-without, each-seen, entry-at, entry-other, rising-entry, rising-without, rising-gone}
-use Rattle.ipc_base.proofs.CallerLemmas.{value_at-without, paired-entry, paired-without, paired-seen, at-map, keys-map, choice}
+use Rattle.ipc_base.proofs.CallerLemmas.{value_at-without, paired-entry, paired-without, paired-seen, at-map, keys-map}
 use Rattle.ipc_base.proofs.CallerLemmas.{other-with, test_cases, same_keys}
 use Rattle.ipc_wire.proofs.CallerLemmas.{first_short, length-reply_bytes}
 use Rattle.ipc_hub.specs.Clients.{accepted, Frame, Client, Clients, start_client, with_client, all_bytes, confirmed_bytes, consumed_from, shown_at}
@@ -22,8 +22,9 @@ use Rattle.ipc_engine.specs.Bytes.{most_owed}
 use Rattle.ipc_hub.specs.Relations.Delivery.{owed_to, released, consumed, failed}
 use Rattle.ipc_hub.specs.Relations.Invariant.{IsSoundConnection, IsSoundIn, IsNew, HubInvariant, StoredInvariant, IsNobodys}
 use Rattle.ipc_hub.specs.Relations.Matches.{IsFrame, ClientMatches, HubMatches, AreFrames}
-use Rattle.ipc_hub.proofs.Deliveries.{IsOf, all-confirmed, confirmed-short, consumed-bytes, consumed-shown, consumed-all, table-matches, frames-later}
-use Rattle.ipc_hub.proofs.Keeping.{table-invariant, by-changed, changed-keys, changed-invariant, at-changed}
+use Rattle.ipc_hub.proofs.Deliveries.{confirmed-weaker, IsOf, all-confirmed, confirmed-short}
+use Rattle.ipc_hub.proofs.Deliveries.{consumed-bytes, consumed-shown, consumed-all, table-matches, frames-later}
+use Rattle.ipc_hub.proofs.Keeping.{seen-same, table-invariant, by-changed, changed-keys, changed-invariant, at-changed}
 use Rattle.ipc_hub.proofs.Ending.{change-matches, pair-at}
 use Rattle.std.proofs.lemmas.Bool.Decides.{nat_tests}
 use Rattle.std.proofs.lemmas.Grind.{flat_map-append}
@@ -84,9 +85,7 @@ process-without h conn k pid inv is =
     ]
 
 pub without-invariant : (h : HubView) (conn : ℕ) → HubInvariant h → HubInvariant (record h { connections = without nat_eq h.connections conn })
-without-invariant h conn inv =
-    table-invariant h (without nat_eq h.connections conn) inv (λ k pid is. (process-without h conn k pid inv is).1)
-    (each-without (IsSoundIn h) h.connections conn inv.each) (rising-without 0 h.connections (2 ^ 32) conn inv.rising)
+without-invariant h conn inv = search (rules, each-without, process-without, rising-without, table-invariant)
 
 pub without-nobodys : (h : HubView) (conn : ℕ) → HubInvariant h → IsNobodys (without nat_eq h.connections conn) (process_in h.connections conn)
 without-nobodys h conn inv k pid mine is = let other = process-without h conn k pid inv is in other.0 (inv.own.one k conn pid other.1 mine)
@@ -117,17 +116,12 @@ without-leaves before mid left after conn other passed taken stay rising =
 pub process-matches : (limits : Limits) (confirmed : ℕ) (old : HubView) (h : Clients) (conn : ℕ) → HubMatches limits confirmed old h
     → process_in old.connections conn ≡ process_at h conn
 process-matches limits confirmed old h conn m =
-    elim (pair-at limits confirmed old h conn m) [
-      | inl none ↦ rw (none.0, none.1) refl
-      | inr p ↦ rw (p.at, p.here) p.mine.process
-    ]
+    elim (pair-at limits confirmed old h conn m) [ inl none ↦ rw (none.0, none.1) refl | inr p ↦ rw (p.at, p.here) p.mine.process ]
 
 pub without-matches : (limits : Limits) (confirmed : ℕ) (old new : HubView) (h : Clients) (conn : ℕ) → HubMatches limits confirmed old h
     → new.limits ≡ old.limits → new.state ≡ old.state → new.connections ≡ without nat_eq old.connections conn
     → HubMatches limits confirmed new (record h { clients = without nat_eq h.clients conn })
-without-matches limits confirmed old new h conn m same state rows =
-    table-matches limits confirmed confirmed old new h (without nat_eq old.connections conn) (without nat_eq h.clients conn) m same state rows m.known
-    (paired-without (ClientMatches confirmed (accepted h)) old.connections h.clients conn m.clients)
+without-matches limits confirmed old new h conn m same state rows = search (rules, paired-without, table-matches)
 
 -- ---- all frames are seen
 
@@ -165,13 +159,9 @@ pub release-matches : (limits : Limits) (confirmed : ℕ) (old new : HubView) (h
     → new.state ≡ old.state → new.connections ≡ seen_as released old.connections → HubMatches limits (accepted h) new h
 release-matches limits confirmed old new h m same state rows =
     table-matches limits confirmed (accepted h) old new h (seen_as released old.connections) h.clients m same state rows (omega arith)
-    (subst (ArePaired (ClientMatches (accepted h) (accepted h)) (seen_as released old.connections)) (map-same h.clients)
+    (subst (ArePaired (ClientMatches (accepted h) (accepted h)) (seen_as released old.connections)) (seen-same h.clients)
     (paired-seen (ClientMatches confirmed (accepted h)) (ClientMatches (accepted h) (accepted h)) old.connections h.clients released (λ c. c) m.clients
     (released-matches confirmed (accepted h))))
-  where
-    map-same : (es : List (ℕ × Client)) → seen_as (λ c. c) es ≡ es
-    map-same [] = refl
-    map-same (e ∷ es) = ap (λ (t : List (ℕ × Client)). e ∷ t) (map-same es)
 
 -- ---- some output is taken
 
@@ -253,40 +243,22 @@ consumed-output table conn n =
     by_value None = sym (drop_all n [] (omega arith))
     by_value (Some c) = refl
 
-pub consumed-others : (table : Table) (conn n other : ℕ) → other ≢ conn
-    → output_in (changed (consumed n) conn table) other ≡ output_in table other
-consumed-others table conn n other apart =
-    by-changed (λ (t : Table). output_in t other ≡ output_in table other) (consumed n) conn table (λ _. refl) (λ v _.
-    ap (λ (r : Option ConnectionView). unwrap_or (option_map (λ c. c.outbox.visible) r) []) (other-with table conn other (consumed n v) apart))
+pub consumed-others : (table : Table) (conn n other : ℕ) → other ≢ conn → output_in (changed (consumed n) conn table) other ≡ output_in table other
+consumed-others table conn n other apart = search (rules, by-changed, other-with)
 
 -- ---- what is seen
 
 pub shown-matches : (limits : Limits) (confirmed : ℕ) (old : HubView) (h : Clients) (conn : ℕ) → HubMatches limits confirmed old h
     → (output_of old conn ≡ shown_at confirmed h conn) × (ended_of old conn ≡ ended_at h conn)
 shown-matches limits confirmed old h conn m =
-    elim (pair-at limits confirmed old h conn m) [
-      | inl none ↦ rw (none.0, none.1) (refl, refl)
-      | inr p ↦ rw (p.at, p.here) (p.mine.visible, p.mine.ended)
-    ]
+    elim (pair-at limits confirmed old h conn m) [ inl none ↦ rw (none.0, none.1) (refl, refl) | inr p ↦ rw (p.at, p.here) (p.mine.visible, p.mine.ended) ]
 
 -- ---- the disk has failed: what the clients could see stays, and an EIO frame is the last of each
 
 confirmed-all : (confirmed : ℕ) (frames : List Frame) → all_bytes (confirmed_frames confirmed frames) ≡ confirmed_bytes confirmed frames
 confirmed-all confirmed [] = refl
 confirmed-all confirmed (f ∷ fs) =
-    elim (test_cases (nat_le f.mark confirmed)) [
-      | inl t ↦ rw t (ap (λ bytes. f.bytes ++ bytes) (confirmed-all confirmed fs))
-      | inr t ↦ rw t refl
-    ]
-
--- the marks of these are not above
-confirmed-frames : (confirmed accepted : ℕ) (frames : List Frame) → AreFrames accepted frames → AreFrames confirmed (confirmed_frames confirmed frames)
-confirmed-frames confirmed accepted [] all = λ k d none. absurd (omega (arith, none))
-confirmed-frames confirmed accepted (f ∷ fs) all =
-    choice (AreFrames confirmed) (nat_le f.mark confirmed) (f ∷ confirmed_frames confirmed fs) []
-    (λ t. All-cons (IsOf confirmed) f (confirmed_frames confirmed fs) (grind (arith, nat_tests, t), (All-head (IsOf accepted) f fs all).1)
-    (confirmed-frames confirmed accepted fs (All-tail (IsOf accepted) f fs all)))
-    (λ _ k d none. absurd (omega (arith, none)))
+    elim (test_cases (nat_le f.mark confirmed)) [ inl t ↦ rw t (ap (λ bytes. f.bytes ++ bytes) (confirmed-all confirmed fs)) | inr t ↦ rw t refl ]
 
 failed-matches : (confirmed accepted : ℕ) → confirmed ≤ accepted → (v : ConnectionView) (c : Client) → ClientMatches confirmed accepted v c
     → ClientMatches confirmed accepted (failed v) (cut_off confirmed c)
@@ -295,7 +267,7 @@ failed-matches confirmed accepted known v c m =
     let last : Frame = record { mark = confirmed; bytes = bytes } in
     let left : List Frame = confirmed_frames confirmed c.frames in
     let frames : AreFrames confirmed (left ++ last ∷ []) =
-    All-push (IsOf confirmed) left last (confirmed-frames confirmed accepted c.frames m.frames)
+    All-push (IsOf confirmed) left last (confirmed-weaker (IsOf accepted) (IsOf confirmed) confirmed c.frames (λ f le is. (le, is.1)) m.frames)
     (omega arith, (reply_of (refusal 0 EIO), (refl, omega arith))) in
     let all : all_bytes (left ++ last ∷ []) ≡ confirmed_bytes confirmed c.frames ++ bytes =
     flat_map-append (λ (f : Frame). f.bytes) left (last ∷ [])
@@ -318,7 +290,4 @@ failed-matches confirmed accepted known v c m =
 -- the disk has failed
 pub fail-matches : (limits : Limits) (confirmed : ℕ) (old new : HubView) (h : Clients) → HubMatches limits confirmed old h → new.limits ≡ old.limits
     → new.state ≡ old.state → new.connections ≡ seen_as failed old.connections → HubMatches limits confirmed new (fail confirmed h)
-fail-matches limits confirmed old new h m same state rows =
-    table-matches limits confirmed confirmed old new h (seen_as failed old.connections) (seen_as (cut_off confirmed) h.clients) m same state rows m.known
-    (paired-seen (ClientMatches confirmed (accepted h)) (ClientMatches confirmed (accepted h)) old.connections h.clients failed
-    (cut_off confirmed) m.clients (failed-matches confirmed (accepted h) m.known))
+fail-matches limits confirmed old new h m same state rows = search (rules, failed-matches, paired-seen, table-matches)

@@ -1,7 +1,7 @@
 -- What a hub over its store comes to, one call within another: time passed, bytes were taken in, or a connection was taken out.
-use Rattle.std.proofs.Common.{◌≡◌, ℕ, true, false, List, [], ◌++◌, Bool, Option, Some, None, refl, sym, ap, ◌∙◌, subst, arith, inl, inr, length, ◌<◌}
+use Rattle.std.proofs.Common.{◌≡◌, ℕ, false, List, [], ◌++◌, Bool, Option, Some, None, refl, sym, ap, ◌∙◌, subst, arith, inl, inr, length, ◌<◌}
 use Rattle.std.proofs.Common.{append-nil, append_assoc}
-use Rattle.std.specs.Prelude.{nat_eq, not, option_map, unwrap_or, IfSome}
+use Rattle.std.specs.Prelude.{nat_eq, option_map}
 use Rattle.std.proofs.lemmas.List.{length-append}
 use Rattle.ipc_base.specs.Table.{value_at, without}
 use Rattle.ipc_base.specs.declared.limits.Limits.{Limits}
@@ -12,12 +12,12 @@ use Rattle.ipc_store.specs.View.{StoreView}
 use Rattle.ipc_store.proofs.CallerLemmas.{Takes-both}
 use Rattle.ipc_hub.specs.Hub.{accepted, leave}
 use Rattle.ipc_hub.specs.Clients.{Clients, client_endpoint, tick, feed, hangup}
-use Rattle.ipc_hub.specs.View.{ConnectionView, HubView, StoredHub, HasNoFrame, connection_of, ended_of, kept}
+use Rattle.ipc_hub.specs.View.{ConnectionView, HubView, StoredHub, HasNoFrame, IsBare, connection_of, kept}
 use Rattle.ipc_hub.specs.Relations.Delivery.{released}
 use Rattle.ipc_hub.specs.Relations.Invariant.{HasPassed, SameButSeen}
 use Rattle.ipc_hub.specs.Relations.Matches.{HubMatches, StoredMatches, TakesIn, Comes, Accepts, Pends}
 use Rattle.ipc_hub.specs.Relations.Requests.{Left, exit_of}
-use Rattle.ipc_hub.specs.Relations.Rows.{Table, hub_view, stored_view, process_in, is_open_in}
+use Rattle.ipc_hub.specs.Relations.Rows.{Table, goes_on, hub_view, stored_view, process_in, is_open_in}
 use Rattle.ipc_hub.proofs.Changes.{without-matches, process-matches}
 use Rattle.ipc_hub.proofs.Deliveries.{left-matches}
 use Rattle.ipc_hub.proofs.Ending.{leave-adds}
@@ -33,17 +33,16 @@ module _ (old new : HubView) (same : SameButSeen old new) (conn : ℕ) where
       ]
 
   pub still-empty : HasNoFrame old conn → HasNoFrame new conn
-  still-empty none = now-at (λ r. IfSome r (λ c. kept c.outbox ≡ [])) none (by_value (connection_of old conn) none)
+  still-empty none = now-at IsBare none (by_value (connection_of old conn) none)
     where
-      by_value : (r : Option ConnectionView) → IfSome r (λ c. kept c.outbox ≡ []) → IfSome (option_map released r) (λ c. kept c.outbox ≡ [])
+      by_value : (r : Option ConnectionView) → IsBare r → IsBare (option_map released r)
       by_value None none = tt
       by_value (Some v) none = append-nil (kept v.outbox) ∙ none
 
   pub still-over : is_open_in old.connections conn ≡ false → is_open_in new.connections conn ≡ false
-  still-over over = now-at (λ r. unwrap_or (option_map (λ c. not c.ended) r) false ≡ false) over (by_value (connection_of old conn) over)
+  still-over over = now-at (λ r. goes_on r ≡ false) over (by_value (connection_of old conn) over)
     where
-      by_value : (r : Option ConnectionView) → unwrap_or (option_map (λ (c : ConnectionView). not c.ended) r) false ≡ false
-          → unwrap_or (option_map (λ (c : ConnectionView). not c.ended) (option_map released r)) false ≡ false
+      by_value : (r : Option ConnectionView) → goes_on r ≡ false → goes_on (option_map released r) ≡ false
       by_value None over = over
       by_value (Some v) over = over
 
@@ -55,20 +54,10 @@ passes-then old mid new same passed =
       space = λ conn none. passed.space conn (still-empty old mid same conn none);
     }
 
--- a connection that has ended does not go on
-pub ended-over : (h : HubView) (conn : ℕ) → ended_of h conn ≡ true → is_open_in h.connections conn ≡ false
-ended-over h conn = by_value (connection_of h conn)
-  where
-    by_value : (r : Option ConnectionView) → unwrap_or (option_map (λ (c : ConnectionView). c.ended) r) false ≡ true
-        → unwrap_or (option_map (λ (c : ConnectionView). not c.ended) r) false ≡ false
-    by_value None never = cc
-    by_value (Some v) over = ap not over
-
 -- ---- what a hub comes to
 
 module _ {D : Type 0} (medium : D → Medium) (limits : Limits) where
-  pub comes-same : (old new : StoredHub D) (h : Clients) → StoredMatches limits new h → Takes medium old.store [] new.store
-      → Comes medium limits old new h h
+  pub comes-same : (old new : StoredHub D) (h : Clients) → StoredMatches limits new h → Takes medium old.store [] new.store → Comes medium limits old new h h
   comes-same old new h m takes = record { matches = m; events = []; adds = sym (append-nil h.events); takes = takes }
 
   pub comes-further : (old mid new : StoredHub D) (h now next : Clients) → Comes medium limits old mid h now
@@ -77,14 +66,7 @@ module _ {D : Type 0} (medium : D → Medium) (limits : Limits) where
       record {
         matches = record {
           hub = rw a.pends.confirmed m;
-          counts = omega (
-            arith,
-            a.pends.confirmed,
-            a.pends.waiting,
-            came.matches.counts,
-            ap length a.adds,
-            length-append now.events a.events,
-          );
+          counts = omega (arith, a.pends.confirmed, a.pends.waiting, came.matches.counts, ap length a.adds, length-append now.events a.events);
         };
         events = came.events ++ a.events;
         adds = a.adds ∙ ap (λ es. es ++ a.events) came.adds ∙ append_assoc h.events came.events a.events;

@@ -1,22 +1,21 @@
 -- A commit of the store: the frames that waited are seen, or it has failed and they are dropped.
 use Rattle.std.proofs.Common.{◌≡◌, ℕ, ◌+◌, ◌-◌, ◌<◌, ◌≤◌, ◌^◌, Bool, true, false, [], ◌⊎◌, inl, inr, Ok, Err, refl, sym, ap, ◌∙◌, arith}
-use Rattle.std.specs.Prelude.{if◌then◌else◌, ⊤, Result, OnOk, OnErr, IfErr}
-use Rattle.ipc_base.specs.declared.limits.Limits.{Limits}
+use Rattle.std.specs.Prelude.{if◌then◌else◌, ⊤, Result, OnOk, OnErr}
 use Rattle.ipc_base.specs.Table.{keys_of, seen_as, EachValue}
 use Rattle.ipc_base.proofs.CallerLemmas.{keys-map}
 use Rattle.ipc_disk.specs.Counts.{Counts, counted}
-use Rattle.ipc_disk.specs.Medium.{Medium}
+use Rattle.ipc_disk.specs.Medium.{Medium, IsHonest}
 use Rattle.ipc_engine.specs.Engine.{Machine}
 use Rattle.ipc_store.specs.declared.fault.CommitError.{CommitError}
 use Rattle.ipc_store.specs.declared.fault.CommitError.TheVariants as commit
 use Rattle.ipc_store.specs.Histories.{Takes}
-use Rattle.ipc_store.specs.View.{StoreView, IsAtLastEpoch, IsStopped}
-use Rattle.ipc_hub.specs.Clients.{Clients, accepted}
-use Rattle.ipc_hub.specs.View.{HubView, StoredHub, HasStopped, most_events}
+use Rattle.ipc_store.specs.View.{StoreView, IsAtLastEpoch, IsCommitted, IsReadyFor, IsStopped, Spends}
+use Rattle.ipc_hub.specs.Clients.{accepted}
+use Rattle.ipc_hub.specs.View.{StoredHub, HasStopped, most_events}
 use Rattle.ipc_hub.specs.Relations.Delivery.{released, failed, HasSpare}
-use Rattle.ipc_hub.specs.Relations.Faults.{Fails, Halts}
+use Rattle.ipc_hub.specs.Relations.Faults.{Fails, Halts, Settles}
 use Rattle.ipc_hub.specs.Relations.Invariant.{IsSoundIn, HubInvariant, StoredInvariant}
-use Rattle.ipc_hub.specs.Relations.Matches.{Adds, StoredMatches}
+use Rattle.ipc_hub.specs.Relations.Matches.{Adds}
 use Rattle.ipc_hub.specs.Relations.Rows.{Table, hub_view, stored_view}
 use Rattle.ipc_hub.proofs.Keeping.{each-weaker}
 use Rattle.ipc_hub.proofs.Changes.{released-invariant, release-matches, fail-matches}
@@ -29,14 +28,6 @@ going v left = by_stop v.store.stopped left
     by_stop true left = absurd (left (omega arith))
     by_stop false left = refl
 
--- a test has said that events are left
-pub some-left : {D : Type 0} (now : StoredHub D) → (HasStopped now → false ≡ true) → ¬ HasStopped now
-some-left now told stops = let never : false ≡ true = told stops in cc
-
--- so it has not stopped
-pub going-told : {D : Type 0} (v now : StoredHub D) → v ≡ now → (HasStopped now → false ≡ true) → v.store.stopped ≡ false
-going-told v now is told = ap (λ w. w.store.stopped) is ∙ going now (some-left now told)
-
 -- events have come, and then more
 pub adds-both : {D : Type 0} {i k : ℕ} (n : ℕ) {old mid new : StoreView D} → Adds i old mid → Adds k mid new → i + k ≤ n → Adds n old new
 adds-both n first next fits = record {
@@ -47,59 +38,74 @@ adds-both n first next fits = record {
   waiting = omega (arith, first.waiting, next.waiting, fits);
 }
 
--- each connection has room for an EIO frame
-pub spare : (h : HubView) → HubInvariant h → EachValue HasSpare h.connections
-spare h inv = each-weaker (IsSoundIn h) HasSpare h.connections (λ v k. k.spare) inv.each
+-- what a commit or a save of the store came to
+pub record Wrote {D : Type 0} (medium : D → Medium) (counts : D → Counts) (old new : StoreView D) (done : Result ⊤ CommitError) : Type 0 where
+  pub commits : IsCommitted done old new
+  pub takes : Takes medium old [] new
+  pub ready : OnOk done (IsReadyFor new most_events)
+  pub device : done ≡ Err commit.Device → (counts new.disk).failures ≡ counted (counts old.disk).failures 1
+  pub halted : done ≡ Err commit.Stopped → IsStopped old ⊎ IsAtLastEpoch old
+  pub spends : OnOk done (Spends counts 1 old new)
+  pub honest : IsHonest (medium old.disk) → IsHonest (medium new.disk)
 
--- A commit or a save of the store is done or has failed, and the connections were told of it.
-module _ {D : Type 0} (old new : StoreView D) (before after : Table) (same : new.machine ≡ old.machine) (goes : old.stopped ≡ false) where
-  -- the frames that waited are seen, or they are dropped
-  abbrev pub Told : Result ⊤ CommitError → Type 0
-  Told done = OnOk done (after ≡ seen_as released before) × OnErr done (after ≡ seen_as failed before) × OnErr done (IsStopped new)
+-- a hub of which events are left has not stopped, and each of its connections has room for an EIO frame
+module _ {D : Type 0} {old : StoreView D} {before : Table} (v : StoredHub D) (is : stored_view old before ≡ v) (left : ¬ HasStopped v) where
+  goes : old.stopped ≡ false
+  goes = ap (λ w. w.store.stopped) is ∙ going v left
 
   pub told-spare : StoredInvariant (stored_view old before) → EachValue HasSpare before
-  told-spare inv = spare (hub_view old.machine before) (inv.running goes)
+  told-spare inv = each-weaker (IsSoundIn (hub_view old.machine before)) HasSpare before (λ c k. k.spare) (inv.running goes).each
 
-  pub told-stands : (done : Result ⊤ CommitError) → Told done → StoredInvariant (stored_view old before) → StoredInvariant (stored_view new after)
-  told-stands (Ok _) told inv =
-      let still : HubInvariant (hub_view new.machine after) = rw (same, told.0) (released-invariant (hub_view old.machine before) (inv.running goes)) in
+-- the frames that waited are seen, or they are dropped
+abbrev pub Told : Table → Table → Result ⊤ CommitError → Type 0
+Told before after done = OnOk done (after ≡ seen_as released before) × OnErr done (after ≡ seen_as failed before)
+
+-- it is done or has failed, and the connections were told of it
+module _ {D : Type 0} {medium : D → Medium} {counts : D → Counts} {old new : StoreView D} {before after : Table} (v : StoredHub D)
+    (is : stored_view old before ≡ v) (left : ¬ HasStopped v) (inv : StoredInvariant (stored_view old before)) where
+  pub told-stands : (done : Result ⊤ CommitError) → Wrote medium counts old new done → Told before after done → StoredInvariant (stored_view new after)
+  told-stands (Ok _) w told =
+      let still : HubInvariant (hub_view new.machine after) =
+      rw (w.commits.machine, told.0) (released-invariant (hub_view old.machine before) (inv.running (goes v is left))) in
       record { rising = still.rising; running = λ _. still }
-  told-stands (Err e) told inv =
-      record { rising = rw told.1 (rw (keys-map failed before) inv.rising); running = λ on. let never : true ≡ false = sym told.2 ∙ on in cc }
+  told-stands (Err e) w told =
+      record { rising = rw told.1 (rw (keys-map failed before) inv.rising); running = λ on. let never : true ≡ false = sym w.commits.stops ∙ on in cc }
 
-  pub told-numbers : (done : Result ⊤ CommitError) → Told done → keys_of after ≡ keys_of before
-  told-numbers (Ok _) told = ap keys_of told.0 ∙ keys-map released before
-  told-numbers (Err e) told = ap keys_of told.1 ∙ keys-map failed before
-
-  pub told-keeps : (done : Result ⊤ CommitError) → Told done → OnOk done (new.confirmed ≡ old.confirmed + old.waiting) → OnOk done (new.waiting ≡ 0)
-      → OnOk done ((limits : Limits) (h : Clients) → StoredMatches limits (stored_view old before) h → StoredMatches limits (stored_view new after) h)
-  told-keeps (Err e) told confirmed waiting = tt
-  told-keeps (Ok _) told confirmed waiting = λ limits h m.
-      let all : new.confirmed ≡ accepted h = confirmed ∙ m.counts in
+  fails : (e : CommitError) → Wrote medium counts old new (Err e) → after ≡ seen_as failed before
+      → Fails medium (stored_view old before) (stored_view new after)
+  fails e w seen =
       record {
-        hub = rw all (release-matches limits old.confirmed (hub_view old.machine before) (hub_view new.machine after) h m.hub
-            (ap (λ (s : Machine). s.limits) same) (ap (λ (s : Machine). s.state) same) told.0);
-        counts = omega (arith, all, waiting);
+        takes = w.takes;
+        stopped = w.commits.stops;
+        matches = λ limits h m. fail-matches limits old.confirmed (hub_view old.machine before) (hub_view new.machine after) h m.hub
+            (ap (λ (s : Machine). s.limits) w.commits.machine) (ap (λ (s : Machine). s.state) w.commits.machine) seen;
       }
 
-  module _ (medium : D → Medium) (counts : D → Counts) (takes : Takes medium old [] new) where
-    told-fails : IsStopped new → after ≡ seen_as failed before → Fails medium (stored_view old before) (stored_view new after)
-    told-fails stopped seen =
-        record {
-          takes = takes;
-          stopped = stopped;
-          matches = λ limits h m. fail-matches limits old.confirmed (hub_view old.machine before) (hub_view new.machine after) h m.hub
-              (ap (λ (s : Machine). s.limits) same) (ap (λ (s : Machine). s.state) same) seen;
-        }
+  halts : (e : CommitError) → Wrote medium counts old new (Err e) → after ≡ seen_as failed before
+      → Halts medium counts (stored_view old before) (stored_view new after) e
+  halts commit.Device w seen = (fails commit.Device w seen, w.device refl)
+  halts commit.Stopped w seen =
+      elim (w.halted refl) [ inl before ↦ let never : true ≡ false = sym before ∙ goes v is left in cc | inr last ↦ inr (fails commit.Stopped w seen, last) ]
 
-    pub told-halts : (done : Result ⊤ CommitError) → Told done
-        → (done ≡ Err commit.Device → (counts new.disk).failures ≡ counted (counts old.disk).failures 1)
-        → (done ≡ Err commit.Stopped → IsStopped old ⊎ IsAtLastEpoch old)
-        → IfErr done (λ e. Halts medium counts (stored_view old before) (stored_view new after) e)
-    told-halts (Ok _) told device halted = tt
-    told-halts (Err commit.Device) told device halted = (told-fails told.2 told.1, device refl)
-    told-halts (Err commit.Stopped) told device halted =
-        elim (halted refl) [
-          | inl before ↦ let never : true ≡ false = sym before ∙ goes in cc
-          | inr last ↦ inr (told-fails told.2 told.1, last)
-        ]
+  pub told-settles : (done : Result ⊤ CommitError) → Wrote medium counts old new done → Told before after done
+      → Settles medium counts v (stored_view new after) done
+  told-settles (Ok _) w told =
+      let numbers = ap keys_of told.0 ∙ keys-map released before in
+      rw (sym is) (record {
+        ok = λ limits h m.
+            let all : new.confirmed ≡ accepted h = w.commits.confirmed ∙ m.counts in
+            record {
+              hub = rw all (release-matches limits old.confirmed (hub_view old.machine before) (hub_view new.machine after) h m.hub
+                  (ap (λ (s : Machine). s.limits) w.commits.machine) (ap (λ (s : Machine). s.state) w.commits.machine) told.0);
+              counts = omega (arith, all, w.commits.waiting);
+            };
+        takes = w.takes;
+        numbers = numbers;
+        ready = w.ready;
+        refused = tt;
+        spends = w.spends;
+        honest = w.honest;
+      })
+  told-settles (Err e) w told =
+      let numbers = ap keys_of told.1 ∙ keys-map failed before in
+      rw (sym is) (record { ok = tt; takes = w.takes; numbers = numbers; ready = tt; refused = halts e w told.1; spends = tt; honest = w.honest })

@@ -7,7 +7,7 @@ use Rattle.std.specs.Prelude.{nat_le, All, if◌then◌else◌}
 use Rattle.std.proofs.Math.Seq.{drop-append-add}
 use Rattle.std.proofs.lemmas.Grind.{flat_map-append}
 use Rattle.std.proofs.lemmas.List.{length-append, drop_all, drop-append-le}
-use Rattle.std.proofs.lemmas.List.Elements.{All-head, All-tail, All-weaker, All-push}
+use Rattle.std.proofs.lemmas.List.Elements.{All-cons, All-head, All-nil, All-tail, All-weaker, All-push}
 use Rattle.std.proofs.lemmas.Bool.Decides.{nat_tests}
 use Rattle.ipc_base.specs.Limits.{ArePassed}
 use Rattle.ipc_base.specs.Table.{ArePaired}
@@ -22,7 +22,7 @@ use Rattle.ipc_engine.specs.Step.{step}
 use Rattle.ipc_engine.specs.View.{reply_of}
 use Rattle.ipc_engine.proofs.CallerLemmas.{step-fits}
 use Rattle.ipc_hub.specs.Hub.{Hub, accepted, accept, leave}
-use Rattle.ipc_hub.specs.Clients.{Frame, Client, Clients, client_endpoint, all_bytes, confirmed_bytes, consumed_from}
+use Rattle.ipc_hub.specs.Clients.{Frame, Client, Clients, client_endpoint, all_bytes, confirmed_bytes, confirmed_frames, consumed_from}
 use Rattle.ipc_hub.specs.Relations.Delivery.{view_endpoint, IsShort}
 use Rattle.ipc_hub.specs.Relations.Matches.{IsFrame, AreFrames, ClientMatches, HubMatches, Simulates}
 use Rattle.ipc_hub.specs.Relations.Requests.{Happened, Left}
@@ -93,6 +93,15 @@ consumed-all P [] n all = all
 consumed-all P (f ∷ fs) n all =
     choice (λ (r : List Frame × ℕ). All P r.0) (nat_le (length f.bytes) n) (consumed_from fs (n - length f.bytes)) (f ∷ fs, n)
     (λ _. consumed-all P fs (n - length f.bytes) (All-tail P f fs all)) (λ _. all)
+
+-- what all frames are, those that are confirmed are too, and more
+pub confirmed-weaker : (P Q : Frame → Type 0) (confirmed : ℕ) (frames : List Frame) → ((f : Frame) → f.mark ≤ confirmed → P f → Q f) → All P frames
+    → All Q (confirmed_frames confirmed frames)
+confirmed-weaker P Q confirmed [] does all = All-nil Q
+confirmed-weaker P Q confirmed (f ∷ fs) does all =
+    choice (All Q) (nat_le f.mark confirmed) (f ∷ confirmed_frames confirmed fs) []
+    (λ t. All-cons Q f (confirmed_frames confirmed fs) (does f (grind (arith, nat_tests, t)) (All-head P f fs all))
+    (confirmed-weaker P Q confirmed fs does (All-tail P f fs all))) (λ _. All-nil Q)
 
 -- ---- what matches
 

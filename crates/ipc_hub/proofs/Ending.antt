@@ -1,6 +1,6 @@
 -- The server ends a connection: what it is then, step by step over its rows, and what is the definitions' end of it.
 use Rattle.std.proofs.Common.{◌≡◌, ◌≤◌, ℕ, true, false, [], ◌++◌, Option, Some, None, refl, sym, ◌∙◌, subst, append-nil, arith}
-use Rattle.std.proofs.Common.{ap, ◌⊎◌, inl, inr}
+use Rattle.std.proofs.Common.{ap, ◌⊎◌, inl, inr, rules}
 use Rattle.std.specs.Prelude.{nat_eq, IfSome}
 use Rattle.ipc_base.specs.Table.{value_at, with_value, keys_of}
 use Rattle.ipc_base.specs.declared.errno.Errno.TheVariants.{EPROTO}
@@ -13,12 +13,12 @@ use Rattle.ipc_hub.specs.Hub.{Endpoint, Hub, accepted, client_at, with_client, r
 use Rattle.ipc_hub.specs.Clients.{Client, Clients}
 use Rattle.ipc_hub.specs.View.{ConnectionView, HubView, HasNoFrame}
 use Rattle.ipc_hub.specs.Relations.Delivery.{pushed, closed, last_frame, owed_to, view_endpoint}
-use Rattle.ipc_hub.specs.Relations.Invariant.{IsSoundIn, HubInvariant, Continues, IsConnected, IsNobodys, LeavesOthers}
+use Rattle.ipc_hub.specs.Relations.Invariant.{IsSoundIn, HubInvariant, Continues, IsNobodys, LeavesOthers}
 use Rattle.ipc_hub.specs.Relations.Matches.{ClientMatches, HubMatches}
 use Rattle.ipc_hub.specs.Relations.Requests.{Left, exit_of}
 use Rattle.ipc_hub.specs.Relations.Rows.{Becomes, Table, hub_of, hub_view, changed, process_in, is_open_in}
 use Rattle.ipc_hub.proofs.Deliveries.{table-matches}
-use Rattle.ipc_hub.proofs.Keeping.{change-invariant, changed-invariant, changed-keys, change-nobodys, connected-in, kept-pushed, live-at, pushed-frame}
+use Rattle.ipc_hub.proofs.Keeping.{change-invariant, changed-invariant, changed-keys, change-nobodys, kept-pushed, live-at, pushed-frame}
 use Rattle.ipc_hub.proofs.Rows.{same_value, process_of}
 
 -- the event of a process that leaves is the last one
@@ -46,8 +46,7 @@ pub pair-at : (limits : Limits) (confirmed : ℕ) (old : HubView) (h : Clients) 
     → ((value_at nat_eq old.connections conn ≡ None) × (client_at h conn ≡ None)) ⊎ Pair confirmed old h conn
 pair-at limits confirmed old h conn m = by_value (value_at nat_eq old.connections conn) refl
   where
-    by_value : (r : Option ConnectionView) → value_at nat_eq old.connections conn ≡ r
-        → ((r ≡ None) × (client_at h conn ≡ None)) ⊎ Pair confirmed old h conn
+    by_value : (r : Option ConnectionView) → value_at nat_eq old.connections conn ≡ r → ((r ≡ None) × (client_at h conn ≡ None)) ⊎ Pair confirmed old h conn
     by_value None is = inl (refl, paired-none (ClientMatches confirmed (accepted h)) old.connections h.clients conn m.clients is)
     by_value (Some v) is =
         let p = paired-at (ClientMatches confirmed (accepted h)) old.connections h.clients conn v m.clients is in
@@ -58,9 +57,7 @@ pub change-matches : (limits : Limits) (confirmed : ℕ) (old new : HubView) (h 
     → HubMatches limits confirmed old h → new.limits ≡ old.limits → new.state ≡ old.state
     → new.connections ≡ with_value nat_eq old.connections conn v → ClientMatches confirmed (accepted h) v c
     → HubMatches limits confirmed new (with_client h conn c)
-change-matches limits confirmed old new h conn v c m same state rows is =
-    table-matches limits confirmed confirmed old new h (with_value nat_eq old.connections conn v) (with_value nat_eq h.clients conn c) m same state rows m.known
-    (paired-with (ClientMatches confirmed (accepted h)) old.connections h.clients conn v c m.clients is)
+change-matches limits confirmed old new h conn v c m same state rows is = search (rules, paired-with, table-matches)
 
 -- ---- the steps, over the table
 
@@ -78,17 +75,8 @@ module _ (engine : Machine) (table : Table) (conn : ℕ) (inv : HubInvariant (hu
   pub closed-invariant : HubInvariant (hub_view engine (changed closed conn table))
   closed-invariant = changed-invariant (hub_view engine table) conn closed inv (λ w is k. (
     λ pid never. cc,
-    record {
-      input = first_short [] (omega arith);
-      last = λ live'. let never : true ≡ false = live' in cc;
-      over = λ _. refl;
-      spare = k.spare;
-      size = k.size;
-    },
+    record { input = first_short [] (omega arith); last = λ live'. let never : true ≡ false = live' in cc; over = λ _. refl; spare = k.spare; size = k.size },
   ))
-
-  pub closed-connected : IsConnected engine.state (process_in table conn)
-  closed-connected = connected-in (hub_view engine table) conn inv
 
   pub closed-nobodys : IsNobodys (changed closed conn table) (process_in table conn)
   closed-nobodys = rw found (change-nobodys (hub_view engine table) conn v (closed v) inv found refl)
@@ -126,8 +114,7 @@ module _ (engine : Machine) (table : Table) (conn : ℕ) (inv : HubInvariant (hu
           }
 
       pub last-ends : (moment : ℕ) (process : Option ℕ) → process ≡ process_in table conn → Left (hub_view engine gone) (hub_view left after) process moment
-          → (c : ConnectionView) → value_at nat_eq table conn ≡ Some c
-          → Becomes (hub_view engine table) (hub_view left (changed last conn after))
+          → (c : ConnectionView) → value_at nat_eq table conn ≡ Some c → Becomes (hub_view engine table) (hub_view left (changed last conn after))
           (break_off view_endpoint engine.limits (hub_of (hub_view engine table)) conn c serial moment)
       last-ends moment process had gone-now c there =
           let same : v ≡ c = same_value v c (sym found ∙ there) in

@@ -1,12 +1,13 @@
 -- What holds of the hub's connections goes on holding when replies are put into their outboxes.
 use Rattle.std.proofs.Common.{◌≡◌, ◌≢◌, ℕ, ◌+◌, ◌≤◌, ◌^◌, true, false, List, [], ◌∷◌, ◌++◌, length, Option, Some, None}
-use Rattle.std.proofs.Common.{refl, sym, ap, subst, ◌∙◌, arith, ◌⊎◌, inl, inr}
-use Rattle.std.specs.Prelude.{nat_eq, ◌==◌, if◌then◌else◌, option_map, not, unwrap_or, IfSome}
+use Rattle.std.proofs.Common.{refl, sym, ap, subst, ◌∙◌, arith, ◌⊎◌, inl, inr, rules}
+use Rattle.std.specs.Prelude.{nat_eq, if◌then◌else◌, option_map, not}
 use Rattle.std.proofs.lemmas.Bool.{cases_eq}
 use Rattle.std.proofs.lemmas.List.{length-append}
 use Rattle.ipc_base.specs.Table.{value_at, with_value, keys_of, seen_as, EachValue, IsRising}
 use Rattle.ipc_base.specs.declared.limits.Limits.{Limits}
-use Rattle.ipc_base.proofs.CallerLemmas.{choice, test_cases, each-seen, each-at, each-by_key, each-with, at-map, keys-map, at-with, other-with, keys_of-with_value}
+use Rattle.ipc_base.proofs.CallerLemmas.{choice, test_cases, each-seen, each-at, each-by_key}
+use Rattle.ipc_base.proofs.CallerLemmas.{each-with, at-map, keys-map, at-with, other-with, keys_of-with_value}
 use Rattle.ipc_wire.specs.Reply.{reply_bytes}
 use Rattle.ipc_wire.specs.Reply.{PlainReply}
 use Rattle.ipc_wire.proofs.CallerLemmas.{length-reply_bytes}
@@ -16,58 +17,54 @@ use Rattle.ipc_engine.specs.Sound.{IsSound}
 use Rattle.ipc_engine.specs.Step.{step}
 use Rattle.ipc_engine.specs.View.{reply_of}
 use Rattle.ipc_engine.specs.Engine.{Machine}
-use Rattle.ipc_engine.proofs.CallerLemmas.{owed-most}
+use Rattle.ipc_engine.proofs.CallerLemmas.{owed-most, step-fits}
+use Rattle.ipc_state.specs.Sound.{FitsBody}
+use Rattle.std.proofs.lemmas.List.Elements.{All-head, All-tail}
+use Rattle.std.specs.Prelude.{All}
 use Rattle.ipc_state.specs.State.{State, is_process}
+use Rattle.ipc_disk.specs.Medium.{Medium}
+use Rattle.ipc_store.specs.View.{StoreView}
 use Rattle.ipc_hub.specs.Hub.{is_for}
-use Rattle.ipc_hub.specs.View.{ConnectionView, HubView, HasNoFrame, kept}
+use Rattle.ipc_hub.specs.View.{ConnectionView, HubView, HasNoFrame, IsBare, kept}
 use Rattle.ipc_hub.proofs.Kept.{both_choose, heard-none}
-use Rattle.ipc_hub.proofs.Requests.{quiet-owes, step-short}
+use Rattle.ipc_hub.proofs.Requests.{fits-short, quiet-owes}
 use Rattle.ipc_hub.proofs.Rows.{process_of, for-one}
 use Rattle.ipc_base.specs.Limits.{ArePassed, longest_reply}
 use Rattle.ipc_hub.specs.Relations.Delivery.{last_frame, last_frames, owed_to, pushed, hears, put_for, put_all, view_endpoint}
-use Rattle.ipc_hub.specs.Relations.Delivery.{AllShort, HasSpaceIn, HasSpaceFor, HasSpaceForAll, HaveSpace}
-use Rattle.ipc_hub.specs.Relations.Rows.{Table, hub_view, changed, process_in, is_open_in}
-use Rattle.ipc_hub.specs.Relations.Requests.{Happened}
+use Rattle.ipc_hub.specs.Relations.Delivery.{HasSpaceAt, HasSpaceIn, HasSpaceFor, HaveSpace}
+use Rattle.ipc_hub.specs.Relations.Rows.{Table, goes_on, hub_view, changed, process_in, is_open_in}
+use Rattle.ipc_hub.specs.Relations.Requests.{Happened, Steps}
 use Rattle.ipc_hub.specs.Relations.Invariant.{AreApart, AreOwn, IsSoundConnection, IsSoundIn, HubInvariant}
 use Rattle.ipc_hub.specs.Relations.Invariant.{Continues, HasPassed, LeavesOthers, IsNobodys, IsConnected}
 
 -- ---- one connection
 
--- what a process is owed, with the replies that are on their way to it
+-- what a process, if there is one, is sent by some replies, and what it is owed with these on their way to it
+abbrev pub sent_to : List PlainOutcome → Option ℕ → ℕ
+sent_to [] p = 0
+sent_to (o ∷ os) p = (if is_for o.pid p then length (reply_bytes (reply_of o)) else 0) + sent_to os p
+
 abbrev pub owing : List PlainOutcome → (Option ℕ → ℕ) → Option ℕ → ℕ
-owing [] owed p = owed p
-owing (o ∷ os) owed p = (if is_for o.pid p then length (reply_bytes (reply_of o)) else 0) + owing os owed p
+owing os owed p = sent_to os p + owed p
 
-pub owing-none : (os : List PlainOutcome) (owed : Option ℕ → ℕ) → owing os owed None ≡ owed None
-owing-none [] owed = refl
-owing-none (o ∷ os) owed = omega (arith, owing-none os owed)
+pub sent-none : (os : List PlainOutcome) → sent_to os None ≡ 0
+sent-none [] = refl
+sent-none (o ∷ os) = omega (arith, sent-none os)
 
-pub owing-some : (os : List PlainOutcome) (owed : Option ℕ → ℕ) (pid : ℕ) → owing os owed (Some pid) ≡ bytes_to pid os + owed (Some pid)
-owing-some [] owed pid = omega arith
-owing-some (o ∷ os) owed pid = omega (arith, owing-some os owed pid)
-
--- each is owed so much more
-pub owing-more : (os : List PlainOutcome) (owed : Option ℕ → ℕ) (n : ℕ) (p : Option ℕ) → owing os (λ q. owed q + n) p ≡ owing os owed p + n
-owing-more [] owed n p = refl
-owing-more (o ∷ os) owed n p = omega (arith, owing-more os owed n p)
+pub sent-some : (os : List PlainOutcome) (pid : ℕ) → sent_to os (Some pid) ≡ bytes_to pid os
+sent-some [] pid = refl
+sent-some (o ∷ os) pid = omega (arith, sent-some os pid)
 
 -- it is owed otherwise, and so much has room, or it has another process
 pub kept-owing : (limits : Limits) (f g : Option ℕ → ℕ) (v : ConnectionView) (p : Option ℕ) → IsSoundConnection limits f v → v.ended ≡ false
     → g p + last_frames ≤ v.outbox.free → IsSoundConnection limits g (record v { process = p })
 kept-owing limits f g v p k live space =
-    record {
-      input = k.input;
-      last = λ _. space;
-      over = λ ended. let never : false ≡ true = sym live ∙ ended in cc;
-      spare = k.spare;
-      size = k.size;
-    }
+    record { input = k.input; last = λ _. space; over = λ ended. let never : false ≡ true = sym live ∙ ended in cc; spare = k.spare; size = k.size }
 
 -- the same, whether or not the connection has ended
 pub kept-less : (limits : Limits) (f g : Option ℕ → ℕ) (v : ConnectionView) → IsSoundConnection limits f v → g v.process ≤ f v.process
     → IsSoundConnection limits g v
-kept-less limits f g v k le =
-    record { input = k.input; last = λ live. omega (arith, k.last live, le); over = k.over; spare = k.spare; size = k.size }
+kept-less limits f g v k le = record { input = k.input; last = λ live. omega (arith, k.last live, le); over = k.over; spare = k.spare; size = k.size }
 
 pub kept-pushed : (limits : Limits) (f g : Option ℕ → ℕ) (o : PlainOutcome) (v : ConnectionView) → IsSoundConnection limits f v
     → length (reply_bytes (reply_of o)) + last_frame ≤ v.outbox.free
@@ -105,10 +102,13 @@ pushed-some reply v none = omega (arith, ap length none, length-pushed reply v, 
 
 -- a connection that goes on has a process or none; what is for its process has room
 live-for : (limits : Limits) (f : Option ℕ → ℕ) (v : ConnectionView) (pid : ℕ) → IsSoundConnection limits f v → v.process ≡ Some pid → v.ended ≡ false
-live-for limits f v pid k some =
-    elim (test_cases v.ended) [ inl ended ↦ let never : None ≡ Some pid = sym (k.over ended) ∙ some in cc | inr live ↦ live ]
+live-for limits f v pid k some = elim (test_cases v.ended) [ inl ended ↦ let never : None ≡ Some pid = sym (k.over ended) ∙ some in cc | inr live ↦ live ]
 
--- a reply that was on its way has come
+-- a reply that is on its way has room, and when it has come the others have
+put-space : (limits : Limits) (f : Option ℕ → ℕ) (o : PlainOutcome) (os : List PlainOutcome) (v : ConnectionView)
+    → IsSoundConnection limits (owing (o ∷ os) f) v → HasSpaceIn o v
+put-space limits f o os v k is = let space = rw is at (k.last (live-for limits (owing (o ∷ os) f) v o.pid k (for-one o v.process is))) in omega (arith, space)
+
 put-kept : (limits : Limits) (f : Option ℕ → ℕ) (o : PlainOutcome) (os : List PlainOutcome) (v : ConnectionView)
     → IsSoundConnection limits (owing (o ∷ os) f) v → IsSoundConnection limits (owing os f) (put_for o v)
 put-kept limits f o os v k =
@@ -118,29 +118,9 @@ put-kept limits f o os v k =
     kept-pushed limits (owing (o ∷ os) f) (owing os f) o v k (omega (arith, space)) (λ _. omega (arith, space)))
     (λ is. kept-less limits (owing (o ∷ os) f) (owing os f) v k (omega arith))
 
--- the replies that are on their way have room
-pub owing-space : (limits : Limits) (f : Option ℕ → ℕ) (os : List PlainOutcome) (v : ConnectionView) → IsSoundConnection limits (owing os f) v
-    → HasSpaceForAll os v
-owing-space limits f os v k pid some =
-    omega (arith, k.last (live-for limits (owing os f) v pid k some), ap (owing os f) some, owing-some os f pid)
-
--- the first of some replies has room if all have
-space-first : (o : PlainOutcome) (os : List PlainOutcome) (v : ConnectionView) → HasSpaceForAll (o ∷ os) v → HasSpaceIn o v
-space-first o os v space is =
-    let same = for-one o v.process is in
-    let mine = rw same at is in
-    let all = rw mine at (space o.pid same) in omega (arith, all)
-
--- and then the others have
-space-rest : (o : PlainOutcome) (os : List PlainOutcome) (v : ConnectionView) → HasSpaceForAll (o ∷ os) v → HasSpaceForAll os (put_for o v)
-space-rest o os v space =
-    choice (HasSpaceForAll os) (is_for o.pid v.process) (pushed (reply_of o) v) v
-    (λ is pid mine. let this : (pid == o.pid) ≡ true = rw mine at is in let all = rw this at (space pid mine) in omega (arith, all))
-    (λ is pid mine. omega (arith, space pid mine))
-
 pub heard-kept : (limits : Limits) (f : Option ℕ → ℕ) (os : List PlainOutcome) (v : ConnectionView) → IsSoundConnection limits (owing os f) v
     → IsSoundConnection limits f (hears os v)
-heard-kept limits f [] v k = k
+heard-kept limits f [] v k = kept-less limits (owing [] f) f v k (omega arith)
 heard-kept limits f (o ∷ os) v k = heard-kept limits f os (put_for o v) (put-kept limits f o os v k)
 
 -- nothing else of it has changed, and it keeps so much more
@@ -155,20 +135,15 @@ heard-same (o ∷ os) v =
     let rest = heard-same os (put_for o v) in
     let first = put-same o v in (rest.0 ∙ first.0, rest.1 ∙ first.1)
 
-abbrev pub nothing : Option ℕ → ℕ
-nothing p = 0
-
 length-put : (o : PlainOutcome) (v : ConnectionView)
     → length (kept (put_for o v).outbox) ≡ length (kept v.outbox) + (if is_for o.pid v.process then length (reply_bytes (reply_of o)) else 0)
 length-put o v =
     both_choose (λ (w : ConnectionView) (n : ℕ). length (kept w.outbox) ≡ length (kept v.outbox) + n) (is_for o.pid v.process) (is_for o.pid v.process)
     (pushed (reply_of o) v) v (length (reply_bytes (reply_of o))) 0 refl (length-pushed (reply_of o) v) (omega arith)
 
-pub length-heard : (os : List PlainOutcome) (v : ConnectionView)
-    → length (kept (hears os v).outbox) ≡ length (kept v.outbox) + owing os nothing v.process
+pub length-heard : (os : List PlainOutcome) (v : ConnectionView) → length (kept (hears os v).outbox) ≡ length (kept v.outbox) + sent_to os v.process
 length-heard [] v = omega arith
-length-heard (o ∷ os) v =
-    omega (arith, length-heard os (put_for o v), length-put o v, ap (owing os nothing) (put-same o v).0)
+length-heard (o ∷ os) v = omega (arith, length-heard os (put_for o v), length-put o v, ap (sent_to os) (put-same o v).0)
 
 -- ---- all connections
 
@@ -176,28 +151,23 @@ pub each-weaker : (P Q : ConnectionView → Type 0) (table : Table) → ((v : Co
 each-weaker P Q [] does each = tt
 each-weaker P Q (e ∷ es) does each = (does e.1 each.0, each-weaker P Q es does each.1)
 
-pub first-each : (o : PlainOutcome) (os : List PlainOutcome) (table : Table) → EachValue (HasSpaceForAll (o ∷ os)) table → EachValue (HasSpaceIn o) table
-first-each o os table = each-weaker (HasSpaceForAll (o ∷ os)) (HasSpaceIn o) table (space-first o os)
-
-pub rest-space : (o : PlainOutcome) (os : List PlainOutcome) (table : Table) → HaveSpace (o ∷ os) table → HaveSpace os (seen_as (put_for o) table)
-rest-space o os table space =
-    record {
-      short = space.short.1;
-      each = each-seen (HasSpaceForAll (o ∷ os)) (HasSpaceForAll (o ∷ os)) (HasSpaceForAll os) table (put_for o) space.each space.each
-          (λ v has _. space-rest o os v has);
-    }
-
 -- the replies that are on their way have room in each connection
-pub owing-have_space : (limits : Limits) (f : Option ℕ → ℕ) (os : List PlainOutcome) (table : Table) → AllShort os
-    → EachValue (IsSoundConnection limits (owing os f)) table → HaveSpace os table
-owing-have_space limits f os table short each =
-    record { short = short; each = each-weaker (IsSoundConnection limits (owing os f)) (HasSpaceForAll os) table (owing-space limits f os) each }
+pub owing-have_space : (limits : Limits) (f : Option ℕ → ℕ) (os : List PlainOutcome) (table : Table) → ArePassed limits
+    → All (λ (o : PlainOutcome). FitsBody limits o.body) os → EachValue (IsSoundConnection limits (owing os f)) table → HaveSpace os table
+owing-have_space limits f [] table passed fits each = tt
+owing-have_space limits f (o ∷ os) table passed fits each =
+    let all : Option ℕ → ℕ = owing (o ∷ os) f in
+    let P : PlainOutcome → Type 0 = λ p. FitsBody limits p.body in (
+      fits-short limits o passed (All-head P o os fits),
+      each-weaker (IsSoundConnection limits all) (HasSpaceIn o) table (put-space limits f o os) each,
+      owing-have_space limits f os (seen_as (put_for o) table) passed (All-tail P o os fits)
+          (each-seen (IsSoundConnection limits all) (IsSoundConnection limits all) (IsSoundConnection limits (owing os f)) table (put_for o) each each
+          (λ v k _. put-kept limits f o os v k)),
+    )
 
 pub put-each : (limits : Limits) (f : Option ℕ → ℕ) (os : List PlainOutcome) (table : Table) → EachValue (IsSoundConnection limits (owing os f)) table
     → EachValue (IsSoundConnection limits f) (put_all os table)
-put-each limits f os table each =
-    each-seen (IsSoundConnection limits (owing os f)) (IsSoundConnection limits (owing os f)) (IsSoundConnection limits f) table (hears os) each each
-    (λ v k _. heard-kept limits f os v k)
+put-each limits f os table each = search (rules, each-seen, heard-kept)
 
 pub put-keys : (os : List PlainOutcome) (table : Table) → keys_of (put_all os table) ≡ keys_of table
 put-keys os table = keys-map (hears os) table
@@ -214,17 +184,16 @@ pub put-next : (o : PlainOutcome) (os : List PlainOutcome) (table : Table) → p
 put-next o os [] = refl
 put-next o os (e ∷ es) = ap (λ (t : Table). (e.0, hears (o ∷ os) e.1) ∷ t) (put-next o os es)
 
-pub put-nothing : (table : Table) → put_all [] table ≡ table
-put-nothing [] = refl
-put-nothing (e ∷ es) = ap (λ (t : Table). e ∷ t) (put-nothing es)
+pub seen-same : {E : Type 0} (es : List (ℕ × E)) → seen_as (λ c. c) es ≡ es
+seen-same [] = refl
+seen-same {E} (e ∷ es) = ap (λ (t : List (ℕ × E)). e ∷ t) (seen-same es)
 
 pub put-apart : (o : PlainOutcome) (table : Table) → AreApart table → AreApart (seen_as (put_for o) table)
 put-apart o table apart conn other pid is too =
     apart conn other pid (sym (put-processes (o ∷ []) table conn) ∙ is) (sym (put-processes (o ∷ []) table other) ∙ too)
 
 pub put-others : (os : List PlainOutcome) (table : Table) → LeavesOthers table (put_all os table)
-put-others os table conn v is none =
-    at-map (hears os) table conn ∙ ap (option_map (hears os)) is ∙ ap Some (heard-none view_endpoint 0 os v none)
+put-others os table conn v is none = at-map (hears os) table conn ∙ ap (option_map (hears os)) is ∙ ap Some (heard-none view_endpoint 0 os v none)
 
 -- no process is owed more than the most
 owed_to-most : (limits : Limits) (s : State) (p : Option ℕ) → IsSound limits s → owed_to limits s p ≤ most_owed limits
@@ -237,10 +206,10 @@ module _ (limits : Limits) (s : State) (e : PlainEvent) (sound : IsSound limits 
   -- what such a process is sent, and owed then, it was owed
   pub quiet-less : (p : Option ℕ) → ((pid : ℕ) → p ≡ Some pid → (is_process s pid ≡ true) × (asks s e pid ≡ false))
       → owing (step limits s e).outcomes (owed_to limits (step limits s e).state) p ≤ owed_to limits s p
-  quiet-less None none = omega (arith, owing-none (step limits s e).outcomes (owed_to limits (step limits s e).state))
+  quiet-less None none = omega (arith, sent-none (step limits s e).outcomes)
   quiet-less (Some pid) none =
       let is = none pid refl in
-      omega (arith, quiet-owes limits s e pid sound is.0 is.1, owing-some (step limits s e).outcomes (owed_to limits (step limits s e).state) pid)
+      omega (arith, quiet-owes limits s e pid sound is.0 is.1, sent-some (step limits s e).outcomes pid)
 
   -- so its connection has room for what it is sent, and is owed then
   pub quiet-kept : (v : ConnectionView) → IsSoundConnection limits (owed_to limits s) v
@@ -304,8 +273,7 @@ module _ (old : HubView) (e : PlainEvent) (sound : IsSound old.limits old.state)
       (λ pid some. (inv.own.connected k pid (ap process_of is ∙ some), none pid)))
 
   pub quiet-space : ArePassed old.limits → HaveSpace sent old.connections
-  quiet-space passed =
-      owing-have_space old.limits (owed_to old.limits after) sent old.connections (step-short old.limits old.state e passed sound) quiet-each
+  quiet-space passed = owing-have_space old.limits (owed_to old.limits after) sent old.connections passed (step-fits old.limits old.state e sound) quiet-each
 
   -- a connection that kept no frame has room for what its process is owed then, and for a request
   quiet-spacious : (v : ConnectionView) → IsSoundIn old v → ((pid : ℕ) → v.process ≡ Some pid → is_process old.state pid ≡ true) → kept v.outbox ≡ []
@@ -317,12 +285,11 @@ module _ (old : HubView) (e : PlainEvent) (sound : IsSound old.limits old.state)
       let same = heard-same sent v in
       let space : IsSoundConnection old.limits (owing sent more) v =
       kept-owing old.limits (owed_to old.limits old.state) (owing sent more) v v.process k live
-      (omega (arith, k.size, ap length empty, less, most, owing-more sent (owed_to old.limits after) (longest_reply old.limits) v.process)) in
+      (omega (arith, k.size, ap length empty, less, most)) in
       omega (arith, (heard-kept old.limits more sent v space).last (same.1 ∙ live), ap more same.0)
 
   module _ (new : HubView) (is : Happened old new e) where
-    pub quiet-goes-on : ((conn pid : ℕ) → process_in old.connections conn ≡ Some pid → is_process after pid ≡ true)
-        → Continues old new
+    pub quiet-goes-on : ((conn pid : ℕ) → process_in old.connections conn ≡ Some pid → is_process after pid ≡ true) → Continues old new
     quiet-goes-on stay =
         delivery-goes-on old new sent
         (rw is.becomes.state (own-less old.state after old.connections old.connections inv.own (λ conn pid mine. (mine, stay conn pid mine))))
@@ -332,30 +299,32 @@ module _ (old : HubView) (e : PlainEvent) (sound : IsSound old.limits old.state)
     quiet-passes =
         record {
           ended = λ conn over.
-              subst (λ (r : Option ConnectionView). unwrap_or (option_map (λ c. not c.ended) r) false ≡ false) (sym (at conn))
-              (still-over (value_at nat_eq old.connections conn) over);
+              subst (λ (r : Option ConnectionView). goes_on r ≡ false) (sym (at conn)) (still-over (value_at nat_eq old.connections conn) over);
           space = λ conn empty.
-              subst (λ (r : Option ConnectionView). IfSome r (λ c. c.ended ≡ false
-              → owed_to new.limits new.state c.process + longest_reply new.limits + last_frames ≤ c.outbox.free)) (sym (at conn))
-              (spacious conn (value_at nat_eq old.connections conn) refl empty);
+              subst (HasSpaceAt new (longest_reply new.limits)) (sym (at conn)) (spacious conn (value_at nat_eq old.connections conn) refl empty);
         }
       where
         at : (conn : ℕ) → value_at nat_eq new.connections conn ≡ option_map (hears sent) (value_at nat_eq old.connections conn)
         at conn = ap (λ (t : Table). value_at nat_eq t conn) is.becomes.rows ∙ at-map (hears sent) old.connections conn
 
-        still-over : (r : Option ConnectionView) → unwrap_or (option_map (λ (c : ConnectionView). not c.ended) r) false ≡ false
-            → unwrap_or (option_map (λ (c : ConnectionView). not c.ended) (option_map (hears sent) r)) false ≡ false
+        still-over : (r : Option ConnectionView) → goes_on r ≡ false → goes_on (option_map (hears sent) r) ≡ false
         still-over None over = over
         still-over (Some v) over = ap not (heard-same sent v).1 ∙ over
 
-        spacious : (conn : ℕ) (r : Option ConnectionView) → value_at nat_eq old.connections conn ≡ r → IfSome r (λ c. kept c.outbox ≡ [])
-            → IfSome (option_map (hears sent) r) (λ c. c.ended ≡ false
-            → owed_to new.limits new.state c.process + longest_reply new.limits + last_frames ≤ c.outbox.free)
+        spacious : (conn : ℕ) (r : Option ConnectionView) → value_at nat_eq old.connections conn ≡ r → IsBare r
+            → HasSpaceAt new (longest_reply new.limits) (option_map (hears sent) r)
         spacious conn None here empty = tt
         spacious conn (Some v) here empty = λ live.
             let space = quiet-spacious v (each-at (IsSoundIn old) old.connections conn v inv.each here)
             (λ pid some. inv.own.connected conn pid (ap process_of here ∙ some)) empty (sym (heard-same sent v).1 ∙ live) in
             rw is.becomes.limits (rw is.becomes.state (rw (heard-same sent v).0 space))
+
+-- the machine took such a step, and the replies went where they go
+pub quiet-happens : {D : Type 0} (medium : D → Medium) (old new : StoreView D) (before after : Table) (e : PlainEvent) → Steps medium old new e
+    → after ≡ put_all new.machine.outcomes before → Happened (hub_view old.machine before) (hub_view new.machine after) e
+quiet-happens medium old new before after e s rows =
+    let sent : after ≡ put_all (step old.machine.limits old.machine.state e).outcomes before = rows ∙ ap (λ os. put_all os before) s.outcomes in
+    record { passed = s.passed; sound = s.sound; becomes = record { limits = s.limits; state = s.state; rows = sent } }
 
 -- ---- one connection of the hub is changed
 
@@ -364,8 +333,7 @@ with_connection h conn v = record h { connections = with_value nat_eq h.connecti
 
 -- whose process a process is after it
 pub process-with : (table : Table) (conn k pid : ℕ) (was v : ConnectionView) → value_at nat_eq table conn ≡ Some was
-    → process_in (with_value nat_eq table conn v) k ≡ Some pid
-    → ((k ≡ conn) × (v.process ≡ Some pid)) ⊎ ((k ≢ conn) × (process_in table k ≡ Some pid))
+    → process_in (with_value nat_eq table conn v) k ≡ Some pid → ((k ≡ conn) × (v.process ≡ Some pid)) ⊎ ((k ≢ conn) × (process_in table k ≡ Some pid))
 process-with table conn k pid was v found is =
     elim (cases_eq k conn) [
       | inl same ↦ inl (same, sym (ap process_of (at-with table conn v was found)) ∙ rw same at is)
@@ -402,21 +370,17 @@ changed-invariant h conn see inv kept =
     let k = kept v is (each-at (IsSoundIn h) h.connections conn v inv.each is) in change-invariant h conn v (see v) inv is k.0 k.1)
 
 pub changed-keys : (see : ConnectionView → ConnectionView) (conn : ℕ) (table : Table) → keys_of (changed see conn table) ≡ keys_of table
-changed-keys see conn table =
-    by-changed (λ (t : Table). keys_of t ≡ keys_of table) see conn table (λ _. refl) (λ v _. keys_of-with_value nat_eq table conn (see v))
+changed-keys see conn table = search (rules, by-changed, keys_of-with_value)
 
 pub at-changed : (see : ConnectionView → ConnectionView) (conn : ℕ) (table : Table)
     → value_at nat_eq (changed see conn table) conn ≡ option_map see (value_at nat_eq table conn)
-at-changed see conn table =
-    by-changed (λ (t : Table). value_at nat_eq t conn ≡ option_map see (value_at nat_eq table conn)) see conn table (λ none. rw none refl)
-    (λ v is. rw is (at-with table conn (see v) v is))
+at-changed see conn table = search (rules, at-with, by-changed)
 
 -- a connection that goes on is there
-pub live-at : (table : Table) (conn : ℕ) → is_open_in table conn ≡ true
-    → (v : ConnectionView) × ((value_at nat_eq table conn ≡ Some v) × (v.ended ≡ false))
+pub live-at : (table : Table) (conn : ℕ) → is_open_in table conn ≡ true → (v : ConnectionView) × ((value_at nat_eq table conn ≡ Some v) × (v.ended ≡ false))
 live-at table conn live = by_value (value_at nat_eq table conn) refl live
   where
-    by_value : (r : Option ConnectionView) → value_at nat_eq table conn ≡ r → unwrap_or (option_map (λ (c : ConnectionView). not c.ended) r) false ≡ true
+    by_value : (r : Option ConnectionView) → value_at nat_eq table conn ≡ r → goes_on r ≡ true
         → (v : ConnectionView) × ((value_at nat_eq table conn ≡ Some v) × (v.ended ≡ false))
     by_value None is never = cc
     by_value (Some v) is live =
@@ -426,15 +390,13 @@ live-at table conn live = by_value (value_at nat_eq table conn) refl live
 pub pushed-frame : (engine : Machine) (table : Table) (conn : ℕ) (reply : PlainReply) (v : ConnectionView) → value_at nat_eq table conn ≡ Some v
     → HasNoFrame (hub_view engine (changed (pushed reply) conn table)) conn → ⊥
 pushed-frame engine table conn reply v found none =
-    pushed-some reply v (subst (λ (r : Option ConnectionView). IfSome r (λ c. kept c.outbox ≡ []))
-    (at-changed (pushed reply) conn table ∙ ap (option_map (pushed reply)) found) none)
+    pushed-some reply v (subst IsBare (at-changed (pushed reply) conn table ∙ ap (option_map (pushed reply)) found) none)
 
 -- one that keeps none has room for a request
 pub empty-space : (h : HubView) (conn : ℕ) → IsSound h.limits h.state → HubInvariant h → HasNoFrame h conn → HasSpaceFor h (longest_reply h.limits) conn
 empty-space h conn sound inv = by_value (value_at nat_eq h.connections conn) refl
   where
-    by_value : (r : Option ConnectionView) → value_at nat_eq h.connections conn ≡ r → IfSome r (λ c. kept c.outbox ≡ [])
-        → IfSome r (λ c. c.ended ≡ false → owed_to h.limits h.state c.process + longest_reply h.limits + last_frames ≤ c.outbox.free)
+    by_value : (r : Option ConnectionView) → value_at nat_eq h.connections conn ≡ r → IsBare r → HasSpaceAt h (longest_reply h.limits) r
     by_value None is none = tt
     by_value (Some v) is none = λ live.
         omega (arith, (each-at (IsSoundIn h) h.connections conn v inv.each is).size, ap length none, owed_to-most h.limits h.state v.process sound)

@@ -40,8 +40,7 @@ last-of P (p ∷ q ∷ os) o all last = last-of P (q ∷ os) o (All-tail P p (q 
 -- an endpoint without a process hears no reply
 pub heard-none : {E : Type 0} (kind : Endpoint E) (mark : ℕ) (os : List PlainOutcome) (c : E) → kind.process c ≡ None → heard kind mark os c ≡ c
 heard-none kind mark [] c none = refl
-heard-none kind mark (o ∷ os) c none =
-    let same : delivered kind mark o c ≡ c = rw none refl in ap (heard kind mark os) same ∙ heard-none kind mark os c none
+heard-none kind mark (o ∷ os) c none = let same : delivered kind mark o c ≡ c = rw none refl in ap (heard kind mark os) same ∙ heard-none kind mark os c none
 
 -- what bytes of a connection come to, by what stands at the front of them then
 abbrev pub comes_of : {E : Type 0} (kind : Endpoint E) (limits : Limits) (h : Hub E) (conn moment : ℕ) (c : E) (next : List ℕ) → PlainFrame → Bool → Hub E

@@ -50,20 +50,10 @@ few-confirmed confirmed accepted (f ∷ fs) others are few =
           let within : f.mark ≤ confirmed = grind (arith, nat_tests, t) in
           All-cons (IsWithin confirmed) f fs within
           (few-confirmed confirmed accepted fs others (All-tail (IsOf accepted) f (fs ++ others) are)
-          (omega (
-            arith,
-            few',
-            length-append f.bytes (all_bytes fs),
-            length-append f.bytes (confirmed_bytes confirmed (fs ++ others)),
-          )))
+          (omega (arith, few', length-append f.bytes (all_bytes fs), length-append f.bytes (confirmed_bytes confirmed (fs ++ others)))))
       | inr t ↦
           let few' : length (f.bytes ++ all_bytes fs) ≤ 0 = rw t at few in
-          absurd (omega (
-            arith,
-            few',
-            length-append f.bytes (all_bytes fs),
-            has-bytes f (All-head (IsOf accepted) f (fs ++ others) are).1,
-          ))
+          absurd (omega (arith, few', length-append f.bytes (all_bytes fs), has-bytes f (All-head (IsOf accepted) f (fs ++ others) are).1))
     ]
 
 -- the bytes that a client may see, when its connection shows those of these frames
@@ -73,13 +63,7 @@ shown-confirmed confirmed accepted v c frames others m first output =
     let shown_length : length (drop c.consumed (all_bytes frames)) ≡ length (drop c.consumed (confirmed_bytes confirmed c.frames)) =
     ap (λ (bytes : List ℕ). length bytes) (sym output ∙ m.visible) in
     let few : length (all_bytes frames) ≤ length (confirmed_bytes confirmed c.frames) =
-    omega (
-      arith,
-      shown_length,
-      m.seen,
-      length-drop c.consumed (all_bytes frames),
-      length-drop c.consumed (confirmed_bytes confirmed c.frames),
-    ) in
+    omega (arith, shown_length, m.seen, length-drop c.consumed (all_bytes frames), length-drop c.consumed (confirmed_bytes confirmed c.frames)) in
     few-confirmed confirmed accepted frames others (subst (AreFrames accepted) (sym first) m.frames)
     (subst (λ (fs : List Frame). length (all_bytes frames) ≤ length (confirmed_bytes confirmed fs)) (sym first) few)
 
@@ -201,8 +185,7 @@ module _ {D : Type 0} (medium : D → Medium) (law : (d : D) (image : Image) →
   -- all calls of a life
   lived : (kept : List PlainEvent) (opened : StoreView D) (last : StoredHub D) (now : Clients) (seen : List Frame)
       → Keeps (medium opened.disk) opened (reopened kept) → opened.machine.limits ≡ limits
-      → opened.machine.state ≡ restart (state_after limits kept) → Serving medium limits opened last now seen
-      → Lived medium limits kept last now seen
+      → opened.machine.state ≡ restart (state_after limits kept) → Serving medium limits opened last now seen → Lived medium limits kept last now seen
   lived kept opened hub _ _ keeps under state (New _ store matches) = record {
     history = reopened kept;
     keeps = subst (λ (s : StoreView D). Keeps (medium s.disk) s (reopened kept)) (sym store) keeps;
@@ -248,8 +231,7 @@ Leaves {D} medium =
 abbrev pub Finds : {D : Type 0} → (D → Medium) → Type 0
 Finds {D} medium =
     (limits : Limits) (acked others : List PlainEvent) (left disk : D) (opened : StoreView D) → Rests limits acked others (medium left)
-    → StoppedOpens medium left disk → OpensOn (medium disk).contents (medium opened.disk) opened
-    → Found limits acked others (medium opened.disk) opened
+    → StoppedOpens medium left disk → OpensOn (medium disk).contents (medium opened.disk) opened → Found limits acked others (medium opened.disk) opened
 
 nothing-kept : (kept lost : List PlainEvent) → kept ++ lost ≡ [] → kept ≡ []
 nothing-kept [] lost is = refl
@@ -296,8 +278,7 @@ module _ {D : Type 0} (medium : D → Medium) (law : (d : D) (image : Image) →
       → Lives medium limits disk lives opened → HasHistory (medium opened.disk) limits found lives opened
   has-history found disk _ store rests (First from _ opens on) =
       let f = finds limits found [] disk from store rests opens on in
-      let all : found ++ f.kept ≡ found =
-      ap (λ (es : List PlainEvent). found ++ es) (nothing-kept f.kept f.lost f.prefix) ∙ append-nil found in
+      let all : found ++ f.kept ≡ found = ap (λ (es : List PlainEvent). found ++ es) (nothing-kept f.kept f.lost f.prefix) ∙ append-nil found in
       record {
         history = found;
         is = no_life;

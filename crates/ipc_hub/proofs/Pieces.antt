@@ -1,6 +1,6 @@
 -- Bytes taken in at once, and in pieces.
 use Rattle.std.proofs.Common.{◌≡◌, ℕ, zero, suc, Bool, true, false, ◌&&◌, List, [], ◌∷◌, ◌++◌, length, drop, Option, Some, None, refl, sym, ap, ◌∙◌}
-use Rattle.std.proofs.Common.{◌⊎◌, inl, inr, subst, arith, append_assoc, append-nil}
+use Rattle.std.proofs.Common.{◌⊎◌, inl, inr, subst, arith, append_assoc, append-nil, rules}
 use Rattle.std.specs.Prelude.{nat_eq, option_map}
 use Rattle.ipc_base.specs.declared.errno.Errno.TheVariants.{ENOMEM}
 use Rattle.ipc_base.specs.declared.limits.Limits.{Limits}
@@ -45,10 +45,7 @@ over_or_live h conn = by_client (client_at h conn) refl
     by_client : (r : Option Client) → client_at h conn ≡ r → IsOver h conn ⊎ Live h conn
     by_client None is = inl (λ act. rw is refl)
     by_client (Some c) is =
-        elim (test_cases c.ended) [
-          | inl done ↦ inl (λ act. ended-stays h conn act c is done)
-          | inr live ↦ inr (record { c = c; here = is; live = live })
-        ]
+        elim (test_cases c.ended) [ inl done ↦ inl (λ act. ended-stays h conn act c is done) | inr live ↦ inr (record { c = c; here = is; live = live }) ]
 
 -- the client with the bytes that it keeps taken out, and the hub
 abbrev pub bare : Client → Client
@@ -161,14 +158,11 @@ module _ (limits : Limits) where
   ending-over h conn moment (Broken serial) over = over (λ c. break_off kind limits h conn c serial moment)
 
   stream-over : (h : Clients) (conn moment : ℕ) (s : Stream) (refused : List Bool) → IsOver h conn → on_stream kind limits h conn moment s refused ≡ h
-  stream-over h conn moment s refused done =
-      ap (λ (t : Clients). on_ending kind limits t conn moment s.ending) (requests-over h conn moment s.requests refused done)
-      ∙ ending-over h conn moment s.ending done
+  stream-over h conn moment s refused done = search (rules, ending-over, requests-over)
 
   pub take_in-acts : (h : Clients) (conn moment : ℕ) (c : Client) (bytes : List ℕ) (refused : List Bool) → client_at h conn ≡ Some c → c.ended ≡ false
       → take_in limits h conn bytes moment refused ≡ on_stream kind limits (emptied h conn c) conn moment (stream_of (c.input ++ bytes)) refused
-  take_in-acts h conn moment c bytes refused here live =
-      acts h conn (λ d. on_stream kind limits (emptied h conn d) conn moment (stream_of (d.input ++ bytes)) refused) c here live
+  take_in-acts h conn moment c bytes refused here live = search (rules, here, live)
 
   -- a client without a process stays as it is when a process leaves
   left_at : (h : Clients) (conn moment : ℕ) (c : Client) (p : Option ℕ) → client_at h conn ≡ Some c → c.process ≡ None
@@ -217,8 +211,7 @@ module _ (limits : Limits) where
       ]
 
   goes-on : (h : Clients) (conn moment : ℕ) (rs : List PlainRequest) (ending : Ending) (more : List ℕ) (xs ys : List Bool) → KeepsNone h conn
-      → length xs ≡ length rs
-      → take_in limits (on_ending kind limits (on_requests kind limits h conn moment rs xs) conn moment ending) conn more moment ys
+      → length xs ≡ length rs → take_in limits (on_ending kind limits (on_requests kind limits h conn moment rs xs) conn moment ending) conn more moment ys
       ≡ on_stream kind limits h conn moment (continued rs ending more) (xs ++ ys)
   goes-on h conn moment rs (Rest bytes) more xs ys none same =
       rest-more (on_requests kind limits h conn moment rs xs) conn moment bytes more ys (requests-keep h conn moment rs xs none)

@@ -52,6 +52,10 @@ still-kept medium old new limits owed v bytes moment asks.Served k comes = (othe
 still-kept medium old new limits owed v bytes moment (asks.NoMemory n) k comes = (other-input limits owed v [] k (first_short [] (omega arith)), refl)
 still-kept medium old new limits owed v bytes moment (asks.Broken n) k comes = (other-input limits owed v [] k (first_short [] (omega arith)), refl)
 
+-- a connection of which no bytes are kept
+abbrev pub read_out : ConnectionView → ConnectionView
+read_out c = record c { input = [] }
+
 none-of : (xs : List ℕ) → length xs ≡ 0 → xs ≡ []
 none-of [] none = refl
 none-of (x ∷ xs) none = absurd (omega (arith, none))
@@ -107,17 +111,15 @@ module _ {D : Type 0} {medium : D → Medium} {old new : StoreView D} {before af
       ends : (g : PlainFrame) → first (r.was.input ++ next) ≡ g → IsLast (r.was.input ++ next) g
       ends More at = tt
       ends (Fault serial) at = tt
-      ends (Whole used request) at =
-          drop_all used (r.was.input ++ next) (omega (arith, whole_last r.was.input next used request r.partial r.few at))
+      ends (Whole used request) at = drop_all used (r.was.input ++ next) (omega (arith, whole_last r.was.input next used request r.partial r.few at))
 
   pub asked-taken : {made : Option PlainEvent} (a : IsRequest (first (r.was.input ++ next)) r.was.process moment made) (refused : Bool) (store : StoreView D)
-      (last : Table) → Leads store last (on_event view_endpoint old.machine.limits (with_client was-hub conn (record (r.was) { input = [] })) conn
-      (record (r.was) { input = [] }) a.request.serial moment refused made)
-      → TakesIn medium (stored_view old before) (stored_view store last) conn next moment
+      (last : Table) → Leads store last (on_event view_endpoint old.machine.limits (with_client was-hub conn (read_out r.was)) conn
+      (read_out r.was) a.request.serial moment refused made) → TakesIn medium (stored_view old before) (stored_view store last) conn next moment
   asked-taken a refused store last leads =
       frame-taken (Whole a.used a.request) refused a.whole store last
       (subst (λ (m : Option PlainEvent). Leads store last (on_event view_endpoint old.machine.limits
-      (with_client was-hub conn (record (r.was) { input = [] })) conn (record (r.was) { input = [] }) a.request.serial moment refused m)) (sym a.event) leads)
+      (with_client was-hub conn (read_out r.was)) conn (read_out r.was) a.request.serial moment refused m)) (sym a.event) leads)
 
 -- ---- no whole frame yet
 
@@ -164,31 +166,29 @@ module _ {D : Type 0} {medium : D → Medium} {old new : StoreView D} {before af
   abbrev mid : HubView
   mid = hub_view old.machine after
 
-  abbrev bare-now : ConnectionView
-  bare-now = record (r.was) { input = [] }
-
   pub served-space : HasSpaceToAnswer new.machine.outcomes conn after
   served-space =
       subst (λ (os : List PlainOutcome). HasSpaceToAnswer os conn after) (sym steps.outcomes)
-      (answer-space mid conn bare-now e r.still (found' r) r.live r.space r.passed steps.sound made)
+      (answer-space mid conn (read_out r.was) e r.still (found' r) r.live r.space r.passed steps.sound made)
 
   pub served-apart : AreApart (with_answer new.machine.outcomes conn after)
   served-apart =
       subst (λ (os : List PlainOutcome). AreApart (with_answer os conn after)) (sym steps.outcomes)
-      (answer-apart mid conn bare-now e r.still (found' r) r.live r.space r.passed steps.sound made)
+      (answer-apart mid conn (read_out r.was) e r.still (found' r) r.live r.space r.passed steps.sound made)
 
   module _ (last : Table) (answered : last ≡ put_all new.machine.outcomes (with_answer new.machine.outcomes conn after)) where
     told : last ≡ put_all now.outcomes (with_answer now.outcomes conn after)
     told = answered ∙ ap (λ (os : List PlainOutcome). put_all os (with_answer os conn after)) steps.outcomes
 
-    rows : last ≡ put_all now.outcomes (with_value nat_eq (with_value nat_eq before conn bare-now) conn (answered-by (last_reply now.outcomes) bare-now))
+    rows : last ≡ put_all now.outcomes
+        (with_value nat_eq (with_value nat_eq before conn (read_out r.was)) conn (answered-by (last_reply now.outcomes) (read_out r.was)))
     rows =
         told ∙ ap (put_all now.outcomes) (rw (found' r) refl)
-        ∙ ap (λ (t : Table). put_all now.outcomes (with_value nat_eq t conn (answered-by (last_reply now.outcomes) bare-now))) r.table
+        ∙ ap (λ (t : Table). put_all now.outcomes (with_value nat_eq t conn (answered-by (last_reply now.outcomes) (read_out r.was)))) r.table
 
     -- the connection that asked
     abbrev asked_one : ConnectionView
-    asked_one = answered-by (last_reply now.outcomes) bare-now
+    asked_one = answered-by (last_reply now.outcomes) (read_out r.was)
 
     found-now : value_at nat_eq last conn ≡ Some (hears now.outcomes asked_one)
     found-now =
@@ -199,7 +199,7 @@ module _ {D : Type 0} {medium : D → Medium} {old new : StoreView D} {before af
     -- if it keeps no frame, the reply is still to come
     served-waits : HasNoFrame (hub_view new.machine last) conn → Waits old new before last conn
     served-waits none =
-        let waits = told-none mid conn bare-now e r.still (found' r) r.live r.space r.passed steps.sound made (rw found-now at none) in
+        let waits = told-none mid conn (read_out r.was) e r.still (found' r) r.live r.space r.passed steps.sound made (rw found-now at none) in
         let process : process_in last conn ≡ asked_one.process = ap process_of found-now ∙ (heard-same now.outcomes asked_one).0 in
         let later = subst (λ (s : State). 0 < unanswered_of s asked_one.process) (sym steps.state) waits.2 in
         record {
@@ -215,7 +215,7 @@ module _ {D : Type 0} {medium : D → Medium} {old new : StoreView D} {before af
     served-took =
         record {
           continues = goes-further (hub_view old.machine before) mid (hub_view new.machine last) refl r.numbers
-              (answer-goes-on mid conn bare-now e r.still (found' r) r.live r.space r.passed steps.sound made
+              (answer-goes-on mid conn (read_out r.was) e r.still (found' r) r.live r.space r.passed steps.sound made
               (hub_view new.machine last) steps.limits steps.state told);
           bytes = asked-taken r r.comes.1.0 false new last (record {
             becomes = record { limits = steps.limits; state = steps.state; rows = rows };
@@ -228,9 +228,6 @@ module _ {D : Type 0} {medium : D → Medium} {old new : StoreView D} {before af
 
 module _ {D : Type 0} {medium : D → Medium} {old new : StoreView D} {before after : Table} {conn : ℕ} {next : List ℕ}
     {moment serial : ℕ} (law : Law medium) (r : Received medium old new before after conn next moment (asks.NoMemory serial)) where
-  abbrev bare-n : ConnectionView
-  bare-n = record (r.was) { input = [] }
-
   abbrev nack : ConnectionView → ConnectionView
   nack = pushed (reply_of (refusal serial ENOMEM))
 
@@ -240,37 +237,35 @@ module _ {D : Type 0} {medium : D → Medium} {old new : StoreView D} {before af
   pub refused-took : Took medium old new before (changed nack conn after) conn next moment
   refused-took =
       let long = length-reply_bytes (reply_of (refusal serial ENOMEM)) in
-      let put : changed nack conn after ≡ with_value nat_eq after conn (nack bare-n) = rw (found' r) refl in
+      let put : changed nack conn after ≡ with_value nat_eq after conn (nack (read_out r.was)) = rw (found' r) refl in
       let owes : Option ℕ → ℕ = owed_to old.machine.limits old.machine.state in
       record {
         continues = rw r.comes.same (record {
           limits = refl;
           numbers = changed-keys nack conn after ∙ r.numbers;
-          invariant = rw put (change-invariant (hub_view old.machine after) conn bare-n (nack bare-n) r.still (found' r) (λ pid mine. mine)
-              (kept-pushed old.machine.limits owes owes (refusal serial ENOMEM) bare-n
-              (each-at (IsSoundIn (hub_view old.machine after)) after conn bare-n r.still.each (found' r)) (omega (arith, r.space, long))
+          invariant = rw put (change-invariant (hub_view old.machine after) conn (read_out r.was) (nack (read_out r.was)) r.still (found' r) (λ pid mine. mine)
+              (kept-pushed old.machine.limits owes owes (refusal serial ENOMEM) (read_out r.was)
+              (each-at (IsSoundIn (hub_view old.machine after)) after conn (read_out r.was) r.still.each (found' r)) (omega (arith, r.space, long))
               (λ _. omega (arith, r.space, long))));
         });
         bytes = asked-taken r r.comes.made true new (changed nack conn after) (rw r.comes.takes (record {
           becomes = record {
             limits = ap (λ (s : StoreView D). s.machine.limits) r.comes.same;
             state = ap (λ (s : StoreView D). s.machine.state) r.comes.same;
-            rows = put ∙ ap (λ (t : Table). with_value nat_eq t conn (nack bare-n)) r.table
-                ∙ ap (λ (n : ℕ). with_value nat_eq (with_value nat_eq before conn bare-n) conn (pushed (reply_of (refusal n ENOMEM)) bare-n))
+            rows = put ∙ ap (λ (t : Table). with_value nat_eq t conn (nack (read_out r.was))) r.table
+                ∙ ap (λ (n : ℕ). with_value nat_eq (with_value nat_eq before conn (read_out r.was)) conn
+                (pushed (reply_of (refusal n ENOMEM)) (read_out r.was)))
                 (sym r.comes.serial);
           };
           pends = same-pends medium law old new r.comes.same;
         }));
-        answers = λ none. absurd (pushed-frame new.machine after conn (reply_of (refusal serial ENOMEM)) bare-n (found' r) none);
+        answers = λ none. absurd (pushed-frame new.machine after conn (reply_of (refusal serial ENOMEM)) (read_out r.was) (found' r) none);
       }
 
 -- ---- a fault of the frames
 
 module _ {D : Type 0} {medium : D → Medium} {old new : StoreView D} {before after : Table} {conn : ℕ} {next : List ℕ}
     {moment serial : ℕ} (r : Received medium old new before after conn next moment (asks.Broken serial)) where
-  abbrev bare-b : ConnectionView
-  bare-b = record (r.was) { input = [] }
-
   pub broken-live : is_open_in after conn ≡ true
   broken-live = rw (found' r) (ap not r.live)
 
@@ -280,13 +275,14 @@ module _ {D : Type 0} {medium : D → Medium} {old new : StoreView D} {before af
       → Pends medium new (exit_of (process_in after conn) moment) store → (HasNoFrame (hub_view store.machine last) conn → ⊥)
       → Took medium old store before last conn next moment
   broken-took store last goes ends went some =
-      let is = ends bare-b (found' r) in
-      let from : Leads r store last (break_off view_endpoint old.machine.limits (with_client (was-hub r) conn bare-b) conn bare-b serial moment) =
-      subst (λ (t : Table). Leads r store last (break_off view_endpoint old.machine.limits (record (was-hub r) { clients = t }) conn bare-b serial moment))
+      let is = ends (read_out r.was) (found' r) in
+      let now : ConnectionView = read_out r.was in
+      let from : Leads r store last (break_off view_endpoint old.machine.limits (with_client (was-hub r) conn now) conn now serial moment) =
+      subst (λ (t : Table). Leads r store last (break_off view_endpoint old.machine.limits (record (was-hub r) { clients = t }) conn now serial moment))
       r.table (record {
         becomes = let b = rw r.comes.0 at is in record { limits = b.limits; state = b.state; rows = b.rows };
         pends =
-            rw (leave-adds view_endpoint old.machine.limits (with_client (record (was-hub r) { clients = after }) conn (closed bare-b)) r.was.process moment)
+            rw (leave-adds view_endpoint old.machine.limits (with_client (record (was-hub r) { clients = after }) conn (closed now)) r.was.process moment)
             (rw (r.comes.0, ap process_of (found' r)) at went);
       }) in
       record {

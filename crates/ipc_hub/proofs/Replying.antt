@@ -1,11 +1,11 @@
 -- Each frame of a client is an answer, whatever calls of the definitions came.
-use Rattle.std.proofs.Common.{◌≡◌, ℕ, ◌+◌, ◌-◌, List, [], ◌∷◌, ◌++◌, Option, Some, None, inr, refl, sym, ap, ◌∙◌, append_assoc}
-use Rattle.std.specs.Prelude.{All, nat_eq, nat_le}
-use Rattle.std.proofs.lemmas.List.Elements.{All-nil, All-cons, All-head, All-tail, All-push}
+use Rattle.std.proofs.Common.{◌≡◌, ℕ, ◌+◌, List, [], ◌∷◌, ◌++◌, Option, Some, None, inr, refl, sym, ap, ◌∙◌, append_assoc}
+use Rattle.std.specs.Prelude.{All, nat_eq}
+use Rattle.std.proofs.lemmas.List.Elements.{All-nil, All-cons, All-push}
 use Rattle.ipc_base.specs.declared.errno.Errno.TheVariants.{EIO}
 use Rattle.ipc_base.specs.declared.limits.Limits.{Limits}
 use Rattle.ipc_base.specs.Table.{without, EachValue}
-use Rattle.ipc_base.proofs.CallerLemmas.{choice, each-at, each-with, each-without, each-entry, each-seen}
+use Rattle.ipc_base.proofs.CallerLemmas.{each-at, each-with, each-without, each-entry, each-seen}
 use Rattle.ipc_state.specs.State.{State}
 use Rattle.ipc_engine.specs.Event.{PlainEvent, PlainOutcome, Tick}
 use Rattle.ipc_engine.specs.Step.{step, run}
@@ -19,7 +19,7 @@ use Rattle.ipc_hub.specs.Lives.ClientCall.{Feeds as to_feed, HangsUp as to_hang_
 use Rattle.ipc_hub.specs.Replies.{IsAnswer}
 use Rattle.ipc_hub.specs.Replies.IsAnswer.{Reply, Refusal}
 use Rattle.ipc_hub.proofs.Framed.{Framed, Says, framed-kept, framed-push, framed-self, framed-each}
-use Rattle.ipc_hub.proofs.Deliveries.{consumed-all}
+use Rattle.ipc_hub.proofs.Deliveries.{confirmed-weaker, consumed-all}
 use Rattle.ipc_hub.proofs.Kept.{Related, Allows, CanPush, accepts, leaves, taken-kept}
 
 module _ (limits : Limits) (base : State) where
@@ -88,21 +88,14 @@ module _ (limits : Limits) (base : State) where
             each = each-with (Says Answer h.events) h.clients conn (record c { frames = rest.0; consumed = rest.1 }) told.each says;
           })
 
-  -- those that are confirmed stay
-  says-confirmed : (P : Frame → Type 0) (confirmed : ℕ) (frames : List Frame) → All P frames → All P (confirmed_frames confirmed frames)
-  says-confirmed P confirmed [] all = all
-  says-confirmed P confirmed (f ∷ fs) all =
-      choice (All P) (nat_le f.mark confirmed) (f ∷ confirmed_frames confirmed fs) []
-      (λ t. All-cons P f (confirmed_frames confirmed fs) (All-head P f fs all) (says-confirmed P confirmed fs (All-tail P f fs all))) (λ t. All-nil P)
-
   pub told-fail : (h : Clients) (confirmed : ℕ) → IsTold h → IsTold (fail confirmed h)
   told-fail h confirmed told =
       let P : Client → Type 0 = Says Answer h.events in
       record {
         state = told.state;
         each = each-seen P P P h.clients (cut_off confirmed) told.each told.each
-            (λ c says also. All-push (Answer h.events) (confirmed_frames confirmed c.frames) _ (says-confirmed (Answer h.events) confirmed c.frames says)
-            (Refusal 0 EIO (inr (inr refl)) refl));
+            (λ c says also. All-push (Answer h.events) (confirmed_frames confirmed c.frames) _
+            (confirmed-weaker (Answer h.events) (Answer h.events) confirmed c.frames (λ f le is. is) says) (Refusal 0 EIO (inr (inr refl)) refl));
       }
 
   -- a call of the definitions

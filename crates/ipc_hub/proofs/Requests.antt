@@ -1,9 +1,8 @@
 -- What an event comes to for the processes: what each is sent, and owed then. What the machine does on a request of a
 -- connection: no process asks by it but that of the connection, or a new one, and none leaves.
 use Rattle.std.proofs.Common.{◌≡◌, ◌≢◌, ℕ, ◌+◌, ◌<◌, ◌≤◌, Bool, true, false, List, [], ◌∷◌, ◌++◌, length, Option, Some, None, refl, sym, ap, ◌∙◌, subst, arith}
-use Rattle.std.specs.Prelude.{nat_eq, if◌then◌else◌, All}
+use Rattle.std.specs.Prelude.{nat_eq, if◌then◌else◌}
 use Rattle.std.proofs.lemmas.Bool.Decides.{nat_tests}
-use Rattle.std.proofs.lemmas.List.Elements.{All-head, All-tail}
 use Rattle.ipc_base.specs.Limits.{ArePassed, longest_reply}
 use Rattle.ipc_base.specs.declared.identity.Cred.{Cred}
 use Rattle.ipc_base.specs.declared.limits.Limits.{Limits}
@@ -21,7 +20,7 @@ use Rattle.ipc_engine.specs.Step.{step}
 use Rattle.ipc_engine.specs.View.{reply_of}
 use Rattle.ipc_engine.proofs.CallerLemmas.{step-fits, step-owes, hello-greets, connect-stays, call-stays, interrupt-stays}
 use Rattle.ipc_hub.specs.Hub.{event_of, last_reply}
-use Rattle.ipc_hub.specs.Relations.Delivery.{IsShort, AllShort}
+use Rattle.ipc_hub.specs.Relations.Delivery.{IsShort}
 use Rattle.ipc_hub.proofs.Kept.{last-of}
 
 -- ---- replies
@@ -29,18 +28,7 @@ use Rattle.ipc_hub.proofs.Kept.{last-of}
 pub fits-short : (limits : Limits) (o : PlainOutcome) → ArePassed limits → FitsBody limits o.body → IsShort o
 fits-short limits o passed fits = omega (arith, fits, longest_reply-bound limits passed)
 
-all-short : (limits : Limits) → ArePassed limits → (os : List PlainOutcome) → All (λ (o : PlainOutcome). FitsBody limits o.body) os → AllShort os
-all-short limits passed [] all = tt
-all-short limits passed (o ∷ os) all = (
-  fits-short limits o passed (All-head (λ (p : PlainOutcome). FitsBody limits p.body) o os all),
-  all-short limits passed os (All-tail (λ (p : PlainOutcome). FitsBody limits p.body) o os all),
-)
-
--- no reply of an event is too long for its length field
-pub step-short : (limits : Limits) (s : State) (e : PlainEvent) → ArePassed limits → IsSound limits s → AllShort (step limits s e).outcomes
-step-short limits s e passed sound = all-short limits passed (step limits s e).outcomes (step-fits limits s e sound)
-
--- so it is short, and no longer than the longest one
+-- the last reply of an event is short, and no longer than the longest one
 pub last-fits : (limits : Limits) (s : State) (e : PlainEvent) (o : PlainOutcome) → ArePassed limits → IsSound limits s
     → last_reply (step limits s e).outcomes ≡ Some o → IsShort o × (length (reply_bytes (reply_of o)) ≤ longest_reply limits)
 last-fits limits s e o passed sound last =
@@ -62,8 +50,7 @@ last-sent (p ∷ front) o = omega (arith, last-sent front o)
 
 -- a process that is connected has a number above 0
 pub connected-above : (limits : Limits) (s : State) (pid : ℕ) → IsSound limits s → is_process s pid ≡ true → 0 < pid
-connected-above limits s pid sound is =
-    omega (arith, (rising-found 1 s.processes.entries s.processes.next pid sound.parts.processes.numbered.numbers is).0)
+connected-above limits s pid sound is = omega (arith, (rising-found 1 s.processes.entries s.processes.next pid sound.parts.processes.numbered.numbers is).0)
 
 -- which has one too
 pub next-above : (limits : Limits) (s : State) → IsSound limits s → 0 < s.processes.next
@@ -76,8 +63,7 @@ connected-below limits s pid sound is = (rising-found 1 s.processes.entries s.pr
 -- one that does not ask is sent what it was owed, or is owed it still
 pub quiet-owes : (limits : Limits) (s : State) (e : PlainEvent) (pid : ℕ) → IsSound limits s → is_process s pid ≡ true → asks s e pid ≡ false
     → bytes_to pid (step limits s e).outcomes + owed limits (step limits s e).state pid ≤ owed limits s pid
-quiet-owes limits s e pid sound is none =
-    let all = rw none at (step-owes limits s e pid sound (connected-above limits s pid sound is)) in omega (arith, all)
+quiet-owes limits s e pid sound is none = let all = rw none at (step-owes limits s e pid sound (connected-above limits s pid sound is)) in omega (arith, all)
 
 -- any other at most the longest reply more
 pub asked-owes : (limits : Limits) (s : State) (e : PlainEvent) (pid : ℕ) → IsSound limits s → 0 < pid

@@ -74,8 +74,7 @@ Law {D} medium = (d : D) (image : Image) → (medium d).images_since (medium d).
 module _ {D : Type 0} (medium : D → Medium) (law : Law medium) where
   -- no event came
   pub same-pends : (old new : StoreView D) → new ≡ old → Pends medium old [] new
-  same-pends old new same =
-      subst (Pends medium old []) (sym same) (record { confirmed = refl; waiting = omega arith; takes = Takes-none medium law old })
+  same-pends old new same = subst (Pends medium old []) (sym same) (record { confirmed = refl; waiting = omega arith; takes = Takes-none medium law old })
 
   pub same-accepts : (old new : StoreView D) (h now : Clients) → now.events ≡ h.events → new ≡ old → Accepts medium old new h now
   same-accepts old new h now stay same = record { events = []; adds = stay ∙ sym (append-nil h.events); pends = same-pends old new same }

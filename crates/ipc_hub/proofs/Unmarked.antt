@@ -1,6 +1,6 @@
 -- What a server does is the same, whatever number of events it has accepted; and a tick at a moment that has been does
 -- nothing else than to be counted.
-use Rattle.std.proofs.Common.{◌≡◌, ℕ, ◌≤◌, Bool, List, [], ◌∷◌, ◌++◌, length, max, get_or, Option, Some, None, refl, sym, ap, subst, ◌∙◌, arith}
+use Rattle.std.proofs.Common.{◌≡◌, ℕ, ◌≤◌, Bool, List, [], ◌∷◌, ◌++◌, length, max, get_or, Option, Some, None, refl, sym, ap, subst, ◌∙◌, arith, rules}
 use Rattle.std.specs.Prelude.{nat_eq, if◌then◌else◌, option_map}
 use Rattle.ipc_base.specs.declared.limits.Limits.{Limits}
 use Rattle.ipc_base.specs.Table.{value_at, EachValue, ArePaired}
@@ -49,8 +49,7 @@ module _ (limits : Limits) (step-early : (s : State) (e : PlainEvent) → NoneIs
 
   taken-alike : (g h : Clients) (conn : ℕ) (bytes : List ℕ) (refused : List Bool) → Alike g h
       → Alike (take_in limits g conn bytes moment refused) (take_in limits h conn bytes moment refused)
-  taken-alike g h conn bytes refused =
-      taken-kept client_endpoint client_endpoint (Framed Any) (framed-kept Any (λ es e f is. tt)) Quiet limits allowed conn moment g h bytes refused
+  taken-alike g h conn bytes refused = search (rules, allowed, framed-kept, taken-kept)
 
   module _ (late-tick : (s : State) → NoneIsDue s → moment ≤ s.clock → step limits s (Tick moment) ≡ silent s) where
     tick-alike : (h : Clients) → Quiet [] h.state h.events → Alike (tick limits h moment) h
@@ -85,8 +84,6 @@ module _ (limits : Limits) (step-early : (s : State) (e : PlainEvent) → NoneIs
         (ap (λ (r : Option Client). arriving r bytes) (at-map (heard client_endpoint mark os) h.clients conn)
         ∙ by_client mark os (value_at nat_eq h.clients conn))
       where
-        by_client : (mark : ℕ) (os : List PlainOutcome) (r : Option Client)
-            → arriving (option_map (heard client_endpoint mark os) r) bytes ≡ arriving r bytes
+        by_client : (mark : ℕ) (os : List PlainOutcome) (r : Option Client) → arriving (option_map (heard client_endpoint mark os) r) bytes ≡ arriving r bytes
         by_client mark os None = refl
-        by_client mark os (Some c) =
-            let same = heard-same mark os c in λ i. if same.1 i then [] else (stream_of (same.0 i ++ bytes)).requests
+        by_client mark os (Some c) = let same = heard-same mark os c in λ i. if same.1 i then [] else (stream_of (same.0 i ++ bytes)).requests

@@ -1,7 +1,7 @@
 -- What a hub does, whatever it keeps of a connection: events over the engine's state, the requests that bytes make, and
 -- the replies. How an endpoint keeps its frames is left open here: a client keeps them one by one (Clients.antt), and
 -- the code their bytes.
-use Rattle.std.specs.Prelude.{ℕ, zero, suc, ◌+◌, ◌==◌, Bool, false, ◌&&◌, List, [], ◌∷◌, ◌++◌, length, drop}
+use Rattle.std.specs.Prelude.{ℕ, zero, suc, ◌==◌, Bool, false, ◌&&◌, List, [], ◌∷◌, ◌++◌, length, drop}
 use Rattle.std.specs.Prelude.{nat_eq, if◌then◌else◌, Option, Some, None}
 use Rattle.ipc_base.specs.declared.errno.Errno.TheVariants.{ENOMEM, EPROTO}
 use Rattle.ipc_base.specs.declared.errno.Errno.{Errno}

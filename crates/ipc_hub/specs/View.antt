@@ -75,6 +75,9 @@ ended_of h conn = unwrap_or (option_map (λ c. c.ended) (connection_of h conn)) 
 abbrev pub kept : Outgoing → List ℕ
 kept o = o.visible ++ o.waiting
 
--- no frame of the connection is kept
+-- no frame of the connection, if there is one, is kept
+abbrev pub IsBare : Option ConnectionView → Type 0
+IsBare r = IfSome r (λ c. kept c.outbox ≡ [])
+
 abbrev pub HasNoFrame : HubView → ℕ → Type 0
-HasNoFrame h conn = IfSome (connection_of h conn) (λ c. kept c.outbox ≡ [])
+HasNoFrame h conn = IsBare (connection_of h conn)

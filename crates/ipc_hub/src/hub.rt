@@ -13,7 +13,7 @@ ghost use Rattle.ipc_hub.specs.Clients.{Clients, no_clients, connect, hangup, ti
 ghost use Rattle.ipc_hub.specs.View.{HasNoFrame, HasStopped, is_connected, numbers_of, output_of, ended_of};
 ghost use Rattle.ipc_hub.specs.View.{most_events, of_commit_error};
 ghost use Rattle.ipc_hub.specs.Relations.Matches.{HubMatches, StoredMatches, Simulates, Serves, ServesFeed};
-ghost use Rattle.ipc_hub.specs.Relations.Faults.{Halts, Refuses};
+ghost use Rattle.ipc_hub.specs.Relations.Faults.{Halts, Refuses, Settles};
 ghost use Rattle.ipc_hub.specs.Relations.Invariant.{HasPassed, SameButSeen};
 
 use crate::connection::Connection;
@@ -232,9 +232,7 @@ impl<D: SectorDisk> Hub<D> {
         if self.has_stopped() {
             return Err(CommitError::Stopped);
         }
-        let done = self.store.commit();
-        self.connections.after_commit(done);
-        done
+        self.make_last(false)
     }
 
     /// Does what `release` does, by a checkpoint of the whole state. It writes also if no event waits.
@@ -258,7 +256,25 @@ impl<D: SectorDisk> Hub<D> {
         if self.has_stopped() {
             return Err(CommitError::Stopped);
         }
-        let done = self.store.save();
+        self.make_last(true)
+    }
+
+    // Makes all events that wait last, by a commit, or by a checkpoint of the whole state, and tells the connections.
+    fn make_last(&mut self, whole: bool) -> Result<(), CommitError>
+        requires { ¬ HasStopped self.old }
+        ensures settles { Settles D.medium D.counts self.old self.new result }
+        ensures all { OnOk result (self.new.hub.connections ≡ seen_as released self.old.hub.connections) }
+        ensures confirmed { OnOk result (self.new.store.confirmed
+            ≡ self.old.store.confirmed + self.old.store.waiting) }
+        ensures waiting { OnOk result (self.new.store.waiting ≡ 0) }
+        ensures nothing { whole ≡ false → self.old.store.waiting ≡ 0 → self.new.store ≡ self.old.store }
+        ensures turned { whole ≡ true → OnOk result (HasTurned self.old.store self.new.store) }
+    {
+        let done = if whole {
+            self.store.save()
+        } else {
+            self.store.commit()
+        };
         self.connections.after_commit(done);
         done
     }
@@ -281,20 +297,13 @@ impl<D: SectorDisk> Hub<D> {
     // Releases if the events of a call may have no room among those that wait.
     fn make_space(&mut self) -> Result<(), CommitError>
         requires { ¬ HasStopped self.old }
-        ensures ok { OnOk result ((limits : Limits) (h : Clients) → StoredMatches limits self.old h
-            → StoredMatches limits self.new h) }
-        ensures takes { OnOk result (Takes D.medium self.old.store [] self.new.store) }
-        ensures numbers { numbers_of self.new.hub ≡ numbers_of self.old.hub }
-        ensures ready { OnOk result (IsReadyFor self.new.store most_events) }
+        ensures settles { Settles D.medium D.counts self.old self.new result }
         ensures same { OnOk result (SameButSeen self.old.hub self.new.hub) }
-        ensures refused { IfErr result (λ e. Halts D.medium D.counts self.old self.new e) }
-        ensures spends { OnOk result (Spends D.counts 1 self.old.store self.new.store) }
-        ensures honest { IsHonest (D.medium self.old.store.disk) → IsHonest (D.medium self.new.store.disk) }
     {
         if self.store.is_ready_for(MOST_EVENTS) {
             return Ok(());
         }
-        self.release()
+        self.make_last(false)
     }
 
     /// The connections, in rising number.

@@ -1,7 +1,7 @@
 //! Requests become events of the machine, and the replies of every event go to the connections of their processes.
 
 ghost use Rattle.std.specs.Prelude.{◌≡◌, ◌+◌, ◌<◌, ◌≤◌, ◌^◌, true, false, [], ◌∷◌, length, map, take};
-ghost use Rattle.std.specs.Prelude.{Some, nat_eq, option_map, IfSome};
+ghost use Rattle.std.specs.Prelude.{◌↔◌, Some, nat_eq, option_map, IfSome, IsTrue};
 ghost use Rattle.ipc_base.specs.Limits.{longest_reply, ArePassed};
 ghost use Rattle.ipc_base.specs.Table.{value_at, keys_of, IsRising};
 ghost use Rattle.ipc_wire.specs.View.{plain_request};
@@ -19,7 +19,7 @@ ghost use Rattle.ipc_hub.specs.Relations.Delivery.{HasSpaceToAnswer, HasSpaceFor
 ghost use Rattle.ipc_hub.specs.Relations.Invariant.{HubInvariant, Continues, HasPassed, IsConnected, IsNobodys};
 ghost use Rattle.ipc_hub.specs.Relations.Invariant.{AreApart, LeavesOthers};
 ghost use Rattle.ipc_hub.specs.Relations.Matches.{Adds, Simulates, TakesIn, Pends};
-ghost use Rattle.ipc_hub.specs.Relations.Requests.{ComesTo, Left, exit_of, taken_off, Received, Took};
+ghost use Rattle.ipc_hub.specs.Relations.Requests.{ComesTo, IsQuiet, Left, Steps, exit_of, taken_off, Received, Took};
 ghost use Rattle.ipc_image.specs.Records.{HasRecord};
 ghost use Rattle.ipc_store.specs.View.{IsReadyFor};
 
@@ -70,6 +70,19 @@ fn event_of<'a>(process: Option<Pid>, request: &Request<'a>, moment: Moment) -> 
     }
 }
 
+/// The machine takes a step by which no process asks, and the replies go where they go.
+fn accept<D: SectorDisk>(store: &mut Store<D>, connections: &mut Connections, event: Event<'_>)
+    requires hub { HubInvariant (hub_view store.old.machine (table_of connections.old)) }
+    requires quiet { IsQuiet store.old.machine.limits store.old.machine.state (plain_event event) }
+    requires ready { IsReadyFor store.old 1 }
+    ensures steps { Steps D.medium store.old store.new (plain_event event.entry) }
+    ensures replies { table_of connections.new ≡ put_all store.new.machine.outcomes (table_of connections.old) }
+    ensures adds { Adds 1 store.old store.new }
+{
+    store.step(event).unwrap();
+    connections.deliver(None, store.engine().outcomes());
+}
+
 /// Time passes.
 pub(crate) fn tick<D: SectorDisk>(
     store: &mut Store<D>,
@@ -89,8 +102,7 @@ pub(crate) fn tick<D: SectorDisk>(
         (hub_view store.new.machine (table_of connections.new)) }
     ensures adds { Adds 1 store.old store.new }
 {
-    store.step(Event::Tick { moment }).unwrap();
-    connections.deliver(None, store.engine().outcomes());
+    accept(store, connections, Event::Tick { moment });
 }
 
 /// The process of a connection that is over leaves, if it had one.
@@ -113,8 +125,7 @@ pub(crate) fn leave<D: SectorDisk>(
     ensures adds { Adds 1 store.old store.new }
 {
     if let Some(pid) = process {
-        store.step(Event::Exit { pid, moment }).unwrap();
-        connections.deliver(None, store.engine().outcomes());
+        accept(store, connections, Event::Exit { pid, moment });
     }
 }
 
@@ -286,6 +297,19 @@ fn take<D: SectorDisk>(
     count
 }
 
+/// Whether a request of a connection has room: its event in the store, and its reply behind what its process is owed.
+fn has_room<D: SectorDisk>(store: &Store<D>, connections: &Connections, conn: u32) -> bool
+    requires { IsRising 0 (keys_of (table_of connections.now)) (2 ^ 32) }
+    ensures room { IsTrue result ↔ (IsReadyFor store.now 1
+        × HasSpaceFor (hub_view store.now.machine (table_of connections.now))
+        (longest_reply store.now.machine.limits) conn) }
+    ensures passed { ArePassed store.now.machine.limits }
+    ensures sound { IsSound store.now.machine.limits store.now.machine.state }
+{
+    let reply = store.engine().limits().longest_reply();
+    store.is_ready_for(1) && connections.has_space(conn, store.engine(), reply)
+}
+
 /// Takes bytes of a piece while a request has room for its event and, behind what its process is owed, for its reply,
 /// and serves each request that they complete; of a connection that has ended it takes and drops all. Answers how many
 /// bytes it took. A request of a process of which no call waits may leave no frame, and the next one leaves one: so two
@@ -316,11 +340,7 @@ pub(crate) fn take_in<D: SectorDisk>(
     }
     let mut taken = 0;
     while taken < piece.len() {
-        if !store.is_ready_for(1) {
-            return taken;
-        }
-        let reply = store.engine().limits().longest_reply();
-        if !connections.has_space(conn, store.engine(), reply) {
+        if !has_room(store, connections, conn) {
             return taken;
         }
         taken += take(store, connections, conn, &piece[taken..], moment);

@@ -2,7 +2,7 @@
 
 ghost use Rattle.std.specs.Prelude.{◌≡◌, ◌⊎◌, ◌↔◌, ◌+◌, ◌-◌, ◌<◌, ◌≤◌, ℕ};
 ghost use Rattle.std.specs.Prelude.{◌++◌, [], ◌∷◌, List, length, take, drop};
-ghost use Rattle.std.specs.Prelude.{slice_set, Ok, Some, None, IsSome, IfNone, IfOk, IfErr};
+ghost use Rattle.std.specs.Prelude.{slice_set, Ok, Some, None, IsSome, IfNone, IfOk};
 ghost use Rattle.std.specs.Prelude.{OnOk, OnErr, IsErrOf, IsTrue};
 ghost use Rattle.ipc_disk.specs.Range.{IsWithin, IsOutside};
 
@@ -30,8 +30,9 @@ pub struct Journal {
 }
 
 impl Journal {
-    ghost use Rattle.ipc_disk.specs.Counts.{counted, with_failure, with_calls};
-    ghost use Rattle.ipc_disk.specs.Medium.{Image, Medium, IsHonest, IsDurable, SetOrNot, Stays};
+    ghost use Rattle.ipc_disk.specs.Calls.{IsSameDisk, CountsCalls, OnlyReads};
+    ghost use Rattle.ipc_disk.specs.Counts.{with_calls};
+    ghost use Rattle.ipc_disk.specs.Medium.{Image, IsHonest, IsDurable, SetOrNot, Stays};
     ghost use Rattle.ipc_disk.specs.Since.{EachImageSince, LeavesAlone};
     ghost use Rattle.ipc_disk.specs.Standing.{sectors_for, sector_at, IsWrittenAt, StandsAt};
     ghost use Rattle.ipc_journal.specs.Journal.{Holds, header_epoch, header_used, sectors_of};
@@ -51,7 +52,6 @@ impl Journal {
         ensures header { OnOk result (IsHonest (D.medium disk.old)
             → (D.medium disk.new).contents
             ≡ slice_set (D.medium disk.old).contents range.first (header_bytes epoch 0)) }
-        ensures honest { IsHonest (D.medium disk.old) ↔ IsHonest (D.medium disk.new) }
         // A crash at any moment of the call, also of one that fails.
         ensures header_or_not { IsHonest (D.medium disk.old)
             → EachImageSince (D.medium disk.old) (D.medium disk.new)
@@ -59,10 +59,8 @@ impl Journal {
         ensures others { IsHonest (D.medium disk.old)
             → LeavesAlone (IsOutside range) (D.medium disk.old) (D.medium disk.new) }
         // Failures and counts.
-        ensures size { D.size disk.new ≡ D.size disk.old }
-        ensures failure { OnErr result ((D.counts disk.new).failures
-            ≡ counted (D.counts disk.old).failures 1) }
-        ensures counts { OnOk result (D.counts disk.new ≡ with_calls 1 0 (D.counts disk.old)) }
+        ensures same { IsSameDisk D.size D.medium disk.old disk.new }
+        ensures counts { CountsCalls D.counts result (with_calls 1 0) disk.old disk.new }
     {
         disk.write(range.first, &header_sector(epoch, 0))
     }
@@ -85,7 +83,6 @@ impl Journal {
             → (D.medium disk.new).contents
             ≡ slice_set (D.medium disk.old).contents range.first (header_bytes epoch 0)) }
         ensures durable { OnOk result (IsDurable (D.medium disk.new)) }
-        ensures honest { IsHonest (D.medium disk.old) ↔ IsHonest (D.medium disk.new) }
         // A crash at any moment of the call, also of one that fails.
         ensures any_moment { IsHonest (D.medium disk.old)
             → EachImageSince (D.medium disk.old) (D.medium disk.new)
@@ -96,10 +93,8 @@ impl Journal {
         ensures others { IsHonest (D.medium disk.old)
             → LeavesAlone (IsOutside range) (D.medium disk.old) (D.medium disk.new) }
         // Failures and counts.
-        ensures size { D.size disk.new ≡ D.size disk.old }
-        ensures failure { OnErr result ((D.counts disk.new).failures
-            ≡ counted (D.counts disk.old).failures 1) }
-        ensures counts { OnOk result (D.counts disk.new ≡ with_calls 1 1 (D.counts disk.old)) }
+        ensures same { IsSameDisk D.size D.medium disk.old disk.new }
+        ensures counts { CountsCalls D.counts result (with_calls 1 1) disk.old disk.new }
     {
         Journal::put_header(disk, range, epoch)?;
         disk.sync()?;
@@ -140,15 +135,9 @@ impl Journal {
             × (range.count ≤ header_used range (D.medium disk.old).contents)) }
         ensures named { (sector : ℕ) → IsErrOf result (JournalError.Damaged sector)
             → sector ≡ range.first }
-        // A crash at any moment: the call only reads.
-        ensures reads { Stays (D.medium disk.old) (D.medium disk.new) }
-        // Failures and counts: `Device` is one failure more, and each other answer none.
-        ensures size { D.size disk.new ≡ D.size disk.old }
-        ensures failure { IsErrOf result JournalError.Device
-            → D.counts disk.new ≡ with_failure (D.counts disk.old) }
-        ensures no_failure { OnOk result (D.counts disk.new ≡ D.counts disk.old) }
-        ensures no_failure_seen { (sector : ℕ) → IsErrOf result (JournalError.Damaged sector)
-            → D.counts disk.new ≡ D.counts disk.old }
+        // It only reads: a crash at any moment leaves what it could before. `Device` is one failure more.
+        ensures stays { Stays (D.medium disk.old) (D.medium disk.new) }
+        ensures reads { OnlyReads D.size D.medium D.counts (IsErrOf result JournalError.Device) disk.old disk.new }
     {
         let mut sector = [0; 512];
         disk.read(range.first, &mut sector)?;
@@ -230,15 +219,12 @@ impl Journal {
             → JournalMatches self.old batches (D.medium disk.old)
             → (D.medium disk.new).images_now image
             → HoldsOneMoreOrNot self.old batches batch.now image }
-        ensures honest { IsHonest (D.medium disk.old) ↔ IsHonest (D.medium disk.new) }
         ensures others { IsHonest (D.medium disk.old)
             → LeavesAlone (IsOutside (range_of self.old)) (D.medium disk.old) (D.medium disk.new) }
         // Failures and counts.
-        ensures size { D.size disk.new ≡ D.size disk.old }
-        ensures failure { OnErr result ((D.counts disk.new).failures
-            ≡ counted (D.counts disk.old).failures 1) }
-        ensures counts { OnOk result (D.counts disk.new
-            ≡ with_calls (sectors_for (length batch.now) + 1) 2 (D.counts disk.old)) }
+        ensures same { IsSameDisk D.size D.medium disk.old disk.new }
+        ensures counts { CountsCalls D.counts result (with_calls (sectors_for (length batch.now) + 1) 2)
+            disk.old disk.new }
     {
         let used = self.used + sectors_for_len(batch.len()) as u32;
         write_bytes(disk, self.range.first + 1 + self.used, batch)?;
@@ -305,17 +291,8 @@ impl Journal {
             → length into.old < length batch }
         ensures named { (sector : ℕ) → IsErrOf result (JournalError.Damaged sector)
             → sector ≡ (range_of self.now).first + 1 + place.old.sector }
-        // A crash at any moment: the call only reads.
-        ensures reads { IsHonest (D.medium disk.old)
-            → Stays (D.medium disk.old) (D.medium disk.new) }
-        // Failures and counts: `Device` is one failure more, and each other answer none.
-        ensures honest { IsHonest (D.medium disk.old) ↔ IsHonest (D.medium disk.new) }
-        ensures size { D.size disk.new ≡ D.size disk.old }
-        ensures failure { IsErrOf result JournalError.Device
-            → D.counts disk.new ≡ with_failure (D.counts disk.old) }
-        ensures no_failure { OnOk result (D.counts disk.new ≡ D.counts disk.old) }
-        ensures no_failure_seen { (sector : ℕ) → IsErrOf result (JournalError.Damaged sector)
-            → D.counts disk.new ≡ D.counts disk.old }
+        // It only reads: a crash at any moment leaves what it could before. `Device` is one failure more.
+        ensures reads { OnlyReads D.size D.medium D.counts (IsErrOf result JournalError.Device) disk.old disk.new }
     {
         if place.sector >= self.used {
             return Ok(None);

@@ -1,5 +1,5 @@
 -- What was loaded, step by step, is the device.
-use Rattle.std.proofs.Common.{◌≡◌, ℕ, ◌≤◌, List, length, sym, ap, subst, ◌∙◌, arith}
+use Rattle.std.proofs.Common.{◌≡◌, ◌↔◌, inl, inr, ⊎_elim, ℕ, ◌≤◌, List, Ok, length, sym, ap, subst, ◌∙◌, arith}
 use Rattle.std.specs.Prelude.{map}
 use Rattle.ipc_base.specs.declared.limits.Limits.{Limits}
 use Rattle.ipc_base.specs.Limits.{ArePassed}
@@ -13,7 +13,9 @@ use Rattle.ipc_checkpoint.proofs.CallerLemmas.{CheckpointMatches-holds}
 use Rattle.ipc_disk.specs.declared.range.Range.{Range}
 use Rattle.ipc_disk.specs.Medium.{Image, Medium, IsHonest, IsDurable, Stays}
 use Rattle.ipc_disk.specs.Range.{IsWithin}
-use Rattle.ipc_disk.proofs.CallerLemmas.{Stays-join}
+use Rattle.ipc_disk.proofs.CallerLemmas.{Stays-join, IsSameDisk-call, OnlyReads-as}
+use Rattle.ipc_disk.specs.Calls.{IsOneCall, OnlyReads, CountsFaultIf}
+use Rattle.ipc_disk.specs.Counts.{Counts, counted}
 use Rattle.ipc_journal.specs.declared.journal.Journal.{Journal}
 use Rattle.ipc_journal.specs.Matches.{JournalMatches}
 use Rattle.ipc_journal.specs.View.{range_of, epoch_of}
@@ -30,7 +32,31 @@ use Rattle.ipc_store.proofs.Formatting.{laid-out}
 pub chain : (m0 m1 m2 : Medium) → IsHonest m0 → Stays m0 m1 → (IsHonest m1 → Stays m1 m2) → Stays m0 m2
 chain m0 m1 m2 honest first next = Stays-join m0 m1 m2 honest first (next (first.time.honest.0 honest))
 
--- and what lasted before lasts after them
+-- reads that went well, whatever is called a failure that cannot be
+pub OnlyReads-never : {D : Type 0} {size : D → ℕ} {medium : D → Medium} {counts : D → Counts} {other : Type 0} {old new : D} → (other → ⊥)
+    → OnlyReads size medium counts ⊥ old new → OnlyReads size medium counts other old new
+OnlyReads-never not reads = OnlyReads-as (λ never. absurd never) not reads
+
+-- one read that went well
+pub OnlyReads-call : {D T E : Type 0} {size : D → ℕ} {medium : D → Medium} {counts : D → Counts} {x : T} {old new : D}
+    → IsOneCall {T = T} {E = E} size counts (Ok x) (λ (n : Counts). n) old new → Stays (medium old) (medium new) → OnlyReads size medium counts ⊥ old new
+OnlyReads-call {D} {T} {E} {size} {medium} {counts} {x} {old} {new} one call = record {
+  same = IsSameDisk-call one call.time;
+  stays = λ honest. call;
+  failure = λ never. absurd never;
+  no_failure = inr one.ok;
+}
+
+-- what they have counted, after calls that counted no failure
+pub OnlyReads-counts : {D : Type 0} {size : D → ℕ} {medium : D → Medium} {counts : D → Counts} {failed other : Type 0} {old mid new : D}
+    → (counts mid).failures ≡ (counts old).failures → failed ↔ other → OnlyReads size medium counts failed mid new
+    → CountsFaultIf counts other old new
+OnlyReads-counts {D} {size} {medium} {counts} {failed} {other} {old} {mid} {new} before passed reads = record {
+  failure = λ bad. ap (λ n. n.failures) (reads.failure (passed.1 bad)) ∙ ap (λ n. counted n 1) before;
+  no_failure = ⊎_elim (λ bad. inl (passed.0 bad)) (λ same. inr (ap (λ n. n.failures) same ∙ before)) reads.no_failure;
+}
+
+-- what lasted before lasts after such calls
 pub stays-durable : (m0 m1 : Medium) → IsHonest m0 → Stays m0 m1 → IsDurable m0 → IsDurable m1
 stays-durable m0 m1 honest call durable = λ now left. durable now (call.images now left) ∙ sym (call.contents honest)
 

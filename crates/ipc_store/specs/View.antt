@@ -1,6 +1,6 @@
 -- What a store shows.
 use Rattle.std.specs.Prelude.{◌≡◌, ◌≤◌, ◌+◌, ◌-◌, ◌*◌, ◌^◌, ℕ}
-use Rattle.std.specs.Prelude.{Bool, true, false, if◌then◌else◌, List, length}
+use Rattle.std.specs.Prelude.{Bool, true, false, if◌then◌else◌, List, [], length, Result, OnOk, OnErr}
 use Rattle.ipc_disk.specs.Counts.{Counts}
 use Rattle.ipc_engine.specs.Engine.{Machine}
 use Rattle.ipc_checkpoint.specs.declared.checkpoint.Checkpoint.{Checkpoint}
@@ -64,6 +64,18 @@ events_left store = if store.stopped then 0 else 2 ^ 64 - 1 - (store.confirmed +
 -- how many of its numbers it has used: its epoch, and the events since it was opened
 abbrev pub numbers_used : {D : Type 0} → StoreView D → ℕ
 numbers_used store = epoch_of store.checkpoint + (store.confirmed + store.waiting)
+
+-- The events that waited have been made last, if the call was Ok; else the store is stopped and they still wait. The
+-- machine stays as it was.
+pub record IsCommitted {D T E : Type 0} (result : Result T E) (old new : StoreView D) : Type 0 where
+  pub waiting : OnOk result (new.waiting ≡ 0)
+  pub records : OnOk result (new.records ≡ [])
+  pub confirmed : OnOk result (new.confirmed ≡ old.confirmed + old.waiting)
+  pub running : OnOk result (new.stopped ≡ false)
+  pub stops : OnErr result (IsStopped new)
+  pub still_waits : OnErr result (new.waiting ≡ old.waiting)
+  pub unconfirmed : OnErr result (new.confirmed ≡ old.confirmed)
+  pub machine : new.machine ≡ old.machine
 
 -- A call went well: the store has not stopped, the disk has counted no failure, and so many numbers more are used at
 -- most.

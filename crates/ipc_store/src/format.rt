@@ -1,10 +1,10 @@
 //! The making of a device.
 
 ghost use Rattle.std.specs.Prelude.{◌≡◌, ◌⊎◌, ◌<◌, ◌≤◌, ◌↔◌, ℕ, Some, position, not};
-ghost use Rattle.std.specs.Prelude.{slice_set, OnOk, OnErr, IsErrOf};
+ghost use Rattle.std.specs.Prelude.{slice_set, OnOk, IsErrOf};
 ghost use Rattle.ipc_base.specs.Limits.{ArePassed, tests};
 ghost use Rattle.ipc_base.specs.declared.limits.BadLimits.{BadLimits as BadLimit};
-ghost use Rattle.ipc_disk.specs.Counts.{counted};
+ghost use Rattle.ipc_disk.specs.Calls.{IsSameDisk, CountsFault, CountsFaultIf};
 ghost use Rattle.ipc_disk.specs.Medium.{Image, IsHonest, IsDurable, SetOrNot};
 ghost use Rattle.ipc_disk.specs.Since.{EachImageSince};
 ghost use Rattle.ipc_state.specs.State.{start};
@@ -31,7 +31,6 @@ impl<D: SectorDisk> Store<D> {
         ensures ok { OnOk result (IsHonest (D.medium disk.old) → (image : Image)
             → (D.medium disk.new).images_now image → StandsFor limits.now start image) }
         ensures durable { OnOk result (IsDurable (D.medium disk.new)) }
-        ensures honest { IsHonest (D.medium disk.old) ↔ IsHonest (D.medium disk.new) }
         // A crash at any moment of the call, also of one that fails.
         ensures any_moment { IsHonest (D.medium disk.old)
             → EachImageSince (D.medium disk.old) (D.medium disk.new)
@@ -46,10 +45,8 @@ impl<D: SectorDisk> Store<D> {
             → disk.new ≡ disk.old)
             × ((need : ℕ) → IsErrOf result (FormatError.TooSmall need) → disk.new ≡ disk.old) }
         // Failures and counts.
-        ensures size { D.size disk.new ≡ D.size disk.old }
-        ensures failure { IsErrOf result FormatError.Device → (D.counts disk.new).failures
-            ≡ counted (D.counts disk.old).failures 1 }
-        ensures no_failure { OnOk result ((D.counts disk.new).failures ≡ (D.counts disk.old).failures) }
+        ensures same { IsSameDisk D.size D.medium disk.old disk.new }
+        ensures counts { CountsFaultIf D.counts (IsErrOf result FormatError.Device) disk.old disk.new }
     {
         limits.check()?;
         let need = need(limits);
@@ -70,15 +67,12 @@ fn make<D: SectorDisk>(disk: &mut D, limits: &Limits) -> Result<(), DiskFault>
     ensures ok { OnOk result (IsHonest (D.medium disk.old)
         → EachNow (D.medium disk.new) (StandsFor limits.now start)) }
     ensures durable { OnOk result (IsDurable (D.medium disk.new)) }
-    ensures honest { IsHonest (D.medium disk.old) ↔ IsHonest (D.medium disk.new) }
     ensures any_moment { IsHonest (D.medium disk.old)
         → EachImageSince (D.medium disk.old) (D.medium disk.new)
         (λ image. (D.medium disk.old).images_now image ⊎ IsNotFormatted image
         ⊎ StandsFor limits.now start image) }
-    ensures size { D.size disk.new ≡ D.size disk.old }
-    ensures failure { OnErr result ((D.counts disk.new).failures
-        ≡ counted (D.counts disk.old).failures 1) }
-    ensures no_failure { OnOk result ((D.counts disk.new).failures ≡ (D.counts disk.old).failures) }
+    ensures same { IsSameDisk D.size D.medium disk.old disk.new }
+    ensures counts { CountsFault D.counts result disk.old disk.new }
 {
     erase(disk)?;
     prepare(disk, limits)?;
@@ -89,14 +83,11 @@ fn make<D: SectorDisk>(disk: &mut D, limits: &Limits) -> Result<(), DiskFault>
 fn erase<D: SectorDisk>(disk: &mut D) -> Result<(), DiskFault>
     requires room { 260 ≤ D.size disk.old }
     ensures erased { OnOk result (IsHonest (D.medium disk.old) → EachNow (D.medium disk.new) IsErased) }
-    ensures honest { IsHonest (D.medium disk.old) ↔ IsHonest (D.medium disk.new) }
     ensures any_moment { IsHonest (D.medium disk.old)
         → EachImageSince (D.medium disk.old) (D.medium disk.new)
         (λ image. (D.medium disk.old).images_now image ⊎ IsErased image) }
-    ensures size { D.size disk.new ≡ D.size disk.old }
-    ensures failure { OnErr result ((D.counts disk.new).failures
-        ≡ counted (D.counts disk.old).failures 1) }
-    ensures no_failure { OnOk result ((D.counts disk.new).failures ≡ (D.counts disk.old).failures) }
+    ensures same { IsSameDisk D.size D.medium disk.old disk.new }
+    ensures counts { CountsFault D.counts result disk.old disk.new }
 {
     put_durably(disk, SUPERBLOCK, &[0; 512])
 }
@@ -107,13 +98,10 @@ fn prepare<D: SectorDisk>(disk: &mut D, limits: &Limits) -> Result<(), DiskFault
     requires room { need_of limits.now ≤ D.size disk.old }
     ensures prepared { OnOk result (IsHonest (D.medium disk.old) → EachNow (D.medium disk.old) IsErased
         → EachNow (D.medium disk.new) (IsPrepared limits.now)) }
-    ensures honest { IsHonest (D.medium disk.old) ↔ IsHonest (D.medium disk.new) }
     ensures any_moment { IsHonest (D.medium disk.old) → EachNow (D.medium disk.old) IsErased
         → EachImageSince (D.medium disk.old) (D.medium disk.new) IsErased }
-    ensures size { D.size disk.new ≡ D.size disk.old }
-    ensures failure { OnErr result ((D.counts disk.new).failures
-        ≡ counted (D.counts disk.old).failures 1) }
-    ensures no_failure { OnOk result ((D.counts disk.new).failures ≡ (D.counts disk.old).failures) }
+    ensures same { IsSameDisk D.size D.medium disk.old disk.new }
+    ensures counts { CountsFault D.counts result disk.old disk.new }
 {
     let layout = layout_of(limits, disk.sectors());
     Journal::put_header(disk, JOURNAL_RANGE, FIRST_EPOCH)?;
@@ -128,14 +116,11 @@ fn put_superblock<D: SectorDisk>(disk: &mut D, limits: &Limits) -> Result<(), Di
     ensures ok { OnOk result (IsHonest (D.medium disk.old) → EachNow (D.medium disk.old) (IsPrepared limits.now)
         → EachNow (D.medium disk.new) (StandsFor limits.now start)) }
     ensures durable { OnOk result (IsDurable (D.medium disk.new)) }
-    ensures honest { IsHonest (D.medium disk.old) ↔ IsHonest (D.medium disk.new) }
     ensures any_moment { IsHonest (D.medium disk.old) → EachNow (D.medium disk.old) (IsPrepared limits.now)
         → EachImageSince (D.medium disk.old) (D.medium disk.new)
         (λ image. IsErased image ⊎ StandsFor limits.now start image) }
-    ensures size { D.size disk.new ≡ D.size disk.old }
-    ensures failure { OnErr result ((D.counts disk.new).failures
-        ≡ counted (D.counts disk.old).failures 1) }
-    ensures no_failure { OnOk result ((D.counts disk.new).failures ≡ (D.counts disk.old).failures) }
+    ensures same { IsSameDisk D.size D.medium disk.old disk.new }
+    ensures counts { CountsFault D.counts result disk.old disk.new }
 {
     let sector = superblock_of(disk.sectors(), limits);
     put_durably(disk, SUPERBLOCK, &sector)
@@ -159,14 +144,11 @@ fn put_durably<D: SectorDisk>(disk: &mut D, at: u32, sector: &[u8; 512]) -> Resu
     ensures written { OnOk result (IsHonest (D.medium disk.old) → EachNow (D.medium disk.new)
         (λ image. image ≡ slice_set (D.medium disk.old).contents at sector.now)) }
     ensures durable { OnOk result (IsDurable (D.medium disk.new)) }
-    ensures honest { IsHonest (D.medium disk.old) ↔ IsHonest (D.medium disk.new) }
     ensures any_moment { IsHonest (D.medium disk.old)
         → EachImageSince (D.medium disk.old) (D.medium disk.new)
         (SetOrNot at sector.now (D.medium disk.old)) }
-    ensures size { D.size disk.new ≡ D.size disk.old }
-    ensures failure { OnErr result ((D.counts disk.new).failures
-        ≡ counted (D.counts disk.old).failures 1) }
-    ensures no_failure { OnOk result ((D.counts disk.new).failures ≡ (D.counts disk.old).failures) }
+    ensures same { IsSameDisk D.size D.medium disk.old disk.new }
+    ensures counts { CountsFault D.counts result disk.old disk.new }
 {
     write_durably(disk, at, sector)
 }

@@ -1,11 +1,11 @@
 //! The loading of a device: its superblock, its objects, its journal, and the machine that they lead to.
 
-ghost use Rattle.std.specs.Prelude.{◌≡◌, ◌⊎◌, ◌↔◌, ◌<◌, ◌≤◌, ℕ, length, map, List, IfOk, IsErrOf, OnOk};
+ghost use Rattle.std.specs.Prelude.{◌≡◌, ◌⊎◌, ◌<◌, ◌≤◌, ℕ, length, map, List, IfOk, IsErrOf};
 ghost use Rattle.ipc_base.specs.Limits.{ArePassed};
 ghost use Rattle.ipc_base.specs.Objects.{PlainObjects};
 ghost use Rattle.ipc_checkpoint.specs.Matches.{CheckpointMatches};
 ghost use Rattle.ipc_checkpoint.specs.View.{epoch_of as saved_epoch, layout_of as saved_layout};
-ghost use Rattle.ipc_disk.specs.Counts.{counted, with_failure};
+ghost use Rattle.ipc_disk.specs.Calls.{IsSameDisk, CountsFaultIf, OnlyReads};
 ghost use Rattle.ipc_disk.specs.Medium.{IsHonest, IsDurable, Stays};
 ghost use Rattle.ipc_disk.specs.Range.{IsWithin};
 ghost use Rattle.ipc_journal.specs.Journal.{header_epoch, header_used};
@@ -49,11 +49,7 @@ pub(crate) fn read_limits<D: SectorDisk>(disk: &mut D) -> Result<Limits, OpenErr
         → IsDamaged (D.medium disk.old).contents × IsFirstFault (D.medium disk.old).contents sector }
     ensures faults { IsErrOf result OpenError.NoMemory → ⊥ }
     // It only reads.
-    ensures reads { IsHonest (D.medium disk.old) → Stays (D.medium disk.old) (D.medium disk.new) }
-    ensures honest { IsHonest (D.medium disk.old) ↔ IsHonest (D.medium disk.new) }
-    ensures size { D.size disk.new ≡ D.size disk.old }
-    ensures failure { IsErrOf result OpenError.Device → D.counts disk.new ≡ with_failure (D.counts disk.old) }
-    ensures no_failure { IsErrOf result OpenError.Device ⊎ (D.counts disk.new ≡ D.counts disk.old) }
+    ensures reads { OnlyReads D.size D.medium D.counts (IsErrOf result OpenError.Device) disk.old disk.new }
 {
     let sectors = disk.sectors();
     if sectors < LEAST_SECTORS {
@@ -90,14 +86,7 @@ fn load_base<D: SectorDisk>(
     ensures faults { (found : ℕ) → IsErrOf result OpenError.NotFormatted
         ⊎ IsErrOf result (OpenError.Version found) → ⊥ }
     // It only reads.
-    ensures reads { IsHonest (D.medium disk.old) → Stays (D.medium disk.old) (D.medium disk.new) }
-    ensures honest { IsHonest (D.medium disk.old) ↔ IsHonest (D.medium disk.new) }
-    ensures size { D.size disk.new ≡ D.size disk.old }
-    ensures failure { IsErrOf result OpenError.Device
-        → (D.counts disk.new).failures ≡ counted (D.counts disk.old).failures 1 }
-    ensures no_failure { IsErrOf result OpenError.Device
-        ⊎ ((D.counts disk.new).failures ≡ (D.counts disk.old).failures) }
-    ensures no_write { (D.counts disk.new).writes ≡ (D.counts disk.old).writes }
+    ensures reads { OnlyReads D.size D.medium D.counts (IsErrOf result OpenError.Device) disk.old disk.new }
 {
     let layout = layout_of(&limits, disk.sectors());
     let (checkpoint, objects) = Checkpoint::load(alloc, disk, layout)?;
@@ -133,12 +122,7 @@ fn load_journal<D: SectorDisk>(
     ensures faults { (found : ℕ) → IsErrOf result OpenError.NotFormatted
         ⊎ IsErrOf result (OpenError.Version found) → ⊥ }
     // It only reads.
-    ensures reads { IsHonest (D.medium disk.old) → Stays (D.medium disk.old) (D.medium disk.new) }
-    ensures honest { IsHonest (D.medium disk.old) ↔ IsHonest (D.medium disk.new) }
-    ensures size { D.size disk.new ≡ D.size disk.old }
-    ensures failure { IsErrOf result OpenError.Device → D.counts disk.new ≡ with_failure (D.counts disk.old) }
-    ensures no_failure { IsErrOf result OpenError.Device ⊎ (D.counts disk.new ≡ D.counts disk.old) }
-    ensures no_write { (D.counts disk.new).writes ≡ (D.counts disk.old).writes }
+    ensures reads { OnlyReads D.size D.medium D.counts (IsErrOf result OpenError.Device) disk.old disk.new }
 {
     let journal = Journal::open(disk, JOURNAL_RANGE, checkpoint.epoch())?;
     replay(disk, &journal, engine, room)?;
@@ -170,12 +154,8 @@ pub(crate) fn load<D: SectorDisk>(
         → IsDamaged (D.medium disk.old).contents × IsFirstFault (D.medium disk.old).contents sector }
     // It only reads.
     ensures reads { IsHonest (D.medium disk.old) → Stays (D.medium disk.old) (D.medium disk.new) }
-    ensures honest { IsHonest (D.medium disk.old) ↔ IsHonest (D.medium disk.new) }
-    ensures size { D.size disk.new ≡ D.size disk.old }
-    ensures failure { IsErrOf result OpenError.Device
-        → (D.counts disk.new).failures ≡ counted (D.counts disk.old).failures 1 }
-    ensures no_failure { IsErrOf result OpenError.Device
-        ⊎ ((D.counts disk.new).failures ≡ (D.counts disk.old).failures) }
+    ensures same { IsSameDisk D.size D.medium disk.old disk.new }
+    ensures counts { CountsFaultIf D.counts (IsErrOf result OpenError.Device) disk.old disk.new }
     ensures no_write { (D.counts disk.new).writes ≡ (D.counts disk.old).writes }
 {
     disk.sync()?;

@@ -1,8 +1,9 @@
 //! The opening of a device.
 
-ghost use Rattle.std.specs.Prelude.{◌≡◌, ◌⊎◌, ◌↔◌, ◌<◌, ◌≤◌, ◌+◌, ℕ, false, [], length};
+ghost use Rattle.std.specs.Prelude.{◌≡◌, ◌⊎◌, ◌<◌, ◌≤◌, ◌+◌, ℕ, false, [], length};
 ghost use Rattle.std.specs.Prelude.{Err, IfOk, IfErr, OnOk, OnErr};
 ghost use Rattle.ipc_base.specs.declared.limits.Limits.{Limits};
+ghost use Rattle.ipc_disk.specs.Calls.{IsSameDisk, CountsFaultIf};
 ghost use Rattle.ipc_disk.specs.Counts.{counted};
 ghost use Rattle.ipc_disk.specs.Medium.{IsHonest, Stays};
 ghost use Rattle.ipc_disk.specs.Since.{EachImageSince};
@@ -120,10 +121,7 @@ impl<D: SectorDisk> Store<D> {
         ensures at_end { result ≡ Err (OpenError.Damaged 1) → IsAtLastEpoch self.old
             × (used_of self.old.journal + 1 ≡ (range_of self.old.journal).count) }
         ensures size { D.size self.new.disk ≡ D.size self.old.disk }
-        ensures failure { result ≡ Err OpenError.Device → (D.counts self.new.disk).failures
-            ≡ counted (D.counts self.old.disk).failures 1 }
-        ensures no_failure { (result ≡ Err OpenError.Device)
-            ⊎ ((D.counts self.new.disk).failures ≡ (D.counts self.old.disk).failures) }
+        ensures counts { CountsFaultIf D.counts (result ≡ Err OpenError.Device) self.old.disk self.new.disk }
     {
         if let Err(_) = self.step(Event::Restart) {
             unreachable!()
@@ -156,12 +154,8 @@ fn read_device<D: SectorDisk>(
     ensures damaged { (sector : ℕ) → result ≡ Err (OpenError.Damaged sector) → IsHonest (D.medium disk.old)
         → IsDamaged (D.medium disk.old).contents × IsFirstFault (D.medium disk.old).contents sector }
     ensures reads { IsHonest (D.medium disk.old) → Stays (D.medium disk.old) (D.medium disk.new) }
-    ensures honest { IsHonest (D.medium disk.old) ↔ IsHonest (D.medium disk.new) }
-    ensures size { D.size disk.new ≡ D.size disk.old }
-    ensures failure { result ≡ Err OpenError.Device
-        → (D.counts disk.new).failures ≡ counted (D.counts disk.old).failures 1 }
-    ensures no_failure { (result ≡ Err OpenError.Device)
-        ⊎ ((D.counts disk.new).failures ≡ (D.counts disk.old).failures) }
+    ensures same { IsSameDisk D.size D.medium disk.old disk.new }
+    ensures counts { CountsFaultIf D.counts (result ≡ Err OpenError.Device) disk.old disk.new }
     ensures no_write { (D.counts disk.new).writes ≡ (D.counts disk.old).writes }
 {
     let mut room = match room_for_a_batch(alloc) {

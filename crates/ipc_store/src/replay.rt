@@ -1,9 +1,9 @@
 //! The replay of a journal: a machine goes through the events of its batches.
 
-ghost use Rattle.std.specs.Prelude.{◌≡◌, ◌⊎◌, ◌↔◌, ℕ, true, List, length, OnOk};
+ghost use Rattle.std.specs.Prelude.{◌≡◌, ◌⊎◌, ℕ, true, List, length, OnOk};
 ghost use Rattle.std.specs.Prelude.{IfOk, IsErrOf, Err};
-ghost use Rattle.ipc_disk.specs.Counts.{with_failure};
-ghost use Rattle.ipc_disk.specs.Medium.{IsHonest, Stays};
+ghost use Rattle.ipc_disk.specs.Calls.{OnlyReads};
+ghost use Rattle.ipc_disk.specs.Medium.{IsHonest};
 ghost use Rattle.ipc_disk.specs.Range.{IsWithin};
 ghost use Rattle.ipc_journal.specs.View.{range_of};
 ghost use Rattle.ipc_state.specs.State.{State};
@@ -42,14 +42,8 @@ pub(crate) fn replay<D: SectorDisk>(
     ensures faults { (sector : ℕ)
         → IsErrOf result OpenError.NotFormatted ⊎ IsErrOf result (OpenError.Version sector) → ⊥ }
     // It only reads.
-    ensures reads { IsHonest (D.medium disk.old) → Stays (D.medium disk.old) (D.medium disk.new) }
+    ensures reads { OnlyReads D.size D.medium D.counts (IsErrOf result OpenError.Device) disk.old disk.new }
     ensures room { length room.new ≡ most_bytes }
-    // Failures and counts: `Device` is one failure more, and each other answer none.
-    ensures honest { IsHonest (D.medium disk.old) ↔ IsHonest (D.medium disk.new) }
-    ensures size { D.size disk.new ≡ D.size disk.old }
-    ensures failure { IsErrOf result OpenError.Device
-        → D.counts disk.new ≡ with_failure (D.counts disk.old) }
-    ensures no_failure { IsErrOf result OpenError.Device ⊎ (D.counts disk.new ≡ D.counts disk.old) }
 {
     let mut place = Place { sector: 0 };
     loop {

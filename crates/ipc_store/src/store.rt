@@ -1,7 +1,8 @@
 //! The store: its value, and the calls on it while it is open.
 
-ghost use Rattle.std.specs.Prelude.{◌≡◌, ◌⊎◌, ◌<◌, ◌≤◌, ◌+◌, ◌-◌, ◌^◌, ◌↔◌, ◌++◌, ◌∷◌, ◌≢◌, [], ℕ, List};
-ghost use Rattle.std.specs.Prelude.{length, true, false, IsOk, IsTrue, Ok, Err, OnOk, OnErr, IsErrOf};
+ghost use Rattle.std.specs.Prelude.{◌≡◌, ◌⊎◌, ◌<◌, ◌+◌, ◌-◌, ◌^◌, ◌↔◌, ◌++◌, ◌∷◌, ◌≢◌, [], List};
+ghost use Rattle.std.specs.Prelude.{length, true, false, IsOk, IsTrue, Ok, Err, OnOk, OnErr};
+ghost use Rattle.ipc_disk.specs.Calls.{IsSameDisk, CountsFaultIf};
 ghost use Rattle.ipc_disk.specs.Counts.{counted, with_calls};
 ghost use Rattle.ipc_disk.specs.Medium.{Image, IsHonest};
 ghost use Rattle.ipc_disk.specs.Since.{EachImageSince};
@@ -16,7 +17,7 @@ ghost use Rattle.ipc_engine.specs.View.{plain_event};
 ghost use Rattle.ipc_image.specs.Records.{record_bytes};
 ghost use Rattle.ipc_store.specs.Histories.{Takes};
 ghost use Rattle.ipc_store.specs.View.{HasRoom, HasPlace, HasTurned, IsStopped, IsAtLastEpoch, IsReadyFor};
-ghost use Rattle.ipc_store.specs.View.{events_left, store_view, Spends};
+ghost use Rattle.ipc_store.specs.View.{events_left, store_view, IsCommitted, Spends};
 ghost use Rattle.ipc_store.specs.Relations.Matches.{AreOnDisk, DeviceMatches, StoreMatches, StandsForEither};
 
 use crate::batch::Batch;
@@ -180,10 +181,7 @@ impl<D: SectorDisk> Store<D> {
             → StoreMatches (D.medium self.old.disk) self.old base pending
             → StoreMatches (D.medium self.new.disk) self.new
             (run self.old.machine.limits base pending).state []) }
-        ensures waiting { OnOk result (self.new.waiting ≡ 0) }
-        ensures records { OnOk result (self.new.records ≡ []) }
-        ensures confirmed { OnOk result (self.new.confirmed ≡ self.old.confirmed + self.old.waiting) }
-        ensures machine { self.new.machine ≡ self.old.machine }
+        ensures commits { IsCommitted result self.old self.new }
         ensures takes { Takes D.medium self.old [] self.new }
         // A crash at any moment of the call, also of one that fails.
         ensures any_moment { (base : State) (pending : List PlainEvent)
@@ -195,25 +193,18 @@ impl<D: SectorDisk> Store<D> {
             → (D.medium self.new.disk).images_now image
             → StandsForEither self.old.machine.limits base (run self.old.machine.limits base pending).state image }
         // Refusals, and counts.
-        ensures stops { OnErr result (IsStopped self.new) }
-        ensures still_waits { OnErr result (self.new.waiting ≡ self.old.waiting) }
-        ensures unconfirmed { OnErr result (self.new.confirmed ≡ self.old.confirmed) }
-        ensures running { OnOk result (self.new.stopped ≡ false) }
         ensures stopped { (result ≡ Err CommitError.Stopped) ↔ (IsStopped self.old
             ⊎ (IsAtLastEpoch self.old × (0 < self.old.waiting) × ¬ HasPlace self.old)) }
         ensures kept { IsStopped self.old → self.new ≡ self.old }
         ensures unwritten { result ≡ Err CommitError.Stopped → self.new.disk ≡ self.old.disk }
         ensures nothing { self.old.waiting ≡ 0 → self.new ≡ self.old }
         ensures nothing_ok { self.old.waiting ≡ 0 → self.old.stopped ≡ false → IsOk result }
-        ensures failure { result ≡ Err CommitError.Device → (D.counts self.new.disk).failures
-            ≡ counted (D.counts self.old.disk).failures 1 }
-        ensures no_failure { OnOk result ((D.counts self.new.disk).failures ≡ (D.counts self.old.disk).failures) }
+        ensures faults { CountsFaultIf D.counts (result ≡ Err CommitError.Device) self.old.disk self.new.disk }
         ensures counts { OnOk result (0 < self.old.waiting → HasPlace self.old → D.counts self.new.disk
             ≡ with_calls (sectors_for (4 + length self.old.records) + 1) 2 (D.counts self.old.disk)) }
         ensures turned { OnOk result (0 < self.old.waiting → ¬ HasPlace self.old → HasTurned self.old self.new) }
         ensures spends { OnOk result (Spends D.counts 1 self.old self.new) }
-        ensures honest { IsHonest (D.medium self.old.disk) → IsHonest (D.medium self.new.disk) }
-        ensures size { D.size self.new.disk ≡ D.size self.old.disk }
+        ensures same { IsSameDisk D.size D.medium self.old.disk self.new.disk }
     {
         if self.stopped {
             return Err(CommitError::Stopped);
@@ -239,10 +230,7 @@ impl<D: SectorDisk> Store<D> {
             → StoreMatches (D.medium self.old.disk) self.old base pending
             → StoreMatches (D.medium self.new.disk) self.new
             (run self.old.machine.limits base pending).state []) }
-        ensures waiting { OnOk result (self.new.waiting ≡ 0) }
-        ensures records { OnOk result (self.new.records ≡ []) }
-        ensures confirmed { OnOk result (self.new.confirmed ≡ self.old.confirmed + self.old.waiting) }
-        ensures machine { self.new.machine ≡ self.old.machine }
+        ensures commits { IsCommitted result self.old self.new }
         ensures takes { Takes D.medium self.old [] self.new }
         // A crash at any moment of the call, also of one that fails.
         ensures any_moment { (base : State) (pending : List PlainEvent)
@@ -254,20 +242,13 @@ impl<D: SectorDisk> Store<D> {
             → (D.medium self.new.disk).images_now image
             → StandsForEither self.old.machine.limits base (run self.old.machine.limits base pending).state image }
         // Refusals, and counts.
-        ensures stops { OnErr result (IsStopped self.new) }
-        ensures still_waits { OnErr result (self.new.waiting ≡ self.old.waiting) }
-        ensures unconfirmed { OnErr result (self.new.confirmed ≡ self.old.confirmed) }
-        ensures running { OnOk result (self.new.stopped ≡ false) }
         ensures stopped { (result ≡ Err CommitError.Stopped) ↔ (IsStopped self.old ⊎ IsAtLastEpoch self.old) }
         ensures kept { IsStopped self.old → self.new ≡ self.old }
         ensures unwritten { result ≡ Err CommitError.Stopped → self.new.disk ≡ self.old.disk }
-        ensures failure { result ≡ Err CommitError.Device → (D.counts self.new.disk).failures
-            ≡ counted (D.counts self.old.disk).failures 1 }
-        ensures no_failure { OnOk result ((D.counts self.new.disk).failures ≡ (D.counts self.old.disk).failures) }
+        ensures faults { CountsFaultIf D.counts (result ≡ Err CommitError.Device) self.old.disk self.new.disk }
         ensures turned { OnOk result (HasTurned self.old self.new) }
         ensures spends { OnOk result (Spends D.counts 1 self.old self.new) }
-        ensures honest { IsHonest (D.medium self.old.disk) → IsHonest (D.medium self.new.disk) }
-        ensures size { D.size self.new.disk ≡ D.size self.old.disk }
+        ensures same { IsSameDisk D.size D.medium self.old.disk self.new.disk }
     {
         if self.stopped {
             return Err(CommitError::Stopped);
@@ -283,26 +264,18 @@ impl<D: SectorDisk> Store<D> {
             → StoreMatches (D.medium self.old.disk) self.old base pending
             → StoreMatches (D.medium self.new.disk) self.new
             (run self.old.machine.limits base pending).state []) }
-        ensures waiting { OnOk result (self.new.waiting ≡ 0) }
-        ensures records { OnOk result (self.new.records ≡ []) }
-        ensures confirmed { OnOk result (self.new.confirmed ≡ self.old.confirmed + self.old.waiting) }
-        ensures machine { self.new.machine ≡ self.old.machine }
+        ensures commits { IsCommitted result self.old self.new }
         ensures any_moment { (base : State) (pending : List PlainEvent)
             → StoreMatches (D.medium self.old.disk) self.old base pending
             → EachImageSince (D.medium self.old.disk) (D.medium self.new.disk)
             (StandsForEither self.old.machine.limits base (run self.old.machine.limits base pending).state) }
-        ensures stops { OnErr result (IsStopped self.new) }
-        ensures still_waits { OnErr result (self.new.waiting ≡ self.old.waiting) }
-        ensures unconfirmed { OnErr result (self.new.confirmed ≡ self.old.confirmed) }
-        ensures running { OnOk result (self.new.stopped ≡ false) }
         ensures epoch { self.new.checkpoint ≡ self.old.checkpoint }
         ensures stopped { result ≢ Err CommitError.Stopped }
         ensures failure { result ≡ Err CommitError.Device → (D.counts self.new.disk).failures
             ≡ counted (D.counts self.old.disk).failures 1 }
         ensures counts { OnOk result (D.counts self.new.disk
             ≡ with_calls (sectors_for (4 + length self.old.records) + 1) 2 (D.counts self.old.disk)) }
-        ensures honest { IsHonest (D.medium self.old.disk) → IsHonest (D.medium self.new.disk) }
-        ensures size { D.size self.new.disk ≡ D.size self.old.disk }
+        ensures same { IsSameDisk D.size D.medium self.old.disk self.new.disk }
     {
         if let Err(DiskFault) = self.journal.append(&mut self.disk, self.batch.bytes()) {
             self.stopped = true;
@@ -320,26 +293,16 @@ impl<D: SectorDisk> Store<D> {
             → StoreMatches (D.medium self.old.disk) self.old base pending
             → StoreMatches (D.medium self.new.disk) self.new
             (run self.old.machine.limits base pending).state []) }
-        ensures waiting { OnOk result (self.new.waiting ≡ 0) }
-        ensures records { OnOk result (self.new.records ≡ []) }
-        ensures confirmed { OnOk result (self.new.confirmed ≡ self.old.confirmed + self.old.waiting) }
-        ensures machine { self.new.machine ≡ self.old.machine }
+        ensures commits { IsCommitted result self.old self.new }
         ensures any_moment { (base : State) (pending : List PlainEvent)
             → StoreMatches (D.medium self.old.disk) self.old base pending
             → EachImageSince (D.medium self.old.disk) (D.medium self.new.disk)
             (StandsForEither self.old.machine.limits base (run self.old.machine.limits base pending).state) }
-        ensures stops { OnErr result (IsStopped self.new) }
-        ensures still_waits { OnErr result (self.new.waiting ≡ self.old.waiting) }
-        ensures unconfirmed { OnErr result (self.new.confirmed ≡ self.old.confirmed) }
-        ensures running { OnOk result (self.new.stopped ≡ false) }
         ensures stopped { (result ≡ Err CommitError.Stopped) ↔ IsAtLastEpoch self.old }
         ensures unwritten { result ≡ Err CommitError.Stopped → self.new.disk ≡ self.old.disk }
-        ensures failure { result ≡ Err CommitError.Device → (D.counts self.new.disk).failures
-            ≡ counted (D.counts self.old.disk).failures 1 }
-        ensures no_failure { OnOk result ((D.counts self.new.disk).failures ≡ (D.counts self.old.disk).failures) }
+        ensures faults { CountsFaultIf D.counts (result ≡ Err CommitError.Device) self.old.disk self.new.disk }
         ensures turned { OnOk result (HasTurned self.old self.new) }
-        ensures honest { IsHonest (D.medium self.old.disk) → IsHonest (D.medium self.new.disk) }
-        ensures size { D.size self.new.disk ≡ D.size self.old.disk }
+        ensures same { IsSameDisk D.size D.medium self.old.disk self.new.disk }
     {
         let Some(epoch) = self.checkpoint.epoch().checked_add(1) else {
             self.stopped = true;

@@ -3,11 +3,11 @@ use Rattle.std.specs.Prelude.{◌≡◌, ℕ, ◌+◌, ◌-◌, ◌<◌, ◌≤�
 use Rattle.std.specs.Prelude.{List, [], ◌∷◌, ◌++◌, length, drop}
 use Rattle.std.specs.Prelude.{Option, Some, None, IfSome, nat_eq}
 use Rattle.ipc_base.specs.declared.errno.Errno.TheVariants.{EIO}
-use Rattle.ipc_base.specs.Table.{value_at, EachValue}
+use Rattle.ipc_base.specs.Table.{value_at, seen_as, EachValue}
 use Rattle.ipc_base.specs.declared.limits.Limits.{Limits}
 use Rattle.ipc_wire.specs.Reply.{PlainReply, reply_bytes, body_bytes}
 use Rattle.ipc_state.specs.State.{State}
-use Rattle.ipc_engine.specs.Bytes.{bytes_to, owed, unanswered}
+use Rattle.ipc_engine.specs.Bytes.{owed, unanswered}
 use Rattle.ipc_engine.specs.Event.{PlainOutcome}
 use Rattle.ipc_engine.specs.View.{reply_of}
 use Rattle.ipc_hub.specs.Hub.{Endpoint, delivered, deliver_all, heard, is_for, last_reply, refusal, welcomed}
@@ -93,11 +93,6 @@ HasSpare c = last_frame ≤ c.outbox.free
 abbrev pub IsShort : PlainOutcome → Type 0
 IsShort o = 6 + length (body_bytes o.body) < 2 ^ 32
 
--- so are all of an event
-abbrev pub AllShort : List PlainOutcome → Type 0
-AllShort [] = Unit {0}
-AllShort (o ∷ os) = IsShort o × AllShort os
-
 -- a reply has room in the outbox, and the last frames behind it
 abbrev pub HasSpace : PlainOutcome → ConnectionView → Type 0
 HasSpace o c = length (reply_bytes (reply_of o)) + last_frames ≤ c.outbox.free
@@ -106,14 +101,10 @@ HasSpace o c = length (reply_bytes (reply_of o)) + last_frames ≤ c.outbox.free
 abbrev pub HasSpaceIn : PlainOutcome → ConnectionView → Type 0
 HasSpaceIn o c = is_for o.pid c.process ≡ true → HasSpace o c
 
--- so have all those of some replies that are for its process, if it has one
-abbrev pub HasSpaceForAll : List PlainOutcome → ConnectionView → Type 0
-HasSpaceForAll os c = (pid : ℕ) → c.process ≡ Some pid → bytes_to pid os + last_frames ≤ c.outbox.free
-
--- so it is of each connection, and no reply is too long for its length field
-pub record HaveSpace (os : List PlainOutcome) (table : Table) : Type 0 where
-  pub short : AllShort os
-  pub each : EachValue (HasSpaceForAll os) table
+-- replies have room, one after the other, each in the outbox of its process, and none is too long for its length field
+abbrev pub HaveSpace : List PlainOutcome → Table → Type 0
+HaveSpace [] table = Unit {0}
+HaveSpace (o ∷ os) table = IsShort o × EachValue (HasSpaceIn o) table × HaveSpace os (seen_as (put_for o) table)
 
 -- the reply to a HELLO has room in the connection that said it
 abbrev pub HasSpaceToGreet : Option PlainOutcome → ConnectionView → Type 0
@@ -145,7 +136,9 @@ unanswered_at h conn = unanswered_of h.state (process_in h.connections conn)
 
 -- in a connection that goes on, what its process is owed has room, and behind it a reply of so many bytes and the last
 -- frames
+abbrev pub HasSpaceAt : HubView → ℕ → Option ConnectionView → Type 0
+HasSpaceAt h reply r =
+    IfSome r (λ c. c.ended ≡ false → owed_to h.limits h.state c.process + reply + last_frames ≤ c.outbox.free)
+
 abbrev pub HasSpaceFor : HubView → ℕ → ℕ → Type 0
-HasSpaceFor h reply conn =
-    IfSome (value_at nat_eq h.connections conn) (λ c. c.ended ≡ false
-    → owed_to h.limits h.state c.process + reply + last_frames ≤ c.outbox.free)
+HasSpaceFor h reply conn = HasSpaceAt h reply (value_at nat_eq h.connections conn)

@@ -1,16 +1,16 @@
 -- What a call comes to that is refused.
-use Rattle.std.specs.Prelude.{◌≡◌, ◌⊎◌, ℕ, false, []}
+use Rattle.std.specs.Prelude.{◌≡◌, ◌⊎◌, ℕ, false, [], ⊤, Result, OnOk, IfErr}
 use Rattle.ipc_base.specs.declared.limits.Limits.{Limits}
 use Rattle.ipc_disk.specs.Counts.{Counts, counted}
-use Rattle.ipc_disk.specs.Medium.{Medium}
+use Rattle.ipc_disk.specs.Medium.{Medium, IsHonest}
 use Rattle.ipc_store.specs.declared.fault.CommitError.{CommitError}
 use Rattle.ipc_store.specs.declared.fault.CommitError.TheVariants as commit
 use Rattle.ipc_store.specs.Histories.{Takes}
-use Rattle.ipc_store.specs.View.{IsAtLastEpoch, IsStopped}
+use Rattle.ipc_store.specs.View.{IsAtLastEpoch, IsReadyFor, IsStopped, Spends}
 use Rattle.ipc_hub.specs.declared.fault.ServeError.{ServeError}
 use Rattle.ipc_hub.specs.declared.fault.ServeError.TheVariants.{Unknown, Device, Stopped}
 use Rattle.ipc_hub.specs.Clients.{Clients, fail}
-use Rattle.ipc_hub.specs.View.{StoredHub, HasStopped, is_connected}
+use Rattle.ipc_hub.specs.View.{StoredHub, HasStopped, is_connected, most_events, numbers_of}
 use Rattle.ipc_hub.specs.Relations.Matches.{HubMatches, StoredMatches}
 
 -- What waited could not be made to last, before the call did anything else: a hub of the definitions that matched now
@@ -37,3 +37,15 @@ Refuses medium counts old new conn Unknown =
     (¬ HasStopped old) × (is_connected old.hub conn ≡ false) × (new ≡ old)
 Refuses medium counts old new conn Device = Halts medium counts old new commit.Device
 Refuses medium counts old new conn Stopped = Halts medium counts old new commit.Stopped
+
+-- What waited was made to last, or nothing had to be, and most events have room; or that is refused. A hub of the
+-- definitions that matched still does.
+pub record Settles {D : Type 0} (medium : D → Medium) (counts : D → Counts) (old new : StoredHub D)
+    (done : Result ⊤ CommitError) : Type 0 where
+  pub ok : OnOk done ((limits : Limits) (h : Clients) → StoredMatches limits old h → StoredMatches limits new h)
+  pub takes : Takes medium old.store [] new.store
+  pub numbers : numbers_of new.hub ≡ numbers_of old.hub
+  pub ready : OnOk done (IsReadyFor new.store most_events)
+  pub refused : IfErr done (λ e. Halts medium counts old new e)
+  pub spends : OnOk done (Spends counts 1 old.store new.store)
+  pub honest : IsHonest (medium old.store.disk) → IsHonest (medium new.store.disk)

@@ -1,16 +1,20 @@
 -- What a request comes to: a step of the machine, or none.
 use Rattle.std.specs.Prelude.{◌≡◌, ◌⊎◌, ℕ, ◌+◌, ◌<◌, ◌≤◌, true, false, List, [], ◌∷◌, ◌++◌}
 use Rattle.std.specs.Prelude.{length, nat_eq, Option, Some, None}
+use Rattle.ipc_base.specs.declared.limits.Limits.{Limits}
 use Rattle.ipc_base.specs.Limits.{ArePassed, longest_reply}
 use Rattle.ipc_base.specs.Table.{value_at, with_value, keys_of}
 use Rattle.ipc_disk.specs.Medium.{Medium}
 use Rattle.ipc_wire.specs.Request.{PlainRequest}
 use Rattle.ipc_wire.specs.Stream.{PlainFrame, first, missing}
 use Rattle.ipc_wire.specs.Stream.PlainFrame.{More, Whole, Fault}
+use Rattle.ipc_state.specs.State.{State}
 use Rattle.ipc_engine.specs.Sound.{IsSound}
-use Rattle.ipc_engine.specs.Engine.{event_takes_memory}
+use Rattle.ipc_engine.specs.Bytes.{asks}
+use Rattle.ipc_engine.specs.Engine.{IsForProcess, event_takes_memory}
 use Rattle.ipc_engine.specs.Event.{PlainEvent, Exit}
 use Rattle.ipc_engine.specs.Step.{step}
+use Rattle.ipc_image.specs.Records.{HasRecord}
 use Rattle.ipc_store.specs.View.{StoreView, IsReadyFor}
 use Rattle.ipc_hub.specs.declared.serving.Asked.{Asked}
 use Rattle.ipc_hub.specs.declared.serving.Asked.TheVariants as asked
@@ -47,6 +51,13 @@ pub record Steps {D : Type 0} (medium : D → Medium) (old new : StoreView D) (e
   pub pends : Pends medium old (e ∷ []) new
   -- it is ready for one event less
   pub less : (n : ℕ) → IsReadyFor old (n + 1) → IsReadyFor new n
+
+-- no process asks by an event, which needs no memory and may come at any time
+pub record IsQuiet (limits : Limits) (s : State) (e : PlainEvent) : Type 0 where
+  pub nobody : (pid : ℕ) → asks s e pid ≡ false
+  pub memory : event_takes_memory limits s e ≡ false
+  pub process : IsForProcess s e
+  pub has : HasRecord e
 
 -- what stands at the front is a request, and makes this event or none
 pub record IsRequest (frame : PlainFrame) (process : Option ℕ) (moment : ℕ) (made : Option PlainEvent)

@@ -58,9 +58,12 @@ changed see conn table = by_value (value_at nat_eq table conn)
 abbrev pub process_in : Table → ℕ → Option ℕ
 process_in table conn = option_and_then (λ c. c.process) (value_at nat_eq table conn)
 
--- whether a connection has the number, and the server has not ended it
+-- whether there is a connection, and the server has not ended it; whether it is so of the one that has a number
+abbrev pub goes_on : Option ConnectionView → Bool
+goes_on r = unwrap_or (option_map (λ c. not c.ended) r) false
+
 abbrev pub is_open_in : Table → ℕ → Bool
-is_open_in table conn = unwrap_or (option_map (λ c. not c.ended) (value_at nat_eq table conn)) false
+is_open_in table conn = goes_on (value_at nat_eq table conn)
 
 -- the bytes that the client of a connection may see, and whether the server has ended it
 abbrev pub output_in : Table → ℕ → List ℕ

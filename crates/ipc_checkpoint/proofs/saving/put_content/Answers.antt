@@ -2,7 +2,7 @@
 use Rattle.std.proofs.Common.{◌≡◌, ◌++◌, ◌+◌, ◌*◌, ◌∙◌, List, ℕ, length, take, sym, ap, subst, append_assoc, arith}
 use Rattle.std.proofs.lemmas.List.{take_all, length-take-le}
 use Rattle.ipc_base.specs.Objects.{window}
-use Rattle.ipc_disk.proofs.CallerLemmas.{honest-join}
+use Rattle.ipc_disk.proofs.CallerLemmas.{IsSameDisk-then}
 use Rattle.ipc_checkpoint.specs.Relations.Writer.{HasPut, object_at}
 use Rattle.ipc_checkpoint.proofs.Objects.{of_object, window_more}
 use Rattle.ipc_checkpoint.proofs.Writing.{others_more}
@@ -37,9 +37,8 @@ loop-k-preserved g c =
       range = c.put.ensures.range ∙ so_far.range;
       len = omega (arith, c.in_ok-put.ensures.len, so_far.len, count, c.min-count.ensures);
       others = others_more c.args.writer.now.range c.loop-k.writer.range _ _ _ so_far.range so_far.others c.put.ensures.others;
-      honest = honest-join _ _ _ so_far.honest c.put.ensures.honest;
-      size = c.put.ensures.size ∙ so_far.size;
-      failures = c.in_ok-put.ensures.no_failure ∙ so_far.failures;
+      same = IsSameDisk-then so_far.same c.put.ensures.same;
+      failures = c.in_ok-put.ensures.counts.ok ∙ so_far.failures;
       mark = c.bytes.ensures.mark;
     }
 

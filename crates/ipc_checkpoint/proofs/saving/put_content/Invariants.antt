@@ -1,5 +1,6 @@
 -- So many windows of the object's bytes are put, and the mark is one of it.
-use Rattle.std.proofs.Common.{◌≡◌, ◌↔◌, ◌++◌, ◌+◌, ◌*◌, List, ℕ, take, min}
+use Rattle.std.proofs.Common.{◌≡◌, ◌++◌, ◌+◌, ◌*◌, List, ℕ, take, min}
+use Rattle.ipc_disk.specs.Calls.{IsSameDisk}
 use Rattle.ipc_disk.specs.Medium.{IsHonest}
 use Rattle.ipc_disk.specs.Range.{IsOutside}
 use Rattle.ipc_disk.specs.Since.{LeavesAlone}
@@ -15,8 +16,7 @@ invariant-loop-k g l = record {
   len : l.writer.len ≡ l.initial.writer.len + min (512 * l.k) l.len;
   others : IsHonest (g.D.SectorDisk.medium l.initial.disk)
       → LeavesAlone (IsOutside l.initial.writer.range) (g.D.SectorDisk.medium l.initial.disk) (g.D.SectorDisk.medium l.disk);
-  honest : IsHonest (g.D.SectorDisk.medium l.initial.disk) ↔ IsHonest (g.D.SectorDisk.medium l.disk);
-  size : g.D.SectorDisk.size l.disk ≡ g.D.SectorDisk.size l.initial.disk;
+  same : IsSameDisk g.D.SectorDisk.size g.D.SectorDisk.medium l.initial.disk l.disk;
   failures : (g.D.SectorDisk.counts l.disk).failures ≡ (g.D.SectorDisk.counts l.initial.disk).failures;
   mark : g.O.Objects.marks l.objects l.i l.mark;
 }

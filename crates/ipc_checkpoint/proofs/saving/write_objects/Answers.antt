@@ -5,7 +5,7 @@ use Rattle.ipc_disk.specs.declared.range.Range.{Range}
 use Rattle.ipc_disk.specs.Range.{IsOutside}
 use Rattle.ipc_disk.specs.Since.{LeavesAlone}
 use Rattle.ipc_disk.specs.Standing.{IsWrittenAt}
-use Rattle.ipc_disk.proofs.CallerLemmas.{honest-join}
+use Rattle.ipc_disk.proofs.CallerLemmas.{IsSameDisk-then}
 use Rattle.ipc_checkpoint.specs.Area.{area_bytes, entry_bytes}
 use Rattle.ipc_checkpoint.specs.Relations.Writer.{HasPut, object_at}
 use Rattle.ipc_checkpoint.proofs.Objects.{bytes_below, below-more, below-all, below-within, length-area, length-below}
@@ -35,9 +35,8 @@ loop-i-init g c =
       len = omega (arith, c.in_ok-put.ensures.len, long, c.new-writer.ensures.len);
       others = λ honest. subst (λ (r : Range). LeavesAlone (IsOutside r) (g.D.SectorDisk.medium c.args.disk.now) (g.D.SectorDisk.medium c.put.new.disk))
           c.new-writer.ensures.range (c.put.ensures.others honest);
-      honest = c.put.ensures.honest;
-      size = c.put.ensures.size;
-      failures = c.in_ok-put.ensures.no_failure;
+      same = c.put.ensures.same;
+      failures = c.in_ok-put.ensures.counts.ok;
     }
 
 pub put_object-requires-clause-room : goal.put_object-requires-clause-room
@@ -74,9 +73,8 @@ loop-i-preserved g c =
       len = c.in_ok-put_object.ensures.len ∙ ap (λ (n : ℕ). n + length (entry_bytes (object_at objects c.loop-i.i))) so_far.len
           ∙ length-below c.loop-i.i objects (omega (arith, c.count-i-end.ensures.count));
       others = others_more c.args.range c.loop-i.writer.range _ _ _ so_far.range so_far.others c.put_object.ensures.others;
-      honest = honest-join _ _ _ so_far.honest c.put_object.ensures.honest;
-      size = c.put_object.ensures.size ∙ so_far.size;
-      failures = c.in_ok-put_object.ensures.no_failure ∙ so_far.failures;
+      same = IsSameDisk-then so_far.same c.put_object.ensures.same;
+      failures = c.in_ok-put_object.ensures.counts.ok ∙ so_far.failures;
     }
 
 pub finish-requires-clause-room : goal.finish-requires-clause-room

@@ -1,5 +1,6 @@
 -- How many objects there are is put, and so many of them.
-use Rattle.std.proofs.Common.{◌≡◌, ◌↔◌, length}
+use Rattle.std.proofs.Common.{◌≡◌, length}
+use Rattle.ipc_disk.specs.Calls.{IsSameDisk}
 use Rattle.ipc_disk.specs.Medium.{IsHonest}
 use Rattle.ipc_disk.specs.Range.{IsOutside}
 use Rattle.ipc_disk.specs.Since.{LeavesAlone}
@@ -15,7 +16,6 @@ invariant-loop-i g l = record {
   len : l.writer.len ≡ length (bytes_below l.i (g.O.Objects.objects l.objects));
   others : IsHonest (g.D.SectorDisk.medium l.fn.disk)
       → LeavesAlone (IsOutside l.fn.range) (g.D.SectorDisk.medium l.fn.disk) (g.D.SectorDisk.medium l.disk);
-  honest : IsHonest (g.D.SectorDisk.medium l.fn.disk) ↔ IsHonest (g.D.SectorDisk.medium l.disk);
-  size : g.D.SectorDisk.size l.disk ≡ g.D.SectorDisk.size l.fn.disk;
+  same : IsSameDisk g.D.SectorDisk.size g.D.SectorDisk.medium l.fn.disk l.disk;
   failures : (g.D.SectorDisk.counts l.disk).failures ≡ (g.D.SectorDisk.counts l.fn.disk).failures;
 }

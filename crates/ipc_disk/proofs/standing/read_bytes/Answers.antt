@@ -38,6 +38,6 @@ loop-i-preserved g c =
           (get_or_from_slice_get old.contents (c.args.at + c.loop-i.i) c.read.new.into [] read) (so_far.stands honest first);
       reads = λ honest. Stays-join old _ _ honest (so_far.reads honest) c.read.ensures.medium;
       honest = honest-join old _ _ so_far.honest c.read.ensures.medium.time.honest;
-      size = c.read.ensures.size ∙ so_far.size;
-      counts = c.in_ok-read.ensures.ok ∙ so_far.counts;
+      size = c.read.ensures.call.sectors ∙ so_far.size;
+      counts = c.in_ok-read.ensures.call.ok ∙ so_far.counts;
     }

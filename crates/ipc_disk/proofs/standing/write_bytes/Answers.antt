@@ -40,14 +40,17 @@ loop-i-preserved g c =
           (λ out. ⊎_elim (λ low. absurd (omega (arith, low))) (λ high. absurd (omega (arith, high))) out)
           c.write.ensures.medium;
       honest = honest-join _ _ _ so_far.honest c.write.ensures.medium.time.honest;
-      size = c.write.ensures.size ∙ so_far.size;
-      failures = ap (λ n. n.failures) c.in_ok-write.ensures.ok ∙ so_far.failures;
-      writes = omega (arith, ap (λ n. n.writes) c.in_ok-write.ensures.ok, so_far.writes);
-      syncs = ap (λ n. n.syncs) c.in_ok-write.ensures.ok ∙ so_far.syncs;
+      size = c.write.ensures.call.sectors ∙ so_far.size;
+      failures = ap (λ n. n.failures) c.in_ok-write.ensures.call.ok ∙ so_far.failures;
+      writes = omega (arith, ap (λ n. n.writes) c.in_ok-write.ensures.call.ok, so_far.writes);
+      syncs = ap (λ n. n.syncs) c.in_ok-write.ensures.call.ok ∙ so_far.syncs;
     }
 
 pub returns-clause-counts : goal.returns-clause-counts
 returns-clause-counts g c =
     let so_far = c.loop-i.invariant in
     let fits = (g.met.D.SectorDisk.in_range c.args.disk.now).syncs_fit in
-    counts-calls _ _ _ 0 so_far.failures (omega (arith, so_far.writes, c.sectors_for_len-count.ensures)) (omega (arith, so_far.syncs, fits))
+    record {
+      err = tt;
+      ok = counts-calls _ _ _ 0 so_far.failures (omega (arith, so_far.writes, c.sectors_for_len-count.ensures)) (omega (arith, so_far.syncs, fits));
+    }

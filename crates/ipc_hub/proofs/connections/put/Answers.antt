@@ -20,5 +20,4 @@ returns-in-Some c =
     c.in-Some.ensures.within (c.in-Some.ensures.found was) c.push.ensures.number (rw (sym c.reply.ensures) c.push.ensures.view)
 
 pub returns-in_default : goal.returns-in_default
-returns-in_default c =
-    put-nowhere (plain_outcome c.args.outcome.now) c.args.connections.now (c.place_of_process.ensures.none c.in_default.is)
+returns-in_default c = put-nowhere (plain_outcome c.args.outcome.now) c.args.connections.now (c.place_of_process.ensures.none c.in_default.is)

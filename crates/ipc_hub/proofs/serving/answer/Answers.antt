@@ -1,4 +1,4 @@
-use Rattle.std.proofs.Common.{◌≡◌, ◌-◌, suc, [], ◌∷◌, List, length, map, Option, sym, ap, ◌∙◌, subst, arith}
+use Rattle.std.proofs.Common.{◌≡◌, ◌-◌, suc, [], ◌∷◌, List, length, map, Option, sym, ap, ◌∙◌, subst, arith, rules}
 use Rattle.std.specs.Prelude.{option_map, slice_get}
 use Rattle.std.specs.Option.{option_copied}
 use Rattle.ipc_engine.specs.declared.event.Outcome.{Outcome}
@@ -7,7 +7,6 @@ use Rattle.ipc_engine.specs.View.{plain_outcome}
 use Rattle.ipc_hub.specs.Hub.{last_reply}
 use Rattle.ipc_hub.specs.Relations.Delivery.{answered, with_answer, put_all, HasSpaceToGreet}
 use Rattle.ipc_hub.specs.Relations.Rows.{pid_of, view_of, table_of}
-use Rattle.ipc_base.specs.Table.{keys_of}
 use Rattle.ipc_hub.proofs.Keeping.{changed-keys}
 use Rattle.ipc_hub.proofs.Rows.{put-changed, same-changed}
 use Rattle.ipc_hub.proofs.serving.answer.Goals.{Joined-get_mut, in-Some, in_default}
@@ -49,9 +48,7 @@ hear_own-requires c = record {
 }
 
 pub deliver-requires-clause-rising : goal.deliver-requires-clause-rising
-deliver-requires-clause-rising c =
-    let now = told (goal.at.deliver-requires-clause-rising c).Joined-get_mut in
-    rw (ap keys_of now ∙ changed-keys _ c.args.conn (table_of c.args.connections.now)) c.requires.rising
+deliver-requires-clause-rising c = search (rules, changed-keys)
 
 pub deliver-requires-clause-apart : goal.deliver-requires-clause-apart
 deliver-requires-clause-apart c = rw (told (goal.at.deliver-requires-clause-apart c).Joined-get_mut) c.requires.apart

@@ -45,8 +45,7 @@ returns-in-Served-clause-took g c =
     (rw (sym (outcomes-are c.engine.ensures c.outcomes.ensures)) at c.answer.ensures)
 
 pub returns-in-NoMemory-clause-took : goal.returns-in-NoMemory-clause-took
-returns-in-NoMemory-clause-took g c =
-    rw c.refuse.ensures (refused-took g.met.D.SectorDisk.only_now (rw c.in-NoMemory.is at c.receive-count.ensures.received))
+returns-in-NoMemory-clause-took g c = rw c.refuse.ensures (refused-took g.met.D.SectorDisk.only_now (rw c.in-NoMemory.is at c.receive-count.ensures.received))
 
 pub returns-in-Broken-clause-took : goal.returns-in-Broken-clause-took
 returns-in-Broken-clause-took g c =

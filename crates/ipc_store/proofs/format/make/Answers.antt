@@ -1,5 +1,6 @@
 -- One call after another.
 use Rattle.std.proofs.lemmas.Result.{on_ok_weaker}
+use Rattle.ipc_disk.proofs.CallerLemmas.{IsSameDisk-then}
 use Rattle.ipc_store.proofs.Formatting.{way-erase, way-prepare, way-superblock}
 use Rattle.ipc_store.proofs.format.make.Goals as goal
 
@@ -10,22 +11,28 @@ returns-in_err-erase-clause-any_moment g c = λ honest.
 pub returns-in_err-prepare-clause-any_moment : goal.returns-in_err-prepare-clause-any_moment
 returns-in_err-prepare-clause-any_moment g c = λ honest.
     way-prepare c.args.limits.now _ _ _ (way-erase c.args.limits.now _ _ (c.erase.ensures.any_moment honest))
-    (c.prepare.ensures.any_moment (c.erase.ensures.honest.0 honest) (c.in_ok-erase.ensures.erased honest))
+    (c.prepare.ensures.any_moment (c.erase.ensures.same.honest.0 honest) (c.in_ok-erase.ensures.erased honest))
 
 pub returns-clause-ok : goal.returns-clause-ok
 returns-clause-ok g c =
     on_ok_weaker c.put_superblock.result (λ ok honest.
-    let erased = c.erase.ensures.honest.0 honest in
-    ok (c.prepare.ensures.honest.0 erased)
+    let erased = c.erase.ensures.same.honest.0 honest in
+    ok (c.prepare.ensures.same.honest.0 erased)
     (c.in_ok-prepare.ensures.prepared erased (c.in_ok-erase.ensures.erased honest)))
     c.put_superblock.ensures.ok
 
 pub returns-clause-any_moment : goal.returns-clause-any_moment
 returns-clause-any_moment g c = λ honest.
-    let erased = c.erase.ensures.honest.0 honest in
+    let erased = c.erase.ensures.same.honest.0 honest in
     let none = c.in_ok-erase.ensures.erased honest in
     way-superblock c.args.limits.now _ _ _
     (way-prepare c.args.limits.now _ _ _ (way-erase c.args.limits.now _ _ (c.erase.ensures.any_moment honest))
     (c.prepare.ensures.any_moment erased none))
-    (c.put_superblock.ensures.any_moment (c.prepare.ensures.honest.0 erased)
+    (c.put_superblock.ensures.any_moment (c.prepare.ensures.same.honest.0 erased)
     (c.in_ok-prepare.ensures.prepared erased none))
+
+pub returns-in_err-prepare-clause-same : goal.returns-in_err-prepare-clause-same
+returns-in_err-prepare-clause-same g c = IsSameDisk-then c.erase.ensures.same c.prepare.ensures.same
+
+pub returns-clause-same : goal.returns-clause-same
+returns-clause-same g c = IsSameDisk-then (IsSameDisk-then c.erase.ensures.same c.prepare.ensures.same) c.put_superblock.ensures.same

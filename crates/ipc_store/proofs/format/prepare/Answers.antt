@@ -18,7 +18,7 @@ create-requires-clause-laid_out g c =
     let there : c.layout_of-layout.result ≡ layout_of c.args.limits.now size =
     c.layout_of-layout.ensures.exact ∙ ap (layout_of c.args.limits.now) c.sectors.ensures in
     subst (λ (l : Layout). IsLaidOut l (g.D.SectorDisk.size c.put_header.new.disk)) (sym there)
-    (subst (IsLaidOut (layout_of c.args.limits.now size)) (sym c.put_header.ensures.size)
+    (subst (IsLaidOut (layout_of c.args.limits.now size)) (sym c.put_header.ensures.same.sectors)
     (laid-out c.args.limits.now size c.requires.passed c.requires.room))
 
 pub returns-in_err-put_header-clause-any_moment : goal.returns-in_err-put_header-clause-any_moment
@@ -27,13 +27,13 @@ returns-in_err-put_header-clause-any_moment g c = λ honest erased.
 
 pub returns-in_err-create-clause-any_moment : goal.returns-in_err-create-clause-any_moment
 returns-in_err-create-clause-any_moment g c = λ honest erased.
-    let kept = c.put_header.ensures.honest.0 honest in
+    let kept = c.put_header.ensures.same.honest.0 honest in
     stays-erased c.args.limits.now c.sectors.result _ _ _ _ c.layout_of-layout.ensures.exact erased (c.put_header.ensures.header_or_not honest) kept
     (c.create.ensures.others kept)
 
 pub returns-clause-any_moment : goal.returns-clause-any_moment
 returns-clause-any_moment g c = λ honest erased.
-    let kept = c.put_header.ensures.honest.0 honest in
+    let kept = c.put_header.ensures.same.honest.0 honest in
     stays-erased c.args.limits.now c.sectors.result _ _ _ _ c.layout_of-layout.ensures.exact erased (c.put_header.ensures.header_or_not honest) kept
     (c.create.ensures.others kept)
 
@@ -42,13 +42,13 @@ pub returns-clause-prepared : goal.returns-clause-prepared
 returns-clause-prepared g c = λ honest erased image now.
     let old = (g.D.SectorDisk.medium c.args.disk.now).contents in
     let new = (g.D.SectorDisk.medium c.create.new.disk).contents in
-    let kept = c.put_header.ensures.honest.0 honest in
+    let kept = c.put_header.ensures.same.honest.0 honest in
     let run = c.create.ensures.others kept in
     let was = (g.met.D.SectorDisk.shaped c.args.disk.now old honest.reads).count in
     let long = (g.met.D.SectorDisk.shaped c.create.new.disk new run.honest.reads).count in
     let there : c.layout_of-layout.result ≡ layout_of c.args.limits.now (length new) =
     c.layout_of-layout.ensures.exact
-    ∙ ap (layout_of c.args.limits.now) (c.sectors.ensures ∙ sym (long ∙ c.create.ensures.size ∙ c.put_header.ensures.size)) in
+    ∙ ap (layout_of c.args.limits.now) (c.sectors.ensures ∙ sym (long ∙ c.create.ensures.same.sectors ∙ c.put_header.ensures.same.sectors)) in
     subst (IsPrepared c.args.limits.now) (sym (c.in_ok-create.ensures.durable image now))
     (is-prepared c.args.limits.now old _ new (omega (arith, was, c.requires.room)) (c.in_ok-put_header.ensures.header honest)
     (subst (λ (l : Layout). SameAt (IsElsewhere l) (g.D.SectorDisk.medium c.put_header.new.disk).contents new) there run.contents)

@@ -1,17 +1,17 @@
 -- Each exit: what was read is what stood there before.
-use Rattle.std.proofs.Common.{◌≡◌, ◌↔◌, inl, inr, ⊎_elim, ◌<◌, ◌^◌, Err, length, sym, ap, subst, ◌∙◌, arith}
-use Rattle.std.proofs.lemmas.Result.{err_from_is_err_and}
+use Rattle.std.proofs.Common.{◌≡◌, inl, inr, ⊎_elim, ◌<◌, ◌^◌, Err, length, sym, ap, subst, ◌∙◌, arith}
 use Rattle.ipc_base.specs.declared.limits.Limits.{Limits}
 use Rattle.ipc_checkpoint.specs.View.{epoch_of as saved_epoch}
 use Rattle.ipc_checkpoint.proofs.CallerLemmas.{CheckpointMatches-stays}
-use Rattle.ipc_disk.specs.Counts.{counted}
+use Rattle.ipc_disk.proofs.CallerLemmas.{IsSameDisk-then, IsSameDisk-call}
+use Rattle.ipc_disk.specs.Calls.{IsSameDisk}
 use Rattle.ipc_disk.specs.Medium.{Image, Medium, IsHonest, IsDurable, Stays}
 use Rattle.ipc_journal.specs.Journal.{header_epoch, header_used}
 use Rattle.ipc_journal.specs.View.{epoch_of, used_of}
 use Rattle.ipc_store.specs.declared.fault.OpenError.TheVariants as errors
 use Rattle.ipc_store.specs.Image.{journal_range, IsDevice, HasBase, IsDamaged, IsFirstFault}
-use Rattle.ipc_store.proofs.Faults.{err-same, passed_on}
-use Rattle.ipc_store.proofs.Loaded.{chain, stays-durable, Kept, Led, has-base, loaded, on-disk}
+use Rattle.ipc_store.proofs.Faults.{passed_on, passed-device}
+use Rattle.ipc_store.proofs.Loaded.{OnlyReads-counts, chain, stays-durable, Kept, Led, has-base, loaded, on-disk}
 use Rattle.ipc_store.proofs.Opened.{base-damaged}
 use Rattle.ipc_store.proofs.loading.load.Given.{Over}
 use Rattle.ipc_store.proofs.loading.load.Goals as goal
@@ -21,7 +21,7 @@ use Rattle.ipc_store.proofs.loading.load.Goals.{In_ok-limits, In_ok-checkpoint}
 
 reads-limits : (g : Over) (c : In_ok-limits g) → IsHonest (g.D.SectorDisk.medium c.args.disk.now)
     → Stays (g.D.SectorDisk.medium c.args.disk.now) (g.D.SectorDisk.medium c.read_limits.new.disk)
-reads-limits g c honest = chain _ _ _ honest c.sync.ensures.medium c.read_limits.ensures.reads
+reads-limits g c honest = chain _ _ _ honest c.sync.ensures.medium c.read_limits.ensures.reads.stays
 
 -- the device
 device : (g : Over) (c : In_ok-limits g) → IsHonest (g.D.SectorDisk.medium c.args.disk.now)
@@ -35,14 +35,14 @@ durable : (g : Over) (c : In_ok-limits g) → IsHonest (g.D.SectorDisk.medium c.
     → IsDurable (g.D.SectorDisk.medium c.read_limits.new.disk)
 durable g c honest =
     let h1 = c.sync.ensures.medium.time.honest.0 honest in
-    stays-durable _ _ h1 (c.read_limits.ensures.reads h1) c.in_ok-sync.ensures.durable
+    stays-durable _ _ h1 (c.read_limits.ensures.reads.stays h1) c.in_ok-sync.ensures.durable
 
 -- ---- after the objects
 
 reads-base : (g : Over) (c : In_ok-checkpoint g) → IsHonest (g.D.SectorDisk.medium c.args.disk.now)
     → Stays (g.D.SectorDisk.medium c.args.disk.now) (g.D.SectorDisk.medium c.load_base.new.disk)
 reads-base g c honest =
-    chain _ _ _ honest (chain _ _ _ honest c.sync.ensures.medium c.read_limits.ensures.reads) c.load_base.ensures.reads
+    chain _ _ _ honest (chain _ _ _ honest c.sync.ensures.medium c.read_limits.ensures.reads.stays) c.load_base.ensures.reads.stays
 
 -- the device again
 device-base : (g : Over) (c : In_ok-checkpoint g) → IsHonest (g.D.SectorDisk.medium c.args.disk.now)
@@ -57,16 +57,16 @@ durable-base : (g : Over) (c : In_ok-checkpoint g) → IsHonest (g.D.SectorDisk.
     → IsDurable (g.D.SectorDisk.medium c.read_limits.new.disk) × IsDurable (g.D.SectorDisk.medium c.load_base.new.disk)
 durable-base g c honest =
     let h1 = c.sync.ensures.medium.time.honest.0 honest in
-    let s12 = c.read_limits.ensures.reads h1 in
+    let s12 = c.read_limits.ensures.reads.stays h1 in
     let h2 = s12.time.honest.0 h1 in
     let d2 = stays-durable _ _ h1 s12 c.in_ok-sync.ensures.durable in
-    (d2, stays-durable _ _ h2 (c.load_base.ensures.reads h2) d2)
+    (d2, stays-durable _ _ h2 (c.load_base.ensures.reads.stays h2) d2)
 
 -- the objects
 kept : (g : Over) (c : In_ok-checkpoint g) → IsHonest (g.D.SectorDisk.medium c.args.disk.now)
     → Kept c.in_ok-limits.limits c.in_ok-checkpoint.engine.state c.in_ok-checkpoint.checkpoint (g.D.SectorDisk.medium c.load_base.new.disk)
 kept g c honest =
-    let h2 = (chain _ _ _ honest c.sync.ensures.medium c.read_limits.ensures.reads).time.honest.0 honest in
+    let h2 = (chain _ _ _ honest c.sync.ensures.medium c.read_limits.ensures.reads.stays).time.honest.0 honest in
     c.in_ok-checkpoint.ensures.base h2 (durable-base g c honest).0
 
 -- how many sectors there are
@@ -74,15 +74,14 @@ count : (g : Over) (c : In_ok-checkpoint g) → IsHonest (g.D.SectorDisk.medium 
     → length (g.D.SectorDisk.medium c.load_base.new.disk).contents ≡ g.D.SectorDisk.size c.read_limits.new.disk
 count g c honest =
     let h3 = (reads-base g c honest).time.honest.0 honest in
-    (g.met.D.SectorDisk.shaped c.load_base.new.disk _ h3.reads).count ∙ c.load_base.ensures.size
+    (g.met.D.SectorDisk.shaped c.load_base.new.disk _ h3.reads).count ∙ c.load_base.ensures.reads.same.sectors
 
--- a disk that is honest stays so
-honest-base : (g : Over) (c : In_ok-checkpoint g)
-    → IsHonest (g.D.SectorDisk.medium c.args.disk.now) ↔ IsHonest (g.D.SectorDisk.medium c.load_base.new.disk)
-honest-base g c = (
-  λ h. c.load_base.ensures.honest.0 (c.read_limits.ensures.honest.0 (c.sync.ensures.medium.time.honest.0 h)),
-  λ h. c.sync.ensures.medium.time.honest.1 (c.read_limits.ensures.honest.1 (c.load_base.ensures.honest.1 h)),
-)
+-- the same disk until then
+same-base : (g : Over) (c : In_ok-checkpoint g)
+    → IsSameDisk g.D.SectorDisk.size g.D.SectorDisk.medium c.args.disk.now c.load_base.new.disk
+same-base g c =
+    IsSameDisk-then (IsSameDisk-then (IsSameDisk-call c.sync.ensures.call c.sync.ensures.medium.time) c.read_limits.ensures.reads.same)
+    c.load_base.ensures.reads.same
 
 -- ---- the exits
 
@@ -122,12 +121,11 @@ returns-in_err-checkpoint-clause-damaged g c = λ sector is honest.
 
 pub returns-in_err-checkpoint-clause-reads : goal.returns-in_err-checkpoint-clause-reads
 returns-in_err-checkpoint-clause-reads g c = λ honest.
-    chain _ _ _ honest (reads-limits g (goal.at.returns-in_err-checkpoint-clause-reads g c).In_ok-limits honest) c.load_base.ensures.reads
+    chain _ _ _ honest (reads-limits g (goal.at.returns-in_err-checkpoint-clause-reads g c).In_ok-limits honest) c.load_base.ensures.reads.stays
 
-pub returns-in_err-journal-clause-honest : goal.returns-in_err-journal-clause-honest
-returns-in_err-journal-clause-honest g c =
-    let base = honest-base g (goal.at.returns-in_err-journal-clause-honest g c).In_ok-checkpoint in
-    (λ h. c.load_journal.ensures.honest.0 (base.0 h), λ h. base.1 (c.load_journal.ensures.honest.1 h))
+pub returns-in_err-journal-clause-same : goal.returns-in_err-journal-clause-same
+returns-in_err-journal-clause-same g c =
+    IsSameDisk-then (same-base g (goal.at.returns-in_err-journal-clause-same g c).In_ok-checkpoint) c.load_journal.ensures.reads.same
 
 pub returns-in_err-journal-clause-not_formatted : goal.returns-in_err-journal-clause-not_formatted
 returns-in_err-journal-clause-not_formatted g c = λ is honest.
@@ -159,11 +157,11 @@ returns-in_err-journal-clause-damaged g c = λ sector is honest.
 
 pub returns-in_err-journal-clause-reads : goal.returns-in_err-journal-clause-reads
 returns-in_err-journal-clause-reads g c = λ honest.
-    chain _ _ _ honest (reads-base g (goal.at.returns-in_err-journal-clause-reads g c).In_ok-checkpoint honest) c.load_journal.ensures.reads
+    chain _ _ _ honest (reads-base g (goal.at.returns-in_err-journal-clause-reads g c).In_ok-checkpoint honest) c.load_journal.ensures.reads.stays
 
 pub returns-clause-reads : goal.returns-clause-reads
 returns-clause-reads g c = λ honest.
-    chain _ _ _ honest (reads-base g (goal.at.returns-clause-reads g c).In_ok-checkpoint honest) c.load_journal.ensures.reads
+    chain _ _ _ honest (reads-base g (goal.at.returns-clause-reads g c).In_ok-checkpoint honest) c.load_journal.ensures.reads.stays
 
 pub returns-clause-used : goal.returns-clause-used
 returns-clause-used g c = λ honest some.
@@ -182,8 +180,8 @@ returns-clause-on_disk g c =
     on-disk c.in_ok-limits.limits (g.D.SectorDisk.size c.read_limits.new.disk) c.in_ok-checkpoint.checkpoint c.in_ok-checkpoint.ensures.layout
     c.in_ok-journal.journal c.in_ok-journal.ensures.range c.in_ok-journal.ensures.epoch c.load_journal.new.engine.limits
     (c.load_journal.ensures.limits ∙ c.in_ok-checkpoint.ensures.limits) (g.D.SectorDisk.size c.load_journal.new.disk)
-    (c.load_journal.ensures.size ∙ c.load_base.ensures.size) c.in_ok-limits.ensures.passed
-    (omega (arith, c.in_ok-limits.ensures.room, c.read_limits.ensures.size))
+    (c.load_journal.ensures.reads.same.sectors ∙ c.load_base.ensures.reads.same.sectors) c.in_ok-limits.ensures.passed
+    (omega (arith, c.in_ok-limits.ensures.room, c.read_limits.ensures.reads.same.sectors))
 
 pub returns-clause-matches : goal.returns-clause-matches
 returns-clause-matches g c = λ honest.
@@ -192,7 +190,7 @@ returns-clause-matches g c = λ honest.
     let m4 : Medium = g.D.SectorDisk.medium c.load_journal.new.disk in
     let limits : Limits = c.in_ok-limits.limits in
     let h3 = (reads-base g here honest).time.honest.0 honest in
-    let s34 = c.load_journal.ensures.reads h3 in
+    let s34 = c.load_journal.ensures.reads.stays h3 in
     let h4 = s34.time.honest.0 h3 in
     let d3 = (durable-base g here honest).1 in
     let from = c.in_ok-checkpoint.engine.state in
@@ -214,40 +212,42 @@ until-base : (g : Over) (c : In_ok-checkpoint g)
     → ((g.D.SectorDisk.counts c.load_base.new.disk).failures ≡ (g.D.SectorDisk.counts c.args.disk.now).failures)
     × ((g.D.SectorDisk.counts c.load_base.new.disk).writes ≡ (g.D.SectorDisk.counts c.args.disk.now).writes)
 until-base g c =
-    let limits = ⊎_elim (λ bad. cc) (λ same. same) c.in_ok-limits.ensures.no_failure ∙ c.in_ok-sync.ensures.ok in (
-      ⊎_elim (λ bad. cc) (λ same. same) c.in_ok-checkpoint.ensures.no_failure ∙ ap (λ n. n.failures) limits,
-      c.load_base.ensures.no_write ∙ ap (λ n. n.writes) limits,
-    )
+    let all = ⊎_elim (λ bad. cc) (λ same. same) c.in_ok-checkpoint.ensures.reads.no_failure
+    ∙ ⊎_elim (λ bad. cc) (λ same. same) c.in_ok-limits.ensures.reads.no_failure ∙ c.in_ok-sync.ensures.call.ok in
+    (ap (λ n. n.failures) all, ap (λ n. n.writes) all)
 
-pub returns-in_err-journal-clause-failure : goal.returns-in_err-journal-clause-failure
-returns-in_err-journal-clause-failure g c = λ is.
-    let before = until-base g (goal.at.returns-in_err-journal-clause-failure g c).In_ok-checkpoint in
-    let e = passed_on c.from_residual-in_err-journal.result c.in_err-journal.field-0.0 errors.Device c.from_residual-in_err-journal.ensures.1 is in
-    ap (λ n. n.failures) (c.in_err-journal.ensures.failure (ap Err e)) ∙ ap (λ n. counted n 1) before.0
+pub returns-in_err-checkpoint-clause-counts : goal.returns-in_err-checkpoint-clause-counts
+returns-in_err-checkpoint-clause-counts g c =
+    OnlyReads-counts
+    (ap (λ n. n.failures) (⊎_elim (λ bad. cc) (λ same. same) c.in_ok-limits.ensures.reads.no_failure ∙ c.in_ok-sync.ensures.call.ok))
+    (passed-device c.load_base.result c.from_residual-in_err-checkpoint.result c.in_err-checkpoint.field-0.0 c.in_err-checkpoint.was
+    c.from_residual-in_err-checkpoint.ensures.1) c.load_base.ensures.reads
 
-pub returns-in_err-journal-clause-no_failure : goal.returns-in_err-journal-clause-no_failure
-returns-in_err-journal-clause-no_failure g c =
-    let before = until-base g (goal.at.returns-in_err-journal-clause-no_failure g c).In_ok-checkpoint in
-    let went = err_from_is_err_and c.from_residual-in_err-journal.result c.from_residual-in_err-journal.ensures.1 in
-    ⊎_elim (λ device. inl (went.1 ∙ ap Err (went.2 ∙ err-same c.load_journal.result c.in_err-journal.field-0.0 errors.Device c.in_err-journal.was device)))
-    (λ same. inr (ap (λ n. n.failures) same ∙ before.0)) c.load_journal.ensures.no_failure
+pub returns-in_err-journal-clause-counts : goal.returns-in_err-journal-clause-counts
+returns-in_err-journal-clause-counts g c =
+    OnlyReads-counts (until-base g (goal.at.returns-in_err-journal-clause-counts g c).In_ok-checkpoint).0
+    (passed-device c.load_journal.result c.from_residual-in_err-journal.result c.in_err-journal.field-0.0 c.in_err-journal.was
+    c.from_residual-in_err-journal.ensures.1) c.load_journal.ensures.reads
 
 pub returns-in_err-journal-clause-no_write : goal.returns-in_err-journal-clause-no_write
 returns-in_err-journal-clause-no_write g c =
     let before = until-base g (goal.at.returns-in_err-journal-clause-no_write g c).In_ok-checkpoint in
-    c.load_journal.ensures.no_write ∙ before.1
+    ⊎_elim (λ device. ap (λ n. n.writes) (c.load_journal.ensures.reads.failure device)) (λ same. ap (λ n. n.writes) same)
+    c.load_journal.ensures.reads.no_failure ∙ before.1
 
-pub returns-clause-no_failure : goal.returns-clause-no_failure
-returns-clause-no_failure g c =
-    let before = until-base g (goal.at.returns-clause-no_failure g c).In_ok-checkpoint in
-    inr (⊎_elim (λ bad. cc) (λ same. ap (λ n. n.failures) same) c.in_ok-journal.ensures.no_failure ∙ before.0)
+pub returns-clause-counts : goal.returns-clause-counts
+returns-clause-counts g c =
+    let before = until-base g (goal.at.returns-clause-counts g c).In_ok-checkpoint in
+    record {
+      failure = λ failed. cc;
+      no_failure = inr (⊎_elim (λ bad. cc) (λ same. ap (λ n. n.failures) same) c.in_ok-journal.ensures.reads.no_failure ∙ before.0);
+    }
 
 pub returns-clause-no_write : goal.returns-clause-no_write
 returns-clause-no_write g c =
     let before = until-base g (goal.at.returns-clause-no_write g c).In_ok-checkpoint in
-    c.load_journal.ensures.no_write ∙ before.1
+    ⊎_elim (λ bad. cc) (λ same. ap (λ n. n.writes) same) c.in_ok-journal.ensures.reads.no_failure ∙ before.1
 
-pub returns-clause-honest : goal.returns-clause-honest
-returns-clause-honest g c =
-    let base = honest-base g (goal.at.returns-clause-honest g c).In_ok-checkpoint in
-    (λ h. c.load_journal.ensures.honest.0 (base.0 h), λ h. base.1 (c.load_journal.ensures.honest.1 h))
+pub returns-clause-same : goal.returns-clause-same
+returns-clause-same g c =
+    IsSameDisk-then (same-base g (goal.at.returns-clause-same g c).In_ok-checkpoint) c.load_journal.ensures.reads.same

@@ -6,11 +6,13 @@ use Rattle.ipc_checkpoint.specs.Checkpoint.{IsOwn, Holds}
 use Rattle.ipc_checkpoint.specs.View.{epoch_of}
 use Rattle.ipc_checkpoint.proofs.CallerLemmas.{Holds-one}
 use Rattle.ipc_disk.specs.Medium.{Image, IsHonest}
+use Rattle.ipc_disk.proofs.CallerLemmas.{OnlyReads-ok}
+use Rattle.ipc_store.proofs.Loaded.{OnlyReads-never}
 use Rattle.ipc_image.specs.Saved.{StandForState}
 use Rattle.ipc_store.specs.declared.fault.OpenError.TheVariants as errors
 use Rattle.ipc_store.specs.Image.{layout_of, HasObjects, IsFirstFault}
 use Rattle.ipc_store.specs.View.{of_load_error, of_state_fault}
-use Rattle.ipc_store.proofs.Faults.{passed_on, load-fault, image-fault}
+use Rattle.ipc_store.proofs.Faults.{passed_on, load-fault, image-fault, ok-device, loaded-device, state-device}
 use Rattle.ipc_store.proofs.loading.load_base.Given.{Over}
 use Rattle.ipc_store.proofs.loading.load_base.Goals as goal
 use Rattle.ipc_store.proofs.loading.load_base.Goals.{After-load}
@@ -56,3 +58,11 @@ returns-in_err-engine-clause-damaged g c = λ sector is honest device.
           never base (subst (λ (o : PlainObjects). StandForState c.args.limits base o) (sym one.1) has.stand),
       subst (IsFirstFault image) (sym fault.1) (IsFirstFault.NoState c.args.limits epoch objects device there never),
     )
+
+pub returns-in_err-engine-clause-reads : goal.returns-in_err-engine-clause-reads
+returns-in_err-engine-clause-reads g c =
+    OnlyReads-never (state-device c.from_residual-in_err-engine.result c.in_err-engine.field-0.0 c.from_residual-in_err-engine.ensures.1)
+    (OnlyReads-ok (loaded-device c.load.result _ c.in_ok-checkpoint.was) c.load.ensures.reads)
+
+pub returns-clause-reads : goal.returns-clause-reads
+returns-clause-reads g c = OnlyReads-never (ok-device _) (OnlyReads-ok (loaded-device c.load.result _ c.in_ok-checkpoint.was) c.load.ensures.reads)

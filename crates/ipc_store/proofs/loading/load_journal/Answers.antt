@@ -6,13 +6,14 @@ use Rattle.ipc_disk.specs.Medium.{Image, Medium, IsHonest}
 use Rattle.ipc_checkpoint.specs.View.{epoch_of as saved_epoch}
 use Rattle.ipc_journal.specs.Journal.{Holds}
 use Rattle.ipc_journal.specs.View.{epoch_of, used_of}
+use Rattle.ipc_disk.proofs.CallerLemmas.{OnlyReads-as}
 use Rattle.ipc_journal.proofs.CallerLemmas.{JournalMatches-stays}
 use Rattle.ipc_store.specs.declared.fault.OpenError.TheVariants as errors
 use Rattle.ipc_store.specs.Batch.{batch_bytes}
 use Rattle.ipc_store.specs.Image.{journal_range, HasNoHeader}
 use Rattle.ipc_store.specs.View.{of_journal_error}
 use Rattle.ipc_store.specs.Relations.Replay.{IsOpened, Replays, IsGoodUpTo}
-use Rattle.ipc_store.proofs.Faults.{passed_on, journal-fault}
+use Rattle.ipc_store.proofs.Faults.{passed_on, journal-fault, journal-device}
 use Rattle.ipc_store.proofs.Opened.{header-damaged, is_opened, batch-damaged, holds, current-is}
 use Rattle.ipc_store.proofs.loading.load_journal.Given.{Over}
 use Rattle.ipc_store.proofs.loading.load_journal.Goals as goal
@@ -42,6 +43,11 @@ returns-in_err-journal-clause-damaged g c = λ sector is honest has.
     (c.in_err-journal.ensures.named sector e)
     (subst (λ (n : ℕ). HasNoHeader n image) c.epoch.ensures (c.in_err-journal.ensures.damaged sector e honest))
 
+pub returns-in_err-journal-clause-reads : goal.returns-in_err-journal-clause-reads
+returns-in_err-journal-clause-reads g c =
+    let device = journal-device c.open.result c.from_residual.result c.in_err-journal.field-0.0 c.in_err-journal.was c.from_residual.ensures.1 in
+    OnlyReads-as device.0 device.1 c.open.ensures.reads
+
 pub returns-in_err-replay-clause-damaged : goal.returns-in_err-replay-clause-damaged
 returns-in_err-replay-clause-damaged g c = λ sector is honest has.
     let here = (goal.at.returns-in_err-replay-clause-damaged g c).In_ok-journal in
@@ -49,8 +55,8 @@ returns-in_err-replay-clause-damaged g c = λ sector is honest has.
     let limits = c.args.engine.now.limits in
     let s = c.args.engine.now.state in
     let journal = c.in_ok-journal.journal in
-    let same = c.open.ensures.reads.contents honest in
-    let still = c.open.ensures.reads.time.honest.0 honest in
+    let same = c.open.ensures.stays.contents honest in
+    let still = c.open.ensures.stays.time.honest.0 honest in
     let e = ap Err (passed_on c.from_residual-in_err-replay.result c.in_err-replay.field-0.0 (errors.Damaged sector)
     c.from_residual-in_err-replay.ensures.1 is) in
     batch-damaged limits (saved_epoch c.args.checkpoint.now) s image (fits g here honest) has journal c.in_ok-journal.ensures.range
@@ -72,17 +78,17 @@ returns-clause-leads g c = λ honest durable.
     let m : g.row.D.Denot → Medium = g.D.SectorDisk.medium in
     let image : Image = (m c.args.disk.now).contents in
     let journal = c.in_ok-journal.journal in
-    let still = c.open.ensures.reads.time.honest.0 honest in
+    let still = c.open.ensures.stays.time.honest.0 honest in
     let found = c.in_ok-replay.ensures.replays still in
     let filled = subst (λ (x : Image). Replays c.args.engine.now.limits c.args.engine.now.state journal x found.0 c.replay.new.engine.state)
-    (c.open.ensures.reads.contents honest) found.1 in
+    (c.open.ensures.stays.contents honest) found.1 in
     let batches : List (List ℕ) = map batch_bytes found.0 in
     let stands : Holds journal_range c.epoch.result batches image =
     subst (λ (n : ℕ). Holds journal_range n batches image) c.in_ok-journal.ensures.epoch
     (subst (λ (r : Range). Holds r (epoch_of journal) batches image) c.in_ok-journal.ensures.range
     (holds journal image (opened_on g here honest) batches journal.room filled.filled)) in (
       found.0,
-      JournalMatches-stays journal batches (m c.open.new.disk) (m c.replay.new.disk) (c.replay.ensures.reads still)
+      JournalMatches-stays journal batches (m c.open.new.disk) (m c.replay.new.disk) (c.replay.ensures.reads.stays still)
           (c.in_ok-journal.ensures.stands honest batches
           (λ now left. subst (Holds journal_range c.epoch.result batches) (sym (durable now left)) stands)),
       found.1.leads,

@@ -1,7 +1,9 @@
 use Rattle.std.proofs.Common.{◌≡◌, inr, ℕ, ◌≤◌, sym, ap, subst, ◌∙◌, Err, arith}
 use Rattle.ipc_disk.specs.Medium.{Image}
+use Rattle.ipc_store.proofs.Loaded.{OnlyReads-call, OnlyReads-never}
 use Rattle.ipc_image.specs.Superblock.{IsFormatted}
 use Rattle.ipc_store.specs.Image.{HasVersion, IsDamaged, IsFirstFault}
+use Rattle.ipc_store.proofs.Faults.{ok-device, format-device}
 use Rattle.ipc_store.proofs.Superblocks.{sector-read, has_version, is_damaged}
 use Rattle.ipc_store.proofs.loading.read_limits.Goals as goal
 
@@ -33,3 +35,9 @@ returns-in-Err-Damaged-clause-damaged g c = λ sector is honest.
     subst (λ (n : ℕ). IsDamaged image × IsFirstFault image n) same
     (is_damaged image (g.D.SectorDisk.size c.args.disk.now) c.read.new.into whole read large
     (rw (sym c.sectors-sectors.ensures) (c.read_superblock.ensures.damaged.0 (c.in-Err-Damaged.is ∙ ap Err c.in-Err-Damaged.field-0-is))))
+
+pub returns-in-Ok-clause-reads : goal.returns-in-Ok-clause-reads
+returns-in-Ok-clause-reads g c = OnlyReads-never (ok-device _) (OnlyReads-call c.in_ok-read.ensures.call c.read.ensures.medium)
+
+pub returns-in-Err-NotFormatted-clause-reads : goal.returns-in-Err-NotFormatted-clause-reads
+returns-in-Err-NotFormatted-clause-reads g c = OnlyReads-never format-device (OnlyReads-call c.in_ok-read.ensures.call c.read.ensures.medium)

@@ -8,8 +8,9 @@ use Rattle.std.proofs.lemmas.Bool.{false≢true, cases_lt}
 use Rattle.std.proofs.lemmas.Result.{err_from_is_err_and}
 use Rattle.std.proofs.lemmas.List.{length-take-le}
 use Rattle.ipc_disk.specs.declared.range.Range.{Range}
-use Rattle.ipc_disk.specs.Medium.{Image, IsHonest, Stays}
-use Rattle.ipc_disk.proofs.CallerLemmas.{Stays-start, Stays-join, honest-join}
+use Rattle.ipc_disk.specs.Medium.{Image, IsHonest}
+use Rattle.ipc_disk.specs.Calls.{OnlyReads}
+use Rattle.ipc_disk.proofs.CallerLemmas.{OnlyReads-start, OnlyReads-then, OnlyReads-as, OnlyReads-ok}
 use Rattle.ipc_journal.specs.declared.error.JournalError.{JournalError}
 use Rattle.ipc_journal.specs.declared.error.JournalError.TheVariants as journal
 use Rattle.ipc_disk.specs.Standing.{sectors_for, sector_at}
@@ -21,6 +22,8 @@ use Rattle.ipc_store.specs.View.{of_journal_error}
 use Rattle.ipc_store.specs.declared.fault.OpenError.{OpenError}
 use Rattle.ipc_store.specs.declared.fault.OpenError.TheVariants.{Damaged}
 use Rattle.ipc_store.specs.Relations.Replay.{AreRecords}
+use Rattle.ipc_store.proofs.Loaded.{OnlyReads-never}
+use Rattle.ipc_store.proofs.Faults.{journal-device, ok-device, read-device, damaged-device, memory-device}
 use Rattle.ipc_store.proofs.Replaying.{Replayed, Found, replayed_none, replayed_more, replayed_refused, replayed_all}
 use Rattle.ipc_store.proofs.Replaying.{replayed_damaged, replayed_good, none_damaged, none_refused, found_batch, records_slice, AreRecords-same}
 use Rattle.ipc_store.proofs.replay.replay.Given.{Over}
@@ -56,11 +59,15 @@ not_none : (error : JournalError) → ◌≡◌ {A = Result (Option ℕ) Journal
 not_none error is = cc
 
 -- a batch is read: the disk is as it was
-reads_on : (g : Over) (c : After-next_batch g) → IsHonest (g.D.SectorDisk.medium c.args.disk.now)
-    → Stays (g.D.SectorDisk.medium c.args.disk.now) (g.D.SectorDisk.medium c.next_batch.new.disk)
-reads_on g c honest =
-    let stays = c.loop-len.invariant.reads honest in
-    Stays-join _ _ _ honest stays (c.next_batch.ensures.reads (stays.time.honest.0 honest))
+reads_on : (g : Over) (c : After-next_batch g)
+    → OnlyReads g.D.SectorDisk.size g.D.SectorDisk.medium g.D.SectorDisk.counts (IsErrOf c.next_batch.result journal.Device) c.args.disk.now
+    c.next_batch.new.disk
+reads_on g c = OnlyReads-then c.loop-len.invariant.reads c.next_batch.ensures.reads
+
+-- and none of the calls has failed
+reads_well : (g : Over) (c : After-next_batch g) (found : Option ℕ) → c.next_batch.result ≡ Ok found
+    → OnlyReads g.D.SectorDisk.size g.D.SectorDisk.medium g.D.SectorDisk.counts ⊥ c.args.disk.now c.next_batch.new.disk
+reads_well g c found was = OnlyReads-ok (read-device c.next_batch.result found was) (reads_on g c)
 
 -- it is the batch that stands there
 found_there : (g : Over) (c : In_ok-go_through g) → IsHonest (g.D.SectorDisk.medium c.args.disk.now)
@@ -71,7 +78,7 @@ found_there g c honest =
     let len = c.in-Some.len in
     let is = c.in-Some.is in
     found_batch c.args.journal.now (g.D.SectorDisk.medium c.args.disk.now) (g.D.SectorDisk.medium c.loop-len.disk) c.loop-len.place.sector
-    c.next_batch.new.place.sector len (g.D.SectorDisk.size c.loop-len.disk) c.next_batch.new.into honest (inv.reads honest)
+    c.next_batch.new.place.sector len (g.D.SectorDisk.size c.loop-len.disk) c.next_batch.new.into honest (inv.reads.stays honest)
     (g.met.D.SectorDisk.shaped c.loop-len.disk) (omega (arith, c.next_batch.auto.into, inv.room, c.requires.room)) (e.least len is)
     (omega (arith, e.fits len is, inv.room, c.requires.room)) (e.stands len is) (e.batch len is) (e.passes len is) (e.inside len is)
 
@@ -90,10 +97,7 @@ loop-len-init g c = record {
   within = omega arith;
   limits = refl;
   replayed = λ honest. replayed_none c.args.engine.now.limits c.args.engine.now.state c.args.journal.now (g.D.SectorDisk.medium c.args.disk.now).contents;
-  reads = λ honest. Stays-start (g.D.SectorDisk.medium c.args.disk.now);
-  honest = (λ h. h, λ h. h);
-  size = refl;
-  counts = refl;
+  reads = OnlyReads-start c.args.disk.now;
 }
 
 pub returns-in_err-len-clause-damaged : goal.returns-in_err-len-clause-damaged
@@ -102,7 +106,7 @@ returns-in_err-len-clause-damaged g c = λ sector batches s is honest good.
     let image = (g.D.SectorDisk.medium c.args.disk.now).contents in
     let journal = c.args.journal.now in
     let place = c.loop-len.place.sector in
-    let stays = inv.reads honest in
+    let stays = inv.reads.stays honest in
     let error = from_damaged c.from_residual.result c.in_err-len.field-0.0 sector is c.from_residual.ensures.1 in
     let was = ap (λ (x : JournalError). Err x) error in
     let at : sector ≡ (range_of c.args.journal.now).first + 1 + place = c.in_err-len.ensures.named sector was in
@@ -122,7 +126,7 @@ returns-in_err-len-clause-named g c = λ sector is honest.
     let image = (g.D.SectorDisk.medium c.args.disk.now).contents in
     let journal = c.args.journal.now in
     let place = c.loop-len.place.sector in
-    let stays = inv.reads honest in
+    let stays = inv.reads.stays honest in
     let error = from_damaged c.from_residual.result c.in_err-len.field-0.0 sector is c.from_residual.ensures.1 in
     let was = ap (λ (x : JournalError). Err x) error in
     let at : sector ≡ (range_of c.args.journal.now).first + 1 + place = c.in_err-len.ensures.named sector was in
@@ -137,7 +141,9 @@ returns-in_err-len-clause-named g c = λ sector is honest.
     (c.in_err-len.ensures.damaged sector was (stays.time.honest.0 honest)))
 
 pub returns-in_err-len-clause-reads : goal.returns-in_err-len-clause-reads
-returns-in_err-len-clause-reads g c = reads_on g (goal.at.returns-in_err-len-clause-reads g c).After-next_batch
+returns-in_err-len-clause-reads g c =
+    let device = journal-device c.next_batch.result c.from_residual.result c.in_err-len.field-0.0 c.in_err-len.was c.from_residual.ensures.1 in
+    OnlyReads-as device.0 device.1 (reads_on g (goal.at.returns-in_err-len-clause-reads g c).After-next_batch)
 
 pub returns-in_default-clause-replays : goal.returns-in_default-clause-replays
 returns-in_default-clause-replays g c = λ honest.
@@ -145,10 +151,13 @@ returns-in_default-clause-replays g c = λ honest.
     replayed_all _ _ _ _ _ _ (inv.replayed honest) (at_end _ _ c.in_ok-len.field-0 inv.within c.in_default.is c.in_ok-len.ensures.more)
 
 pub returns-in_default-clause-reads : goal.returns-in_default-clause-reads
-returns-in_default-clause-reads g c = reads_on g (goal.at.returns-in_default-clause-reads g c).After-next_batch
+returns-in_default-clause-reads g c =
+    OnlyReads-never (ok-device _) (reads_well g (goal.at.returns-in_default-clause-reads g c).After-next_batch c.in_ok-len.field-0 c.in_ok-len.was)
 
 pub returns-in_err-go_through-clause-reads : goal.returns-in_err-go_through-clause-reads
-returns-in_err-go_through-clause-reads g c = reads_on g (goal.at.returns-in_err-go_through-clause-reads g c).After-next_batch
+returns-in_err-go_through-clause-reads g c =
+    OnlyReads-never (memory-device c.from_residual-in_err-go_through.result c.from_residual-in_err-go_through.ensures.1)
+    (reads_well g (goal.at.returns-in_err-go_through-clause-reads g c).After-next_batch c.in_ok-len.field-0 c.in_ok-len.was)
 
 pub returns-then-not-branch-clause-damaged : goal.returns-then-not-branch-clause-damaged
 returns-then-not-branch-clause-damaged g c = λ sector batches to is honest good.
@@ -167,7 +176,8 @@ returns-then-not-branch-clause-named g c = λ sector is honest.
     (none_refused _ _ _ _ _ _ _ replayed found (λ es t are. false≢true (sym c.if-not-branch.true ∙ (only_there g here es t are).0)))
 
 pub returns-then-not-branch-clause-reads : goal.returns-then-not-branch-clause-reads
-returns-then-not-branch-clause-reads g c = reads_on g (goal.at.returns-then-not-branch-clause-reads g c).After-next_batch
+returns-then-not-branch-clause-reads g c =
+    OnlyReads-never (damaged-device _) (reads_well g (goal.at.returns-then-not-branch-clause-reads g c).After-next_batch c.in_ok-len.field-0 c.in_ok-len.was)
 
 pub loop-len-smaller : goal.loop-len-smaller
 loop-len-smaller g c =
@@ -200,8 +210,5 @@ loop-len-preserved g c =
           (λ (n : ℕ). Replayed c.args.engine.now.limits c.args.engine.now.state c.args.journal.now (g.D.SectorDisk.medium c.args.disk.now).contents n t)
           next
           (replayed_more _ _ _ _ _ s _ (inv.replayed honest) (found_there g here honest) events.0 t are (λ es to good. (only_there g here es to good).1));
-      reads = reads_on g (goal.at.loop-len-preserved g c).After-next_batch;
-      honest = honest-join _ _ _ inv.honest c.next_batch.ensures.honest;
-      size = c.next_batch.ensures.size ∙ inv.size;
-      counts = e.no_failure ∙ inv.counts;
+      reads = reads_well g (goal.at.loop-len-preserved g c).After-next_batch c.in_ok-len.field-0 c.in_ok-len.was;
     }

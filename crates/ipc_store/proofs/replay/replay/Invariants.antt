@@ -1,6 +1,7 @@
 -- The batches before the place are replayed, and the disk is as it was.
-use Rattle.std.proofs.Common.{◌≡◌, ◌↔◌, ◌-◌, ◌≤◌, length}
-use Rattle.ipc_disk.specs.Medium.{IsHonest, Stays}
+use Rattle.std.proofs.Common.{◌≡◌, ◌-◌, ◌≤◌, length}
+use Rattle.ipc_disk.specs.Calls.{OnlyReads}
+use Rattle.ipc_disk.specs.Medium.{IsHonest}
 use Rattle.ipc_journal.specs.View.{used_of}
 use Rattle.ipc_store.proofs.Replaying.{Replayed}
 use Rattle.ipc_store.proofs.replay.replay.Given as goal
@@ -14,10 +15,7 @@ invariant-loop-len g l =
       limits : l.engine.limits ≡ l.fn.engine.limits;
       replayed : IsHonest (medium l.fn.disk)
           → Replayed l.fn.engine.limits l.fn.engine.state l.journal (medium l.fn.disk).contents l.place.sector l.engine.state;
-      reads : IsHonest (medium l.fn.disk) → Stays (medium l.fn.disk) (medium l.disk);
-      honest : IsHonest (medium l.fn.disk) ↔ IsHonest (medium l.disk);
-      size : g.D.SectorDisk.size l.disk ≡ g.D.SectorDisk.size l.fn.disk;
-      counts : g.D.SectorDisk.counts l.disk ≡ g.D.SectorDisk.counts l.fn.disk;
+      reads : OnlyReads g.D.SectorDisk.size medium g.D.SectorDisk.counts ⊥ l.fn.disk l.disk;
     }
 
 abbrev pub decreases-loop-len : goal.decreases-loop-len

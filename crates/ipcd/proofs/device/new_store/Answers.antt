@@ -31,9 +31,9 @@ contents-fit disk sectors few size = omega (arith, few, size, length-map disk.sl
 pub returns-clause-limits : goal.returns-clause-limits
 returns-clause-limits c =
     let disk = c.format.new.disk in
-    let honest : IsHonest (memory_medium disk) = c.format.ensures.honest.0 c.in-Ok.ensures.honest in
+    let honest : IsHonest (memory_medium disk) = c.format.ensures.same.honest.0 c.in-Ok.ensures.honest in
     let image = (memory_medium disk).contents in
-    let few = contents-fit disk c.need.result (omega (arith, c.need.ensures.bounded)) (c.format.ensures.size ∙ c.in-Ok.ensures.size) in
+    let few = contents-fit disk c.need.result (omega (arith, c.need.ensures.bounded)) (c.format.ensures.same.sectors ∙ c.in-Ok.ensures.size) in
     IfOk-weaker c.open_store.result _ _
     (λ store opens. (same c.args.limits.now image _ store few (c.in_ok-format.ensures.ok c.in-Ok.ensures.honest image honest.reads)
     (opens honest)).0) c.open_store.ensures.ok
@@ -41,9 +41,9 @@ returns-clause-limits c =
 pub returns-clause-state : goal.returns-clause-state
 returns-clause-state c =
     let disk = c.format.new.disk in
-    let honest : IsHonest (memory_medium disk) = c.format.ensures.honest.0 c.in-Ok.ensures.honest in
+    let honest : IsHonest (memory_medium disk) = c.format.ensures.same.honest.0 c.in-Ok.ensures.honest in
     let image = (memory_medium disk).contents in
-    let few = contents-fit disk c.need.result (omega (arith, c.need.ensures.bounded)) (c.format.ensures.size ∙ c.in-Ok.ensures.size) in
+    let few = contents-fit disk c.need.result (omega (arith, c.need.ensures.bounded)) (c.format.ensures.same.sectors ∙ c.in-Ok.ensures.size) in
     IfOk-weaker c.open_store.result _ _
     (λ store opens. state c.args.limits.now image _ store few (c.in_ok-format.ensures.ok c.in-Ok.ensures.honest image honest.reads)
     (opens honest)) c.open_store.ensures.ok
@@ -60,7 +60,7 @@ returns-in_err-format-clause-named c =
 pub returns-clause-history : goal.returns-clause-history
 returns-clause-history c =
     let disk = c.format.new.disk in
-    let honest : IsHonest (memory_medium disk) = c.format.ensures.honest.0 c.in-Ok.ensures.honest in
+    let honest : IsHonest (memory_medium disk) = c.format.ensures.same.honest.0 c.in-Ok.ensures.honest in
     IfOk-weaker c.open_store.result _ _
     (λ store keeps. keeps c.args.limits.now [] (record { honest = honest; stands = c.in_ok-format.ensures.ok c.in-Ok.ensures.honest }))
     c.open_store.ensures.history

@@ -24,7 +24,7 @@ returns-in-Ok-open-2 c =
     let opened = c.in-Ok-open.store in
     let opens = c.in-Ok-open.ensures.ok (honest disk) in
     let image = (memory_medium disk).contents in
-    let few = contents-fit disk c.args.sectors c.ranges.sectors.fits (c.format.ensures.size ∙ c.in-Ok.ensures.size) in
+    let few = contents-fit disk c.args.sectors c.ranges.sectors.fits (c.format.ensures.same.sectors ∙ c.in-Ok.ensures.size) in
     let same = (StandsFor-one opened.machine.limits limits opens.found.0 _ image few opens.found.1 (stands image (honest disk).reads)).0 in
     let count : length (Restart ∷ []) ≡ opened.confirmed + opened.waiting =
     omega (arith, c.in-Ok-open.ensures.confirmed, opens.found.2.waits.count) in

@@ -34,7 +34,7 @@ returns-clause-holds g c = λ honest.
     let objects = g.O.Objects.objects c.args.objects.now in
     let mid = (g.D.SectorDisk.medium c.write_objects.new.disk).contents in
     let long : length mid ≡ g.D.SectorDisk.size c.args.disk.now =
-    (g.met.D.SectorDisk.shaped c.write_objects.new.disk mid run.honest.reads).count ∙ c.write_objects.ensures.size in
+    (g.met.D.SectorDisk.shaped c.write_objects.new.disk mid run.honest.reads).count ∙ c.write_objects.ensures.same.sectors in
     let written : IsWrittenAt (first_of c.args.layout 0) (area_bytes objects) mid =
     subst (λ (r : Range). IsWrittenAt r.first (area_bytes objects) mid) c.sectors.ensures (c.in_ok-len.ensures.written honest) in
     record {

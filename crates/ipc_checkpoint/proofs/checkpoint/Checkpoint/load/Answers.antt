@@ -29,8 +29,8 @@ returns-in-Err-Damaged-clause-damaged g c = λ sector is honest.
     let reads = c.read_root.ensures.reads in
     let stands : StandsAt (first_of c.args.layout c.in_ok-root.root.live) c.in_ok-bytes.bytes.items image =
     subst (λ (r : Range). StandsAt r.first c.in_ok-bytes.bytes.items image) c.sectors-range.ensures
-    (subst (λ (i : Image). StandsAt c.sectors-range.result.first c.in_ok-bytes.bytes.items i) (reads.contents honest)
-    (c.in_ok-bytes.ensures.stands (reads.time.honest.0 honest))) in
+    (subst (λ (i : Image). StandsAt c.sectors-range.result.first c.in_ok-bytes.bytes.items i) ((reads.stays honest).contents honest)
+    (c.in_ok-bytes.ensures.stands (reads.same.honest.0 honest))) in
     none-there c.args.layout image c.in_ok-root.root (c.in_ok-root.ensures.read honest) c.in_ok-bytes.bytes.items c.in_ok-bytes.ensures.long stands
     (λ objects are bytes. c.in-Err-Damaged.ensures.damaged c.in-Err-Damaged.place (ap (λ f. Err f) c.in-Err-Damaged.field-0-is) objects are
     (c.deref.ensures.value ∙ bytes))

@@ -48,7 +48,7 @@ returns-in_err-write_durably-clause-any_moment g c = λ saved at.
     let long = (g.met.D.SectorDisk.shaped c.sync.new.self _ kept.reads).count in
     moment-root c.args.self.now (g.D.SectorDisk.size c.args.disk.now) c.requires.laid_out saved _ at c.args.epoch
     (g.O.Objects.objects c.args.objects.now) c.sectors.result c.sectors.ensures _ _ run c.sync.ensures.medium c.in_ok-sync.ensures.durable
-    (long ∙ c.sync.ensures.size ∙ c.write_objects.ensures.size) c.in_ok-len.ensures.objects c.requires.fits (omega (arith, c.requires.later))
+    (long ∙ c.sync.ensures.call.sectors ∙ c.write_objects.ensures.same.sectors) c.in_ok-len.ensures.objects c.requires.fits (omega (arith, c.requires.later))
     (c.in_ok-len.ensures.written at.honest) c.root_sector.result c.root_sector.ensures.epoch c.root_sector.ensures.live
     (c.root_sector.ensures.long ∙ c.in_ok-len.ensures.len) _ (c.write_durably.ensures.any_moment kept)
 
@@ -65,7 +65,7 @@ returns-clause-any_moment g c = λ saved at.
     let long = (g.met.D.SectorDisk.shaped c.sync.new.self _ kept.reads).count in
     moment-root c.args.self.now (g.D.SectorDisk.size c.args.disk.now) c.requires.laid_out saved _ at c.args.epoch
     (g.O.Objects.objects c.args.objects.now) c.sectors.result c.sectors.ensures _ _ run c.sync.ensures.medium c.in_ok-sync.ensures.durable
-    (long ∙ c.sync.ensures.size ∙ c.write_objects.ensures.size) c.in_ok-len.ensures.objects c.requires.fits (omega (arith, c.requires.later))
+    (long ∙ c.sync.ensures.call.sectors ∙ c.write_objects.ensures.same.sectors) c.in_ok-len.ensures.objects c.requires.fits (omega (arith, c.requires.later))
     (c.in_ok-len.ensures.written at.honest) c.root_sector.result c.root_sector.ensures.epoch c.root_sector.ensures.live
     (c.root_sector.ensures.long ∙ c.in_ok-len.ensures.len) _ (c.write_durably.ensures.any_moment kept)
 
@@ -83,7 +83,7 @@ returns-clause-matches g c = λ saved at.
           (sym (c.in_ok-write_durably.ensures.durable image now ∙ c.in_ok-write_durably.ensures.written kept))
           (saved-there c.args.self.now (g.D.SectorDisk.size c.args.disk.now) c.requires.laid_out saved _ at c.args.epoch
           objects c.sectors.result c.sectors.ensures _ _ run c.sync.ensures.medium c.in_ok-sync.ensures.durable
-          (long ∙ c.sync.ensures.size ∙ c.write_objects.ensures.size) c.in_ok-len.ensures.objects c.requires.fits (omega (arith, c.requires.later))
-          (c.in_ok-len.ensures.written at.honest) c.root_sector.result c.root_sector.ensures.epoch c.root_sector.ensures.live
+          (long ∙ c.sync.ensures.call.sectors ∙ c.write_objects.ensures.same.sectors) c.in_ok-len.ensures.objects c.requires.fits
+          (omega (arith, c.requires.later)) (c.in_ok-len.ensures.written at.honest) c.root_sector.result c.root_sector.ensures.epoch c.root_sector.ensures.live
           (c.root_sector.ensures.long ∙ c.in_ok-len.ensures.len));
     }

@@ -32,7 +32,7 @@ loop-i-preserved g c =
           ∙ ap (λ (l : Image). set_run c.args.first l old) (sym (take_more from c.loop-i.i [] (omega arith)));
       run = WritesRun-more c.args.first from (c.args.first + c.loop-i.i) value _ _ _
           (gives_sector c.args.first c.loop-i.i from (omega arith)) so_far.run c.write.ensures.medium;
-      size = c.write.ensures.size ∙ so_far.size;
-      failures = ap (λ n. n.failures) c.in_ok-write.ensures.ok ∙ so_far.failures;
-      syncs = ap (λ n. n.syncs) c.in_ok-write.ensures.ok ∙ so_far.syncs;
+      size = c.write.ensures.call.sectors ∙ so_far.size;
+      failures = ap (λ n. n.failures) c.in_ok-write.ensures.call.ok ∙ so_far.failures;
+      syncs = ap (λ n. n.syncs) c.in_ok-write.ensures.call.ok ∙ so_far.syncs;
     }

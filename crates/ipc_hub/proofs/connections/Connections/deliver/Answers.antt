@@ -10,7 +10,7 @@ use Rattle.ipc_hub.specs.declared.connection.Connection.{Connection}
 use Rattle.ipc_hub.specs.Relations.Rows.{Table, rows, table_of}
 use Rattle.ipc_hub.specs.Relations.Delivery.{HasSpaceIn, HaveSpace, put_all, put_for}
 use Rattle.ipc_hub.specs.Relations.Invariant.{AreApart}
-use Rattle.ipc_hub.proofs.Keeping.{first-each, put-apart, put-next, put-nothing, rest-space}
+use Rattle.ipc_hub.proofs.Keeping.{put-apart, put-next, seen-same}
 use Rattle.ipc_hub.proofs.connections.Connections.deliver.Goals as goal
 
 -- the replies that are left begin with this one
@@ -33,8 +33,7 @@ put-requires-clause-space c =
     let table = table_of c.loop-outcome.self in
     let here : c.deref_mut.result.now ≡ c.loop-outcome.self.items.items = search rules in
     subst (λ (cs : List Connection). EachValue (HasSpaceIn (plain_outcome o)) (rows cs)) (sym here)
-    (first-each (plain_outcome o) (map plain_outcome (drop (i + 1) os)) table
-    (has os i o table c.loop-outcome-test.true c.outcome-item.is c.loop-outcome.invariant.space).each)
+    (has os i o table c.loop-outcome-test.true c.outcome-item.is c.loop-outcome.invariant.space).1
 
 pub loop-outcome-preserved : goal.loop-outcome-preserved
 loop-outcome-preserved c =
@@ -51,8 +50,7 @@ loop-outcome-preserved c =
     record {
       rising = rw (ap keys_of put ∙ keys-map (put_for (plain_outcome o)) table) c.loop-outcome.invariant.rising;
       apart = subst AreApart (sym put) (put-apart (plain_outcome o) table c.loop-outcome.invariant.apart);
-      space = subst (HaveSpace rest) (sym put)
-          (rest-space (plain_outcome o) rest table (has os i o table c.loop-outcome-test.true c.outcome-item.is c.loop-outcome.invariant.space));
+      space = subst (HaveSpace rest) (sym put) (has os i o table c.loop-outcome-test.true c.outcome-item.is c.loop-outcome.invariant.space).2;
       all = ap (put_all rest) put ∙ put-next (plain_outcome o) rest table
           ∙ ap (λ (ps : List PlainOutcome). put_all ps table) (sym (left os i o c.loop-outcome-test.true c.outcome-item.is)) ∙ c.loop-outcome.invariant.all;
     }
@@ -60,6 +58,6 @@ loop-outcome-preserved c =
 pub returns : goal.returns
 returns c =
     let now = table_of c.loop-outcome.self in
-    sym (put-nothing now)
+    sym (seen-same now)
     ∙ ap (λ (os : List Outcome). put_all (map plain_outcome os) now) (sym (drop_all c.loop-outcome.outcome-index c.args.outcomes.now c.loop-outcome-test.false))
     ∙ c.loop-outcome.invariant.all

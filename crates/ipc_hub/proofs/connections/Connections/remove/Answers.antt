@@ -1,7 +1,7 @@
-use Rattle.std.proofs.Common.{sym, ap, ◌∙◌}
+use Rattle.std.proofs.Common.{sym, ap, ◌∙◌, rules}
 use Rattle.std.specs.Prelude.{nat_eq}
 use Rattle.ipc_base.proofs.CallerLemmas.{remove_at_place, without_nowhere}
-use Rattle.ipc_hub.specs.Relations.Rows.{row, rows}
+use Rattle.ipc_hub.specs.Relations.Rows.{row}
 use Rattle.ipc_hub.proofs.Rows.{process_of, found-first, found-at, missing-first, missing-at}
 use Rattle.ipc_hub.proofs.connections.Connections.remove.Goals as goal
 
@@ -16,13 +16,7 @@ returns-in_err-place-clause-left c =
     (missing-first c.args.self.now.items.items c.deref.result.now c.args.conn c.deref.ensures.value (sym c.place_of.ensures ∙ c.in_err-place.was)))
 
 pub returns-clause-process : goal.returns-clause-process
-returns-clause-process c =
-    ap process_of (sym (found-at c.args.self.now.items.items c.deref.result.now c.args.conn c.deref.ensures.value c.in_ok-place.place
-    c.remove-connection.result (sym c.place_of.ensures ∙ c.in_ok-place.was) c.remove-connection.ensures.value).0)
+returns-clause-process c = search (rules, found-at, process_of)
 
 pub returns-clause-left : goal.returns-clause-left
-returns-clause-left c =
-    ap rows c.remove-connection.ensures.items
-    ∙ remove_at_place row nat_eq c.args.conn c.args.self.now.items.items c.in_ok-place.place c.remove-connection.result
-    (found-first c.args.self.now.items.items c.deref.result.now c.args.conn c.deref.ensures.value c.in_ok-place.place
-    (sym c.place_of.ensures ∙ c.in_ok-place.was))
+returns-clause-left c = search (rules, found-first, remove_at_place)

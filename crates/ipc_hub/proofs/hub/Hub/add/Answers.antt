@@ -1,10 +1,9 @@
-use Rattle.std.proofs.Common.{rules, ◌≡◌, ◌+◌, ◌<◌, ◌≤◌, ◌^◌, ℕ, false, None, refl, sym, ap, ◌∙◌, subst, arith}
+use Rattle.std.proofs.Common.{rules, ◌≡◌, ◌+◌, ℕ, false, None, refl, sym, ap, ◌∙◌, subst}
 use Rattle.std.specs.Prelude.{nat_eq, is_some, ◌==◌, ◌||◌}
 use Rattle.ipc_hub.specs.View.{is_connected}
-use Rattle.ipc_base.specs.Limits.{ArePassed, longest_reply}
-use Rattle.ipc_base.specs.declared.limits.Limits.{Limits}
+use Rattle.ipc_base.specs.Limits.{longest_reply}
 use Rattle.ipc_base.specs.Table.{value_at, with_entry}
-use Rattle.ipc_base.proofs.CallerLemmas.{longest_reply-bound, nobody, passed-bounds}
+use Rattle.ipc_base.proofs.CallerLemmas.{nobody}
 use Rattle.ipc_engine.specs.Bytes.{most_owed}
 use Rattle.ipc_engine.specs.Engine.{Machine}
 use Rattle.ipc_hub.specs.Relations.Matches.{HubMatches}
@@ -17,26 +16,6 @@ use Rattle.ipc_hub.proofs.hub.Hub.add.Goals as goal
 -- the number is not in use
 free : {before now : Table} (conn : ℕ) → before ≡ now → is_some (value_at nat_eq now conn) ≡ false → value_at nat_eq before conn ≡ None
 free {before} conn same none = nobody (value_at nat_eq before conn) (rw same none)
-
--- what a connection has room for: a reply and notifications that are owed, and one reply more
-bounded : (limits : Limits) (most reply : ℕ) → ArePassed limits → most ≡ most_owed limits → reply ≤ 8210 → most + reply < 2 ^ 32
-bounded limits most reply passed is short = omega (arith, is, short, longest_reply-bound limits passed, (passed-bounds limits passed).queues)
-
-pub overflow_add-replies : goal.overflow_add-replies
-overflow_add-replies g c =
-    let all = bounded c.limits.result.now c.most_owed.result c.longest_reply.result c.limits.ensures.passed
-    (c.most_owed.ensures.most ∙ ap most_owed (sym c.limits.ensures.limits)) c.longest_reply.ensures.bounded in
-    omega (arith, all)
-
-pub new-requires : goal.new-requires
-new-requires g c =
-    bounded c.limits.result.now c.most_owed.result c.longest_reply.result c.limits.ensures.passed
-    (c.most_owed.ensures.most ∙ ap most_owed (sym c.limits.ensures.limits)) c.longest_reply.ensures.bounded
-
-pub insert-requires-clause-free : goal.insert-requires-clause-free
-insert-requires-clause-free g c =
-    let number : c.in_ok-connection.connection.number ≡ c.args.conn = search rules in
-    rw number (free c.args.conn (ap (λ v. v.hub.connections) c.self.view_is) c.requires.free)
 
 pub invariant_of-self-2 : goal.invariant_of-self-2
 invariant_of-self-2 g c =

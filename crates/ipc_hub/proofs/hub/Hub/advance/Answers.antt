@@ -1,7 +1,6 @@
-use Rattle.std.proofs.Common.{[], ◌∷◌, refl, sym, subst}
+use Rattle.std.proofs.Common.{[], ◌∷◌, refl, rules}
 use Rattle.ipc_engine.specs.Event.{Tick}
 use Rattle.ipc_hub.specs.Clients.{tick}
-use Rattle.ipc_hub.specs.Relations.Invariant.{SameButSeen}
 use Rattle.ipc_hub.specs.Relations.Matches.{StoredMatches}
 use Rattle.ipc_hub.specs.Relations.Rows.{table_of, stored_view}
 use Rattle.ipc_hub.proofs.Coming.{comes-further, comes-same, passes-then}
@@ -11,15 +10,12 @@ pub returns-clause-ok : goal.returns-clause-ok
 returns-clause-ok g c limits h m =
     let medium = g.D.SectorDisk.medium in
     let mid = stored_view c.self.inside.store (table_of c.self.inside.connections) in
-    let kept = c.in_default.ensures.ok limits h m in
+    let kept = c.in_default.ensures.settles.ok limits h m in
     let here : StoredMatches limits mid h = rw c.self.view_is kept in
     comes-further medium limits c.args.self.now mid _ h h (tick limits h c.args.moment.0)
-    (rw c.self.view_is (comes-same medium limits c.args.self.now c.make_space.new.self h kept c.in_default.ensures.takes))
+    (rw c.self.view_is (comes-same medium limits c.args.self.now c.make_space.new.self h kept c.in_default.ensures.settles.takes))
     (c.tick.ensures.ticks limits _ h here.hub)
     (record { events = Tick c.args.moment.0 ∷ []; adds = refl; pends = c.tick.ensures.accepts })
 
 pub returns-clause-passed : goal.returns-clause-passed
-returns-clause-passed g c =
-    let mid = stored_view c.self.inside.store (table_of c.self.inside.connections) in
-    passes-then c.args.self.now.hub mid.hub _ (subst (λ v. SameButSeen c.args.self.now.hub v.hub) (sym c.self.view_is) c.in_default.ensures.same)
-    c.tick.ensures.passed
+returns-clause-passed g c = search (rules, passes-then)

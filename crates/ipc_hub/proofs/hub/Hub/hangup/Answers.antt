@@ -1,8 +1,7 @@
-use Rattle.std.proofs.Common.{ap, ◌∙◌, arith}
+use Rattle.std.proofs.Common.{ap, ◌∙◌, arith, rules}
 use Rattle.ipc_store.proofs.CallerLemmas.{ready-goes-on}
 use Rattle.ipc_hub.specs.Relations.Invariant.{HubInvariant}
 use Rattle.ipc_hub.specs.Relations.Rows.{table_of, hub_view}
-use Rattle.ipc_hub.specs.View.{numbers_of}
 use Rattle.ipc_hub.proofs.Changes.{without-invariant, without-leaves, without-nobodys}
 use Rattle.ipc_hub.proofs.Coming.{comes-gone}
 use Rattle.ipc_hub.proofs.hub.Hub.hangup.Given.{Over}
@@ -16,16 +15,10 @@ invariant g c =
     (ap (λ v. v.store.stopped) c.self-2.view_is ∙ ready-goes-on c.advance.new.self.store 2 (omega arith) c.in_default.ensures.ready)
 
 pub leave-requires-clause-hub : goal.leave-requires-clause-hub
-leave-requires-clause-hub g c =
-    rw c.remove-process.ensures.left
-    (without-invariant (hub_view c.self-2.inside.store.machine (table_of c.self-2.inside.connections)) c.args.conn
-    (invariant g (goal.at.leave-requires-clause-hub g c).After-remove-process))
+leave-requires-clause-hub g c = search (rules, without-invariant)
 
 pub leave-requires-clause-nobodys : goal.leave-requires-clause-nobodys
-leave-requires-clause-nobodys g c =
-    rw (c.remove-process.ensures.process, c.remove-process.ensures.left)
-    (without-nobodys (hub_view c.self-2.inside.store.machine (table_of c.self-2.inside.connections)) c.args.conn
-    (invariant g (goal.at.leave-requires-clause-nobodys g c).After-remove-process))
+leave-requires-clause-nobodys g c = search (rules, without-nobodys)
 
 pub returns-clause-ok : goal.returns-clause-ok
 returns-clause-ok g c limits h m =
@@ -34,7 +27,4 @@ returns-clause-ok g c limits h m =
     c.remove-process.ensures.process (rw c.self-2.view_is (c.in_default.ensures.ok limits h m)) c.leave.ensures.leaves c.leave.ensures.accepts
 
 pub returns-clause-leaves : goal.returns-clause-leaves
-returns-clause-leaves g c other =
-    without-leaves c.args.self.now.hub.connections (table_of c.self-2.inside.connections) (table_of c.remove-process.new.self)
-    (table_of c.leave.new.connections) c.args.conn other (ap (λ v. numbers_of v.hub) c.self-2.view_is ∙ c.advance.ensures.numbers)
-    c.remove-process.ensures.left c.leave.ensures.continues.numbers c.self-2.invariant.rising
+returns-clause-leaves g c other = search (rules, without-leaves)

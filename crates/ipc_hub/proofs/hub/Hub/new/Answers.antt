@@ -7,9 +7,5 @@ pub invariant_of-result : goal.invariant_of-result
 invariant_of-result g c =
     subst (λ (t : Table). StoredInvariant (stored_view c.args.store t)) (sym c.new.ensures) (record {
       rising = omega arith;
-      running = λ _. record {
-        own = record { connected = λ conn pid there. cc; one = λ conn other pid there too. cc };
-        each = tt;
-        rising = omega arith;
-      };
+      running = λ _. record { own = record { connected = λ conn pid there. cc; one = λ conn other pid there too. cc }; each = tt; rising = omega arith };
     })

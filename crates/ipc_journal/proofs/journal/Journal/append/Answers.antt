@@ -41,7 +41,7 @@ returns-in_err-write_durably-clause-any_moment g c = λ batches at.
     moment-header c.args.self.now c.args.batch.now c.requires.fits batches _ at _ _ body c.sync.ensures.medium
     c.in_ok-sync.ensures.durable c.requires.batch (c.in_ok-write_bytes.ensures.written at.honest)
     c.header_sector.result c.header_sector.ensures.epoch (omega (arith, c.header_sector.ensures.used, c.sectors_for_len.ensures))
-    (omega (arith, long, c.sync.ensures.size, c.write_bytes.ensures.size, c.requires.within, c.requires.fits))
+    (omega (arith, long, c.sync.ensures.call.sectors, c.write_bytes.ensures.same.sectors, c.requires.within, c.requires.fits))
     _ (c.write_durably.ensures.any_moment kept)
 
 pub returns-in_err-write_durably-clause-left : goal.returns-in_err-write_durably-clause-left
@@ -67,7 +67,7 @@ returns-clause-any_moment g c = λ batches at.
     moment-header c.args.self.now c.args.batch.now c.requires.fits batches _ at _ _ body c.sync.ensures.medium
     c.in_ok-sync.ensures.durable c.requires.batch (c.in_ok-write_bytes.ensures.written at.honest)
     c.header_sector.result c.header_sector.ensures.epoch (omega (arith, c.header_sector.ensures.used, c.sectors_for_len.ensures))
-    (omega (arith, long, c.sync.ensures.size, c.write_bytes.ensures.size, c.requires.within, c.requires.fits))
+    (omega (arith, long, c.sync.ensures.call.sectors, c.write_bytes.ensures.same.sectors, c.requires.within, c.requires.fits))
     _ (c.write_durably.ensures.any_moment kept)
 
 pub returns-clause-left : goal.returns-clause-left
@@ -101,17 +101,20 @@ returns-clause-header g c = λ honest.
     let long = (g.met.D.SectorDisk.shaped c.sync.new.self _ kept.reads).count in
     ap (λ (image : Image). sector_at image c.args.self.now.range.first) (c.in_ok-write_durably.ensures.written kept)
     ∙ sector_at-set_same _ c.args.self.now.range.first c.header_sector.result
-    (omega (arith, long, c.sync.ensures.size, c.write_bytes.ensures.size, c.requires.within, c.requires.fits))
+    (omega (arith, long, c.sync.ensures.call.sectors, c.write_bytes.ensures.same.sectors, c.requires.within, c.requires.fits))
     ∙ c.header_sector.ensures.bytes
 
 pub returns-clause-counts : goal.returns-clause-counts
 returns-clause-counts g c =
-    let body = c.in_ok-write_bytes.ensures.counts in
-    let kept = c.in_ok-sync.ensures.ok in
-    let made = c.in_ok-write_durably.ensures.counts in
-    counts-calls _ _ _ _ (ap (λ n. n.failures) made ∙ ap (λ n. n.failures) kept ∙ ap (λ n. n.failures) body)
-    (omega (arith, ap (λ n. n.writes) made, ap (λ n. n.writes) kept, ap (λ n. n.writes) body))
-    (omega (arith, ap (λ n. n.syncs) made, ap (λ n. n.syncs) kept, ap (λ n. n.syncs) body))
+    let body = c.in_ok-write_bytes.ensures.counts.ok in
+    let kept = c.in_ok-sync.ensures.call.ok in
+    let made = c.in_ok-write_durably.ensures.counts.ok in
+    record {
+      err = tt;
+      ok = counts-calls _ _ _ _ (ap (λ n. n.failures) made ∙ ap (λ n. n.failures) kept ∙ ap (λ n. n.failures) body)
+          (omega (arith, ap (λ n. n.writes) made, ap (λ n. n.writes) kept, ap (λ n. n.writes) body))
+          (omega (arith, ap (λ n. n.syncs) made, ap (λ n. n.syncs) kept, ap (λ n. n.syncs) body));
+    }
 
 -- and then the batch is there
 pub returns-clause-acknowledged : goal.returns-clause-acknowledged
@@ -128,5 +131,5 @@ returns-clause-acknowledged g c = λ batches at.
           (pushed c.args.self.now c.args.batch.now c.requires.fits batches _ at _ _ body c.sync.ensures.medium
           c.in_ok-sync.ensures.durable c.requires.batch (c.in_ok-write_bytes.ensures.written at.honest)
           c.header_sector.result c.header_sector.ensures.epoch (omega (arith, c.header_sector.ensures.used, c.sectors_for_len.ensures))
-          (omega (arith, long, c.sync.ensures.size, c.write_bytes.ensures.size, c.requires.within, c.requires.fits)));
+          (omega (arith, long, c.sync.ensures.call.sectors, c.write_bytes.ensures.same.sectors, c.requires.within, c.requires.fits)));
     }

@@ -21,7 +21,7 @@ returns-in_err-sync-clause-any_moment g c = λ honest.
     (moment-made c.args.range c.args.epoch _ _ c.requires.header (omega arith)
     (λ image now. omega (arith, (g.met.D.SectorDisk.shaped c.args.disk.now image now).count, c.requires.header, c.requires.within))
     (c.put_header.ensures.header_or_not honest))
-    (c.put_header.ensures.honest.0 honest) c.sync.ensures.medium
+    (c.put_header.ensures.same.honest.0 honest) c.sync.ensures.medium
 
 pub returns-clause-any_moment : goal.returns-clause-any_moment
 returns-clause-any_moment g c = λ honest.
@@ -30,7 +30,7 @@ returns-clause-any_moment g c = λ honest.
     (moment-made c.args.range c.args.epoch _ _ c.requires.header (omega arith)
     (λ image now. omega (arith, (g.met.D.SectorDisk.shaped c.args.disk.now image now).count, c.requires.header, c.requires.within))
     (c.put_header.ensures.header_or_not honest))
-    (c.put_header.ensures.honest.0 honest) c.sync.ensures.medium
+    (c.put_header.ensures.same.honest.0 honest) c.sync.ensures.medium
 
 -- a crash leaves what is read then, which has the header
 pub returns-clause-empty : goal.returns-clause-empty
@@ -38,7 +38,7 @@ returns-clause-empty g c = λ honest.
     let old = g.D.SectorDisk.medium c.args.disk.now in
     let first = c.args.range.first in
     let header = header_bytes c.args.epoch 0 in
-    let kept = c.put_header.ensures.honest.0 honest in
+    let kept = c.put_header.ensures.same.honest.0 honest in
     let long = (g.met.D.SectorDisk.shaped c.args.disk.now old.contents honest.reads).count in
     record {
       honest = c.sync.ensures.medium.time.honest.0 kept;

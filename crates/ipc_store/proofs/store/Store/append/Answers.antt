@@ -25,9 +25,9 @@ returns-clause-matches g c = rw (sym c.self.view_is, c.clear.ensures) (λ base p
 
 pub invariant_of-self-2 : goal.invariant_of-self-2
 invariant_of-self-2 g c = (
-  stays-on-disk _ _ _ _ _ _ _ c.append.ensures.size refl c.append.ensures.range (c.append.ensures.epoch ∙ c.self.invariant.0.epoch) c.self.invariant.0,
+  stays-on-disk _ _ _ _ _ _ _ c.append.ensures.same.sectors refl c.append.ensures.range (c.append.ensures.epoch ∙ c.self.invariant.0.epoch) c.self.invariant.0,
   omega (arith, c.self.invariant.1, c.count.ensures.count, ap (λ b. b.count) c.clear.ensures),
-  λ goes honest. let found = c.self.invariant.2 goes (c.append.ensures.honest.1 honest) in
+  λ goes honest. let found = c.self.invariant.2 goes (c.append.ensures.same.honest.1 honest) in
       let at = found.1.1 in
       rw c.clear.ensures (
         (run c.self.inside.engine.limits found.0 found.1.0).state,

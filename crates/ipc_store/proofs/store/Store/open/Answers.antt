@@ -41,7 +41,9 @@ ended g c honest is =
 pub returns-in-Ok-restart-clause-no_failure : goal.returns-in-Ok-restart-clause-no_failure
 returns-in-Ok-restart-clause-no_failure g c =
     let failures = ap (λ v. (g.D.SectorDisk.counts v.disk).failures) c.new-store.ensures in
-    ⊎_elim (λ device. absurd cc) (λ same. (same ∙ failures ∙ ⊎_elim (λ device. absurd cc) (λ kept. kept) c.in-Ok.ensures.no_failure, tt)) c.in-Ok-restart.ensures.no_failure
+    ⊎_elim (λ device. absurd cc)
+    (λ same. (same ∙ failures ∙ ⊎_elim (λ device. absurd cc) (λ kept. kept) c.in-Ok.ensures.counts.no_failure, tt))
+    c.in-Ok-restart.ensures.counts.no_failure
 
 pub returns-in-Err-restart-clause-not_formatted : goal.returns-in-Err-restart-clause-not_formatted
 returns-in-Err-restart-clause-not_formatted g c = λ is honest. ⊎_elim (λ device. absurd cc) (λ end. absurd cc) c.in-Err-restart.ensures.faults
@@ -128,24 +130,26 @@ returns-in-Err-restart-clause-unwritten g c = λ honest none.
     (m c.args.disk) ((c.read_device.ensures.reads honest).contents honest)))
 
 pub new-store-requires-clause-matches : goal.new-store-requires-clause-matches
-new-store-requires-clause-matches g c = λ honest. c.in-Ok.ensures.matches (c.read_device.ensures.honest.1 honest)
+new-store-requires-clause-matches g c = λ honest. c.in-Ok.ensures.matches (c.read_device.ensures.same.honest.1 honest)
 
 pub returns-in-Err-restart-clause-version : goal.returns-in-Err-restart-clause-version
 returns-in-Err-restart-clause-version g c = λ found e honest. ⊎_elim (λ device. cc) (λ end. cc) c.in-Err-restart.ensures.faults
 
 -- what had failed when the store began
 failed_before : (g : Over) (c : In-Err-restart g) → (g.D.SectorDisk.counts c.new-store.result.disk).failures ≡ (g.D.SectorDisk.counts c.args.disk).failures
-failed_before g c = ap (λ v. (g.D.SectorDisk.counts v.disk).failures) c.new-store.ensures ∙ ⊎_elim (λ device. cc) (λ same. same) c.in-Ok.ensures.no_failure
+failed_before g c =
+    ap (λ v. (g.D.SectorDisk.counts v.disk).failures) c.new-store.ensures
+    ∙ ⊎_elim (λ device. cc) (λ same. same) c.in-Ok.ensures.counts.no_failure
 
 pub returns-in-Err-restart-clause-failure : goal.returns-in-Err-restart-clause-failure
 returns-in-Err-restart-clause-failure g c = λ e.
     ap (λ d. (g.D.SectorDisk.counts d).failures) c.close.ensures.disk
-    ∙ (c.in-Err-restart.ensures.failure (ap Err e)
+    ∙ (c.in-Err-restart.ensures.counts.failure (ap Err e)
     ∙ ap (λ n. counted n 1) (failed_before g (goal.at.returns-in-Err-restart-clause-failure g c).In-Err-restart))
 
 pub returns-in-Err-restart-clause-no_failure : goal.returns-in-Err-restart-clause-no_failure
 returns-in-Err-restart-clause-no_failure g c = (
   tt,
   ⊎_elim (λ device. inl cc) (λ same. inr (ap (λ d. (g.D.SectorDisk.counts d).failures) c.close.ensures.disk
-      ∙ (same ∙ failed_before g (goal.at.returns-in-Err-restart-clause-no_failure g c).In-Err-restart))) c.in-Err-restart.ensures.no_failure,
+      ∙ (same ∙ failed_before g (goal.at.returns-in-Err-restart-clause-no_failure g c).In-Err-restart))) c.in-Err-restart.ensures.counts.no_failure,
 )

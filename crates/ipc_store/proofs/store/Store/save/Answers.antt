@@ -9,12 +9,12 @@ returns-then-self-clause-takes g c = takes-none g.D.SectorDisk.medium g.met.D.Se
 pub returns-clause-takes : goal.returns-clause-takes
 returns-clause-takes g c =
     takes-either g.D.SectorDisk.medium g.met.D.SectorDisk.only_now c.args.self.now c.save_state.new.self
-    (sym (ap (λ v. v.stopped) c.self.view_is) ∙ c.if-self.false) (ap (λ v. v.limits) c.save_state.ensures.machine)
-    c.save_state.ensures.any_moment c.save_state.result c.save_state.ensures.confirmed c.save_state.ensures.matches
-    c.save_state.ensures.unconfirmed c.save_state.ensures.stops c.save_state.ensures.honest
+    (sym (ap (λ v. v.stopped) c.self.view_is) ∙ c.if-self.false) (ap (λ v. v.limits) c.save_state.ensures.commits.machine)
+    c.save_state.ensures.any_moment c.save_state.result c.save_state.ensures.commits.confirmed c.save_state.ensures.matches
+    c.save_state.ensures.commits.unconfirmed c.save_state.ensures.commits.stops c.save_state.ensures.same.honest.0
 
 pub returns-clause-left : goal.returns-clause-left
 returns-clause-left g c =
     leaves-either g.D.SectorDisk.medium g.met.D.SectorDisk.only_now c.args.self.now c.save_state.new.self
-    (sym (ap (λ v. v.stopped) c.self.view_is) ∙ c.if-self.false) (ap (λ v. v.limits) c.save_state.ensures.machine)
-    c.save_state.ensures.any_moment c.save_state.ensures.honest
+    (sym (ap (λ v. v.stopped) c.self.view_is) ∙ c.if-self.false) (ap (λ v. v.limits) c.save_state.ensures.commits.machine)
+    c.save_state.ensures.any_moment c.save_state.ensures.same.honest.0

@@ -45,10 +45,10 @@ returns-clause-matches g c = rw (sym c.self.view_is, c.clear.ensures) (λ base p
 
 pub invariant_of-self-2 : goal.invariant_of-self-2
 invariant_of-self-2 g c = (
-  stays-on-disk _ _ _ _ _ _ _ c.save.ensures.size c.save.ensures.layout c.turn.ensures.range
+  stays-on-disk _ _ _ _ _ _ _ c.save.ensures.same.sectors c.save.ensures.layout c.turn.ensures.range
       (c.turn.ensures.epoch ∙ sym c.in_default-save.ensures.epoch) c.self.invariant.0,
   omega (arith, c.self.invariant.1, c.count.ensures.count, ap (λ b. b.count) c.clear.ensures),
-  λ goes honest. let found = c.self.invariant.2 goes (c.save.ensures.honest.1 honest) in
+  λ goes honest. let found = c.self.invariant.2 goes (c.save.ensures.same.honest.1 honest) in
       let at = found.1.1 in
       rw c.clear.ensures (
         (run c.self.inside.engine.limits found.0 found.1.0).state,
