@@ -249,14 +249,12 @@ module _ (limits : Limits) where
   unfolding settle_within
   within-nothing s = refl
 
-  -- one more has gone on: what is left to be done comes to the same
-  pub record ResumesOne (s t : State) (among : Option Object) (n : ℕ) (old new : List PlainOutcome) : Type 0 where
+  -- one more has gone on
+  pub record ResumesOne (s t : State) (among : Option Object) (old new : List PlainOutcome) : Type 0 where
     pub parts : HasSoundParts limits t
     pub linked : AreLinked t
     pub rest : RestWaits limits t among
     pub room : length new + 2 * length t.wait ≤ length old + 2 * length s.wait
-    pub state : (settle_within limits n t).state ≡ (settle_within limits (suc n) s).state
-    pub outcomes : new ++ (settle_within limits n t).outcomes ≡ old ++ (settle_within limits (suc n) s).outcomes
 
   -- what waits on objects that have not changed has to wait on
   rest-resumed : (s : State) (among : Option Object) (w : PlainWaiting) → HasSoundParts limits s → RestWaits limits s among
@@ -264,15 +262,13 @@ module _ (limits : Limits) where
   rest-resumed s None w h rest first = λ k d i no. absurd (no tt)
   rest-resumed s (Some on) w h rest first = others-resumed s on h rest w first
 
-  pub goes-on : (s t : State) (among : Option Object) (n : ℕ) (old new : List PlainOutcome) (w : PlainWaiting) → HasSoundParts limits s → AreLinked s
+  pub goes-on : (s t : State) (among : Option Object) (old new : List PlainOutcome) (w : PlainWaiting) → HasSoundParts limits s → AreLinked s
       → RestWaits limits s among
-      → find (can_resume limits s) s.wait ≡ Some w → t ≡ (resumed limits s w).state → new ≡ old ++ (resumed limits s w).outcomes → ResumesOne s t among n old new
-  goes-on s t among n old new w h linked rest-waits first is said =
+      → find (can_resume limits s) s.wait ≡ Some w → t ≡ (resumed limits s w).state → new ≡ old ++ (resumed limits s w).outcomes → ResumesOne s t among old new
+  goes-on s t among old new w h linked rest-waits first is said =
       let now = resumed limits s w in
       let sound = found-all (can_resume limits s) IsSoundWaiting s.wait w h.wait.each first in
       let r = resumed-has limits s w sound in
-      let more = within-some n s w first in
-      let rest = settle_within limits n in
       record {
         parts = subst (HasSoundParts limits) (sym is) (r.parts h);
         linked = subst (λ (u : State). AreLinked u) (sym is) (linked-resumed s w sound linked);
@@ -286,8 +282,4 @@ module _ (limits : Limits) where
           ap length r.wait,
           (found-in (can_resume limits s) s.wait w h.wait.pids first).fewer,
         );
-        state = ap (λ (u : State). (rest u).state) is ∙ sym (ap (λ (u : Step). u.state) more);
-        outcomes =
-            (λ i. said i ++ (rest (is i)).outcomes) ∙ (append_assoc old now.outcomes (rest now.state).outcomes
-            ∙ sym (ap (λ (u : Step). old ++ u.outcomes) more));
       }

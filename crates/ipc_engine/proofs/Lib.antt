@@ -11,4 +11,5 @@ pub mod Waiting
 pub mod CallerLemmas
 pub mod Going
 mod Buffers
+mod Doing
 mod Resumes

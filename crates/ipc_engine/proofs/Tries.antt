@@ -12,10 +12,9 @@ use Rattle.ipc_state.specs.declared.descriptors.Descriptor.{Descriptor}
 use Rattle.ipc_state.specs.declared.parked.Awaited.{Awaited}
 use Rattle.ipc_state.specs.declared.parked.Awaited.TheVariants as awaited
 use Rattle.ipc_state.specs.declared.parked.Object.{Object}
-use Rattle.ipc_state.specs.declared.named.NamedEntry.{NamedEntry}
 use Rattle.posix_mq.specs.Queue.{Queue as Mq}
 use Rattle.ipc_state.specs.Finish.{Finish, Tried, Finishes, Waits, IfFinishes, has_to_wait, refused}
-use Rattle.ipc_state.specs.Named.{Named}
+use Rattle.ipc_state.specs.Named.{Named, NamedEntry}
 use Rattle.ipc_state.specs.Opening.{descriptor_at}
 use Rattle.ipc_state.specs.State.{State, cred_of, is_waiting}
 use Rattle.ipc_state.specs.Touching.{object_of, object_on, is_there, IsAsBefore}

@@ -14,8 +14,7 @@ use Rattle.ipc_wire.specs.Reply.{PlainBody, body_bytes, reply_bytes}
 use Rattle.ipc_wire.proofs.CallerLemmas.{length-reply_bytes}
 use Rattle.posix_mq.specs.declared.queue.Registration.{Registration}
 use Rattle.posix_mq.specs.Queue.{Queue as Mq}
-use Rattle.ipc_state.specs.declared.named.NamedEntry.{NamedEntry}
-use Rattle.ipc_state.specs.Named.{Named}
+use Rattle.ipc_state.specs.Named.{Named, NamedEntry}
 use Rattle.ipc_state.specs.Finish.{Finish}
 use Rattle.ipc_state.specs.Sound.{FitsBody}
 use Rattle.ipc_state.specs.State.{State, is_waiting}

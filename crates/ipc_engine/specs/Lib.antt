@@ -1,11 +1,11 @@
 pub mod Event
 pub mod Step
+pub mod Does
 pub mod Bytes
 pub mod View
 pub mod Engine
 pub mod Buffer
 pub mod Sound
 pub mod Settling
-pub mod Trial
 pub mod Reserved
 pub mod Listing

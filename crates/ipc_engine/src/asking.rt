@@ -1,17 +1,16 @@
 //! What a process asks: its calls, one at a time, and INTERRUPT; and that it leaves.
 
-ghost use Rattle.std.specs.Prelude.{◌≡◌, ◌+◌, ◌*◌, ◌<◌, ◌≤◌, ◌++◌, true, false, length, map, max, vec_capacity};
-ghost use Rattle.ipc_base.specs.Limits.{longest_body};
+ghost use Rattle.std.specs.Prelude.{◌≡◌, ◌+◌, ◌*◌, ◌<◌, ◌≤◌, ◌++◌, true, false, length, map, vec_capacity};
 ghost use Rattle.ipc_wait.specs.Waits.{waiting_call_of};
 ghost use Rattle.ipc_wire.specs.Request.{plain_kind};
 ghost use Rattle.ipc_wire.specs.View.{plain_request};
 ghost use Rattle.ipc_state.proofs.CallerLemmas.{IsGood};
 ghost use Rattle.ipc_state.specs.Finish.{finish_firing, refused};
-ghost use Rattle.ipc_state.specs.Held.{left};
 ghost use Rattle.ipc_state.specs.State.{State as PlainState, exit, is_process, is_waiting};
 ghost use Rattle.ipc_state.specs.Waiting.{awaited_by, may_wait};
 ghost use Rattle.ipc_state.specs.Spare.{IsSpare, room_in as room_in_answer};
 ghost use Rattle.ipc_engine.specs.Buffer.{HasBuffer, room_in};
+ghost use Rattle.ipc_engine.specs.Does.{Does, emptied};
 ghost use Rattle.ipc_engine.specs.Reserved.{IsReserved, needs};
 ghost use Rattle.ipc_engine.specs.Settling.{HaveSameObjects, ReceivesWait};
 ghost use Rattle.ipc_engine.specs.Sound.{IsSound};
@@ -22,9 +21,9 @@ ghost use Rattle.ipc_engine.specs.View.{plain_outcome};
 use crate::event::Outcome;
 use crate::replies::{push, push_reply, reply_to};
 use crate::settling::{settle, settle_all};
-use crate::trying::{Trial, is_receive, touched_by, try_at_once, try_kept};
+use crate::trying::{is_receive, touched_by, try_at_once, try_kept};
 use ipc_base::{Errno, Pid};
-use ipc_state::{Answer, Object, Parked, State};
+use ipc_state::{Answer, Object, Parked, State, Tried};
 use ipc_wait::Waiting;
 use ipc_wire::{Body, Request, RequestKind};
 use posix_mq::Registration;
@@ -45,12 +44,9 @@ pub(crate) fn ask(
     requires waits { state.old.limits.processes ≤ state.old.waits }
     requires places { length outcomes.old.items + 2 * (length state.old.state.wait + 1) ≤ vec_capacity outcomes.old }
     requires spare { IsSpare state.old.limits spare.old }
-    ensures state { state.new ≡ left state.old (asked state.old.limits pid.0 (plain_request request.now)
-        (plain_request request.now).kind state.old.state).state }
-    ensures outcomes { map plain_outcome outcomes.new.items ≡ map plain_outcome outcomes.old.items
-        ++ (asked state.old.limits pid.0 (plain_request request.now)
-        (plain_request request.now).kind state.old.state).outcomes }
-    ensures capacity { vec_capacity outcomes.old ≤ vec_capacity outcomes.new }
+    ensures does { Does (asked state.old.limits pid.0 (plain_request request.now)
+        (plain_request request.now).kind state.old.state) (emptied state.old)
+        state.new outcomes.old outcomes.new }
     ensures buffer { HasBuffer state.old.limits spare.new outcomes.new.items }
 {
     match &request.kind {
@@ -78,11 +74,8 @@ fn make(
     requires waits { state.old.limits.processes ≤ state.old.waits }
     requires places { length outcomes.old.items + 2 * (length state.old.state.wait + 1) ≤ vec_capacity outcomes.old }
     requires spare { IsSpare state.old.limits spare.old }
-    ensures state { state.new
-        ≡ left state.old (called state.old.limits pid.0 (plain_request request.now) state.old.state).state }
-    ensures outcomes { map plain_outcome outcomes.new.items ≡ map plain_outcome outcomes.old.items
-        ++ (called state.old.limits pid.0 (plain_request request.now) state.old.state).outcomes }
-    ensures capacity { vec_capacity outcomes.old ≤ vec_capacity outcomes.new }
+    ensures does { Does (called state.old.limits pid.0 (plain_request request.now) state.old.state) (emptied state.old)
+        state.new outcomes.old outcomes.new }
     ensures buffer { HasBuffer state.old.limits spare.new outcomes.new.items }
 {
     if state.is_waiting(pid) {
@@ -109,13 +102,9 @@ fn at_once(
     requires ready { state.old.ready ≡ needs (plain_kind request.now.kind) }
     requires places { length outcomes.old.items + 2 * (length state.old.state.wait + 1) ≤ vec_capacity outcomes.old }
     requires spare { IsSpare state.old.limits spare.old }
-    ensures state { state.new
-        ≡ left state.old (replied_or_joined state.old.limits pid.0 (plain_request request.now) state.old.state
-        (tried state.old.limits state.old.state pid.0 false (plain_kind request.now.kind))).state }
-    ensures outcomes { map plain_outcome outcomes.new.items ≡ map plain_outcome outcomes.old.items
-        ++ (replied_or_joined state.old.limits pid.0 (plain_request request.now) state.old.state
-        (tried state.old.limits state.old.state pid.0 false (plain_kind request.now.kind))).outcomes }
-    ensures capacity { vec_capacity outcomes.old ≤ vec_capacity outcomes.new }
+    ensures does { Does (replied_or_joined state.old.limits pid.0 (plain_request request.now) state.old.state
+        (tried state.old.limits state.old.state pid.0 false (plain_kind request.now.kind))) (emptied state.old)
+        state.new outcomes.old outcomes.new }
     ensures buffer { HasBuffer state.old.limits spare.new outcomes.new.items }
 {
     let (answer, touched) = try_at_once(state, pid, &request.kind, spare);
@@ -138,23 +127,18 @@ fn try_once(state: &mut State, outcomes: &mut Vec<Outcome>, pid: Pid, parked: Pa
     requires free { is_waiting state.old.state pid.0 ≡ false }
     requires waits { state.old.limits.processes ≤ state.old.waits }
     requires places { length outcomes.old.items + 2 * (length state.old.state.wait + 1) ≤ vec_capacity outcomes.old }
-    ensures state { state.new ≡ record state.old {
-      state = (replied_or_joined state.old.limits pid.0 parked state.old.state
-          (tried state.old.limits state.old.state pid.0 false parked.kind)).state;
-    } }
-    ensures outcomes { map plain_outcome outcomes.new.items ≡ map plain_outcome outcomes.old.items
-        ++ (replied_or_joined state.old.limits pid.0 parked state.old.state
-        (tried state.old.limits state.old.state pid.0 false parked.kind)).outcomes }
-    ensures capacity { vec_capacity outcomes.old ≤ vec_capacity outcomes.new }
+    ensures { Does (replied_or_joined state.old.limits pid.0 parked state.old.state
+        (tried state.old.limits state.old.state pid.0 false parked.kind)) state.old
+        state.new outcomes.old outcomes.new }
 {
     let serial = parked.serial();
     let touched = touched_by(state, pid, &parked);
     let received = is_receive(&parked);
     match try_kept(state, pid, false, parked) {
-        Trial::Finishes { answer, fired } => finish(
+        Tried::Finishes(answer, fired) => finish(
             state, outcomes, pid, serial, answer, fired, touched, received,
         ),
-        Trial::Waits(parked) => join(state, outcomes, pid, parked),
+        Tried::Waits(parked) => join(state, outcomes, pid, parked),
     }
 }
 
@@ -163,11 +147,8 @@ fn join(state: &mut State, outcomes: &mut Vec<Outcome>, pid: Pid, parked: Parked
     requires room { length state.old.state.wait < state.old.waits }
     requires free { is_waiting state.old.state pid.0 ≡ false }
     requires place { length outcomes.old.items < vec_capacity outcomes.old }
-    ensures state { state.new
-        ≡ record state.old { state = (joins state.old.state pid.0 parked (awaited_by parked.kind)).state } }
-    ensures outcomes { map plain_outcome outcomes.new.items ≡ map plain_outcome outcomes.old.items
-        ++ (joins state.old.state pid.0 parked (awaited_by parked.kind)).outcomes }
-    ensures capacity { vec_capacity outcomes.old ≤ vec_capacity outcomes.new }
+    ensures { Does (joins state.old.state pid.0 parked (awaited_by parked.kind)) state.old
+        state.new outcomes.old outcomes.new }
 {
     let now = state.clock();
     let serial = parked.serial();
@@ -202,14 +183,8 @@ fn finish(
         × HaveSameObjects s state.old.state }
     requires receives { received ≡ true → ReceivesWait state.old.limits state.old.state }
     requires places { length outcomes.old.items + 2 * (length state.old.state.wait + 1) ≤ vec_capacity outcomes.old }
-    ensures state { state.new ≡ record state.old {
-      state = (after (replied pid.0 serial (finish_firing state.old.state answer fired))
-          (settled state.old.limits)).state;
-    } }
-    ensures outcomes { map plain_outcome outcomes.new.items ≡ map plain_outcome outcomes.old.items
-        ++ (after (replied pid.0 serial (finish_firing state.old.state answer fired))
-        (settled state.old.limits)).outcomes }
-    ensures capacity { vec_capacity outcomes.old ≤ vec_capacity outcomes.new }
+    ensures does { Does (after (replied pid.0 serial (finish_firing state.old.state answer fired))
+        (settled state.old.limits)) state.old state.new outcomes.old outcomes.new }
     ensures room { room_in_answer answer ≤ room_in outcomes.new.items }
 {
     push_reply(outcomes, pid, serial, answer, fired);
@@ -231,10 +206,8 @@ fn refuse(outcomes: &mut Vec<Outcome>, pid: Pid, serial: u32, errno: Errno)
 pub(crate) fn interrupt(state: &mut State, outcomes: &mut Vec<Outcome>, pid: Pid, serial: u32)
     requires sound { IsSound state.old.limits state.old.state }
     requires places { length outcomes.old.items + length state.old.state.wait < vec_capacity outcomes.old }
-    ensures state { state.new ≡ record state.old { state = (interrupt_step pid.0 serial state.old.state).state } }
-    ensures outcomes { map plain_outcome outcomes.new.items
-        ≡ map plain_outcome outcomes.old.items ++ (interrupt_step pid.0 serial state.old.state).outcomes }
-    ensures capacity { vec_capacity outcomes.old ≤ vec_capacity outcomes.new }
+    ensures { Does (interrupt_step pid.0 serial state.old.state) state.old
+        state.new outcomes.old outcomes.new }
 {
     end_waiting(state, outcomes, pid);
     push(outcomes, reply_to(pid, serial, Ok(Body::Empty)));
@@ -244,10 +217,8 @@ pub(crate) fn interrupt(state: &mut State, outcomes: &mut Vec<Outcome>, pid: Pid
 pub(crate) fn leave(state: &mut State, outcomes: &mut Vec<Outcome>, pid: Pid)
     requires sound { IsSound state.old.limits state.old.state }
     requires places { length outcomes.old.items + 2 * length state.old.state.wait ≤ vec_capacity outcomes.old }
-    ensures state { state.new ≡ left state.old (settled state.old.limits (exit state.old.state pid.0)).state }
-    ensures outcomes { map plain_outcome outcomes.new.items
-        ≡ map plain_outcome outcomes.old.items ++ (settled state.old.limits (exit state.old.state pid.0)).outcomes }
-    ensures capacity { vec_capacity outcomes.old ≤ vec_capacity outcomes.new }
+    ensures { Does (settled state.old.limits (exit state.old.state pid.0)) (emptied state.old)
+        state.new outcomes.old outcomes.new }
 {
     state.remove_process(pid);
     settle_all(state, outcomes);
@@ -256,12 +227,8 @@ pub(crate) fn leave(state: &mut State, outcomes: &mut Vec<Outcome>, pid: Pid)
 /// The call of a process that waits, if there is one, ends with EINTR.
 fn end_waiting(state: &mut State, outcomes: &mut Vec<Outcome>, pid: Pid)
     requires place { length outcomes.old.items < vec_capacity outcomes.old }
-    ensures state { state.new ≡ record state.old {
-      state = (interrupted state.old.state pid.0 (waiting_call_of pid state.old.state.wait)).state;
-    } }
-    ensures outcomes { map plain_outcome outcomes.new.items ≡ map plain_outcome outcomes.old.items
-        ++ (interrupted state.old.state pid.0 (waiting_call_of pid state.old.state.wait)).outcomes }
-    ensures capacity { vec_capacity outcomes.old ≤ vec_capacity outcomes.new }
+    ensures does { Does (interrupted state.old.state pid.0 (waiting_call_of pid state.old.state.wait)) state.old
+        state.new outcomes.old outcomes.new }
     ensures few { length outcomes.new.items ≤ length outcomes.old.items + length state.old.state.wait }
 {
     let Some(waiting) = state.leave_wait(pid) else {

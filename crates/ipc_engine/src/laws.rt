@@ -11,9 +11,9 @@ ghost use Rattle.ipc_base.specs.declared.limits.Limits.{Limits};
 ghost use Rattle.ipc_base.specs.declared.identity.Cred.{Cred};
 ghost use Rattle.ipc_wire.specs.Request.{PlainRequest, Interrupt as Interrupts};
 ghost use Rattle.ipc_state.specs.declared.parked.Awaited.{Awaited};
-ghost use Rattle.ipc_state.specs.declared.named.NamedEntry.{NamedEntry};
 ghost use Rattle.ipc_state.specs.Finish.{Finishes, Waits, refused};
-ghost use Rattle.ipc_state.specs.Named.{kept_if, with_object};
+ghost use Rattle.ipc_state.specs.Bound.{kept_if, holding};
+ghost use Rattle.ipc_state.specs.Named.{NamedEntry};
 ghost use Rattle.ipc_state.specs.Numbered.{entry_of};
 ghost use Rattle.ipc_state.specs.Opening.{has_name};
 ghost use Rattle.posix_mq.specs.Queue.{Queue as Mq, deregistered};
@@ -250,7 +250,7 @@ pub fn restart_keeps_objects()
     ensures next_semset { (limits : Limits) (s : State) → (step limits s Restart).state.semset.next ≡ s.semset.next }
     ensures named { (limits : Limits) (s : State) (n : ℕ) (e : NamedEntry Mq) → entry_of s.mq n ≡ Some e
         → has_name e ≡ true
-        → entry_of (step limits s Restart).state.mq n ≡ Some (with_object e (deregistered e.object)) }
+        → entry_of (step limits s Restart).state.mq n ≡ Some (holding e (deregistered e.object)) }
     ensures no_other { (limits : Limits) (s : State)
         → All (λ e. has_name e.1 ≡ true) (step limits s Restart).state.mq.entries }
     ensures next_mq { (limits : Limits) (s : State) → (step limits s Restart).state.mq.next ≡ s.mq.next }

@@ -1,23 +1,23 @@
 //! Calls that waited go on when what they wait for has changed.
 
-ghost use Rattle.std.specs.Prelude.{◌≡◌, ◌+◌, ◌*◌, ◌≤◌, ◌↔◌, ◌++◌, ◌∷◌, [], true, false, Some, All, IsTrue};
-ghost use Rattle.std.specs.Prelude.{find, length, map, vec_capacity};
+ghost use Rattle.std.specs.Prelude.{◌≡◌, ◌+◌, ◌*◌, ◌≤◌, ◌↔◌, true, false, Some, All, IsTrue};
+ghost use Rattle.std.specs.Prelude.{find, length, vec_capacity};
 ghost use Rattle.ipc_state.specs.Sound.{HasSoundParts};
 ghost use Rattle.ipc_state.specs.State.{is_process};
 ghost use Rattle.ipc_state.specs.Touching.{object_of};
 ghost use Rattle.ipc_state.specs.Waiting.{IsSoundWaiting, PlainWaiting};
 ghost use Rattle.ipc_engine.specs.Buffer.{room_in};
+ghost use Rattle.ipc_engine.specs.Does.{Does};
 ghost use Rattle.sysv_calls.specs.Calls.{is_receive};
 ghost use Rattle.ipc_engine.specs.Settling.{AreLinked, IsFirst, MayBe, OthersWait, ReceivesWait, RestWaits};
 ghost use Rattle.ipc_engine.specs.Sound.{HasToWait};
 ghost use Rattle.ipc_engine.specs.Step.{can_resume, resumed, settle as settled};
-ghost use Rattle.ipc_engine.specs.View.{plain_outcome};
 
 use crate::event::Outcome;
 use crate::replies::push_reply;
-use crate::trying::{Trial, has_to_wait, is_receive, try_kept};
+use crate::trying::{has_to_wait, is_receive, try_kept};
 use ipc_base::Pid;
-use ipc_state::{Awaited, Object, Parked, State};
+use ipc_state::{Awaited, Object, Parked, State, Tried};
 use ipc_wait::Waiting;
 
 /// Calls that wait on the object that has changed go on: the first that can, and after it all are looked at again. If
@@ -34,10 +34,8 @@ pub(crate) fn settle(
     requires others { OthersWait state.old.limits state.old.state touched }
     requires receives { received ≡ true → ReceivesWait state.old.limits state.old.state }
     requires room { length outcomes.old.items + 2 * length state.old.state.wait ≤ vec_capacity outcomes.old }
-    ensures state { state.new ≡ record state.old { state = (settled state.old.limits state.old.state).state } }
-    ensures outcomes { map plain_outcome outcomes.new.items
-        ≡ map plain_outcome outcomes.old.items ++ (settled state.old.limits state.old.state).outcomes }
-    ensures capacity { vec_capacity outcomes.old ≤ vec_capacity outcomes.new }
+    ensures does { Does (settled state.old.limits state.old.state) state.old
+        state.new outcomes.old outcomes.new }
     ensures buffer { room_in outcomes.old.items ≤ room_in outcomes.new.items }
 {
     let Some(on) = touched else {
@@ -52,10 +50,8 @@ pub(crate) fn settle_all(state: &mut State, outcomes: &mut Vec<Outcome>)
     requires parts { HasSoundParts state.old.limits state.old.state }
     requires linked { AreLinked state.old.state }
     requires room { length outcomes.old.items + 2 * length state.old.state.wait ≤ vec_capacity outcomes.old }
-    ensures state { state.new ≡ record state.old { state = (settled state.old.limits state.old.state).state } }
-    ensures outcomes { map plain_outcome outcomes.new.items
-        ≡ map plain_outcome outcomes.old.items ++ (settled state.old.limits state.old.state).outcomes }
-    ensures capacity { vec_capacity outcomes.old ≤ vec_capacity outcomes.new }
+    ensures does { Does (settled state.old.limits state.old.state) state.old
+        state.new outcomes.old outcomes.new }
     ensures buffer { room_in outcomes.old.items ≤ room_in outcomes.new.items }
 {
     settle_among(state, outcomes, None, false);
@@ -73,10 +69,8 @@ fn settle_among(
     requires rest { RestWaits state.old.limits state.old.state among }
     requires receives { received ≡ true → ReceivesWait state.old.limits state.old.state }
     requires room { length outcomes.old.items + 2 * length state.old.state.wait ≤ vec_capacity outcomes.old }
-    ensures state { state.new ≡ record state.old { state = (settled state.old.limits state.old.state).state } }
-    ensures outcomes { map plain_outcome outcomes.new.items
-        ≡ map plain_outcome outcomes.old.items ++ (settled state.old.limits state.old.state).outcomes }
-    ensures capacity { vec_capacity outcomes.old ≤ vec_capacity outcomes.new }
+    ensures does { Does (settled state.old.limits state.old.state) state.old
+        state.new outcomes.old outcomes.new }
     ensures buffer { room_in outcomes.old.items ≤ room_in outcomes.new.items }
 {
     for gone in 0..state.waits().len() {
@@ -160,14 +154,9 @@ fn resume(state: &mut State, outcomes: &mut Vec<Outcome>, pid: Pid)
     requires linked { AreLinked state.old.state }
     requires first { IsFirst (can_resume state.old.limits state.old.state) state.old.state.wait (Some pid) }
     requires room { length outcomes.old.items + 2 ≤ vec_capacity outcomes.old }
-    ensures state { (w : PlainWaiting)
+    ensures does { (w : PlainWaiting)
         → find (can_resume state.old.limits state.old.state) state.old.state.wait ≡ Some w
-        → state.new ≡ record state.old { state = (resumed state.old.limits state.old.state w).state } }
-    ensures outcomes { (w : PlainWaiting)
-        → find (can_resume state.old.limits state.old.state) state.old.state.wait ≡ Some w
-        → map plain_outcome outcomes.new.items
-        ≡ map plain_outcome outcomes.old.items ++ (resumed state.old.limits state.old.state w).outcomes }
-    ensures capacity { vec_capacity outcomes.old ≤ vec_capacity outcomes.new }
+        → Does (resumed state.old.limits state.old.state w) state.old state.new outcomes.old outcomes.new }
     ensures buffer { room_in outcomes.old.items ≤ room_in outcomes.new.items }
 {
     let Some(waiting) = state.leave_wait(pid) else {
@@ -175,8 +164,8 @@ fn resume(state: &mut State, outcomes: &mut Vec<Outcome>, pid: Pid)
     };
     let serial = waiting.call.serial();
     match try_kept(state, pid, true, waiting.call) {
-        Trial::Finishes { answer, fired } => push_reply(outcomes, pid, serial, answer, fired),
-        Trial::Waits(_parked) => {}
+        Tried::Finishes(answer, fired) => push_reply(outcomes, pid, serial, answer, fired),
+        Tried::Waits(_parked) => {}
     }
 }
 

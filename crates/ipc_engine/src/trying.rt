@@ -8,17 +8,16 @@ ghost use Rattle.ipc_state.specs.Held.{left};
 ghost use Rattle.ipc_state.specs.Sound.{HasSoundParts};
 ghost use Rattle.ipc_state.specs.Spare.{KeepsBuffer, IsSpare};
 ghost use Rattle.ipc_state.specs.State.{is_process};
+ghost use Rattle.ipc_state.specs.Tries.{WaitsUnchanged, tried_of};
 ghost use Rattle.ipc_state.specs.Waiting.{may_wait};
 ghost use Rattle.sysv_calls.specs.Calls as sysv;
 ghost use Rattle.ipc_engine.specs.Reserved.{kept_of, needs, takes_memory};
 ghost use Rattle.ipc_engine.specs.Settling.{touched_by};
 ghost use Rattle.ipc_engine.specs.Step.{tried};
-ghost use Rattle.ipc_engine.specs.Trial.{WaitsUnchanged, tried_of};
 
 use ipc_base::{Errno, Pid};
-use ipc_state::{Answer, Object, Parked, ParkedKind, State};
+use ipc_state::{Answer, Object, Parked, ParkedKind, State, Tried};
 use ipc_wire::{Request, RequestKind};
-use posix_mq::Registration;
 use std::alloc::{AllocError, Global};
 
 /// Takes the memory that a request may need, and gives what is kept of one that may wait. Refused, the state is as
@@ -72,43 +71,24 @@ pub(crate) fn try_at_once(
     }
 }
 
-/// What comes of a call that may wait.
-#[derive(Drop)]
-pub(crate) enum Trial {
-    /// It ends so, and fires this registration, if one.
-    Finishes {
-        answer: Answer,
-        fired: Option<Registration>,
-    },
-    /// It has to wait, and is given back.
-    Waits(Parked),
-}
-
 /// Tries a call by a process; `again`, if it has waited. It takes no memory.
-pub(crate) fn try_kept(state: &mut State, pid: Pid, again: bool, parked: Parked) -> Trial
+pub(crate) fn try_kept(state: &mut State, pid: Pid, again: bool, parked: Parked) -> Tried<Parked>
     requires sound { HasSoundParts state.old.limits state.old.state }
     requires process { is_process state.old.state pid.0 ≡ true }
     ensures finish { tried_of state.new.state result
         ≡ tried state.old.limits state.old.state pid.0 again parked.kind }
-    ensures kept { WaitsUnchanged state.old parked state.new result }
+    ensures kept { WaitsUnchanged (λ p. p) state.old parked state.new result }
     ensures held { state.new ≡ record state.old { state = state.new.state } }
 {
     let serial = parked.serial();
     match parked.into_kind() {
         ParkedKind::Sysv(call) => match sysv_calls::try_parked(state, pid, again, call) {
-            sysv_calls::Tried::Finishes(answer) => Trial::Finishes {
-                answer,
-                fired: None,
-            },
-            sysv_calls::Tried::Waits(call) => {
-                Trial::Waits(Parked::of_kind(serial, ParkedKind::Sysv(call)))
-            }
+            Tried::Finishes(answer, fired) => Tried::Finishes(answer, fired),
+            Tried::Waits(call) => Tried::Waits(Parked::of_kind(serial, ParkedKind::Sysv(call))),
         },
         ParkedKind::Posix(call) => match posix_calls::try_parked(state, pid, call) {
-            posix_calls::Tried::Finishes(answer, fired) => Trial::Finishes { answer, fired },
-            posix_calls::Tried::Waits(call) => {
-                Trial::Waits(Parked::of_kind(serial, ParkedKind::Posix(call)))
-            }
+            Tried::Finishes(answer, fired) => Tried::Finishes(answer, fired),
+            Tried::Waits(call) => Tried::Waits(Parked::of_kind(serial, ParkedKind::Posix(call))),
         },
     }
 }

@@ -4,6 +4,7 @@ use Rattle.std.proofs.Common.{refl, sym, ap, subst, ◌∙◌, arith}
 use Rattle.std.specs.Prelude.{All, Ok, Err, nat_lt, ◌||◌, if◌then◌else◌}
 use Rattle.std.specs.List.{flat_map}
 use Rattle.std.specs.Result.{is_ok}
+use Rattle.std.proofs.lemmas.Bool.{and_parts}
 use Rattle.std.proofs.lemmas.Bool.Decides.{nat_tests}
 use Rattle.std.proofs.lemmas.List.{append_assoc, length-append}
 use Rattle.std.proofs.lemmas.List.Elements.{All-weaker}
@@ -20,13 +21,14 @@ use Rattle.ipc_keys.specs.declared.check.NameKind.TheVariants as names
 use Rattle.ipc_keys.specs.Names.{check_name, fault, is_none, most_bytes, unless}
 use Rattle.posix_mq.specs.Queue.{PlainMessage as MqMessage}
 use Rattle.posix_mq.specs.declared.queue.Registration.{Registration}
-use Rattle.ipc_state.specs.declared.named.NamedEntry.{NamedEntry}
+use Rattle.ipc_state.specs.Named.{NamedEntry, is_own}
 use Rattle.posix_mq.specs.Queue.{Queue as Mq}
 use Rattle.ipc_state.specs.Opening.{is_named_so}
 use Rattle.ipc_state.specs.Sound.{IsSoundMq, IsSoundMqMessage}
 use Rattle.ipc_image.specs.Saved.{registration_numbers, mq_sizes, mq_numbers, mq_message_bytes, mq_bytes, FitsMqMessage, FitsMq}
-use Rattle.ipc_image.specs.SavedParts.{IsSmallMq}
+use Rattle.ipc_image.specs.SavedParts.{own_perm, IsSmallMq}
 use Rattle.ipc_image.specs.Relations.Mqs.{count_after}
+use Rattle.ipc_image.specs.Relations.Named.{own-own}
 use Rattle.ipc_image.specs.Relations.Shapes.{text_one}
 use Rattle.ipc_image.proofs.Marks.{length-most}
 
@@ -37,14 +39,14 @@ registration-long : (r : Option Registration) (n m : ℕ)
 registration-long None n m = refl
 registration-long (Some r) n m = refl
 
-pub mq-long : (e : NamedEntry Mq) → length (mq_bytes e) ≡ 44 + length e.name + length (flat_map mq_message_bytes e.object.messages)
+pub mq-long : (e : NamedEntry Mq) → length (mq_bytes e) ≡ 44 + length e.bound + length (flat_map mq_message_bytes e.object.messages)
 mq-long e =
     let numbers : List ℕ = fields_bytes mq_sizes (mq_numbers e) in
     omega (
       arith,
-      length-append (numbers ++ e.name) (flat_map mq_message_bytes e.object.messages),
-      length-append numbers e.name,
-      registration-long e.object.registration (length e.object.messages) (length e.name),
+      length-append (numbers ++ e.bound) (flat_map mq_message_bytes e.object.messages),
+      length-append numbers e.bound,
+      registration-long e.object.registration (length e.object.messages) (length e.bound),
     )
 
 -- a name that an object may have is short
@@ -52,8 +54,12 @@ too-long : (f : Option Errno) (long : Bool) → long ≡ true → is_ok (unless 
 too-long None long is = rw is refl
 too-long (Some e) long is = refl
 
-pub name-short : {X : Type 0} (kind : NameKind) (e : ℕ × NamedEntry X) → is_named_so kind e ≡ true → length e.1.name ≤ most_bytes kind
-name-short {X} kind e formed = by_name e.1.name formed
+pub formed-parts : {X : Type 0} (kind : NameKind) (e : ℕ × NamedEntry X) → is_named_so kind e ≡ true
+    → ((is_none e.1.bound || is_ok (check_name kind e.1.bound)) ≡ true) × (is_own e.1.perm ≡ true)
+formed-parts kind e formed = and_parts (is_none e.1.bound || is_ok (check_name kind e.1.bound)) (is_own e.1.perm) formed
+
+pub name-short : {X : Type 0} (kind : NameKind) (e : ℕ × NamedEntry X) → is_named_so kind e ≡ true → length e.1.bound ≤ most_bytes kind
+name-short {X} kind e formed = by_name e.1.bound (formed-parts kind e formed).0
   where
     by_name : (name : List ℕ) → is_none name || is_ok (check_name kind name) ≡ true → length name ≤ most_bytes kind
     by_name [] formed = omega arith
@@ -79,15 +85,14 @@ module _ (limits : Limits) (n : ℕ) (e : NamedEntry Mq) (sound : IsSoundMq limi
             (omega (arith, sound.msgsize.1)),
       )
 
-  pub mq-small : ArePassed limits → IsSmallMq e
-  mq-small passed =
-      let b = passed-bounds limits passed in
-      record {
-        name = omega (arith, name-short names.Mq (n, e) formed);
-        count = omega (arith, sound.count, sound.maxmsg.1, b.maxmsg);
-        texts = All-weaker (IsSoundMqMessage e.object.msgsize) (λ m. length m.text < 2 ^ 32)
-            (λ m good. omega (arith, good.short, sound.msgsize.1, b.msgsize)) e.object.messages sound.messages;
-      }
+pub mq-small : (limits : Limits) → ArePassed limits → (q : Mq) → IsSoundMq limits q → IsSmallMq q
+mq-small limits passed q sound =
+    let b = passed-bounds limits passed in
+    record {
+      count = omega (arith, sound.count, sound.maxmsg.1, b.maxmsg);
+      texts = All-weaker (IsSoundMqMessage q.msgsize) (λ m. length m.text < 2 ^ 32)
+          (λ m good. omega (arith, good.short, sound.msgsize.1, b.msgsize)) q.messages sound.messages;
+    }
 
 -- ---- each number has its place
 
@@ -117,27 +122,27 @@ module _ (bytes ns after : List ℕ) (fit : FitFields mq_sizes ns) (front : byte
     abbrev texts : List ℕ
     texts = flat_map mq_message_bytes e.object.messages
 
-    both : (ns ≡ mq_numbers e) × (after ≡ e.name ++ texts)
+    both : (ns ≡ mq_numbers e) × (after ≡ e.bound ++ texts)
     both =
-        fields_one mq_sizes ns (mq_numbers e) after (e.name ++ texts) fit fits.0.0
-        (sym front ∙ same ∙ append_assoc (fields_bytes mq_sizes (mq_numbers e)) e.name texts)
+        fields_one mq_sizes ns (mq_numbers e) after (e.bound ++ texts) fit fits.tree.0
+        (sym front ∙ same ∙ append_assoc (fields_bytes mq_sizes (mq_numbers e)) e.bound texts)
 
     at : (i : ℕ) → get_or ns i 0 ≡ get_or (mq_numbers e) i 0
     at i = ap (λ (l : List ℕ). get_or l i 0) both.0
 
     pub is-cut : length after < get_or ns 10 0 → ⊥
-    is-cut short = omega (arith, short, at 10, fits.0.1, ap length both.1, length-append e.name texts)
+    is-cut short = omega (arith, short, at 10, fits.tree.1, ap length both.1, length-append e.bound texts)
 
     pub is-registered : registration_numbers e.object.registration ≡ get_or ns 5 0 ∷ get_or ns 6 0 ∷ get_or ns 7 0 ∷ get_or ns 8 0 ∷ []
     is-registered =
-        registration-at e.object.registration (length e.object.messages) (length e.name)
+        registration-at e.object.registration (length e.object.messages) (length e.bound)
         ∙ ap (λ (l : List ℕ). get_or l 5 0 ∷ get_or l 6 0 ∷ get_or l 7 0 ∷ get_or l 8 0 ∷ []) (sym both.0)
 
     pub is-counted : length e.object.messages ≡ get_or ns 9 0
-    is-counted = sym (at 9 ∙ count_after e.object.registration (length e.object.messages) (length e.name))
+    is-counted = sym (at 9 ∙ count_after e.object.registration (length e.object.messages) (length e.bound))
 
     pub is-left : (name rest : List ℕ) → after ≡ name ++ rest → length name ≡ get_or ns 10 0 → rest ≡ texts
-    is-left name rest is long = (text_one name e.name rest texts (long ∙ at 10 ∙ sym fits.0.1) (sym is ∙ both.1)).1
+    is-left name rest is long = (text_one name e.bound rest texts (long ∙ at 10 ∙ sym fits.tree.1) (sym is ∙ both.1)).1
 
   -- what was read
   module _ (name rest : List ℕ) (r : Option Registration) (ms : List MqMessage) (cut : after ≡ name ++ rest) (named : length name ≡ get_or ns 10 0)
@@ -145,9 +150,8 @@ module _ (bytes ns after : List ℕ) (fit : FitFields mq_sizes ns) (front : byte
     abbrev made : NamedEntry Mq
     made =
         record {
-          name = name;
-          owner = record { uid = get_or ns 0 0; gid = get_or ns 1 0 };
-          mode = get_or ns 2 0;
+          bound = name;
+          perm = own_perm (get_or ns 0 0) (get_or ns 1 0) (get_or ns 2 0);
           object = record { messages = ms; maxmsg = get_or ns 3 0; msgsize = get_or ns 4 0; registration = r };
         }
 
@@ -159,7 +163,11 @@ module _ (bytes ns after : List ℕ) (fit : FitFields mq_sizes ns) (front : byte
 
     pub mq-read : All FitsMqMessage ms → rest ≡ flat_map mq_message_bytes ms → FitsMq made × (bytes ≡ mq_bytes made)
     mq-read fits read = (
-      ((subst (FitFields mq_sizes) numbers fit, named ∙ ap (λ (l : List ℕ). get_or l 10 0) numbers), fits),
+      record {
+        own = own-own (get_or ns 0 0) (get_or ns 1 0) (get_or ns 2 0);
+        tree = (subst (FitFields mq_sizes) numbers fit, named ∙ ap (λ (l : List ℕ). get_or l 10 0) numbers);
+        object = fits;
+      },
       front ∙ ap (λ (l : List ℕ). fields_bytes mq_sizes ns ++ l) (cut ∙ ap (λ (l : List ℕ). name ++ l) read)
           ∙ ap (λ (l : List ℕ). fields_bytes mq_sizes l ++ (name ++ flat_map mq_message_bytes ms)) numbers
           ∙ sym (append_assoc (fields_bytes mq_sizes (mq_numbers made)) name (flat_map mq_message_bytes ms)),

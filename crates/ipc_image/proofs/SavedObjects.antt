@@ -17,17 +17,18 @@ use Rattle.ipc_base.proofs.CallerLemmas.{passed-bounds, rising-lower}
 use Rattle.sysv_msg.specs.Queue.{Queue, PlainMessage, byte_count, stat_of as queue_stat}
 use Rattle.sysv_msg.specs.declared.queue.QueueStat.{QueueStat}
 use Rattle.ipc_state.specs.declared.numbered.Item.{Item}
-use Rattle.ipc_state.specs.declared.keyed.Entry.{Entry}
-use Rattle.ipc_state.specs.declared.named.NamedEntry.{NamedEntry}
-use Rattle.ipc_state.specs.Sound.{IsSoundMsgQueue, IsSoundSemset, HasNumbers, AreSoundDescriptors}
+use Rattle.ipc_state.specs.Keyed.{KeyedEntry}
+use Rattle.ipc_state.specs.Named.{NamedEntry}
+use Rattle.ipc_keys.specs.declared.check.NameKind.{NameKind}
+use Rattle.ipc_state.specs.Sound.{IsSoundContent, IsSoundMsgQueue, IsSoundSemset, HasNumbers, AreSoundDescriptors}
 use Rattle.posix_mq.specs.Queue.{Queue as Mq}
 use Rattle.shm_segment.specs.Segment.{Segment}
 use Rattle.sysv_sem.specs.Set.{Set, stat_of as set_stat}
 use Rattle.sysv_sem.specs.declared.set.SemStat.{SemStat}
 use Rattle.ipc_state.proofs.CallerLemmas.{All-seen, queue-numbers, few-adjustments}
 use Rattle.ipc_engine.specs.Sound.{IsSound}
-use Rattle.ipc_state.specs.Opening.{NamedObjects}
-use Rattle.ipc_state.specs.State.{State, named_in, start}
+use Rattle.ipc_state.specs.Opening.{Content, NamedObjects}
+use Rattle.ipc_state.specs.State.{State, named_in, named_of, start}
 use Rattle.ipc_state.specs.Waiting.{PlainWaiting}
 use Rattle.ipc_state.specs.Tables.{item_row}
 use Rattle.ipc_base.specs.Numbers.{fields_bytes}
@@ -38,10 +39,10 @@ use Rattle.sem_undo.specs.Undo.{Undo}
 use Rattle.ipc_image.specs.Saved.{queue_bytes, queue_object, semaphore_bytes, set_bytes, set_object, named_objects, saved, HasAllPlaces}
 use Rattle.ipc_image.specs.Saved.{descriptor_bytes}
 use Rattle.ipc_state.specs.declared.state.Numbers.{Numbers}
-use Rattle.ipc_image.specs.SavedParts.{IsMarkAfter, IsFound, IsSmallMq, Stands, seen_named, seen_state}
+use Rattle.ipc_image.specs.SavedParts.{IsMarkAfter, IsFound, IsSmallNamed, Stands, seen_named, seen_state}
 use Rattle.ipc_image.proofs.Marks.{each-at, length-each, length-most}
 use Rattle.ipc_image.proofs.KindSizes.{kind-sectors, objects-rise}
-use Rattle.ipc_image.proofs.NamedSizes.{mqs-small, named-are, named-counted, named-few, named-rise, named-sectors, named_count, named_most, names-small}
+use Rattle.ipc_image.proofs.NamedSizes.{named-are, named-counted, named-few, named-rise, named-sectors, named-small, named_count, named_most}
 use Rattle.ipc_image.proofs.WaitingCalls.{length-waits}
 use Rattle.ipc_image.proofs.Attaching.{rising-distinct}
 use Rattle.ipc_image.proofs.AdjustmentLists.{few-in}
@@ -70,7 +71,7 @@ length-messages (m ∷ messages) =
     ap length (flat_map-cons message_bytes m messages) ∙ length-append (message_bytes m) (flat_map message_bytes messages)
     ∙ omega (arith, length-messages messages, sum_by-cons (λ (n : PlainMessage). length n.text) m messages)
 
-pub queue-long : (e : Entry Queue) → length (queue_bytes e) ≡ 64 + (12 * length e.object.messages + byte_count e.object.messages)
+pub queue-long : (e : KeyedEntry Queue) → length (queue_bytes e) ≡ 64 + (12 * length e.object.messages + byte_count e.object.messages)
 queue-long e = omega (arith, length-messages e.object.messages)
 
 -- how many its numbers and its parts have, by what it tells of itself
@@ -82,7 +83,7 @@ pub set_counts : (x : Set) (s : SemStat) → s ≡ set_stat x
     → length (fields_bytes set_sizes (set_numbers x) ++ counted_bytes semaphore_bytes x.semaphores) ≡ 20 + 6 * s.nsems
 set_counts x s is = omega (arith, length-each semaphore_bytes 6 (λ y. refl) x.semaphores, ap (λ (t : SemStat). t.nsems) is)
 
-pub set-long : (e : Entry Set) → length (set_bytes e) ≡ 44 + 6 * length e.object.semaphores
+pub set-long : (e : KeyedEntry Set) → length (set_bytes e) ≡ 44 + 6 * length e.object.semaphores
 set-long e = omega (arith, length-each semaphore_bytes 6 (λ x. refl) e.object.semaphores)
 
 -- ---- which object is which
@@ -154,8 +155,8 @@ module _ (s : State) where
       (All-append P (map set_object s.semset.entries) (named_objects (named_in s)) (All-map P set_object s.semset.entries sets) named)))))
 
 -- the state that tables are, and how many objects it has
-module _ (n : Numbers) (ps : List (Item Process)) (ws : List PlainWaiting) (us : List (Item Undo)) (qs : List (Item (Entry Queue)))
-    (xs : List (Item (Entry Set))) (o : NamedObjects) where
+module _ (n : Numbers) (ps : List (Item Process)) (ws : List PlainWaiting) (us : List (Item Undo)) (qs : List (Item (KeyedEntry Queue)))
+    (xs : List (Item (KeyedEntry Set))) (o : NamedObjects) where
   pub seen-is : (s : State) → n.clock.0 ≡ s.clock → n.next_pid ≡ s.processes.next → n.next_msg_queue ≡ s.msg.next → n.next_semset ≡ s.semset.next
       → map item_row ps ≡ s.processes.entries → ws ≡ s.wait → map item_row us ≡ s.undo → map item_row qs ≡ s.msg.entries
       → map item_row xs ≡ s.semset.entries → o ≡ named_in s → seen_state n ps ws us qs xs o ≡ s
@@ -190,8 +191,8 @@ module _ (n : Numbers) (ps : List (Item Process)) (ws : List PlainWaiting) (us :
       omega (arith, short, waits-long ws, ap (λ (l : List PlainWaiting). length (flat_map waiting_bytes l)) (map-id ws))
 
 -- how many objects the state of these tables has
-pub tables_count : (n : Numbers) (ps : List (Item Process)) (ws : List PlainWaiting) (us : List (Item Undo)) (qs : List (Item (Entry Queue)))
-    (xs : List (Item (Entry Set))) (ms : List (Item (NamedEntry Mq))) (ss : List (Item (NamedEntry ℕ))) (gs : List (Item (NamedEntry Segment)))
+pub tables_count : (n : Numbers) (ps : List (Item Process)) (ws : List PlainWaiting) (us : List (Item Undo)) (qs : List (Item (KeyedEntry Queue)))
+    (xs : List (Item (KeyedEntry Set))) (ms : List (Item (NamedEntry Mq))) (ss : List (Item (NamedEntry ℕ))) (gs : List (Item (NamedEntry Segment)))
     → length (saved (seen_state n ps ws us qs xs (seen_named n ms ss gs))) ≡ 4 + (length qs + (length xs + (length ms + (length ss + length gs))))
 tables_count n ps ws us qs xs ms ss gs =
     omega (
@@ -209,23 +210,28 @@ rising-few : (low : ℕ) (ns : List ℕ) (high : ℕ) → IsRising low ns high �
 rising-few low [] high h = omega (arith, h)
 rising-few low (n ∷ ns) high h = omega (arith, h.0, rising-few (n + 1) ns high h.1)
 
+-- what holds of each entry holds of each that is kept
+rows-have : {X : Type 0} (P : X → Type 0) (rows : List (Item X)) (es : List (ℕ × X)) → map item_row rows ≡ es → All (λ e. P e.1) es
+    → All (λ e. P e.value) rows
+rows-have {X} P rows es are each =
+    let Q : ℕ × X → Type 0 = λ e. P e.1 in
+    All-seen Q item_row rows (subst (All Q) (sym are) each)
+
 module _ (limits : Limits) (s : State) (passed : ArePassed limits) (sound : IsSound limits s) where
   -- each number of a queue that is kept fits in a field of four bytes
-  pub rows-numbers : (rows : List (Item (Entry Queue))) → map item_row rows ≡ s.msg.entries → All (λ e. HasNumbers e.value.object) rows
+  pub rows-numbers : (rows : List (Item (KeyedEntry Queue))) → map item_row rows ≡ s.msg.entries → All (λ e. HasNumbers e.value.object) rows
   rows-numbers rows are =
-      let P : ℕ × Entry Queue → Type 0 = λ e. HasNumbers e.1.object in
-      All-seen P item_row rows (subst (All P) (sym are)
-      (All-weaker (λ (e : ℕ × Entry Queue). IsSoundMsgQueue limits e.1.object) P (λ e good. queue-numbers limits e.1.object passed good)
-      s.msg.entries sound.parts.msg.each))
+      rows-have (λ e. HasNumbers e.object) rows s.msg.entries are
+      (All-weaker (λ (e : ℕ × KeyedEntry Queue). IsSoundMsgQueue limits e.1.object) (λ e. HasNumbers e.1.object)
+      (λ e good. queue-numbers limits e.1.object passed good) s.msg.entries sound.parts.msg.each)
 
   -- and the count of the semaphores of a set
-  pub sets-numbers : (rows : List (Item (Entry Set))) → map item_row rows ≡ s.semset.entries → All (λ e. length e.value.object.semaphores < 2 ^ 32) rows
+  pub sets-numbers : (rows : List (Item (KeyedEntry Set))) → map item_row rows ≡ s.semset.entries → All (λ e. length e.value.object.semaphores < 2 ^ 32) rows
   sets-numbers rows are =
       let b = passed-bounds limits passed in
-      let P : ℕ × Entry Set → Type 0 = λ e. length e.1.object.semaphores < 2 ^ 32 in
-      All-seen P item_row rows (subst (All P) (sym are)
-      (All-weaker (λ (e : ℕ × Entry Set). IsSoundSemset limits e.1.object) P (λ e good. omega (arith, good.few, b.semmsl))
-      s.semset.entries sound.parts.semset.keyed.each))
+      rows-have (λ e. length e.object.semaphores < 2 ^ 32) rows s.semset.entries are
+      (All-weaker (λ (e : ℕ × KeyedEntry Set). IsSoundSemset limits e.1.object) (λ e. length e.1.object.semaphores < 2 ^ 32)
+      (λ e good. omega (arith, good.few, b.semmsl)) s.semset.entries sound.parts.semset.keyed.each)
 
   -- the count of the descriptors of a process
   pub descriptors-few : All (λ p. length p.1.descriptors ≤ limits.descriptors) s.processes.entries
@@ -239,26 +245,15 @@ module _ (limits : Limits) (s : State) (passed : ArePassed limits) (sound : IsSo
       → All (λ p. length p.value.descriptors < 2 ^ 32) rows
   processes-numbers rows are =
       let b = passed-bounds limits passed in
-      let P : ℕ × Process → Type 0 = λ p. length p.1.descriptors < 2 ^ 32 in
-      All-seen P item_row rows (subst (All P) (sym are)
-      (All-weaker (λ (p : ℕ × Process). length p.1.descriptors ≤ limits.descriptors) P (λ p few. omega (arith, few, b.descriptors))
-      s.processes.entries descriptors-few))
+      rows-have (λ p. length p.descriptors < 2 ^ 32) rows s.processes.entries are
+      (All-weaker (λ (p : ℕ × Process). length p.1.descriptors ≤ limits.descriptors) (λ p. length p.1.descriptors < 2 ^ 32)
+      (λ p few. omega (arith, few, b.descriptors)) s.processes.entries descriptors-few)
 
   -- the sizes of those with a name
-  pub mqs-numbers : (rows : List (Item (NamedEntry Mq))) → map item_row rows ≡ s.mq.entries → All (λ e. IsSmallMq e.value) rows
-  mqs-numbers rows are =
-      let P : ℕ × NamedEntry Mq → Type 0 = λ e. IsSmallMq e.1 in
-      All-seen P item_row rows (subst (All P) (sym are) (mqs-small limits s sound passed))
-
-  pub sems-numbers : (rows : List (Item (NamedEntry ℕ))) → map item_row rows ≡ s.psem.entries → All (λ e. length e.value.name < 2 ^ 32) rows
-  sems-numbers rows are =
-      let P : ℕ × NamedEntry ℕ → Type 0 = λ e. length e.1.name < 2 ^ 32 in
-      All-seen P item_row rows (subst (All P) (sym are) (names-small limits s sound).0)
-
-  pub segments-numbers : (rows : List (Item (NamedEntry Segment))) → map item_row rows ≡ s.pshm.entries → All (λ e. length e.value.name < 2 ^ 32) rows
-  segments-numbers rows are =
-      let P : ℕ × NamedEntry Segment → Type 0 = λ e. length e.1.name < 2 ^ 32 in
-      All-seen P item_row rows (subst (All P) (sym are) (names-small limits s sound).1)
+  pub named-numbers : (kind : NameKind) (IsSmallObject : Content kind → Type 0) → ((x : Content kind) → IsSoundContent limits kind x → IsSmallObject x)
+      → (rows : List (Item (NamedEntry (Content kind)))) → map item_row rows ≡ (named_of s kind).entries → All (λ e. IsSmallNamed IsSmallObject e.value) rows
+  named-numbers kind IsSmallObject small rows are =
+      rows-have (IsSmallNamed IsSmallObject) rows (named_of s kind).entries are (named-small limits s sound kind IsSmallObject small)
 
   processes-short : length (processes_bytes s.processes.entries) ≤ 4 + limits.processes * (16 + 16 * limits.descriptors)
   processes-short =
@@ -275,12 +270,12 @@ module _ (limits : Limits) (s : State) (passed : ArePassed limits) (sound : IsSo
 
   queues-short : All (λ e. length (queue_bytes e.1) ≤ 64 + 13 * limits.msgmnb) s.msg.entries
   queues-short =
-      All-weaker (λ (e : ℕ × Entry Queue). IsSoundMsgQueue limits e.1.object) (λ e. length (queue_bytes e.1) ≤ 64 + 13 * limits.msgmnb)
+      All-weaker (λ (e : ℕ × KeyedEntry Queue). IsSoundMsgQueue limits e.1.object) (λ e. length (queue_bytes e.1) ≤ 64 + 13 * limits.msgmnb)
       (λ e good. omega (arith, queue-long e.1, good.count, good.bytes)) s.msg.entries sound.parts.msg.each
 
   sets-short : All (λ e. length (set_bytes e.1) ≤ 44 + 6 * limits.semmsl) s.semset.entries
   sets-short =
-      All-weaker (λ (e : ℕ × Entry Set). IsSoundSemset limits e.1.object) (λ e. length (set_bytes e.1) ≤ 44 + 6 * limits.semmsl)
+      All-weaker (λ (e : ℕ × KeyedEntry Set). IsSoundSemset limits e.1.object) (λ e. length (set_bytes e.1) ≤ 44 + 6 * limits.semmsl)
       (λ e good. omega (arith, set-long e.1, good.few)) s.semset.entries sound.parts.semset.keyed.each
 
   waits-short : length (waits_bytes s.wait) ≤ 4 + limits.processes * 8464
@@ -321,7 +316,7 @@ module _ (limits : Limits) (s : State) (passed : ArePassed limits) (sound : IsSo
       let b = passed-bounds limits passed in
       let Some-bytes : ℕ × List ℕ → Type 0 = λ o. 0 < length o.1 in
       let Few-bytes : ℕ × List ℕ → Type 0 = λ o. length o.1 < 2 ^ 64 in
-      let IsShort : ℕ × Entry Set → Type 0 = λ e. length (set_bytes e.1) ≤ 44 + 6 * limits.semmsl in
+      let IsShort : ℕ × KeyedEntry Set → Type 0 = λ e. length (set_bytes e.1) ≤ 44 + 6 * limits.semmsl in
       let named = named-are limits s sound passed in
       let processes : limits.processes * (16 + 16 * limits.descriptors) ≤ 64 * 528 =
       mul-le limits.processes (16 + 16 * limits.descriptors) 64 528 b.processes.1 (omega (arith, b.descriptors)) in
@@ -329,13 +324,13 @@ module _ (limits : Limits) (s : State) (passed : ArePassed limits) (sound : IsSo
         numbers = numbers-rise;
         some = each-saved s Some-bytes (omega arith) (omega (arith, processes-long s.processes.entries)) (omega (arith, waits-long s.wait))
             (omega (arith, adjustments-long s.undo))
-            (All-weaker (λ (e : ℕ × Entry Queue). length (queue_bytes e.1) ≤ 64 + 13 * limits.msgmnb) (λ e. Some-bytes (queue_object e))
+            (All-weaker (λ (e : ℕ × KeyedEntry Queue). length (queue_bytes e.1) ≤ 64 + 13 * limits.msgmnb) (λ e. Some-bytes (queue_object e))
             (λ e short. omega (arith, queue-long e.1)) s.msg.entries queues-short)
             (All-weaker IsShort (λ e. Some-bytes (set_object e)) (λ e short. omega (arith, set-long e.1)) s.semset.entries sets-short) named.some;
         lengths = each-saved s Few-bytes (omega arith)
             (omega (arith, processes-short, processes))
             (omega (arith, waits-short, b.processes.1)) (omega (arith, adjustments-long s.undo, undo-counted))
-            (All-weaker (λ (e : ℕ × Entry Queue). length (queue_bytes e.1) ≤ 64 + 13 * limits.msgmnb) (λ e. Few-bytes (queue_object e))
+            (All-weaker (λ (e : ℕ × KeyedEntry Queue). length (queue_bytes e.1) ≤ 64 + 13 * limits.msgmnb) (λ e. Few-bytes (queue_object e))
             (λ e short. omega (arith, short, b.msgmnb.1)) s.msg.entries queues-short)
             (All-weaker IsShort (λ e. Few-bytes (set_object e)) (λ e short. omega (arith, short, b.semmsl)) s.semset.entries sets-short) named.few;
         count = omega (

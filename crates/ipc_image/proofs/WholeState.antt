@@ -9,7 +9,7 @@ use Rattle.ipc_base.specs.Table.{keys_of}
 use Rattle.sem_undo.specs.Undo.{Undo}
 use Rattle.sysv_msg.specs.Queue.{Queue}
 use Rattle.sysv_sem.specs.Set.{Set}
-use Rattle.ipc_state.specs.declared.keyed.Entry.{Entry}
+use Rattle.ipc_state.specs.Keyed.{KeyedEntry}
 use Rattle.ipc_state.specs.declared.processes.Process.{Process}
 use Rattle.ipc_state.specs.declared.state.Numbers.{Numbers}
 use Rattle.ipc_state.specs.Restored.{with_numbers, with_waits}
@@ -69,7 +69,7 @@ same_object objects i a b is also =
 -- ---- added
 
 -- the state that has these
-abbrev pub state_of : Numbers → List (ℕ × Process) → List PlainWaiting → List (ℕ × Undo) → List (ℕ × Entry Queue) → List (ℕ × Entry Set)
+abbrev pub state_of : Numbers → List (ℕ × Process) → List PlainWaiting → List (ℕ × Undo) → List (ℕ × KeyedEntry Queue) → List (ℕ × KeyedEntry Set)
     → NamedObjects → State
 state_of n ps ws us es fs o =
     record {
@@ -89,13 +89,14 @@ abbrev pub put_undo : State × Limits → List (ℕ × Undo) → State × Limits
 put_undo s us = (record s.0 { undo = us }, s.1)
 
 pub all-added : (n : Numbers) (limits : Limits) (one two three four five six seven : State × Limits) (ps : List (ℕ × Process)) (ws : List PlainWaiting)
-    (us : List (ℕ × Undo)) (es : List (ℕ × Entry Queue)) (fs : List (ℕ × Entry Set)) (o : NamedObjects) → one ≡ (with_numbers start n, limits)
+    (us : List (ℕ × Undo)) (es : List (ℕ × KeyedEntry Queue)) (fs : List (ℕ × KeyedEntry Set)) (o : NamedObjects) → one ≡ (with_numbers start n, limits)
     → two ≡ with_more (λ s. s.0.processes.entries) put_processes one ps → three ≡ (with_waits two.0 ws, two.1) → four ≡ put_undo three us
     → five ≡ with_more (λ s. s.0.msg.entries) put_queues four es → six ≡ with_more (λ s. s.0.semset.entries) put_sets five fs
     → seven ≡ with_more_named six o → seven ≡ (state_of n ps ws us es fs o, limits)
 all-added n limits one two three four five six seven ps ws us es fs o from processes waits undo queues sets named =
-    named ∙ ap (λ (s : State × Limits). with_more_named s o) (sets ∙ ap (λ (s : State × Limits). put_sets s (s.0.semset.entries ++ fs)) (queues ∙ ap (λ (s : State × Limits). put_queues s (s.0.msg.entries ++ es))
-    (undo ∙ ap (λ (s : State × Limits). put_undo s us) (waits ∙ ap (λ (s : State × Limits). let t : State × Limits = (with_waits s.0 ws, s.1) in t)
+    named ∙ ap (λ (s : State × Limits). with_more_named s o) (sets ∙ ap (λ (s : State × Limits). put_sets s (s.0.semset.entries ++ fs))
+    (queues ∙ ap (λ (s : State × Limits). put_queues s (s.0.msg.entries ++ es)) (undo ∙ ap (λ (s : State × Limits). put_undo s us)
+    (waits ∙ ap (λ (s : State × Limits). let t : State × Limits = (with_waits s.0 ws, s.1) in t)
     (processes ∙ ap (λ (s : State × Limits). put_processes s (s.0.processes.entries ++ ps)) from)))))
 
 -- the processes are those that were read
@@ -120,7 +121,7 @@ pub record AreAdjustmentsRead (ps : List (ℕ × Process)) (us : List (ℕ × Un
 
 -- the objects are those of the state that they make; its numbers have their places, if no two processes have the same pid
 pub all_restored : (objects : PlainObjects) (n : Numbers) (ps : List (ℕ × Process)) (ws : List PlainWaiting) (us : List (ℕ × Undo))
-    (es : List (ℕ × Entry Queue)) (fs : List (ℕ × Entry Set)) (o : NamedObjects) (s : State) (clock processes calls adjustments : List ℕ)
+    (es : List (ℕ × KeyedEntry Queue)) (fs : List (ℕ × KeyedEntry Set)) (o : NamedObjects) (s : State) (clock processes calls adjustments : List ℕ)
     → slice_get objects 0 ≡ Some (0, clock) → slice_get objects 1 ≡ Some (1, processes) → slice_get objects 2 ≡ Some (2, calls)
     → slice_get objects 3 ≡ Some (3, adjustments) → AreAdjustmentsRead ps us adjustments → IsClockOf n clock
     → length ps < 2 ^ 32 → All FitsProcess ps → processes ≡ processes_bytes ps
@@ -158,7 +159,7 @@ all_restored objects n ps ws us es fs o s clock processes calls adjustments at0 
 -- ---- told apart
 
 -- a state with these processes, waiting calls, adjustments, queues, semaphore sets, and those with a name
-abbrev with_parts : State → List (ℕ × Process) → List PlainWaiting → List (ℕ × Undo) → List (ℕ × Entry Queue) → List (ℕ × Entry Set)
+abbrev with_parts : State → List (ℕ × Process) → List PlainWaiting → List (ℕ × Undo) → List (ℕ × KeyedEntry Queue) → List (ℕ × KeyedEntry Set)
     → NamedObjects → State
 with_parts u ps ws us es fs o =
     record {
@@ -174,13 +175,13 @@ with_parts u ps ws us es fs o =
     }
 
 -- two queues with the same bytes, and two semaphore sets
-queue_one : (e f : Entry Queue) → FitsQueue e → FitsQueue f → queue_bytes e ≡ queue_bytes f → e ≡ f
+queue_one : (e f : KeyedEntry Queue) → FitsQueue e → FitsQueue f → queue_bytes e ≡ queue_bytes f → e ≡ f
 queue_one =
     entry_one queue_sizes queue_numbers message_bytes FitsMessage messages_of
     (plain_one message_shape message_tree FitsMessage (λ m fit. fit.1) message_one)
     queue_from (λ q. refl)
 
-set_one : (e f : Entry Set) → FitsSet e → FitsSet f → set_bytes e ≡ set_bytes f → e ≡ f
+set_one : (e f : KeyedEntry Set) → FitsSet e → FitsSet f → set_bytes e ≡ set_bytes f → e ≡ f
 set_one =
     entry_one set_sizes set_numbers semaphore_bytes FitsSemaphore semaphores_of
     (plain_one semaphore_shape semaphore_numbers FitsSemaphore (λ x fit. fit.1) semaphore_one) set_from (λ s. refl)
@@ -222,8 +223,8 @@ saved_once s t at also same =
     ∙ ap (λ (l : List (ℕ × Process)). with_parts t l s.wait s.undo s.msg.entries s.semset.entries (named_in s)) processes
     ∙ ap (λ (ws : List PlainWaiting). with_parts t qs ws s.undo s.msg.entries s.semset.entries (named_in s)) waits
     ∙ ap (λ (us : List (ℕ × Undo)). with_parts t qs t.wait us s.msg.entries s.semset.entries (named_in s)) undo
-    ∙ ap (λ (es : List (ℕ × Entry Queue)). with_parts t qs t.wait t.undo es s.semset.entries (named_in s)) queues.0
-    ∙ ap (λ (fs : List (ℕ × Entry Set)). with_parts t qs t.wait t.undo t.msg.entries fs (named_in s)) sets.0
+    ∙ ap (λ (es : List (ℕ × KeyedEntry Queue)). with_parts t qs t.wait t.undo es s.semset.entries (named_in s)) queues.0
+    ∙ ap (λ (fs : List (ℕ × KeyedEntry Set)). with_parts t qs t.wait t.undo t.msg.entries fs (named_in s)) sets.0
     ∙ ap (λ (o : NamedLists). with_parts t qs t.wait t.undo t.msg.entries t.semset.entries (listed (named_in t) o)) named
 
 -- what was read is the state, if one has these objects

@@ -3,6 +3,6 @@ pub mod Restored
 pub mod Shapes
 pub mod Trees
 pub mod Entries
+pub mod Named
 pub mod Mqs
 pub mod Adjustments
-pub mod Named

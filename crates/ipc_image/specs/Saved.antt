@@ -3,7 +3,7 @@
 -- waits the object on which it waits is not kept: its request says it.
 use Rattle.std.specs.Prelude.{◌≡◌, ◌+◌, ◌*◌, ◌-◌, ◌<◌, ◌≤◌, ◌^◌, ℕ, ℤ, List, [], ◌∷◌, ◌++◌}
 use Rattle.std.specs.Prelude.{length, map, slice_index, All, FitsSigned, Option, Some, None, IfSome, nat_eq}
-use Rattle.std.specs.Prelude.{if◌then◌else◌}
+use Rattle.std.specs.Prelude.{if◌then◌else◌, true, ⊤}
 use Rattle.std.specs.FinMap as fin
 use Rattle.std.specs.Int.{w16, w32, w64, cast_unsigned}
 use Rattle.std.specs.List.{flat_map, IsDistinct}
@@ -26,8 +26,8 @@ use Rattle.ipc_perm.specs.declared.perm.Perm.{Perm}
 use Rattle.ipc_keys.specs.declared.check.NameKind.{NameKind}
 use Rattle.ipc_keys.specs.declared.check.NameKind.TheVariants as names
 use Rattle.ipc_state.specs.declared.descriptors.Descriptor.{Descriptor}
-use Rattle.ipc_state.specs.declared.keyed.Entry.{Entry}
-use Rattle.ipc_state.specs.declared.named.NamedEntry.{NamedEntry}
+use Rattle.ipc_state.specs.Keyed.{KeyedEntry}
+use Rattle.ipc_state.specs.Named.{NamedEntry, is_own}
 use Rattle.ipc_state.specs.declared.processes.Process.{Process}
 use Rattle.ipc_engine.specs.Sound.{IsSound}
 use Rattle.ipc_state.specs.Opening.{NamedObjects}
@@ -158,9 +158,10 @@ abbrev pub head_numbers : ℤ → Perm → List ℕ
 head_numbers key p = cast_unsigned w32 key ∷ p.uid ∷ p.gid ∷ p.cuid ∷ p.cgid ∷ p.mode ∷ []
 
 -- these, its own numbers, how many parts it has, and each of them
-abbrev pub entry_bytes : {X P : Type 0} → List Size → (X → List ℕ) → (P → List ℕ) → (X → List P) → Entry X → List ℕ
+abbrev pub entry_bytes : {X P : Type 0} → List Size → (X → List ℕ) → (P → List ℕ) → (X → List P) → KeyedEntry X
+    → List ℕ
 entry_bytes sizes numbers part_bytes parts e =
-    fields_bytes head_sizes (head_numbers e.key e.perm)
+    fields_bytes head_sizes (head_numbers e.bound e.perm)
     ++ (fields_bytes sizes (numbers e.object) ++ counted_bytes part_bytes (parts e.object))
 
 -- ---- message queues
@@ -192,11 +193,11 @@ message_bytes = bytes_in message_shape message_tree
 abbrev pub messages_of : Queue → List PlainMessage
 messages_of q = q.messages
 
-abbrev pub queue_bytes : Entry Queue → List ℕ
+abbrev pub queue_bytes : KeyedEntry Queue → List ℕ
 queue_bytes = entry_bytes queue_sizes queue_numbers message_bytes messages_of
 
 -- its object
-abbrev pub queue_object : ℕ × Entry Queue → ℕ × List ℕ
+abbrev pub queue_object : ℕ × KeyedEntry Queue → ℕ × List ℕ
 queue_object = object_in (2 ^ 32) queue_bytes
 
 -- ---- semaphore sets
@@ -224,11 +225,11 @@ semaphore_bytes = bytes_in semaphore_shape semaphore_numbers
 abbrev pub semaphores_of : Set → List Semaphore
 semaphores_of s = s.semaphores
 
-abbrev pub set_bytes : Entry Set → List ℕ
+abbrev pub set_bytes : KeyedEntry Set → List ℕ
 set_bytes = entry_bytes set_sizes set_numbers semaphore_bytes semaphores_of
 
 -- its object
-abbrev pub set_object : ℕ × Entry Set → ℕ × List ℕ
+abbrev pub set_object : ℕ × KeyedEntry Set → ℕ × List ℕ
 set_object = object_in (2 * 2 ^ 32) set_bytes
 
 -- ---- POSIX queues
@@ -245,15 +246,15 @@ mq_sizes = Four ∷ Four ∷ Four ∷ Four ∷ Four ∷ Four ∷ Four ∷ Four �
 
 abbrev pub mq_numbers : NamedEntry Mq → List ℕ
 mq_numbers e =
-    e.owner.uid ∷ e.owner.gid ∷ e.mode ∷ e.object.maxmsg ∷ e.object.msgsize
-    ∷ registration_numbers e.object.registration ++ length e.object.messages ∷ length e.name ∷ []
+    e.perm.uid ∷ e.perm.gid ∷ e.perm.mode ∷ e.object.maxmsg ∷ e.object.msgsize
+    ∷ registration_numbers e.object.registration ++ length e.object.messages ∷ length e.bound ∷ []
 
 -- these, and the name
 abbrev pub mq_shape : Shape
 mq_shape = Texts mq_sizes (λ ns. slice_index ns 10)
 
 abbrev pub mq_tree : NamedEntry Mq → Tree mq_shape
-mq_tree e = (mq_numbers e, e.name)
+mq_tree e = (mq_numbers e, e.bound)
 
 -- a message: its priority, how long its text is, and the text
 abbrev pub mq_message_sizes : List Size
@@ -286,14 +287,14 @@ abbrev pub psem_sizes : List Size
 psem_sizes = Four ∷ Four ∷ Four ∷ Four ∷ Four ∷ []
 
 abbrev pub psem_numbers : NamedEntry ℕ → List ℕ
-psem_numbers e = e.owner.uid ∷ e.owner.gid ∷ e.mode ∷ e.object ∷ length e.name ∷ []
+psem_numbers e = e.perm.uid ∷ e.perm.gid ∷ e.perm.mode ∷ e.object ∷ length e.bound ∷ []
 
 -- these, and the name
 abbrev pub psem_shape : Shape
 psem_shape = Texts psem_sizes (λ ns. slice_index ns 4)
 
 abbrev pub psem_tree : NamedEntry ℕ → Tree psem_shape
-psem_tree e = (psem_numbers e, e.name)
+psem_tree e = (psem_numbers e, e.bound)
 
 abbrev pub psem_bytes : NamedEntry ℕ → List ℕ
 psem_bytes = bytes_in psem_shape psem_tree
@@ -309,14 +310,14 @@ abbrev pub segment_sizes : List Size
 segment_sizes = Four ∷ Four ∷ Four ∷ Four ∷ Eight ∷ []
 
 abbrev pub segment_numbers : NamedEntry Segment → List ℕ
-segment_numbers e = e.owner.uid ∷ e.owner.gid ∷ e.mode ∷ length e.name ∷ length e.object.bytes ∷ []
+segment_numbers e = e.perm.uid ∷ e.perm.gid ∷ e.perm.mode ∷ length e.bound ∷ length e.object.bytes ∷ []
 
 -- these, the name, and the bytes
 abbrev pub segment_shape : Shape
 segment_shape = Texts segment_sizes (λ ns. slice_index ns 3 + slice_index ns 4)
 
 abbrev pub segment_tree : NamedEntry Segment → Tree segment_shape
-segment_tree e = (segment_numbers e, e.name ++ e.object.bytes)
+segment_tree e = (segment_numbers e, e.bound ++ e.object.bytes)
 
 abbrev pub segment_bytes : NamedEntry Segment → List ℕ
 segment_bytes = bytes_in segment_shape segment_tree
@@ -367,30 +368,37 @@ FitsSemaphore x = (x.value ≤ most_value) × IsTree semaphore_shape (semaphore_
 
 -- of an object with a key, and its parts
 pub record FitsEntry {X P : Type 0} (sizes : List Size) (own : X → List ℕ) (FitsPart : P → Type 0)
-    (parts_of : X → List P) (e : Entry X) : Type 0 where
-  pub key : FitsSigned w32 e.key
-  pub head : FitFields head_sizes (head_numbers e.key e.perm)
+    (parts_of : X → List P) (e : KeyedEntry X) : Type 0 where
+  pub key : FitsSigned w32 e.bound
+  pub head : FitFields head_sizes (head_numbers e.bound e.perm)
   pub numbers : FitFields sizes (own e.object)
   pub count : length (parts_of e.object) < 2 ^ 32
   pub parts : All FitsPart (parts_of e.object)
 
-abbrev pub FitsQueue : Entry Queue → Type 0
+abbrev pub FitsQueue : KeyedEntry Queue → Type 0
 FitsQueue = FitsEntry queue_sizes queue_numbers FitsMessage messages_of
 
-abbrev pub FitsSet : Entry Set → Type 0
+abbrev pub FitsSet : KeyedEntry Set → Type 0
 FitsSet = FitsEntry set_sizes set_numbers FitsSemaphore semaphores_of
 
 abbrev pub FitsMqMessage : MqMessage → Type 0
 FitsMqMessage m = IsTree mq_message_shape (mq_message_tree m)
 
+-- of an object with a name, and of what it is; whoever made it owns it, so that the owner's numbers tell of both
+pub record FitsNamed {X : Type 0} (shape : Shape) (tree_of : NamedEntry X → Tree shape) (FitsObject : X → Type 0)
+    (e : NamedEntry X) : Type 0 where
+  pub own : is_own e.perm ≡ true
+  pub tree : IsTree shape (tree_of e)
+  pub object : FitsObject e.object
+
 abbrev pub FitsMq : NamedEntry Mq → Type 0
-FitsMq e = IsTree mq_shape (mq_tree e) × All FitsMqMessage (mq_messages e.object)
+FitsMq = FitsNamed mq_shape mq_tree (λ q. All FitsMqMessage (mq_messages q))
 
 abbrev pub FitsPsem : NamedEntry ℕ → Type 0
-FitsPsem e = (e.object ≤ sem_value_max) × IsTree psem_shape (psem_tree e)
+FitsPsem = FitsNamed psem_shape psem_tree (λ value. value ≤ sem_value_max)
 
 abbrev pub FitsSegment : NamedEntry Segment → Type 0
-FitsSegment e = IsTree segment_shape (segment_tree e)
+FitsSegment = FitsNamed segment_shape segment_tree (λ x. ⊤)
 
 -- of those with a name
 pub record FitNamed (o : NamedObjects) : Type 0 where

@@ -1,7 +1,7 @@
 -- What is known of numbers once they are read, marks, and what a tree is of.
 use Rattle.std.specs.Prelude.{◌≡◌, ℕ, zero, suc, ◌-◌, ◌<◌, ◌≤◌, ◌^◌, ◌↔◌, List, [], ◌∷◌, ◌++◌, length}
 use Rattle.std.specs.Prelude.{ℤ, take, drop, Option, Some, None, slice_get, slice_index, map, unwrap_or}
-use Rattle.std.specs.Prelude.{nat_eq, ◌==◌, if◌then◌else◌, All}
+use Rattle.std.specs.Prelude.{nat_eq, ◌==◌, if◌then◌else◌, true, All}
 use Rattle.std.specs.List.{flat_map, fold}
 use Rattle.std.specs.FinMap as fin
 use Rattle.std.specs.Int.{w16, w64, cast_signed}
@@ -28,8 +28,8 @@ use Rattle.ipc_state.specs.declared.parked.Awaited.{Awaited}
 use Rattle.ipc_state.specs.declared.parked.Awaited.TheVariants as awaited
 use Rattle.ipc_state.specs.declared.descriptors.Descriptor.{Descriptor}
 use Rattle.ipc_state.specs.declared.processes.Process.{Process}
-use Rattle.ipc_state.specs.declared.keyed.Entry.{Entry}
-use Rattle.ipc_state.specs.declared.named.NamedEntry.{NamedEntry}
+use Rattle.ipc_state.specs.Keyed.{KeyedEntry}
+use Rattle.ipc_state.specs.Named.{NamedEntry, is_own}
 use Rattle.ipc_state.specs.Descriptors.{Table}
 use Rattle.ipc_state.specs.declared.numbered.Item.{Item}
 use Rattle.ipc_state.specs.declared.state.Numbers.{Numbers}
@@ -60,10 +60,10 @@ pub record IsPlace {S X : Type 0} (items : S → List X) (put : S → List X →
 abbrev pub put_processes : State × Limits → List (ℕ × Process) → State × Limits
 put_processes s xs = (record s.0 { processes = record { next = s.0.processes.next; entries = xs } }, s.1)
 
-abbrev pub put_queues : State × Limits → List (ℕ × Entry Queue) → State × Limits
+abbrev pub put_queues : State × Limits → List (ℕ × KeyedEntry Queue) → State × Limits
 put_queues s xs = (record s.0 { msg = record { next = s.0.msg.next; entries = xs } }, s.1)
 
-abbrev pub put_sets : State × Limits → List (ℕ × Entry Set) → State × Limits
+abbrev pub put_sets : State × Limits → List (ℕ × KeyedEntry Set) → State × Limits
 put_sets s xs = (record s.0 { semset = record { next = s.0.semset.next; entries = xs } }, s.1)
 
 abbrev pub put_mqs : State × Limits → List (ℕ × NamedEntry Mq) → State × Limits
@@ -107,10 +107,10 @@ MarkAt IsMark next (x ∷ xs) zero m = IsMark x m
 MarkAt IsMark next (x ∷ xs) (suc at) m = MarkAt IsMark next xs at m
 
 -- of the messages of a queue, of a set's semaphores, or of the messages of a POSIX queue
-abbrev pub IsMarkOfQueue : ℕ × Entry Queue → Mark → Type 0
+abbrev pub IsMarkOfQueue : ℕ × KeyedEntry Queue → Mark → Type 0
 IsMarkOfQueue e m = IsMarkIn message_bytes e.1.object.messages m
 
-abbrev pub IsMarkOfSet : ℕ × Entry Set → Mark → Type 0
+abbrev pub IsMarkOfSet : ℕ × KeyedEntry Set → Mark → Type 0
 IsMarkOfSet e m = IsMarkIn semaphore_bytes e.1.object.semaphores m
 
 abbrev pub IsMarkOfMq : ℕ × NamedEntry Mq → Mark → Type 0
@@ -241,6 +241,10 @@ perm_from ns =
       mode = slice_index ns 5;
     }
 
+-- of an object with a name, which whoever made it owns
+abbrev pub own_perm : ℕ → ℕ → ℕ → Perm
+own_perm uid gid mode = record { uid = uid; gid = gid; cuid = uid; cgid = gid; mode = mode }
+
 abbrev pub with_messages : Queue → List PlainMessage → Queue
 with_messages q messages = record q { messages = messages }
 
@@ -285,9 +289,8 @@ mq_message_of t = record { priority = slice_index t.0 0; text = t.1 }
 abbrev pub mq_from : List ℕ × List ℕ → List MqMessage → NamedEntry Mq
 mq_from t messages =
     record {
-      name = t.1;
-      owner = record { uid = slice_index t.0 0; gid = slice_index t.0 1 };
-      mode = slice_index t.0 2;
+      bound = t.1;
+      perm = own_perm (slice_index t.0 0) (slice_index t.0 1) (slice_index t.0 2);
       object = record {
         messages = messages;
         maxmsg = slice_index t.0 3;
@@ -299,26 +302,29 @@ mq_from t messages =
 abbrev pub psem_from : List ℕ × List ℕ → NamedEntry ℕ
 psem_from t =
     record {
-      name = t.1;
-      owner = record { uid = slice_index t.0 0; gid = slice_index t.0 1 };
-      mode = slice_index t.0 2;
+      bound = t.1;
+      perm = own_perm (slice_index t.0 0) (slice_index t.0 1) (slice_index t.0 2);
       object = slice_index t.0 3;
     }
 
 abbrev pub segment_from : List ℕ × List ℕ → NamedEntry Segment
 segment_from t =
     record {
-      name = take (slice_index t.0 3) t.1;
-      owner = record { uid = slice_index t.0 0; gid = slice_index t.0 1 };
-      mode = slice_index t.0 2;
+      bound = take (slice_index t.0 3) t.1;
+      perm = own_perm (slice_index t.0 0) (slice_index t.0 1) (slice_index t.0 2);
       object = record { bytes = drop (slice_index t.0 3) t.1 };
     }
 
--- what is known of the sizes of a sound POSIX queue
-pub record IsSmallMq (e : NamedEntry Mq) : Type 0 where
-  pub name : length e.name < 2 ^ 32
-  pub count : length e.object.messages < 2 ^ 32
-  pub texts : All (λ m. length m.text < 2 ^ 32) e.object.messages
+-- what is known of the sizes of a sound object with a name, and of the object
+pub record IsSmallNamed {X : Type 0} (IsSmallObject : X → Type 0) (e : NamedEntry X) : Type 0 where
+  pub own : is_own e.perm ≡ true
+  pub name : length e.bound < 2 ^ 32
+  pub object : IsSmallObject e.object
+
+-- of a POSIX queue
+pub record IsSmallMq (q : Mq) : Type 0 where
+  pub count : length q.messages < 2 ^ 32
+  pub texts : All (λ m. length m.text < 2 ^ 32) q.messages
 
 -- the named objects that have these tables
 abbrev pub seen_named : Numbers → List (Item (NamedEntry Mq)) → List (Item (NamedEntry ℕ))
@@ -331,8 +337,8 @@ seen_named n mqs sems segments =
     }
 
 -- the state that has these tables, and these named objects
-abbrev pub seen_state : Numbers → List (Item Process) → List PlainWaiting → List (Item Undo) → List (Item (Entry Queue))
-    → List (Item (Entry Set)) → NamedObjects → State
+abbrev pub seen_state : Numbers → List (Item Process) → List PlainWaiting → List (Item Undo)
+    → List (Item (KeyedEntry Queue)) → List (Item (KeyedEntry Set)) → NamedObjects → State
 seen_state n processes waits undo queues sets named =
     record {
       clock = n.clock.0;

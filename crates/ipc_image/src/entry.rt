@@ -1,24 +1,24 @@
 //! The object of a thing with a key: its key and who may use it, and then what its kind has.
 
-ghost use Rattle.std.specs.Prelude.{◌≡◌, ◌≢◌, ◌++◌, ℕ, List, pos, drop, IfSome, IfNone, FitsSigned};
+ghost use Rattle.std.specs.Prelude.{◌≡◌, ◌≢◌, ◌++◌, ℕ, List, IfSome, IfNone, FitsSigned};
 ghost use Rattle.std.specs.Int.{w32};
 ghost use Rattle.ipc_base.specs.Numbers.{fields_bytes, FitFields};
 ghost use Rattle.ipc_image.specs.Saved.{head_sizes, head_numbers, entry_bytes, FitsEntry};
-ghost use Rattle.ipc_image.specs.SavedParts.{perm_from, IsMarkIn};
+ghost use Rattle.ipc_image.specs.SavedParts.{IsMarkIn};
 ghost use Rattle.ipc_image.specs.Window.{passed};
 ghost use Rattle.ipc_image.specs.Relations.Entries.{entry_one};
 
 use crate::fields::{FOUR, put_fields};
 use crate::kind::Kind;
+use crate::perm::{perm_in, read_perm};
 use crate::stored::Stored;
 use crate::window::Window;
 use ipc_base::{Field, Id, Mark, take_fields};
 use ipc_engine::StateFault;
-use ipc_perm::Perm;
-use ipc_state::{Entry, State};
+use ipc_state::{Entry, KeyedEntry, State};
 use std::alloc::{AllocError, Global};
 
-impl<T: Kind> Stored for Entry<T> {
+impl<T: Kind> Stored for KeyedEntry<T> {
     ghost bytes_of = { entry_bytes T.sizes T.numbers T.part_bytes T.parts };
 
     ghost Fits = { FitsEntry T.sizes T.numbers T.FitsPart T.parts };
@@ -54,30 +54,30 @@ impl<T: Kind> Stored for Entry<T> {
         self.object.put_parts(window, mark);
     }
 
-    fn read(alloc: Global, bytes: &[u8]) -> Result<Entry<T>, StateFault> {
+    fn read(alloc: Global, bytes: &[u8]) -> Result<KeyedEntry<T>, StateFault> {
         let (head, rest) = take_head(bytes).ok_or(StateFault::Unsound)?;
         let (mut object, rest) = T::read_head(alloc, rest)?;
         object.read_parts(rest)?;
         Ok(Entry {
-            key: head.key,
+            bound: head.bound,
             perm: head.perm,
             object,
         })
     }
 
-    fn add(state: &mut State, number: u32, entry: Entry<T>) -> Result<(), AllocError> {
+    fn add(state: &mut State, number: u32, entry: KeyedEntry<T>) -> Result<(), AllocError> {
         T::add(state, Id(number), entry)
     }
 }
 
-fn put_head<T>(window: &mut Window, entry: &Entry<T>)
-    ensures { window.new ≡ passed (fields_bytes head_sizes (head_numbers entry.now.key entry.now.perm)) window.old }
+fn put_head<T>(window: &mut Window, entry: &KeyedEntry<T>)
+    ensures { window.new ≡ passed (fields_bytes head_sizes (head_numbers entry.now.bound entry.now.perm)) window.old }
 {
     let perm = entry.perm;
     put_fields(
         window,
         &[
-            Field::U32(entry.key.cast_unsigned()),
+            Field::U32(entry.bound.cast_unsigned()),
             Field::U32(perm.uid),
             Field::U32(perm.gid),
             Field::U32(perm.cuid),
@@ -88,44 +88,27 @@ fn put_head<T>(window: &mut Window, entry: &Entry<T>)
 }
 
 // An entry with its key and who may use it, and no object yet; and the bytes after them.
-fn take_head(bytes: &[u8]) -> Option<(Entry<()>, &[u8])>
-    ensures some { IfSome result (λ found. FitsSigned w32 found.0.key
-        × FitFields head_sizes (head_numbers found.0.key found.0.perm)
-        × (bytes.now ≡ fields_bytes head_sizes (head_numbers found.0.key found.0.perm) ++ found.1.now)) }
+fn take_head(bytes: &[u8]) -> Option<(KeyedEntry<()>, &[u8])>
+    ensures some { IfSome result (λ found. FitsSigned w32 found.0.bound
+        × FitFields head_sizes (head_numbers found.0.bound found.0.perm)
+        × (bytes.now ≡ fields_bytes head_sizes (head_numbers found.0.bound found.0.perm) ++ found.1.now)) }
     ensures none { IfNone result ((ns rest : List ℕ) → FitFields head_sizes ns
         → bytes.now ≢ fields_bytes head_sizes ns ++ rest) }
 {
     let (numbers, rest) = take_fields(bytes, &[FOUR, FOUR, FOUR, FOUR, FOUR, FOUR])?;
     let head = Entry {
-        key: (numbers[0] as u32).cast_signed(),
+        bound: (numbers[0] as u32).cast_signed(),
         perm: perm_in(&numbers),
         object: (),
     };
     Some((head, rest))
 }
 
-fn perm_in(numbers: &[u64; 6]) -> Perm
-    requires { FitFields head_sizes numbers.now }
-    ensures { result ≡ perm_from numbers.now }
-{
-    Perm {
-        uid: numbers[1] as u32,
-        gid: numbers[2] as u32,
-        cuid: numbers[3] as u32,
-        cgid: numbers[4] as u32,
-        mode: numbers[5] as u32,
-    }
-}
-
 // Reads the key of an entry and who may use it, so that each number has its place.
-fn read_head<T>(entry: &Entry<T>)
-    ensures key { FitsSigned w32 entry.now.key }
-    ensures head { FitFields head_sizes (head_numbers entry.now.key entry.now.perm) }
+fn read_head<T>(entry: &KeyedEntry<T>)
+    ensures key { FitsSigned w32 entry.now.bound }
+    ensures head { FitFields head_sizes (head_numbers entry.now.bound entry.now.perm) }
 {
-    let _key = entry.key;
+    let _key = entry.bound;
     read_perm(entry.perm);
 }
-
-fn read_perm(perm: Perm)
-    ensures { FitFields (drop 1 head_sizes) (drop 1 (head_numbers (pos 0) perm)) }
-{}

@@ -6,7 +6,7 @@ ghost use Rattle.ipc_base.specs.declared.field.Size.{Size};
 ghost use Rattle.ipc_base.specs.declared.limits.Limits.{Limits};
 ghost use Rattle.ipc_base.specs.Numbers.{fields_bytes, FitFields};
 ghost use Rattle.ipc_engine.specs.declared.fault.StateFault.{StateFault};
-ghost use Rattle.ipc_state.specs.declared.keyed.Entry.{Entry as PlainEntry};
+ghost use Rattle.ipc_state.specs.Keyed.{KeyedEntry as PlainEntry};
 ghost use Rattle.ipc_state.specs.State.{State as PlainState};
 ghost use Rattle.ipc_image.specs.Saved.{counted_bytes};
 ghost use Rattle.ipc_image.specs.SavedParts.{with_more, IsMarkIn, IsPlace};
@@ -15,7 +15,7 @@ ghost use Rattle.ipc_image.specs.Window.{passed};
 use crate::window::Window;
 use ipc_base::{Id, Mark};
 use ipc_engine::StateFault;
-use ipc_state::{Entry, State};
+use ipc_state::{KeyedEntry, State};
 use std::alloc::{AllocError, Global};
 
 /// A thing with a key, which has an object of its own: beside the key and who may use it, its own numbers and its
@@ -94,7 +94,7 @@ pub(crate) trait Kind: Drop {
             → All FitsPart ps → bytes.now ≢ counted_bytes part_bytes ps };
 
     /// Adds what was read to a state, at the end.
-    fn add(state: &mut State, id: Id, entry: Entry<Self>) -> Result<(), AllocError>
+    fn add(state: &mut State, id: Id, entry: KeyedEntry<Self>) -> Result<(), AllocError>
         ensures { OnOk result ((state.new.state, state.new.limits)
             ≡ with_more items put (state.old.state, state.old.limits) ((id.0, entry) ∷ [])) };
 

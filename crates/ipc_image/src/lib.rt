@@ -7,8 +7,8 @@
 //! |---|---|
 //! | `Thing` | one object of the state that has an object of the device for itself, of any kind |
 //! | `Stored` | the trait of those: their bytes in a window, how they are read back, which numbers their objects have |
-//! | `Entry` | one with a key, beside who may use it; of `ipc_state` |
-//! | `Kind` | the trait of what an `Entry` holds: its own numbers and its parts |
+//! | `Entry` | one with a key or a name, beside who may use it; of `ipc_state` |
+//! | `Kind` | the trait of what an `Entry` with a key holds: its own numbers and its parts |
 //! | `Saved` | the trait of what shares an object of the device with others like it, as processes do |
 //! | `Shape` | the form of a `Saved` one: the sizes of its numbers, and how many bytes come after these |
 //! | `Tree` | a value of a `Shape`: the numbers, and the bytes after them |
@@ -25,6 +25,7 @@ mod kind;
 mod laws;
 mod mq;
 mod msg_queue;
+mod perm;
 mod places;
 mod process;
 mod psem;

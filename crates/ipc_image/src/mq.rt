@@ -7,17 +7,18 @@ ghost use Rattle.posix_mq.specs.Queue.{plain, Queue, PlainMessage};
 ghost use Rattle.posix_mq.specs.declared.queue.Registration.{Registration as PlainRegistration};
 ghost use Rattle.ipc_image.specs.Saved.{mq_message_shape, mq_message_tree, mq_message_bytes, FitsMqMessage};
 ghost use Rattle.ipc_image.specs.Saved.{mq_messages, mq_sizes, mq_bytes, FitsMq, registration_numbers};
-ghost use Rattle.ipc_image.specs.SavedParts.{with_mq_messages, put_mqs, IsMarkIn, IsSmallMq};
+ghost use Rattle.ipc_image.specs.SavedParts.{with_mq_messages, put_mqs, IsMarkIn, IsSmallMq, IsSmallNamed};
 ghost use Rattle.ipc_image.specs.Relations.Mqs.{mq_message_one, mq_one};
 
 use crate::fields::{FOUR, put_row};
+use crate::perm::own_perm;
 use crate::saved::{Saved, list_len, put_list, read_list};
 use crate::stored::Stored;
 use crate::window::Window;
-use ipc_base::{Cred, Field, Mark, Pid, take_fields};
+use ipc_base::{Field, Mark, Pid, take_fields};
 use ipc_engine::StateFault;
 use ipc_keys::Name;
-use ipc_state::{NamedEntry, State};
+use ipc_state::{Entry, NamedEntry, State};
 use posix_mq::{Message, Mq, Registration};
 use std::alloc::{AllocError, Global};
 
@@ -85,7 +86,7 @@ impl Stored for NamedEntry<Mq> {
 
     ghost Fits = { FitsMq };
 
-    ghost IsSmall = { IsSmallMq };
+    ghost IsSmall = { IsSmallNamed IsSmallMq };
 
     ghost IsMark = { λ e m. IsMarkIn mq_message_bytes e.object.messages m };
 
@@ -102,27 +103,27 @@ impl Stored for NamedEntry<Mq> {
     ghost place = { record { same = λ s. refl; found = λ s xs. refl; again = λ s xs ys. refl } };
 
     fn read_numbers(&self) {
-        let _uid = self.owner.uid;
-        let _gid = self.owner.gid;
-        let _mode = self.mode;
+        let _uid = self.perm.uid;
+        let _gid = self.perm.gid;
+        let _mode = self.perm.mode;
         let _attr = self.object.attr();
         read_registration(self.object.registration());
     }
 
     fn len(&self) -> u64 {
-        QUEUE_NUMBERS + self.name.bytes().len() as u64 + list_len(self.object.messages())
+        QUEUE_NUMBERS + self.bound.bytes().len() as u64 + list_len(self.object.messages())
     }
 
     fn put(&self, window: &mut Window, mark: &mut Mark) {
         let attr = self.object.attr();
         let registration = registration_numbers(self.object.registration());
-        let name = self.name.bytes();
+        let name = self.bound.bytes();
         put_row(
             window,
             &[
-                Field::U32(self.owner.uid),
-                Field::U32(self.owner.gid),
-                Field::U32(self.mode),
+                Field::U32(self.perm.uid),
+                Field::U32(self.perm.gid),
+                Field::U32(self.perm.mode),
                 Field::U32(attr.maxmsg),
                 Field::U32(attr.msgsize),
                 Field::U32(registration[0]),
@@ -149,13 +150,9 @@ impl Stored for NamedEntry<Mq> {
         let name = Name::new(alloc, name)?;
         let mut object = Mq::restored(alloc, numbers[3] as u32, numbers[4] as u32, registration)?;
         read_list::<Message>(&mut object, numbers[9] as u32, rest)?;
-        Ok(NamedEntry {
-            name,
-            owner: Cred {
-                uid: numbers[0] as u32,
-                gid: numbers[1] as u32,
-            },
-            mode: numbers[2] as u32,
+        Ok(Entry {
+            bound: name,
+            perm: own_perm(numbers[0] as u32, numbers[1] as u32, numbers[2] as u32),
             object,
         })
     }

@@ -21,7 +21,7 @@ use crate::saved::{Saved, put_counted, read_counted};
 use crate::window::Window;
 use ipc_base::{Field, Id, Mark, Moment, Pid, take_fields};
 use ipc_engine::StateFault;
-use ipc_state::{Entry, State};
+use ipc_state::{KeyedEntry, State};
 use std::alloc::{AllocError, Global};
 use sysv_msg::{Message, MsgQueue, QueueNumbers, QueueStat};
 
@@ -160,7 +160,7 @@ impl Kind for MsgQueue {
         read_counted::<Message>(self, bytes)
     }
 
-    fn add(state: &mut State, id: Id, entry: Entry<MsgQueue>) -> Result<(), AllocError>
+    fn add(state: &mut State, id: Id, entry: KeyedEntry<MsgQueue>) -> Result<(), AllocError>
         ensures { OnOk result ((state.new.state, state.new.limits) ≡ with_more (λ s. s.0.msg.entries) put_queues
             (state.old.state, state.old.limits) ((id.0, entry) ∷ [])) }
     {

@@ -1,17 +1,18 @@
 //! A segment's object: its numbers, its name and its bytes.
 
-ghost use Rattle.std.specs.Prelude.{◌<◌, ◌*◌, ◌^◌, ⊤, length, refl};
+ghost use Rattle.std.specs.Prelude.{◌*◌, ◌^◌, ⊤, refl};
 ghost use Rattle.ipc_image.specs.Saved.{segment_bytes, FitsSegment};
-ghost use Rattle.ipc_image.specs.SavedParts.{put_segments};
+ghost use Rattle.ipc_image.specs.SavedParts.{put_segments, IsSmallNamed};
 ghost use Rattle.ipc_image.specs.Relations.Named.{segment_one};
 
 use crate::fields::{EIGHT, FOUR, put_row};
+use crate::perm::own_perm;
 use crate::stored::Stored;
 use crate::window::Window;
-use ipc_base::{Cred, Field, Mark, take_fields};
+use ipc_base::{Field, Mark, take_fields};
 use ipc_engine::StateFault;
 use ipc_keys::Name;
-use ipc_state::{NamedEntry, State};
+use ipc_state::{Entry, NamedEntry, State};
 use shm_segment::Segment;
 use std::alloc::{AllocError, Global};
 
@@ -23,7 +24,7 @@ impl Stored for NamedEntry<Segment> {
 
     ghost Fits = { FitsSegment };
 
-    ghost IsSmall = { λ e. length e.name < 2 ^ 32 };
+    ghost IsSmall = { IsSmallNamed (λ x. ⊤) };
 
     ghost IsMark = { λ e m. ⊤ };
 
@@ -40,24 +41,24 @@ impl Stored for NamedEntry<Segment> {
     ghost place = { record { same = λ s. refl; found = λ s xs. refl; again = λ s xs ys. refl } };
 
     fn read_numbers(&self) {
-        let _uid = self.owner.uid;
-        let _gid = self.owner.gid;
-        let _mode = self.mode;
+        let _uid = self.perm.uid;
+        let _gid = self.perm.gid;
+        let _mode = self.perm.mode;
         let _length = self.object.len();
     }
 
     fn len(&self) -> u64 {
-        NUMBERS + self.name.bytes().len() as u64 + self.object.len() as u64
+        NUMBERS + self.bound.bytes().len() as u64 + self.object.len() as u64
     }
 
     fn put(&self, window: &mut Window, mark: &mut Mark) {
-        let name = self.name.bytes();
+        let name = self.bound.bytes();
         put_row(
             window,
             &[
-                Field::U32(self.owner.uid),
-                Field::U32(self.owner.gid),
-                Field::U32(self.mode),
+                Field::U32(self.perm.uid),
+                Field::U32(self.perm.gid),
+                Field::U32(self.perm.mode),
                 Field::U32(name.len() as u32),
                 Field::U64(self.object.len() as u64),
             ],
@@ -76,13 +77,9 @@ impl Stored for NamedEntry<Segment> {
         if rest.len() as u64 != numbers[4] {
             return Err(StateFault::Unsound);
         }
-        Ok(NamedEntry {
-            name: Name::new(alloc, name)?,
-            owner: Cred {
-                uid: numbers[0] as u32,
-                gid: numbers[1] as u32,
-            },
-            mode: numbers[2] as u32,
+        Ok(Entry {
+            bound: Name::new(alloc, name)?,
+            perm: own_perm(numbers[0] as u32, numbers[1] as u32, numbers[2] as u32),
             object: Segment::of_bytes(alloc, rest)?,
         })
     }

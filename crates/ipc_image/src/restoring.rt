@@ -17,7 +17,7 @@ use crate::stored::restore_kind;
 use crate::waiting::restore_waits;
 use ipc_base::{Limits, ObjectMap, Objects};
 use ipc_engine::{Engine, StateFault};
-use ipc_state::{Entry, Item, NamedEntry, Process, State};
+use ipc_state::{Item, KeyedEntry, NamedEntry, Process, State};
 use posix_mq::Mq;
 use posix_sem::NamedSem;
 use shm_segment::Segment;
@@ -68,8 +68,8 @@ fn restore(state: &mut State, alloc: Global, objects: &ObjectMap) -> Result<(), 
     read_counted::<Item<Process>>(state, processes)?;
     restore_waits(state, alloc, calls)?;
     restore_adjustments(state, alloc, adjustments)?;
-    let next = restore_kind::<Entry<MsgQueue>>(state, alloc, objects, ALWAYS)?;
-    let next = restore_kind::<Entry<SemSet>>(state, alloc, objects, next)?;
+    let next = restore_kind::<KeyedEntry<MsgQueue>>(state, alloc, objects, ALWAYS)?;
+    let next = restore_kind::<KeyedEntry<SemSet>>(state, alloc, objects, next)?;
     restore_named(state, alloc, objects, next)?;
     Ok(())
 }

@@ -24,7 +24,7 @@ use crate::widths::{Wide, read_each};
 use crate::window::Window;
 use ipc_base::{Field, Id, Mark, Moment, Pid, take_fields};
 use ipc_engine::StateFault;
-use ipc_state::{Entry, State};
+use ipc_state::{KeyedEntry, State};
 use std::alloc::{AllocError, Global};
 use sysv_sem::{MOST_VALUE, SemSet, Semaphore};
 
@@ -160,7 +160,7 @@ impl Kind for SemSet {
         read_counted::<Semaphore>(self, bytes)
     }
 
-    fn add(state: &mut State, id: Id, entry: Entry<SemSet>) -> Result<(), AllocError>
+    fn add(state: &mut State, id: Id, entry: KeyedEntry<SemSet>) -> Result<(), AllocError>
         ensures { OnOk result ((state.new.state, state.new.limits) ≡ with_more (λ s. s.0.semset.entries) put_sets
             (state.old.state, state.old.limits) ((id.0, entry) ∷ [])) }
     {

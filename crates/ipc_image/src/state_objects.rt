@@ -20,7 +20,7 @@ use crate::widths::read_state;
 use crate::window::Window;
 use ipc_base::{Mark, Moment, Objects};
 use ipc_engine::Engine;
-use ipc_state::{Awaited, Entry, Item, NamedEntry, Numbers, Parked, Process};
+use ipc_state::{Awaited, Item, KeyedEntry, NamedEntry, Numbers, Parked, Process};
 use ipc_wait::Waiting;
 use posix_mq::Mq;
 use posix_sem::NamedSem;
@@ -38,8 +38,8 @@ pub struct StateObjects<'a> {
     processes: &'a [Item<Process>],
     waits: &'a [Waiting<Awaited, Parked>],
     undo: &'a [Item<SemUndo>],
-    queues: &'a [Item<Entry<MsgQueue>>],
-    sets: &'a [Item<Entry<SemSet>>],
+    queues: &'a [Item<KeyedEntry<MsgQueue>>],
+    sets: &'a [Item<KeyedEntry<SemSet>>],
     mqs: &'a [Item<NamedEntry<Mq>>],
     sems: &'a [Item<NamedEntry<NamedSem>>],
     segments: &'a [Item<NamedEntry<Segment>>],
@@ -48,8 +48,8 @@ pub struct StateObjects<'a> {
 /// What has an object of its own.
 #[derive(Clone, Copy)]
 pub(crate) enum Thing<'a> {
-    MsgQueue(&'a Item<Entry<MsgQueue>>),
-    Semset(&'a Item<Entry<SemSet>>),
+    MsgQueue(&'a Item<KeyedEntry<MsgQueue>>),
+    Semset(&'a Item<KeyedEntry<SemSet>>),
     Mq(&'a Item<NamedEntry<Mq>>),
     Psem(&'a Item<NamedEntry<NamedSem>>),
     Pshm(&'a Item<NamedEntry<Segment>>),
@@ -157,8 +157,8 @@ impl<'a> Objects for StateObjects<'a> {
             return u64::from(i);
         }
         match thing_at(self, i) {
-            Thing::MsgQueue(queue) => Entry::<MsgQueue>::FIRST + u64::from(queue.number),
-            Thing::Semset(set) => Entry::<SemSet>::FIRST + u64::from(set.number),
+            Thing::MsgQueue(queue) => KeyedEntry::<MsgQueue>::FIRST + u64::from(queue.number),
+            Thing::Semset(set) => KeyedEntry::<SemSet>::FIRST + u64::from(set.number),
             Thing::Mq(mq) => NamedEntry::<Mq>::FIRST + u64::from(mq.number),
             Thing::Psem(sem) => NamedEntry::<NamedSem>::FIRST + u64::from(sem.number),
             Thing::Pshm(segment) => NamedEntry::<Segment>::FIRST + u64::from(segment.number),

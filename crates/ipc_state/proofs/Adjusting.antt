@@ -17,10 +17,10 @@ use Rattle.ipc_base.proofs.CallerLemmas.{at-with, other-with, value_at-without}
 use Rattle.sem_undo.specs.Undo.{Key, Undo, key_cmp, cleared, without_set}
 use Rattle.sem_undo.proofs.CallerLemmas.{key_total, key_apart, retained}
 use Rattle.sysv_sem.specs.Set.{Set, after_exit}
-use Rattle.ipc_state.specs.declared.keyed.Entry.{Entry}
+use Rattle.ipc_state.specs.Keyed.{KeyedEntry, Keyed}
 use Rattle.ipc_state.specs.declared.numbered.Item.{Item}
 use Rattle.ipc_state.specs.Tables.{item_row}
-use Rattle.ipc_state.specs.Keyed.{Keyed, holding}
+use Rattle.ipc_state.specs.Bound.{holding}
 use Rattle.ipc_state.specs.Numbered.{entry_of, with_entry, with_new, without_entry}
 use Rattle.ipc_state.specs.Sound.{has_semaphore, AreAt, AreAdjustments}
 use Rattle.ipc_state.specs.State.{adjusted, undone}
@@ -32,11 +32,11 @@ abbrev pub HasAll : Keyed Set → Keyed Set → Type 0
 HasAll old new = (k : Key) → has_semaphore old k ≡ true → has_semaphore new k ≡ true
 
 -- an entry has a semaphore of this number
-abbrev pub holds : Option (Entry Set) → ℕ → Bool
-holds r num = unwrap_or (option_map (λ (e : Entry Set). nat_lt num (length e.object.semaphores)) r) false
+abbrev pub holds : Option (KeyedEntry Set) → ℕ → Bool
+holds r num = unwrap_or (option_map (λ (e : KeyedEntry Set). nat_lt num (length e.object.semaphores)) r) false
 
 -- a set of as many in the place of one that is there
-pub has-with : (o : Keyed Set) (id : ℕ) (e f : Entry Set) → entry_of o id ≡ Some e → length f.object.semaphores ≡ length e.object.semaphores
+pub has-with : (o : Keyed Set) (id : ℕ) (e f : KeyedEntry Set) → entry_of o id ≡ Some e → length f.object.semaphores ≡ length e.object.semaphores
     → (k : Key) → has_semaphore (with_entry o id f) k ≡ has_semaphore o k
 has-with o id e f is same k = by_test (nat_eq k.0 id) refl
   where
@@ -50,7 +50,7 @@ has-with o id e f is same k = by_test (nat_eq k.0 id) refl
         let apart : k.0 ≢ id = λ same. grind (arith, nat_tests) in
         ap (λ r. holds r k.1) (other-with o.entries id k.0 f apart)
 
-has-more : (es more : List (ℕ × Entry Set)) (k : Key) → holds (value_at nat_eq es k.0) k.1 ≡ true → holds (value_at nat_eq (es ++ more) k.0) k.1 ≡ true
+has-more : (es more : List (ℕ × KeyedEntry Set)) (k : Key) → holds (value_at nat_eq es k.0) k.1 ≡ true → holds (value_at nat_eq (es ++ more) k.0) k.1 ≡ true
 has-more [] more k is = cc
 has-more (e ∷ es) more k is = by_test (nat_eq e.0 k.0) is (has-more es more k)
   where
@@ -60,7 +60,7 @@ has-more (e ∷ es) more k is = by_test (nat_eq e.0 k.0) is (has-more es more k)
     by_test true is later = is
     by_test false is later = later is
 
-pub has-new : (o : Keyed Set) (e : Entry Set) → HasAll o (with_new o e)
+pub has-new : (o : Keyed Set) (e : KeyedEntry Set) → HasAll o (with_new o e)
 has-new o e k is = has-more o.entries ((o.next, e) ∷ []) k is
 
 pub has-without : (o : Keyed Set) (id : ℕ) (k : Key) → k.0 ≢ id → has_semaphore o k ≡ true → has_semaphore (without_entry o id) k ≡ true
@@ -70,13 +70,13 @@ has-without o id k apart is = ap (λ r. holds r k.1) (value_at-without o.entries
 
 -- an adjustment of a set that is there, or of one that is not
 pub adjusted-by : (P : Keyed Set → Type 0) (pid : ℕ) (o : Keyed Set) (a : Key × ℤ)
-    → ((e : Entry Set) → entry_of o a.0.0 ≡ Some e → P (with_entry o a.0.0 (holding e (after_exit e.object a.0.1 a.1 (record { 0 = pid })))))
+    → ((e : KeyedEntry Set) → entry_of o a.0.0 ≡ Some e → P (with_entry o a.0.0 (holding e (after_exit e.object a.0.1 a.1 (record { 0 = pid })))))
     → P o → P (adjusted pid o a)
 adjusted-by P pid o a there none = by_entry (entry_of o a.0.0) there none
   where
-    by_entry : (r : Option (Entry Set))
-        → ((e : Entry Set) → r ≡ Some e → P (with_entry o a.0.0 (holding e (after_exit e.object a.0.1 a.1 (record { 0 = pid })))))
-        → P o → P (unwrap_or (option_map (λ (e : Entry Set). with_entry o a.0.0 (holding e (after_exit e.object a.0.1 a.1 (record { 0 = pid })))) r) o)
+    by_entry : (r : Option (KeyedEntry Set))
+        → ((e : KeyedEntry Set) → r ≡ Some e → P (with_entry o a.0.0 (holding e (after_exit e.object a.0.1 a.1 (record { 0 = pid })))))
+        → P o → P (unwrap_or (option_map (λ (e : KeyedEntry Set). with_entry o a.0.0 (holding e (after_exit e.object a.0.1 a.1 (record { 0 = pid })))) r) o)
     by_entry None there none = none
     by_entry (Some e) there none = there e refl
 

@@ -1,7 +1,7 @@
 -- What the crates above cite: each change of the state leads from a sound state to a sound state, and so does a call
 -- whose steps do.
 use Rattle.std.proofs.Common.{◌≡◌, ℕ, ℤ, ◌+◌, ◌<◌, ◌≤◌, Bool, true, false, Option, Some, None, refl, arith, rules, sym, ap, subst, ◌∙◌, List}
-use Rattle.std.proofs.Common.{[], ◌∷◌, ◌++◌, not, suc, drop, take, length, length-append}
+use Rattle.std.proofs.Common.{inl, [], ◌∷◌, ◌++◌, not, suc, drop, take, length, length-append}
 use Rattle.std.proofs.lemmas.Nat.{and_le_r}
 use Rattle.std.specs.Prelude.{⊤, option_map, unwrap_or, All, nat_eq, nat_lt, IfSome, if◌then◌else◌, ◌^◌, ◌-◌}
 use Rattle.std.proofs.lemmas.Bool.Decides.{nat_tests}
@@ -9,6 +9,7 @@ use Rattle.std.proofs.lemmas.List.Elements.{All-nil, All-append, All-drop, All-f
 use Rattle.std.proofs.lemmas.List.{length-drop, length-replicate, length-take}
 use Rattle.std.proofs.lemmas.List.Filters.{length-filter_both}
 use Rattle.sysv_sem.specs.declared.set.Semaphore.{Semaphore}
+use Rattle.std.specs.Option.{option_map_or}
 use Rattle.ipc_base.specs.Table.{keys_of, value_at, without as without_value, EachValue}
 use Rattle.std.specs.FinMap as fin
 use Rattle.sem_undo.specs.Undo.{Key, Undo, cleared}
@@ -24,7 +25,6 @@ use Rattle.ipc_wait.specs.Waits.{is_of, is_due, waiting_call_of, without}
 use Rattle.ipc_wait.proofs.CallerLemmas.{without-distinct, left-distinct, due-or-left, HaveDistinctPids-enter}
 use Rattle.posix_mq.specs.Queue.{Queue as Mq, PlainMessage as MqMessage, empty_queue, is_full as is_full_mq, next_to_receive, received, with_message}
 use Rattle.std.specs.List.{remove}
-use Rattle.std.specs.Option.{option_map_or}
 use Rattle.std.specs.Result.{is_ok}
 use Rattle.ipc_keys.specs.Names.{check_name}
 use Rattle.ipc_keys.specs.declared.check.NameKind.{NameKind}
@@ -34,18 +34,17 @@ use Rattle.sysv_sem.specs.Set.{Set, new_set, after_exit}
 use Rattle.ipc_wire.specs.Posix as posix
 use Rattle.ipc_wire.specs.Request.{PlainKind, PlainRequest, Interrupt, Sysv, Posix}
 use Rattle.ipc_wire.specs.Request as requests
-use Rattle.ipc_state.specs.declared.keyed.Entry.{Entry}
+use Rattle.ipc_state.specs.Keyed.{KeyedEntry, Keyed, keyed, AreKeyed, HaveKeys}
 use Rattle.ipc_perm.specs.declared.perm.Perm.{Perm}
-use Rattle.ipc_perm.specs.Perm.{perm_of, owned_by}
+use Rattle.ipc_perm.specs.Perm.{owned_by}
 use Rattle.ipc_state.specs.declared.processes.Process.{Process}
 use Rattle.ipc_state.specs.Numbered.{Numbered, entry_of, with_entry, without_entry, is_full}
 use Rattle.ipc_state.specs.declared.descriptors.Descriptor.{Descriptor}
-use Rattle.ipc_state.specs.declared.named.NamedEntry.{NamedEntry}
+use Rattle.ipc_state.specs.Named.{NamedEntry, Named, HaveNames, named}
 use Rattle.ipc_state.specs.Descriptors.{opened, with_flags}
-use Rattle.ipc_state.specs.Named.{Named, HaveNames, named, with_object}
+use Rattle.ipc_state.specs.Bound.{holding, permitting}
 use Rattle.ipc_state.specs.Opening.{Content, NamedObjects, descriptors_of, descriptor_at, has_access, is_by_descriptor, is_registered}
 use Rattle.ipc_state.specs.Opening.{is_sound_descriptor, stays, with_kind}
-use Rattle.ipc_state.specs.Keyed.{Keyed, holding, permitting, keyed, AreKeyed, AreNamed}
 use Rattle.ipc_state.specs.State.{State, start, at_moment, has_all_processes, is_process, with_process, exit, restart}
 use Rattle.ipc_state.specs.State.{is_waiting, with_waiting, without_due, without_waiting, msg_queue_of, with_msg_queue, with_new_msg_queue}
 use Rattle.ipc_state.specs.State.{semset_of, with_semset, with_new_semset, adjusted, undone, undo_of, without_adjustments, with_undo}
@@ -59,13 +58,13 @@ use Rattle.ipc_state.specs.declared.parked.Awaited.TheVariants as awaited
 use Rattle.ipc_state.proofs.Numbering.{none_yet-numbered}
 use Rattle.ipc_state.proofs.Counting.{few-waiting}
 use Rattle.ipc_state.proofs.Few.{few-each, each-fewer}
-use Rattle.ipc_state.proofs.Keying as keying
+use Rattle.ipc_state.proofs.Binding as binding
+use Rattle.ipc_state.proofs.EntryKeys.{of_keys, of_names}
 use Rattle.ipc_state.proofs.SoundQueues as queues
 use Rattle.ipc_state.proofs.SoundSets as sets
 use Rattle.ipc_state.proofs.SoundMqs as mqs
 use Rattle.ipc_state.proofs.SoundOpening as opening
-pub use Rattle.ipc_state.proofs.SoundOpening.{MayStandFor, MayJoin}
-use Rattle.ipc_state.proofs.Naming.{entry-named, have-names}
+pub use Rattle.ipc_state.proofs.SoundOpening.{MayStandFor, MayJoin, perm_of-mode}
 use Rattle.ipc_state.proofs.Adjusting.{HasAll, moved, has-new, has-with, has-adjusted, adjusted-by, exit-length, undone-keeps, all-undone-keeps}
 use Rattle.ipc_state.proofs.Adjusting.{each-moved, each-cleared, each-dropped, none-at, without-same, push-same, each-pushed, seen-keys}
 pub use Rattle.ipc_state.proofs.EntryKeys.{All-seen}
@@ -76,15 +75,11 @@ pub use Rattle.ipc_state.proofs.Numbering.{neither}
 pub use Rattle.ipc_state.proofs.Steps.{AtEnd, after, after-orelse, after-orstop, after-refuse, after-stop, after-then, at-all, at-failure, at-halt, at-some}
 pub use Rattle.ipc_state.proofs.Steps.{at-value, by-if_some, by-test, may-wait, ok-same}
 pub use Rattle.ipc_state.proofs.Steps.{HasFound, Tested, finishes, has-found, is_blocked, tested, waits-as-tested, waits-blocked, waits-for}
-pub use Rattle.ipc_state.proofs.Steps.{Answered, ends-as, ends-stopped, said, waits-on}
-pub use Rattle.ipc_state.proofs.Steps.{AreAlike, alike-waits, orelse-alike, past-alike, same-alike, then-alike}
+pub use Rattle.ipc_state.proofs.Steps.{Answered, ends-as, ends-stopped, said, waits-on, AreAlike, alike-waits, orelse-alike, past-alike, same-alike, then-alike}
 pub use Rattle.ipc_state.proofs.SoundQueues.{queue-numbers, sent-sound, taken-sound, changed-sound}
 pub use Rattle.ipc_state.proofs.SoundSets.{with_value-sound, with_values-sound, carried-sound, changed_set-sound}
 
--- the mode of a new object has nine bits
-pub perm_of-mode : (cred : Cred) (flags : ℕ) → (perm_of cred flags).mode < 512
-perm_of-mode cred flags = omega (arith, and_le_r flags 511)
-
+-- the mode of an object has nine bits
 pub owned_by-mode : (perm : Perm) (uid gid mode : ℕ) → (owned_by perm uid gid mode).mode < 512
 owned_by-mode perm uid gid mode = omega (arith, and_le_r mode 511)
 
@@ -177,8 +172,8 @@ module _ (limits : Limits) where
         processes = record { numbered = none_yet-numbered limits.processes; descriptors = All-nil _ };
         wait = none-waits;
         undo = record { pids = refl; each = tt };
-        msg = keying.none_yet-keyed limits.msgmni (IsSoundMsgQueue limits);
-        semset = record { keyed = keying.none_yet-keyed limits.semmni (IsSoundSemset limits); count = omega arith };
+        msg = binding.none_yet-bound of_keys limits.msgmni (IsSoundMsgQueue limits);
+        semset = record { keyed = binding.none_yet-bound of_keys limits.semmni (IsSoundSemset limits); count = omega arith };
         named = mqs.on-kinds (AreSoundNamed limits []) (named_in start)
             (record { held = mqs.none-held names.Mq limits.queues (IsSoundMq limits) []; together = All-nil _ })
             (record { held = mqs.none-held names.Psem limits.named_semaphores (λ value. value ≤ sem_value_max) []; together = tt })
@@ -202,11 +197,11 @@ module _ (limits : Limits) where
   adjusted-sound pid o a h =
       adjusted-by (AreSoundSemsets limits) pid o a
       (λ e is. let x : Set = after_exit e.object a.0.1 a.1 (record { 0 = pid }) in
-      let good = sets.after_exit-sound limits e.object a.0.1 a.1 (record { 0 = pid }) (keying.entry-sound limits.semmni
+      let good = sets.after_exit-sound limits e.object a.0.1 a.1 (record { 0 = pid }) (binding.entry-sound of_keys limits.semmni
       (IsSoundSemset limits) o a.0.0 e is h.keyed) in
-      let mode = keying.entry-mode limits.semmni (IsSoundSemset limits) o a.0.0 e is h.keyed in
+      let mode = binding.entry-mode of_keys limits.semmni (IsSoundSemset limits) o a.0.0 e is h.keyed in
       record {
-        keyed = keying.with_entry-keyed limits.semmni (IsSoundSemset limits) o a.0.0 e (holding e x) is refl mode good h.keyed;
+        keyed = binding.with_entry-bound of_keys limits.semmni (IsSoundSemset limits) o a.0.0 e (holding e x) is (inl refl) mode good h.keyed;
         count = omega (arith, sets.count-with o a.0.0 e (holding e x) is (exit-length e.object a.0.1 a.1 (record { 0 = pid })), h.count);
       }) h
 
@@ -280,54 +275,58 @@ module _ (limits : Limits) where
   pub with_new_msg_queue-sound : (s : State) (key : ℤ) (perm : Perm) → keyed s.msg key ≡ None → is_full limits.msgmni s.msg ≡ false
       → perm.mode < 512 → HasSoundParts limits s → HasSoundParts limits (with_new_msg_queue limits s key perm)
   with_new_msg_queue-sound s key perm unused room mode h =
-      let e : Entry Queue = record { key = key; perm = perm; object = new_queue limits.msgmnb s.clock } in
+      let e : KeyedEntry Queue = record { bound = key; perm = perm; object = new_queue limits.msgmnb s.clock } in
       set-msg s _ h
-      (keying.with_new-keyed limits.msgmni (IsSoundMsgQueue limits) s.msg e unused room mode (queues.new_queue-sound limits s.clock) h.msg)
+      (binding.with_new-bound of_keys limits.msgmni (IsSoundMsgQueue limits) s.msg e unused room mode (queues.new_queue-sound limits s.clock) h.msg)
 
   -- another queue in the place of one that is there, under the same key
-  pub with_msg_queue-sound : (s : State) (id : ℕ) (e : Entry Queue) (q : Queue) → msg_queue_of s id ≡ Some e → IsSoundMsgQueue limits q
+  pub with_msg_queue-sound : (s : State) (id : ℕ) (e : KeyedEntry Queue) (q : Queue) → msg_queue_of s id ≡ Some e → IsSoundMsgQueue limits q
       → HasSoundParts limits s → HasSoundParts limits (with_msg_queue s id (holding e q))
   with_msg_queue-sound s id e q is good h =
-      let mode = keying.entry-mode limits.msgmni (IsSoundMsgQueue limits) s.msg id e is h.msg in
-      set-msg s _ h (keying.with_entry-keyed limits.msgmni (IsSoundMsgQueue limits) s.msg id e (holding e q) is refl mode good h.msg)
+      let mode = binding.entry-mode of_keys limits.msgmni (IsSoundMsgQueue limits) s.msg id e is h.msg in
+      set-msg s _ h (binding.with_entry-bound of_keys limits.msgmni (IsSoundMsgQueue limits) s.msg id e (holding e q) is (inl refl) mode good h.msg)
 
   -- another queue, used by others, under the same key
-  pub permitted-sound : (s : State) (id : ℕ) (e : Entry Queue) (perm : Perm) (q : Queue) → msg_queue_of s id ≡ Some e → perm.mode < 512 → IsSoundMsgQueue limits q
+  pub permitted-sound : (s : State) (id : ℕ) (e : KeyedEntry Queue) (perm : Perm) (q : Queue) → msg_queue_of s id ≡ Some e → perm.mode < 512
+      → IsSoundMsgQueue limits q
       → HasSoundParts limits s → HasSoundParts limits (with_msg_queue s id (holding (permitting e perm) q))
   permitted-sound s id e perm q is mode good h =
-      set-msg s _ h (keying.with_entry-keyed limits.msgmni (IsSoundMsgQueue limits) s.msg id e (holding (permitting e perm) q) is refl mode good h.msg)
+      set-msg s _ h
+      (binding.with_entry-bound of_keys limits.msgmni (IsSoundMsgQueue limits) s.msg id e (holding (permitting e perm) q) is (inl refl) mode good h.msg)
 
   pub without_msg_queue-sound : (s : State) (id : ℕ) → HasSoundParts limits s → HasSoundParts limits (record s { msg = without_entry s.msg id })
-  without_msg_queue-sound s id h = set-msg s _ h (keying.without_entry-keyed limits.msgmni (IsSoundMsgQueue limits) s.msg id h.msg)
+  without_msg_queue-sound s id h = set-msg s _ h (binding.without_entry-bound of_keys limits.msgmni (IsSoundMsgQueue limits) s.msg id h.msg)
 
-  pub queue-sound : (s : State) (id : ℕ) (e : Entry Queue) → msg_queue_of s id ≡ Some e → HasSoundParts limits s → IsSoundMsgQueue limits e.object
-  queue-sound s id e is h = keying.entry-sound limits.msgmni (IsSoundMsgQueue limits) s.msg id e is h.msg
+  pub queue-sound : (s : State) (id : ℕ) (e : KeyedEntry Queue) → msg_queue_of s id ≡ Some e → HasSoundParts limits s → IsSoundMsgQueue limits e.object
+  queue-sound s id e is h = binding.entry-sound of_keys limits.msgmni (IsSoundMsgQueue limits) s.msg id e is h.msg
 
   pub with_new_semset-sound : (s : State) (key : ℤ) (perm : Perm) (nsems : ℕ) → keyed s.semset key ≡ None → is_full limits.semmni s.semset ≡ false
       → perm.mode < 512 → 0 < nsems → nsems ≤ limits.semmsl → semaphore_count s.semset + nsems ≤ limits.semmns
       → HasSoundParts limits s → HasSoundParts limits (with_new_semset s key perm nsems)
   with_new_semset-sound s key perm nsems unused room mode some few all h =
-      let e : Entry Set = record { key = key; perm = perm; object = new_set nsems s.clock } in
+      let e : KeyedEntry Set = record { bound = key; perm = perm; object = new_set nsems s.clock } in
       let len = length-replicate nsems (let x : Semaphore = record { value = 0; pid = record { 0 = 0 } } in x) in
       set-sem s _ h (has-new s.semset e) (record {
-        keyed = keying.with_new-keyed limits.semmni (IsSoundSemset limits) s.semset e unused room mode (sets.new_set-sound limits nsems s.clock some few) h.semset.keyed;
+        keyed = binding.with_new-bound of_keys limits.semmni (IsSoundSemset limits) s.semset e unused room mode
+            (sets.new_set-sound limits nsems s.clock some few) h.semset.keyed;
         count = omega (arith, sets.count-new s.semset e, len, all);
       })
 
   -- another set of as many semaphores in the place of one that is there, used by others
-  pub permitted_set-sound : (s : State) (id : ℕ) (e : Entry Set) (perm : Perm) (x : Set) → semset_of s id ≡ Some e → perm.mode < 512 → IsSoundSemset limits x
+  pub permitted_set-sound : (s : State) (id : ℕ) (e : KeyedEntry Set) (perm : Perm) (x : Set) → semset_of s id ≡ Some e → perm.mode < 512
+      → IsSoundSemset limits x
       → length x.semaphores ≡ length e.object.semaphores → HasSoundParts limits s → HasSoundParts limits (with_semset s id (holding (permitting e perm) x))
   permitted_set-sound s id e perm x is mode good same h =
-      let f : Entry Set = holding (permitting e perm) x in
+      let f : KeyedEntry Set = holding (permitting e perm) x in
       set-sem s _ h (λ k was. has-with s.semset id e f is same k ∙ was) (record {
-        keyed = keying.with_entry-keyed limits.semmni (IsSoundSemset limits) s.semset id e f is refl mode good h.semset.keyed;
+        keyed = binding.with_entry-bound of_keys limits.semmni (IsSoundSemset limits) s.semset id e f is (inl refl) mode good h.semset.keyed;
         count = omega (arith, sets.count-with s.semset id e f is same, h.semset.count);
       })
 
-  pub with_semset-sound : (s : State) (id : ℕ) (e : Entry Set) (x : Set) → semset_of s id ≡ Some e → IsSoundSemset limits x
+  pub with_semset-sound : (s : State) (id : ℕ) (e : KeyedEntry Set) (x : Set) → semset_of s id ≡ Some e → IsSoundSemset limits x
       → length x.semaphores ≡ length e.object.semaphores → HasSoundParts limits s → HasSoundParts limits (with_semset s id (holding e x))
   with_semset-sound s id e x is good same h =
-      permitted_set-sound s id e e.perm x is (keying.entry-mode limits.semmni (IsSoundSemset limits) s.semset id e is h.semset.keyed) good same h
+      permitted_set-sound s id e e.perm x is (binding.entry-mode of_keys limits.semmni (IsSoundSemset limits) s.semset id e is h.semset.keyed) good same h
 
   -- a set goes, and the adjustments at it
   pub without_semset-sound : (s : State) (id : ℕ) → HasSoundParts limits s
@@ -339,14 +338,14 @@ module _ (limits : Limits) where
         undo = record { pids = seen-keys (cleared id None) s.undo ∙ h.undo.pids; each = each-dropped s.semset id s.undo h.undo.each };
         msg = h.msg;
         semset = record {
-          keyed = keying.without_entry-keyed limits.semmni (IsSoundSemset limits) s.semset id h.semset.keyed;
+          keyed = binding.without_entry-bound of_keys limits.semmni (IsSoundSemset limits) s.semset id h.semset.keyed;
           count = omega (arith, sets.count-without s.semset id, h.semset.count);
         };
         named = h.named;
       }
 
-  pub set-sound : (s : State) (id : ℕ) (e : Entry Set) → semset_of s id ≡ Some e → HasSoundParts limits s → IsSoundSemset limits e.object
-  set-sound s id e is h = keying.entry-sound limits.semmni (IsSoundSemset limits) s.semset id e is h.semset.keyed
+  pub set-sound : (s : State) (id : ℕ) (e : KeyedEntry Set) → semset_of s id ≡ Some e → HasSoundParts limits s → IsSoundSemset limits e.object
+  set-sound s id e is h = binding.entry-sound of_keys limits.semmni (IsSoundSemset limits) s.semset id e is h.semset.keyed
 
   -- ---- objects with a name, and descriptors
 
@@ -396,17 +395,17 @@ module _ (limits : Limits) where
   with_object-sound s kind n e x is good may h =
       let those : Named (Content kind) = named_of s kind in
       subst (λ (o : Named (Content kind)). HasSoundParts limits (with_named_of s kind o))
-      (sym (ap (λ (r : Option (NamedEntry (Content kind))). unwrap_or (option_map (λ f. with_entry those n (with_object f x)) r) those) is))
-      (set-opened s s.processes (with_kind (named_in s) kind (with_entry those n (with_object e x))) h refl
+      (sym (ap (λ (r : Option (NamedEntry (Content kind))). unwrap_or (option_map (λ f. with_entry those n (holding f x)) r) those) is))
+      (set-opened s s.processes (with_kind (named_in s) kind (with_entry those n (holding e x))) h refl
       (opening.put-all limits s.processes (named_in s) (all-held s h) kind n e x is good may))
 
   -- a new object of a kind, of a name that names none
   pub with_new-sound : (s : State) (kind : NameKind) (name : List ℕ) (cred : Cred) (mode : ℕ) (x : Content kind) → named (named_of s kind) name ≡ None
-      → is_full (most_of limits kind) (named_of s kind) ≡ false → mode < 512 → is_ok (check_name kind name) ≡ true → IsSoundContent limits kind x
+      → is_full (most_of limits kind) (named_of s kind) ≡ false → is_ok (check_name kind name) ≡ true → IsSoundContent limits kind x
       → MayJoin limits kind (named_of s kind) x → HasSoundParts limits s → HasSoundParts limits (with_new_of s kind name cred mode x)
-  with_new-sound s kind name cred mode x unused room few proper good may h =
+  with_new-sound s kind name cred mode x unused room proper good may h =
       set-opened s s.processes _ h refl
-      (opening.new-all limits s.processes (named_in s) (all-held s h) kind name cred mode x unused room few proper good may)
+      (opening.new-all limits s.processes (named_in s) (all-held s h) kind name cred mode x unused room proper good may)
 
   -- one that loses its name, and goes if it is not open
   pub unlinked-sound : (s : State) (kind : NameKind) (n : ℕ) → HasSoundParts limits s → HasSoundParts limits (unlinked s kind n)
@@ -416,19 +415,20 @@ module _ (limits : Limits) where
   pub content-sound : (s : State) (kind : NameKind) (n : ℕ) (e : NamedEntry (Content kind)) → entry_of (named_of s kind) n ≡ Some e
       → HasSoundParts limits s → IsSoundContent limits kind e.object
   content-sound s kind n e is h =
-      (entry-named (most_of limits kind) (IsSoundContent limits kind) (named_of s kind) n e is (h.named kind).held.named).each
+      binding.entry-sound of_names (most_of limits kind) (IsSoundContent limits kind) (named_of s kind) n e is (h.named kind).held.named
 
   -- numbers are above 0, so that a directory of names tells them; and each name names the object that has it
   pub kind-positive : (s : State) (kind : NameKind) → HasSoundParts limits s → ArePositive (named_of s kind).entries
   kind-positive s kind h = named-positive (named_of s kind).entries (named_of s kind).next (h.named kind).held.named.numbered.numbers
 
   pub kind-names : (s : State) (kind : NameKind) → HasSoundParts limits s → HaveNames (named_of s kind)
-  kind-names s kind h = have-names (most_of limits kind) (IsSoundContent limits kind) (named_of s kind) (h.named kind).held.named
+  kind-names s kind h = binding.are-found of_names (most_of limits kind) (IsSoundContent limits kind) (named_of s kind) (h.named kind).held.named
 
   -- whoever is registered with a queue has it open
   pub mq-registered : (s : State) (n : ℕ) (e : NamedEntry Mq) → entry_of s.mq n ≡ Some e → HasSoundParts limits s
       → is_by_descriptor s.processes.entries n e.object.registration ≡ true
-  mq-registered s n e is h = opening.All-found (λ (d : ℕ × NamedEntry Mq). is_registered s.processes.entries d ≡ true) s.mq.entries n e (h.named names.Mq).together is
+  mq-registered s n e is h =
+      opening.All-found (λ (d : ℕ × NamedEntry Mq). is_registered s.processes.entries d ≡ true) s.mq.entries n e (h.named names.Mq).together is
 
   -- a queue without messages, one with a message more, and one from which a message was received
   pub empty_mq-sound : (maxmsg msgsize : ℕ) → 0 < maxmsg → maxmsg ≤ limits.maxmsg → 0 < msgsize → msgsize ≤ limits.msgsize
@@ -492,10 +492,10 @@ deadline-sound now kind = search (rules, after-sound)
 
 -- ---- objects that are held, and those of the definitions
 
-module _ {X : Type 0} (o : HeldObjects X) (s : Keyed X) (same : o.objects ≡ s) {most : ℕ} {IsSoundOne : X → Type 0} (sound : AreKeyed most IsSoundOne s) where
+module _ {X : Type 0} (o : HeldObjects ℤ X) (s : Keyed X) (same : o.objects ≡ s) {most : ℕ} {IsSoundOne : X → Type 0} (sound : AreKeyed most IsSoundOne s) where
   -- their identifiers are above 0, and their keys name them
-  pub held-named : AreNamed o.objects
-  held-named = subst AreNamed (sym same) (record { numbers = sound.numbered.numbers; keys = sound.keys })
+  pub held-named : HaveKeys o.objects
+  held-named = subst HaveKeys (sym same) (record { numbers = sound.numbered.numbers; bounds = sound.bounds })
 
   pub held-positive : ArePositive o.objects.entries
   held-positive = named-positive o.objects.entries o.objects.next held-named.numbers

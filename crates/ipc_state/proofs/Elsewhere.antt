@@ -11,24 +11,25 @@ use Rattle.posix_mq.specs.Queue.{Queue as Mq}
 use Rattle.posix_mq.specs.declared.queue.Registration.{Registration}
 use Rattle.ipc_state.specs.declared.descriptors.Descriptor.{Descriptor}
 use Rattle.ipc_state.specs.declared.descriptors.Opened.{Opened}
+use Rattle.ipc_perm.specs.Perm.{perm_of}
 use Rattle.ipc_keys.specs.declared.check.NameKind.{NameKind}
 use Rattle.ipc_keys.specs.declared.check.NameKind.TheVariants as names
-use Rattle.ipc_state.specs.declared.named.NamedEntry.{NamedEntry}
+use Rattle.ipc_state.specs.Named.{NamedEntry, Named, nameless, unnamed, without_name}
 use Rattle.ipc_state.specs.declared.parked.Awaited.{Awaited}
 use Rattle.ipc_state.specs.declared.parked.Awaited.TheVariants as awaited
 use Rattle.ipc_state.specs.declared.parked.Object.{Object}
 use Rattle.ipc_state.specs.declared.parked.ObjectKind.TheVariants as kinds
 use Rattle.ipc_state.specs.declared.processes.Process.{Process}
 use Rattle.ipc_state.specs.Descriptors.{Table}
-use Rattle.ipc_state.specs.Named.{Named, nameless, putting, unnamed, with_object, without_name}
+use Rattle.ipc_state.specs.Bound.{holding, putting}
 use Rattle.ipc_state.specs.Numbered.{entry_of, with_entry, with_new}
 use Rattle.ipc_state.specs.Opening.{Content, NamedObjects, deregistered, descriptors_of, descriptor_at, each_kind, has_access, is_by, is_by_descriptor}
-use Rattle.ipc_state.specs.Opening.{is_on, is_open, is_registered, is_there_for, of_kind, opened_as, same_kind, stays, still_open, unless_so, with_kind}
+use Rattle.ipc_state.specs.Opening.{is_on, is_open, is_registered, is_there_for, of_kind, opened_as, same_kind, still_open, unless_so, with_kind}
 use Rattle.ipc_state.specs.Opening.{with_table, without_registrations}
 use Rattle.ipc_state.specs.Sound.{HasSoundParts}
 use Rattle.ipc_state.specs.State.{State, closed, named_in, named_of, unlinked, with_descriptors, with_new_of, with_object_of}
 use Rattle.ipc_state.specs.Touching.{object_on, object_of, named_object, is_awaited, IsAsBefore}
-use Rattle.ipc_state.proofs.SoundMqs.{at-filter, both_true, each-holds, either, first, is_on-same, none-filter, put-holds}
+use Rattle.ipc_state.proofs.SoundMqs.{both_true, each-holds, either, first, is_on-same, kept-open, put-holds}
 use Rattle.ipc_state.proofs.SoundOpening as opening
 use Rattle.ipc_state.proofs.SoundOpening.{All-found, opens}
 
@@ -82,15 +83,7 @@ module _ (this : Opened) where
       by_test true is rest = first (opens this e.1.descriptors) (is_open es this) (opens-it e.1.descriptors k is)
       by_test false is rest = either (opens this e.1.descriptors) (is_open es this) (rest is)
 
--- what is open is left as it is, and without its name it is the same
-module _ {X : Type 0} (kind : NameKind) (ps : List (ℕ × Process)) (o : Named X) where
-  kept-open : (m : ℕ) → is_open ps (opened_as kind m) ≡ true → entry_of (still_open kind ps o) m ≡ entry_of o m
-  kept-open m used = by_entry (entry_of o m) refl
-    where
-      by_entry : (r : Option (NamedEntry X)) → entry_of o m ≡ r → entry_of (still_open kind ps o) m ≡ entry_of o m
-      by_entry None is = none-filter (stays kind ps) o.entries m is ∙ sym is
-      by_entry (Some e) is = at-filter (stays kind ps) o.entries m e is (either _ _ used) ∙ sym is
-
+-- without its name it is the same
 same-unnamed : {X : Type 0} (o : Named X) (n m : ℕ) → object_in (entry_of (unnamed o n) m) ≡ object_in (entry_of o m)
 same-unnamed {X} o n m = same (entry_of o n) refl
   where
@@ -129,9 +122,9 @@ elsewhere-object s kind n x p (awaited.Descriptor fd) apart = (
 
     by_entry : (m : ℕ) → m ≢ n → (r : Option (NamedEntry (Content kind)))
         → object_in
-        (entry_of (unwrap_or (option_map (λ (e : NamedEntry (Content kind)). with_entry those n (with_object e x)) r) those) m) ≡ named_object s kind m
+        (entry_of (unwrap_or (option_map (λ (e : NamedEntry (Content kind)). with_entry those n (holding e x)) r) those) m) ≡ named_object s kind m
     by_entry m other None = refl
-    by_entry m other (Some e) = ap object_in (other-with those.entries n m (with_object e x) other)
+    by_entry m other (Some e) = ap object_in (other-with those.entries n m (holding e x) other)
 
 -- other descriptors of another process
 pub elsewhere-table : (s : State) (pid : ℕ) (table : Table) (p : ℕ) (on : Awaited) → p ≢ pid → IsAsBefore p on s (with_descriptors s pid table)
@@ -163,7 +156,7 @@ module _ (limits : Limits) (s : State) (h : HasSoundParts limits s) where
   elsewhere-new kind name cred mode x p (awaited.Semset id) = (refl, λ pid num. refl)
   elsewhere-new kind name cred mode x p (awaited.Descriptor fd) = (
     refl,
-    put-holds (Same s p fd) (named_in s) kind (with_new those (record { name = name; owner = cred; mode = mode; object = x }))
+    put-holds (Same s p fd) (named_in s) kind (with_new those (record { bound = name; perm = perm_of cred mode; object = x }))
         (λ other m may is. refl) (λ m may is.
         let below = (rising-found 1 those.entries those.next m (h.named kind).held.named.numbered.numbers (there-for p fd (opened_as kind m) is)).1 in
         ap object_in (other-push those.entries those.next m _ (λ same. absurd (omega (arith, same, below))))),
@@ -228,7 +221,8 @@ module _ (limits : Limits) (s : State) (h : HasSoundParts limits s) where
           by_kind names.Psem is = cc
           by_kind names.Pshm is = cc
 
-          by_value : (v : Option Descriptor) → unwrap_or (option_map (λ (d : Descriptor). is_on (opened_as names.Mq m) d.on) v) false ≡ true → on_of v ≡ Some (queue m)
+          by_value : (v : Option Descriptor) → unwrap_or (option_map (λ (d : Descriptor). is_on (opened_as names.Mq m) d.on) v) false ≡ true
+              → on_of v ≡ Some (queue m)
           by_value None is = cc
           by_value (Some d) is =
               let both = both_true (same_kind d.on.kind names.Mq) (nat_eq d.on.number m) is in
@@ -248,6 +242,7 @@ module _ (limits : Limits) (s : State) (h : HasSoundParts limits s) where
           → object_in (option_map (deregistered goes) r) ≡ object_in r
       by_entry m is None found = refl
       by_entry m is (Some e) found =
-          let registered = All-found (λ (d : ℕ × NamedEntry Mq). is_registered s.processes.entries d ≡ true) s.mq.entries m e (h.named names.Mq).together found in
+          let IsIt : ℕ × NamedEntry Mq → Type 0 = λ d. is_registered s.processes.entries d ≡ true in
+          let registered = All-found IsIt s.mq.entries m e (h.named names.Mq).together found in
           ap (λ (r : Option Registration). Some (record e.object { registration = r }))
           (stays-so m e.object.registration registered (λ at. apart (at ∙ sym is)))

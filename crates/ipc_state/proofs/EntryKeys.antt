@@ -1,9 +1,12 @@
 -- What the keys of entries name, as one comes, changes or goes: keys of any kind, which System V keys and names are.
-use Rattle.std.proofs.Common.{◌≡◌, ◌≢◌, ℕ, ◌+◌, ◌<◌, Bool, true, false, cond, List, [], ◌∷◌, ◌++◌}
+use Rattle.std.proofs.Common.{◌≡◌, ◌≢◌, ℕ, ℤ, pos, ◌+◌, ◌<◌, Bool, true, false, cond, List, [], ◌∷◌, ◌++◌}
 use Rattle.std.proofs.Common.{Option, Some, None, refl, map, ap, ◌∙◌, subst, sym, arith}
 use Rattle.std.specs.Prelude.{nat_eq, nat_lt, if◌then◌else◌, All}
 use Rattle.std.specs.Bool.{Decides}
-use Rattle.std.proofs.lemmas.Bool.Decides.{nat_tests, Decides-eqb, Decides-ltb, Decides-by_and}
+use Rattle.std.specs.Ordering.{int_eq}
+use Rattle.std.specs.Str.{bytes_eq}
+use Rattle.std.proofs.lemmas.Slice.Eq.{bytes_eq-Decides}
+use Rattle.std.proofs.lemmas.Bool.Decides.{nat_tests, Decides-eqb, Decides-int_eq, Decides-ltb, Decides-by_and}
 use Rattle.std.specs.List.{list_all, filter}
 use Rattle.std.proofs.lemmas.List.{map-append}
 use Rattle.std.proofs.lemmas.List.Folds.{list_all-map}
@@ -11,6 +14,7 @@ use Rattle.std.proofs.lemmas.List.Elements.{All-nil, All-cons, All-head, All-tai
 use Rattle.ipc_base.specs.Table.{value_at, with_value, without, keys_of, IsRising}
 use Rattle.ipc_base.proofs.CallerLemmas.{choice}
 use Rattle.ipc_state.specs.declared.numbered.Item.{Item}
+use Rattle.ipc_state.specs.declared.objects.Entry.{Entry}
 use Rattle.ipc_state.specs.Directory.{or_else, adds}
 use Rattle.ipc_state.specs.Tables.{item_row}
 use Rattle.ipc_state.specs.Tests.{is_named}
@@ -21,6 +25,22 @@ pub record Keys (K E : Type 0) : Type 0 where
   pub decides : (a b : K) → Decides (same a b) (a ≡ b)
   pub none : K
   pub key_of : E → K
+
+-- the same of what entries are bound to
+pub record Bounds (B : Type 0) : Type 0 where
+  pub same : B → B → Bool
+  pub decides : (a b : B) → Decides (same a b) (a ≡ b)
+  pub none : B
+
+abbrev pub by_bound : {B X : Type 0} → Bounds B → Keys B (Entry B X)
+by_bound b = record { same = b.same; decides = b.decides; none = b.none; key_of = λ e. e.bound }
+
+-- keys, and names
+abbrev pub of_keys : Bounds ℤ
+of_keys = record { same = int_eq; decides = Decides-int_eq; none = pos 0 }
+
+abbrev pub of_names : Bounds (List ℕ)
+of_names = record { same = bytes_eq; decides = bytes_eq-Decides; none = [] }
 
 pub All-seen : {X Y : Type 0} (P : Y → Type 0) (f : X → Y) (xs : List X) → All P (map f xs) → All (λ x. P (f x)) xs
 All-seen P f [] h = All-nil _
@@ -130,7 +150,7 @@ module _ {K E : Type 0} (keys : Keys K E) where
       by_test false is = refl
 
   -- what has the same keys but for the one that names none, names the same
-  names-same : (es fs : List (ℕ × E)) (other : K)
+  pub names-same : (es fs : List (ℕ × E)) (other : K)
       → (other ≢ keys.none → value_at keys.same (map row fs) other ≡ value_at keys.same (map row es) other) → names fs other ≡ names es other
   names-same es fs other same = by_test (keys.same other keys.none) refl
     where
@@ -313,7 +333,7 @@ module _ {K E : Type 0} (keys : Keys K E) where
 
   -- those that have a key are left, by a test
   module _ (test : ℕ × E → Bool) (stands : (e : ℕ × E) → keys.key_of e.1 ≢ keys.none → test e ≡ true) where
-    kept-at : (es : List (ℕ × E)) (other : K) → other ≢ keys.none
+    pub kept-at : (es : List (ℕ × E)) (other : K) → other ≢ keys.none
         → value_at keys.same (map (row keys) (filter test es)) other ≡ value_at keys.same (map (row keys) es) other
     kept-at [] other some = refl
     kept-at (e ∷ es) other some = by_test (test e) refl (kept-at es other some)

@@ -14,9 +14,8 @@ use Rattle.ipc_base.specs.Table.{value_at, EachValue}
 use Rattle.sem_undo.specs.Undo.{Key, Undo, key_cmp, without_set}
 use Rattle.sem_undo.proofs.CallerLemmas.{key_total, key_apart, retained}
 use Rattle.sysv_sem.specs.Set.{Set}
-use Rattle.ipc_state.specs.declared.keyed.Entry.{Entry}
+use Rattle.ipc_state.specs.Keyed.{KeyedEntry, Keyed}
 use Rattle.ipc_state.specs.Sound.{AreAt, semaphore_count}
-use Rattle.ipc_state.specs.Keyed.{Keyed}
 use Rattle.ipc_state.proofs.Adjusting.{holds, cleared-apart}
 
 -- without the one at a key there is one less at most
@@ -71,7 +70,7 @@ stripped id (suc n) u below =
         omega (arith, low, other)
 
 -- those of all these sets
-covered : (es : List (ℕ × Entry Set)) (u : Undo) → ((k : Key) → is_some (fin.get u k) ≡ true → holds (value_at nat_eq es k.0) k.1 ≡ true)
+covered : (es : List (ℕ × KeyedEntry Set)) (u : Undo) → ((k : Key) → is_some (fin.get u k) ≡ true → holds (value_at nat_eq es k.0) k.1 ≡ true)
     → fin.len u ≤ sum_by (λ e. length e.1.object.semaphores) es
 covered [] u all =
     omega (arith, ap fin.len (same_map key_total key_apart u fin.empty (λ q. none q (fin.get u q) refl ∙ sym (get-empty key_cmp q))), len-empty key_cmp ℤ)
@@ -82,7 +81,7 @@ covered [] u all =
 covered (e ∷ es) u all =
     let rest = covered es (without_set e.0 u) (λ k there. later k (nat_eq e.0 k.0) refl (cleared-apart e.0 u k there) (all k (was k there))) in
     let here = stripped e.0 (length e.1.object.semaphores) u (λ k there at. own k (nat_eq e.0 k.0) refl at (all k there)) in
-    omega (arith, here, rest, sum_by-cons (λ (f : ℕ × Entry Set). length f.1.object.semaphores) e es)
+    omega (arith, here, rest, sum_by-cons (λ (f : ℕ × KeyedEntry Set). length f.1.object.semaphores) e es)
   where
     was : (k : Key) → is_some (fin.get (without_set e.0 u) k) ≡ true → is_some (fin.get u k) ≡ true
     was k there = kept _ (ap is_some (sym (retained u (λ q. not (nat_eq q.0 e.0)) k)) ∙ there)

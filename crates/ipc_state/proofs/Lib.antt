@@ -3,7 +3,7 @@ pub mod Numbering
 mod Counting
 mod Places
 mod EntryKeys
-mod Keying
+mod Binding
 mod SoundQueues
 mod SoundSets
 mod SoundMqs
@@ -14,7 +14,6 @@ mod Directories
 mod Ready
 mod Reserved
 mod Lent
-mod Naming
 mod Adjusting
 mod Clearing
 mod Few

@@ -1,5 +1,6 @@
 -- Numbers in order, as one comes or changes, and how it is told whether they are.
-use Rattle.std.proofs.Common.{◌≡◌, ℕ, suc, ◌+◌, ◌<◌, ◌≤◌, Bool, true, false, cond, Some, List, [], ◌∷◌, ◌++◌, length, map, take, drop, get_or, refl, sym, ap, subst, ◌∙◌, arith}
+use Rattle.std.proofs.Common.{◌≡◌, ℕ, suc, ◌+◌, ◌<◌, ◌≤◌, Bool, true, false, cond, Some, List, [], ◌∷◌, ◌++◌, length, map, take, drop}
+use Rattle.std.proofs.Common.{get_or, refl, sym, ap, subst, ◌∙◌, arith}
 use Rattle.std.specs.Prelude.{nat_eq, nat_lt, nat_le, ◌||◌, sum_by}
 use Rattle.std.specs.Bool.{Decides}
 use Rattle.std.proofs.Math.Dec.{leb}

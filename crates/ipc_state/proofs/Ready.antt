@@ -1,20 +1,9 @@
 -- What is ready to be added, as it comes and goes.
-use Rattle.std.proofs.Common.{◌≡◌, ◌≢◌, ℕ, ℤ, pos, List, [], Bool, true, false, Option, Some, None, refl, sym, ap, subst, ◌∙◌}
-use Rattle.std.specs.Ordering.{int_eq}
-use Rattle.std.specs.Str.{bytes_eq}
-use Rattle.std.proofs.lemmas.Bool.Decides.{Decides-int_eq}
-use Rattle.std.proofs.lemmas.Slice.Eq.{bytes_eq-Decides}
+use Rattle.std.proofs.Common.{◌≡◌, ◌≢◌, ℕ, Bool, true, false, Option, Some, None, refl, sym, ap, subst, ◌∙◌}
 use Rattle.ipc_state.specs.Directory.{IsReady}
-use Rattle.ipc_state.proofs.EntryKeys.{Keys}
+use Rattle.ipc_state.proofs.EntryKeys.{Bounds}
 
--- the keys of sysvipc(7), and names
-abbrev pub of_keys : Keys ℤ ℤ
-of_keys = record { same = int_eq; decides = Decides-int_eq; none = pos 0; key_of = λ key. key }
-
-abbrev pub of_names : Keys (List ℕ) (List ℕ)
-of_names = record { same = bytes_eq; decides = bytes_eq-Decides; none = []; key_of = λ name. name }
-
-module _ {K : Type 0} (keys : Keys K K) where
+module _ {K : Type 0} (keys : Bounds K) where
   -- no key is vacant
   abbrev pub NoneVacant : (K → Bool) → Type 0
   NoneVacant vacant = (key : K) → vacant key ≡ false

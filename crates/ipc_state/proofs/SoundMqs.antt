@@ -22,11 +22,11 @@ use Rattle.posix_mq.specs.declared.queue.Registration.{Registration}
 use Rattle.shm_segment.specs.Segment.{Segment}
 use Rattle.ipc_state.specs.declared.descriptors.Descriptor.{Descriptor}
 use Rattle.ipc_state.specs.declared.descriptors.Opened.{Opened}
-use Rattle.ipc_state.specs.declared.named.NamedEntry.{NamedEntry}
+use Rattle.ipc_state.specs.Named.{NamedEntry, Named, named, AreNamedObjects}
 use Rattle.ipc_state.specs.declared.processes.Process.{Process}
 use Rattle.ipc_state.specs.Descriptors.{Table}
 use Rattle.ipc_state.specs.Directory.{Agrees}
-use Rattle.ipc_state.specs.Named.{Named, name_row, named, kept_if, AreNamedObjects}
+use Rattle.ipc_state.specs.Bound.{bound_row, kept_if}
 use Rattle.ipc_state.specs.Numbered.{AreNumbered, Numbered, none_yet, entry_of, is_full, with_new, without_entry}
 use Rattle.ipc_state.specs.Opening.{Content, NamedObjects, each_kind, is_on, is_open, of_kind, opened_as, same_kind, stays, still_open, with_kind}
 use Rattle.ipc_state.specs.Opening.{deregistered, is_by, unless_so, without_registrations}
@@ -34,46 +34,28 @@ use Rattle.ipc_state.specs.Opening.{has_name, is_named_so, is_there_for, is_soun
 use Rattle.ipc_state.specs.Sound.{AreHeld, AreSoundDescriptors, AreSoundNamed, AreSoundProcesses, AreSoundTogether, IsSoundContent, IsSoundMq}
 use Rattle.ipc_state.specs.Sound.{IsSoundMqMessage, most_of, segment_bytes}
 use Rattle.ipc_state.specs.Tests.{is_sound_mq, is_sound_mq_message}
-use Rattle.ipc_state.proofs.EntryKeys.{each-decides}
-use Rattle.ipc_state.proofs.Naming.{none_yet-named, kept_if-named}
+use Rattle.ipc_state.proofs.EntryKeys.{all_without, by_bound, each-decides, kept-at, names-same, of_names}
+use Rattle.ipc_state.proofs.Binding.{none_yet-bound, kept_if-bound}
 use Rattle.ipc_state.proofs.Numbering.{seen-numbered, with_new-numbered, without_entry-numbered, cleared-numbered}
 
 -- ---- what is left of a table
 
--- a value whose test stands is found as before
-pub at-filter : {X : Type 0} (test : ℕ × X → Bool) (es : List (ℕ × X)) (n : ℕ) (x : X) → value_at nat_eq es n ≡ Some x → test (n, x) ≡ true
-    → value_at nat_eq (filter test es) n ≡ Some x
-at-filter test [] n x is stands = is
-at-filter {X} test (e ∷ es) n x is stands = by_key (nat_eq e.0 n) refl is (λ later. at-filter test es n x later stands)
+-- what has a number is found as before, if the test of it stands
+pub at-kept : {X : Type 0} (test : ℕ × X → Bool) (es : List (ℕ × X)) (n : ℕ) → ((x : X) → test (n, x) ≡ true)
+    → value_at nat_eq (filter test es) n ≡ value_at nat_eq es n
+at-kept test [] n stands = refl
+at-kept {X} test (e ∷ es) n stands = by_key (nat_eq e.0 n) refl (at-kept test es n stands)
   where
-    by_key : (b : Bool) → nat_eq e.0 n ≡ b → cond b (Some e.1) (value_at nat_eq es n) ≡ Some x
-        → (value_at nat_eq es n ≡ Some x → value_at nat_eq (filter test es) n ≡ Some x)
-        → value_at nat_eq (cond (test e) (e ∷ filter test es) (filter test es)) n ≡ Some x
-    by_key true same is later =
+    by_key : (b : Bool) → nat_eq e.0 n ≡ b → value_at nat_eq (filter test es) n ≡ value_at nat_eq es n
+        → value_at nat_eq (cond (test e) (e ∷ filter test es) (filter test es)) n ≡ cond b (Some e.1) (value_at nat_eq es n)
+    by_key true same later =
         let key : e.0 ≡ n = grind (arith, nat_tests) in
-        let value : e.1 ≡ x = cc in
-        let here : test e ≡ true = ap (λ (k : ℕ). test (k, e.1)) key ∙ (ap (λ (v : X). test (n, v)) value ∙ stands) in
-        rw here (rw same (ap Some value))
-    by_key false apart is later = by_test (test e) (later is)
+        rw (ap (λ (k : ℕ). test (k, e.1)) key ∙ stands e.1) (rw same refl)
+    by_key false apart later = by_test (test e)
       where
-        by_test : (b : Bool) → value_at nat_eq (filter test es) n ≡ Some x → value_at nat_eq (cond b (e ∷ filter test es) (filter test es)) n ≡ Some x
-        by_test true rest = rw apart rest
-        by_test false rest = rest
-
--- what was not there is not left
-pub none-filter : {X : Type 0} (test : ℕ × X → Bool) (es : List (ℕ × X)) (n : ℕ) → value_at nat_eq es n ≡ None → value_at nat_eq (filter test es) n ≡ None
-none-filter test [] n none = refl
-none-filter {X} test (e ∷ es) n none = by_key (nat_eq e.0 n) refl none (none-filter test es n)
-  where
-    by_key : (b : Bool) → nat_eq e.0 n ≡ b → cond b (Some e.1) (value_at nat_eq es n) ≡ None
-        → (value_at nat_eq es n ≡ None → value_at nat_eq (filter test es) n ≡ None)
-        → value_at nat_eq (cond (test e) (e ∷ filter test es) (filter test es)) n ≡ None
-    by_key true same none later = cc
-    by_key false apart none later = by_test (test e) (later none)
-      where
-        by_test : (b : Bool) → value_at nat_eq (filter test es) n ≡ None → value_at nat_eq (cond b (e ∷ filter test es) (filter test es)) n ≡ None
-        by_test true rest = rw apart rest
-        by_test false rest = rest
+        by_test : (b : Bool) → value_at nat_eq (cond b (e ∷ filter test es) (filter test es)) n ≡ value_at nat_eq es n
+        by_test true = rw apart later
+        by_test false = later
 
 -- each that is left passes the test
 pub All-passed : {X : Type 0} (test : X → Bool) (xs : List X) → All (λ x. test x ≡ true) (filter test xs)
@@ -156,21 +138,21 @@ module _ (limits : Limits) (old new : NamedObjects) where
 
 module _ {X : Type 0} (kind : NameKind) where
   -- each object with a name stays
-  pub named-stay : (ps : List (ℕ × Process)) (e : ℕ × NamedEntry X) → e.1.name ≢ [] → stays kind ps e ≡ true
-  named-stay ps e some = first _ _ (by_name (is_none e.1.name) refl)
+  pub named-stay : (ps : List (ℕ × Process)) (e : ℕ × NamedEntry X) → e.1.bound ≢ [] → stays kind ps e ≡ true
+  named-stay ps e some = first _ _ (by_name (is_none e.1.bound) refl)
     where
-      by_name : (b : Bool) → is_none e.1.name ≡ b → not b ≡ true
-      by_name true none = absurd (some ((bytes_eq-Decides e.1.name []).0 none))
+      by_name : (b : Bool) → is_none e.1.bound ≡ b → not b ≡ true
+      by_name true none = absurd (some ((bytes_eq-Decides e.1.bound []).0 none))
       by_name false has = refl
 
-  -- what is open stays there
+  -- what is open is left as it is, and stays there
+  pub kept-open : (ps : List (ℕ × Process)) (o : Named X) (n : ℕ) → is_open ps (opened_as kind n) ≡ true
+      → entry_of (still_open kind ps o) n ≡ entry_of o n
+  kept-open ps o n used = at-kept (stays kind ps) o.entries n (λ e. either (has_name e) _ used)
+
   pub open-stay : (ps : List (ℕ × Process)) (o : Named X) (n : ℕ) → is_open ps (opened_as kind n) ≡ true → is_some (entry_of o n) ≡ true
       → is_some (entry_of (still_open kind ps o) n) ≡ true
-  open-stay ps o n used there = by_entry (entry_of o n) refl there
-    where
-      by_entry : (r : Option (NamedEntry X)) → entry_of o n ≡ r → is_some r ≡ true → is_some (entry_of (still_open kind ps o) n) ≡ true
-      by_entry None is some = cc
-      by_entry (Some e) is some = ap is_some (at-filter (stays kind ps) o.entries n e is (either _ _ used))
+  open-stay ps o n used there = ap is_some (kept-open ps o n used) ∙ there
 
   module _ (most : ℕ) (P : X → Type 0) where
     -- those that stay are held
@@ -178,7 +160,7 @@ module _ {X : Type 0} (kind : NameKind) where
         → AreHeld most P kind left (still_open kind left o)
     kept-held left o named forms =
         record {
-          named = kept_if-named most P (stays kind left) (named-stay left) o named;
+          named = kept_if-bound of_names most P (stays kind left) (named-stay left) o named;
           forms = All-filter (stays kind left) (λ (e : ℕ × NamedEntry X). is_named_so kind e ≡ true) o.entries forms;
           stay = All-passed (stays kind left) o.entries;
         }
@@ -197,7 +179,7 @@ module _ {X : Type 0} (kind : NameKind) where
         open-more on = list_any-append (λ (p : ℕ × Process). list_any (λ (d : ℕ × Descriptor). is_on on d.1.on) p.1.descriptors) ps more
 
     pub none-held : (ps : List (ℕ × Process)) → AreHeld most P kind ps none_yet
-    none-held ps = record { named = none_yet-named most P; forms = All-nil _; stay = All-nil _ }
+    none-held ps = record { named = none_yet-bound of_names most P; forms = All-nil _; stay = All-nil _ }
 
 -- what is left has no more bytes
 pub fewer-bytes : (test : ℕ × NamedEntry Segment → Bool) (o : Named Segment) → segment_bytes (kept_if test o) ≤ segment_bytes o
@@ -209,7 +191,9 @@ fewer-bytes test o =
 -- what a descriptor of a process, if it is there, says of a registration with a queue
 abbrev pub told : ℕ → Registration → Option Process → Bool
 told n r p =
-    unwrap_or (option_map (λ (d : Descriptor). is_on (opened_as names.Mq n) d.on) (value_at nat_eq (unwrap_or (option_map (λ (q : Process). q.descriptors) p) []) r.descriptor)) false
+    unwrap_or
+    (option_map (λ (d : Descriptor). is_on (opened_as names.Mq n) d.on)
+    (value_at nat_eq (unwrap_or (option_map (λ (q : Process). q.descriptors) p) []) r.descriptor)) false
 
 abbrev pub IsRegistered : List (ℕ × Process) → ℕ × NamedEntry Mq → Type 0
 IsRegistered ps e = is_registered ps e ≡ true
@@ -260,40 +244,18 @@ module _ (ps more : List (ℕ × Process)) where
 -- ---- names
 
 -- without its registration an entry has the same name
-seen-names : (goes : Registration → Bool) (es : List (ℕ × NamedEntry Mq)) → map name_row (seen_as (deregistered goes) es) ≡ map name_row es
+seen-names : (goes : Registration → Bool) (es : List (ℕ × NamedEntry Mq)) → map bound_row (seen_as (deregistered goes) es) ≡ map bound_row es
 seen-names goes [] = refl
-seen-names goes (e ∷ es) = ap (λ (ks : List (List ℕ × ℕ)). name_row e ∷ ks) (seen-names goes es)
+seen-names goes (e ∷ es) = ap (λ (ks : List (List ℕ × ℕ)). bound_row e ∷ ks) (seen-names goes es)
 
 pub named-deregistered : (goes : Registration → Bool) (o : Named Mq) (name : List ℕ) → named (without_registrations goes o) name ≡ named o name
 named-deregistered goes o name = ap (λ (ks : List (List ℕ × ℕ)). if is_none name then None else value_at bytes_eq ks name) (seen-names goes o.entries)
 
 -- a name is named by what is left as before, if only those go that have no name
-named-kept : {X : Type 0} (test : ℕ × NamedEntry X → Bool) → ((e : ℕ × NamedEntry X) → e.1.name ≢ [] → test e ≡ true)
-    → (es : List (ℕ × NamedEntry X)) (name : List ℕ) → name ≢ []
-    → value_at bytes_eq (map name_row (filter test es)) name ≡ value_at bytes_eq (map name_row es) name
-named-kept test stands [] name some = refl
-named-kept {X} test stands (e ∷ es) name some = by_test (test e) refl (named-kept test stands es name some)
-  where
-    by_test : (b : Bool) → test e ≡ b → value_at bytes_eq (map name_row (filter test es)) name ≡ value_at bytes_eq (map name_row es) name
-        → value_at bytes_eq (map name_row (cond b (e ∷ filter test es) (filter test es))) name ≡ value_at bytes_eq (map name_row (e ∷ es)) name
-    by_test true stays rest = ap (λ (r : Option ℕ). cond (bytes_eq e.1.name name) (Some e.0) r) rest
-    by_test false goes rest = rest ∙ sym (by_name (bytes_eq e.1.name name) refl)
-      where
-        by_name : (b : Bool) → bytes_eq e.1.name name ≡ b
-            → cond b (Some e.0) (value_at bytes_eq (map name_row es) name) ≡ value_at bytes_eq (map name_row es) name
-        by_name true same =
-            let is : e.1.name ≡ name = (bytes_eq-Decides e.1.name name).0 same in
-            absurd (let yes = stands e (λ none. some (sym is ∙ none)) in cc)
-        by_name false apart = refl
-
-pub named-left : {X : Type 0} (test : ℕ × NamedEntry X → Bool) → ((e : ℕ × NamedEntry X) → e.1.name ≢ [] → test e ≡ true)
+pub named-left : {X : Type 0} (test : ℕ × NamedEntry X → Bool) → ((e : ℕ × NamedEntry X) → e.1.bound ≢ [] → test e ≡ true)
     → (o : Named X) (name : List ℕ) → named (kept_if test o) name ≡ named o name
-named-left test stands o name = by_name (is_none name) refl
-  where
-    by_name : (b : Bool) → is_none name ≡ b → cond b None (value_at bytes_eq (map name_row (filter test o.entries)) name)
-        ≡ cond b None (value_at bytes_eq (map name_row o.entries) name)
-    by_name true none = refl
-    by_name false has = named-kept test stands o.entries name (λ none. let yes : is_none name ≡ true = (bytes_eq-Decides name []).1 none in cc)
+named-left {X} test stands o name =
+    names-same (by_bound {X = X} of_names) o.entries (filter test o.entries) name (kept-at (by_bound {X = X} of_names) test stands o.entries name)
 
 -- registrations are no matter of names
 pub deregistered-sound : (limits : Limits) (goes : Registration → Bool) (most : ℕ) (o : Named Mq)
@@ -301,8 +263,9 @@ pub deregistered-sound : (limits : Limits) (goes : Registration → Bool) (most 
 deregistered-sound limits goes most o h =
     record {
       numbered = seen-numbered most (deregistered goes) o h.numbered;
-      names = subst (λ (ks : List (List ℕ × ℕ)). All (λ (k : List ℕ × ℕ). k.0 ≢ [] → value_at bytes_eq ks k.0 ≡ Some k.1) ks) (sym (seen-names goes o.entries)) h.names;
-      modes = All-seen_as (λ e. e.1.mode < 512) (λ e. e.1.mode < 512) (deregistered goes) (λ e m. m) o.entries h.modes;
+      bounds = subst (λ (ks : List (List ℕ × ℕ)). All (λ (k : List ℕ × ℕ). k.0 ≢ [] → value_at bytes_eq ks k.0 ≡ Some k.1) ks)
+          (sym (seen-names goes o.entries)) h.bounds;
+      modes = All-seen_as (λ e. e.1.perm.mode < 512) (λ e. e.1.perm.mode < 512) (deregistered goes) (λ e m. m) o.entries h.modes;
       each = All-seen_as (λ e. IsSoundMq limits e.1.object) (λ e. IsSoundMq limits e.1.object) (deregistered goes)
           (λ e g. record { maxmsg = g.maxmsg; msgsize = g.msgsize; count = g.count; messages = g.messages }) o.entries h.each;
     }
@@ -320,17 +283,6 @@ filter-seen {X} {Y} test row (x ∷ xs) = by_test (test (row x)) (filter-seen te
         → map row (cond b (x ∷ filter (λ x. test (row x)) xs) (filter (λ x. test (row x)) xs)) ≡ cond b (row x ∷ filter test (map row xs)) (filter test (map row xs))
     by_test true rest = ap (λ (ys : List Y). row x ∷ ys) rest
     by_test false rest = rest
-
--- ---- the parts of a state
-
--- without a process
-pub All-without : {X : Type 0} (P : ℕ × X → Type 0) (es : List (ℕ × X)) (n : ℕ) → All P es → All P (without nat_eq es n)
-All-without P [] n all = all
-All-without {X} P (e ∷ es) n all = by_test (nat_eq e.0 n) (All-without P es n (All-tail P e es all))
-  where
-    by_test : (b : Bool) → All P (without nat_eq es n) → All P (cond b es (e ∷ without nat_eq es n))
-    by_test true left = All-tail P e es all
-    by_test false left = All-cons P e _ (All-head P e es all) left
 
 -- ---- kinds
 
@@ -439,7 +391,7 @@ module _ (limits : Limits) where
       → AreAllHeld limits (without_entry ps pid) (left_by (without nat_eq ps.entries pid) (is_by (Some pid) None) o)
   exit-held ps pid o h =
       all-left ps (without_entry ps pid) (is_by (Some pid) None) o h (without_entry-numbered limits.processes ps pid h.processes.numbered)
-      (All-without (Has limits o) ps.entries pid h.processes.descriptors) (registered-exit ps.entries pid)
+      (all_without (Has limits o) ps.entries pid h.processes.descriptors) (registered-exit ps.entries pid)
 
   -- all leave
   pub restart-held : (ps : Numbered Process) (o : NamedObjects) → AreAllHeld limits ps o

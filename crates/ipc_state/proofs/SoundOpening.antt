@@ -1,7 +1,6 @@
 -- POSIX queues, and the descriptors that are open on them, stay sound as queues come and change and lose their names, and
 -- as descriptors are opened, changed and closed.
-use Rattle.std.proofs.Common.{◌≡◌, ◌≢◌, ℕ, ◌<◌, Bool, true, false, cond, List, [], ◌∷◌, length, Option, Some, None, refl, sym}
-use Rattle.std.proofs.Common.{ap, subst, ◌∙◌, arith}
+use Rattle.std.proofs.Common.{◌≡◌, ◌≢◌, ℕ, ◌<◌, Bool, true, false, cond, List, [], ◌∷◌, length, Option, Some, None, refl, sym, ap, subst, ◌∙◌, arith}
 use Rattle.std.specs.Prelude.{⊤, ◌+◌, ◌-◌, ◌≤◌, All, is_some, not, ◌||◌, ◌&&◌, nat_eq, nat_lt, option_map, unwrap_or, if◌then◌else◌}
 use Rattle.std.specs.List.{list_any}
 use Rattle.std.specs.Result.{is_ok}
@@ -13,6 +12,8 @@ use Rattle.ipc_base.specs.declared.limits.Limits.{Limits}
 use Rattle.ipc_base.specs.Table.{keys_of, value_at, with_value, with_entry as with_row, without}
 use Rattle.ipc_base.proofs.CallerLemmas.{All-value_at, All-with_value, at-with, entry-other, is_some-append, is_some-with_value, keys_of-with_value}
 use Rattle.ipc_base.proofs.CallerLemmas.{other-with, rising-entry, rising-without, value_at-without}
+use Rattle.std.proofs.lemmas.Nat.{and_le_r}
+use Rattle.ipc_perm.specs.Perm.{perm_of}
 use Rattle.ipc_keys.specs.Names.{check_name, is_none}
 use Rattle.ipc_keys.specs.declared.check.NameKind.{NameKind}
 use Rattle.ipc_keys.specs.declared.check.NameKind.TheVariants as names
@@ -21,19 +22,20 @@ use Rattle.posix_mq.specs.declared.queue.Registration.{Registration}
 use Rattle.shm_segment.specs.Segment.{Segment}
 use Rattle.ipc_state.specs.declared.descriptors.Descriptor.{Descriptor}
 use Rattle.ipc_state.specs.declared.descriptors.Opened.{Opened}
-use Rattle.ipc_state.specs.declared.named.NamedEntry.{NamedEntry}
+use Rattle.ipc_state.specs.Named.{NamedEntry, Named, named, is_own, nameless, without_name, unnamed}
 use Rattle.ipc_state.specs.declared.processes.Process.{Process}
 use Rattle.ipc_state.specs.Descriptors.{Table, lowest_unused, opened, with_flags}
-use Rattle.ipc_state.specs.Named.{Named, named, with_object, nameless, without_name, unnamed}
+use Rattle.ipc_state.specs.Bound.{holding}
 use Rattle.ipc_state.specs.Numbered.{Numbered, entry_of, is_full, with_entry, with_new, AreNumbered}
 use Rattle.ipc_state.specs.Opening.{Content, NamedObjects, descriptors_of, descriptor_at, each_kind, has_access, has_name, is_by, is_by_descriptor}
 use Rattle.ipc_state.specs.Opening.{is_named_so, is_on, is_open, is_sound_descriptor, is_there_for, of_kind, opened_as, stays, still_open, unless_so}
 use Rattle.ipc_state.specs.Opening.{deregistered, with_kind, with_table}
 use Rattle.ipc_state.specs.Sound.{AreHeld, AreSoundDescriptors, AreSoundNamed, AreSoundTogether, IsSoundContent, most_of, segment_bytes}
-use Rattle.ipc_state.proofs.Naming.{unnamed-named, with_new-named, with_object-named}
+use Rattle.ipc_state.proofs.Binding.{holding-bound, unnamed-named, with_new-bound}
 use Rattle.ipc_state.proofs.Numbering.{sum-with, with_entry-numbered}
+use Rattle.ipc_state.proofs.EntryKeys.{all_without, of_names}
 use Rattle.ipc_state.proofs.Opening.{few, unused}
-use Rattle.ipc_state.proofs.SoundMqs.{All-without, AreAllHeld, Has, HasThose, IsRegistered, MayGo, all-left, both_true, each-there, either, first}
+use Rattle.ipc_state.proofs.SoundMqs.{AreAllHeld, Has, HasThose, IsRegistered, MayGo, all-left, both_true, each-there, either, first}
 use Rattle.ipc_state.proofs.SoundMqs.{left_by, may-go, put-holds, swept-held, together-by, told}
 
 -- what holds of each entry holds with another in the place of one
@@ -70,6 +72,14 @@ All-row {X} P (e ∷ es) n x all new = by_test (nat_lt n e.0) (All-row P es n x 
 
 -- ---- objects that change
 
+-- who makes an object owns it
+own-new : (cred : Cred) (mode : ℕ) → is_own (perm_of cred mode) ≡ true
+own-new cred mode = let same : (n : ℕ) → nat_eq n n ≡ true = (λ n. grind (arith, nat_tests)) in rw (same cred.uid) (same cred.gid)
+
+-- the mode of a new object has nine bits
+pub perm_of-mode : (cred : Cred) (flags : ℕ) → (perm_of cred flags).mode < 512
+perm_of-mode cred flags = omega (arith, and_le_r flags 511)
+
 some_name : (kind : NameKind) (name : List ℕ) → is_ok (check_name kind name) ≡ true → not (is_none name) ≡ true
 some_name names.Mq [] proper = cc
 some_name names.Psem [] proper = cc
@@ -84,24 +94,24 @@ module _ {X : Type 0} (kind : NameKind) (most : ℕ) (P : X → Type 0) (ps : Li
   Formed d = is_named_so kind d ≡ true
 
   -- another object at a number that is there
-  pub put-held : (n : ℕ) (e : NamedEntry X) (x : X) → entry_of o n ≡ Some e → P x → AreHeld most P kind ps (with_entry o n (with_object e x))
+  pub put-held : (n : ℕ) (e : NamedEntry X) (x : X) → entry_of o n ≡ Some e → P x → AreHeld most P kind ps (with_entry o n (holding e x))
   put-held n e x is good =
-      let f : NamedEntry X = with_object e x in
+      let f : NamedEntry X = holding e x in
       let Named' : NamedEntry X → Type 0 = λ (d : NamedEntry X). is_named_so kind (n, d) ≡ true in
       record {
-        named = with_object-named most P o n e x is good h.named;
+        named = holding-bound of_names most P o n e x is good h.named;
         forms = All-with_value nat_eq Named' o.entries n f h.forms (All-value_at nat_eq Named' o.entries n e h.forms is);
         stay = All-put Stays o.entries n f h.stay (All-found Stays o.entries n e h.stay is);
       }
 
   -- a new one of a name that names none
-  pub new-held : (name : List ℕ) (cred : Cred) (mode : ℕ) (x : X) → named o name ≡ None → is_full most o ≡ false → mode < 512
-      → is_ok (check_name kind name) ≡ true → P x → AreHeld most P kind ps (with_new o (record { name = name; owner = cred; mode = mode; object = x }))
-  new-held name cred mode x unnamed room few proper good =
-      let e : NamedEntry X = record { name = name; owner = cred; mode = mode; object = x } in
+  pub new-held : (name : List ℕ) (cred : Cred) (mode : ℕ) (x : X) → named o name ≡ None → is_full most o ≡ false → is_ok (check_name kind name) ≡ true → P x
+      → AreHeld most P kind ps (with_new o (record { bound = name; perm = perm_of cred mode; object = x }))
+  new-held name cred mode x unnamed room proper good =
+      let e : NamedEntry X = record { bound = name; perm = perm_of cred mode; object = x } in
       record {
-        named = with_new-named most P o e unnamed room (record { mode = few; each = good }) h.named;
-        forms = All-push Formed o.entries (o.next, e) h.forms (either _ _ proper);
+        named = with_new-bound of_names most P o e unnamed room (perm_of-mode cred mode) good h.named;
+        forms = All-push Formed o.entries (o.next, e) h.forms (rw (either (is_none name) _ proper) (own-new cred mode));
         stay = All-push Stays o.entries (o.next, e) h.stay (first _ _ (some_name kind name proper));
       }
 
@@ -150,10 +160,10 @@ MayJoin limits names.Pshm o x = segment_bytes o + length x.bytes ≤ limits.segm
 
 module _ (limits : Limits) (ps : List (ℕ × Process)) where
   together-put : (kind : NameKind) (o : Named (Content kind)) (n : ℕ) (e : NamedEntry (Content kind)) (x : Content kind) → entry_of o n ≡ Some e
-      → MayStandFor limits ps kind o n e x → AreSoundTogether limits ps kind o → AreSoundTogether limits ps kind (with_entry o n (with_object e x))
-  together-put names.Mq o n e q is may h = All-put (IsRegistered ps) o.entries n (with_object e q) h may
+      → MayStandFor limits ps kind o n e x → AreSoundTogether limits ps kind o → AreSoundTogether limits ps kind (with_entry o n (holding e x))
+  together-put names.Mq o n e q is may h = All-put (IsRegistered ps) o.entries n (holding e q) h may
   together-put names.Psem o n e value is may h = tt
-  together-put names.Pshm o n e x is may h = omega (arith, sum-with bytes o.entries n e (with_object e x) is, may)
+  together-put names.Pshm o n e x is may h = omega (arith, sum-with bytes o.entries n e (holding e x) is, may)
 
   together-new : (kind : NameKind) (o : Named (Content kind)) (e : NamedEntry (Content kind)) → MayJoin limits kind o e.object
       → AreSoundTogether limits ps kind o → AreSoundTogether limits ps kind (with_new o e)
@@ -186,9 +196,9 @@ module _ (limits : Limits) (ps : Numbered Process) (o : NamedObjects) (h : AreAl
 
   -- another object at a number that is there
   pub put-all : (n : ℕ) (e : NamedEntry (Content kind)) (x : Content kind) → entry_of those n ≡ Some e → IsSoundContent limits kind x
-      → MayStandFor limits ps.entries kind those n e x → AreAllHeld limits ps (with_kind o kind (with_entry those n (with_object e x)))
+      → MayStandFor limits ps.entries kind those n e x → AreAllHeld limits ps (with_kind o kind (with_entry those n (holding e x)))
   put-all n e x is good may =
-      others-held (with_entry those n (with_object e x)) (λ m there. is_some-with_value nat_eq those.entries n m (with_object e x) ∙ there)
+      others-held (with_entry those n (holding e x)) (λ m there. is_some-with_value nat_eq those.entries n m (holding e x) ∙ there)
       (record {
         held = put-held kind (most_of limits kind) (IsSoundContent limits kind) ps.entries those (h.named kind).held n e x is good;
         together = together-put limits ps.entries kind those n e x is may (h.named kind).together;
@@ -196,13 +206,13 @@ module _ (limits : Limits) (ps : Numbered Process) (o : NamedObjects) (h : AreAl
 
   -- a new one of a name that names none
   pub new-all : (name : List ℕ) (cred : Cred) (mode : ℕ) (x : Content kind) → named those name ≡ None → is_full (most_of limits kind) those ≡ false
-      → mode < 512 → is_ok (check_name kind name) ≡ true → IsSoundContent limits kind x → MayJoin limits kind those x
-      → AreAllHeld limits ps (with_kind o kind (with_new those (record { name = name; owner = cred; mode = mode; object = x })))
-  new-all name cred mode x unnamed room few proper good may =
-      let e : NamedEntry (Content kind) = record { name = name; owner = cred; mode = mode; object = x } in
+      → is_ok (check_name kind name) ≡ true → IsSoundContent limits kind x → MayJoin limits kind those x
+      → AreAllHeld limits ps (with_kind o kind (with_new those (record { bound = name; perm = perm_of cred mode; object = x })))
+  new-all name cred mode x unnamed room proper good may =
+      let e : NamedEntry (Content kind) = record { bound = name; perm = perm_of cred mode; object = x } in
       others-held (with_new those e) (λ m there. is_some-append nat_eq those.entries ((those.next, e) ∷ []) m there)
       (record {
-        held = new-held kind (most_of limits kind) (IsSoundContent limits kind) ps.entries those (h.named kind).held name cred mode x unnamed room few proper good;
+        held = new-held kind (most_of limits kind) (IsSoundContent limits kind) ps.entries those (h.named kind).held name cred mode x unnamed room proper good;
         together = together-new limits ps.entries kind those e may (h.named kind).together;
       })
 
@@ -211,10 +221,11 @@ module _ (limits : Limits) (ps : Numbered Process) (o : NamedObjects) (h : AreAl
   unlinked-all n =
       swept-held limits ps o (with_kind o kind (unnamed those n)) h.processes.numbered h.processes.descriptors
       (put-holds (HasThose o) o kind (unnamed those n) (λ other m there. there) (unnamed-there those n))
-      (put-holds (MayGo limits ps.entries) o kind (unnamed those n) (λ other. may-go limits ps.entries ps.entries other (of_kind o other) (h.named other) (h.named other).together)
+      (put-holds (MayGo limits ps.entries) o kind (unnamed those n)
+      (λ other. may-go limits ps.entries ps.entries other (of_kind o other) (h.named other) (h.named other).together)
       (record {
         named = unnamed-named (most_of limits kind) (IsSoundContent limits kind) those n (h.named kind).held.named;
-        forms = unnamed-all those n (λ (e : ℕ × NamedEntry (Content kind)). is_named_so kind e ≡ true) (λ e d. refl) (h.named kind).held.forms;
+        forms = unnamed-all those n (λ (e : ℕ × NamedEntry (Content kind)). is_named_so kind e ≡ true) (λ e d. (both_true _ _ d).1) (h.named kind).held.forms;
         together = together-unnamed limits ps.entries kind those n (h.named kind).together;
       }))
 
@@ -467,7 +478,8 @@ module _ (limits : Limits) (o : NamedObjects) (table : Table) (good : AreSoundDe
               same = λ k c found. put d is k c found (nat_eq k fd) refl;
             }
 
-    flags-sound : ((d : Descriptor) → value_at nat_eq table fd ≡ Some d → has_access d.on.kind flags ≡ true) → AreSoundDescriptors limits o (with_flags table fd flags)
+    flags-sound : ((d : Descriptor) → value_at nat_eq table fd ≡ Some d → has_access d.on.kind flags ≡ true)
+        → AreSoundDescriptors limits o (with_flags table fd flags)
     flags-sound right = by_value (value_at nat_eq table fd) refl
       where
         by_value : (r : Option Descriptor) → value_at nat_eq table fd ≡ r → AreSoundDescriptors limits o (flagged r)
@@ -513,7 +525,7 @@ module _ (limits : Limits) (ps : Numbered Process) (pid : ℕ) (o : NamedObjects
     closed-held =
         let good : AreSoundDescriptors limits o (without nat_eq own-table fd) = record {
           numbers = rising-without 0 own-table limits.descriptors fd good-table.numbers;
-          each = All-without (λ (e : ℕ × Descriptor). is_sound_descriptor o e.1 ≡ true) own-table fd good-table.each;
+          each = all_without (λ (e : ℕ × Descriptor). is_sound_descriptor o e.1 ≡ true) own-table fd good-table.each;
         } in
         all-left limits ps shorter goes o h (table-numbered ps pid (without nat_eq own-table fd) limits.processes h.processes.numbered)
         (table-each ps pid (without nat_eq own-table fd) limits o h.processes.descriptors good) by_entry

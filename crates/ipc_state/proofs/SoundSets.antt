@@ -13,8 +13,7 @@ use Rattle.sysv_sem.specs.declared.operation.Operation.{Operation}
 use Rattle.sysv_sem.specs.Operation.{Done, most_value, outcome, value_after}
 use Rattle.sysv_sem.specs.Set.{Set, new_set, with_value, with_values, carried, changed, after_exit, values_of}
 use Rattle.sysv_sem.proofs.CallerLemmas.{length-carried, range-carried}
-use Rattle.ipc_state.specs.declared.keyed.Entry.{Entry}
-use Rattle.ipc_state.specs.Keyed.{Keyed}
+use Rattle.ipc_state.specs.Keyed.{KeyedEntry, Keyed}
 use Rattle.ipc_state.specs.Numbered.{entry_of, with_entry, with_new, without_entry}
 use Rattle.ipc_state.specs.Sound.{IsSoundSemset, semaphore_count}
 use Rattle.ipc_state.proofs.Numbering.{sum-with}
@@ -65,18 +64,18 @@ module _ (limits : Limits) where
 
 -- ---- all together
 
-abbrev size : ℕ × Entry Set → ℕ
+abbrev size : ℕ × KeyedEntry Set → ℕ
 size e = length e.1.object.semaphores
 
-pub count-new : (o : Keyed Set) (e : Entry Set) → semaphore_count (with_new o e) ≡ semaphore_count o + length e.object.semaphores
+pub count-new : (o : Keyed Set) (e : KeyedEntry Set) → semaphore_count (with_new o e) ≡ semaphore_count o + length e.object.semaphores
 count-new o e = omega (arith, sum_by-append size o.entries ((o.next, e) ∷ []), sum_by-cons size (o.next, e) [])
 
 -- a set in the place of another that has as many
-pub count-with : (o : Keyed Set) (id : ℕ) (e f : Entry Set) → entry_of o id ≡ Some e → length f.object.semaphores ≡ length e.object.semaphores
+pub count-with : (o : Keyed Set) (id : ℕ) (e f : KeyedEntry Set) → entry_of o id ≡ Some e → length f.object.semaphores ≡ length e.object.semaphores
     → semaphore_count (with_entry o id f) ≡ semaphore_count o
-count-with o id e f there same = omega (arith, sum-with (λ (g : Entry Set). length g.object.semaphores) o.entries id e f there, same)
+count-with o id e f there same = omega (arith, sum-with (λ (g : KeyedEntry Set). length g.object.semaphores) o.entries id e f there, same)
 
-no-more : (es : List (ℕ × Entry Set)) (id : ℕ) → sum_by size (without nat_eq es id) ≤ sum_by size es
+no-more : (es : List (ℕ × KeyedEntry Set)) (id : ℕ) → sum_by size (without nat_eq es id) ≤ sum_by size es
 no-more [] id = omega arith
 no-more (g ∷ es) id = by_test (nat_eq g.0 id) (no-more es id)
   where

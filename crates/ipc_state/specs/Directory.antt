@@ -9,8 +9,6 @@ use Rattle.std.specs.Str.{bytes_eq}
 use Rattle.ipc_base.specs.Table.{keys_of}
 use Rattle.ipc_keys.specs.Directory.{found}
 use Rattle.ipc_keys.specs.Names.{is_none}
-use Rattle.ipc_state.specs.Keyed.{Keyed, keyed}
-use Rattle.ipc_state.specs.Named.{Named, named}
 
 -- the identifier of a key
 abbrev pub named_by : FinMap int_cmp ℕ → ℤ → Option ℕ
@@ -37,10 +35,6 @@ ArePositive es = All (λ n. 0 < n) (keys_of es)
 abbrev pub Agrees : {K : Type 0} → (K → Option ℕ) → (K → Option ℕ) → Type 0
 Agrees {K} found named = ((key : K) (n : ℕ) → named key ≡ Some n → 0 < n) → (key : K) → found key ≡ named key
 
--- the directory names the objects as their keys do
-abbrev pub Agree : {X : Type 0} → FinMap int_cmp ℕ → Keyed X → Type 0
-Agree keys o = Agrees (named_by keys) (keyed o)
-
 -- What is ready to be added, if anything is: no key is vacant but its own, which is if it names nothing and is one; and
 -- there is a place for it.
 pub record IsReady {K : Type 0} (none : K) (vacant : K → Bool) (number : K → Option ℕ) (has_place : Bool)
@@ -58,7 +52,3 @@ number_at names name = if is_none name then None else found names name
 -- what an object with this name and number adds for another name
 abbrev pub name_added : List ℕ → ℕ → List ℕ → Option ℕ
 name_added = adds bytes_eq []
-
--- the directory names the objects as their names do
-abbrev pub AgreeNames : {X : Type 0} → FinMap (slice_cmp nat_cmp) ℕ → Named X → Type 0
-AgreeNames names o = Agrees (number_at names) (named o)

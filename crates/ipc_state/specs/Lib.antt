@@ -1,4 +1,5 @@
 pub mod Numbered
+pub mod Bound
 pub mod Keyed
 pub mod Named
 pub mod Waiting
@@ -22,3 +23,4 @@ pub mod Touching
 pub mod Finish
 pub mod Spare
 pub mod Steps
+pub mod Tries

@@ -1,44 +1,31 @@
--- Objects that may have a name (mq_overview(7), sem_overview(7), shm_overview(7)): each has a number, a name, an owner
--- and a mode. A name names one object at most; no bytes are no name, and any number of objects may have none. An object
--- is there while it has a name or a descriptor is open on it; which descriptors are open is not told here. Unlink takes
--- the name, and an object without one goes with its last descriptor.
-use Rattle.std.specs.Prelude.{◌≡◌, ◌≢◌, ℕ, ◌<◌, Bool, if◌then◌else◌}
-use Rattle.std.specs.Prelude.{List, [], map, filter, All, Option, Some, None, option_map, unwrap_or}
+-- Objects that may have a name (mq_overview(7), sem_overview(7), shm_overview(7)); whoever makes one owns it. No bytes
+-- are no name, and any number of objects may have none. An object is there while it has a name or a descriptor is open
+-- on it; which descriptors are open is not told here. Unlink takes the name, and an object without one goes with its
+-- last descriptor.
+use Rattle.std.specs.Prelude.{ℕ, Bool, ◌&&◌, nat_eq, List, [], Option, Some, None}
 use Rattle.std.specs.Str.{bytes_eq}
-use Rattle.ipc_base.specs.Table.{value_at, keys_of, IsRising}
-use Rattle.ipc_keys.specs.Names.{is_none}
-use Rattle.ipc_state.specs.declared.named.NamedEntry.{NamedEntry}
-use Rattle.ipc_state.specs.Numbered.{Numbered, AreNumbered, entry_of, with_entry}
+use Rattle.ipc_perm.specs.declared.perm.Perm.{Perm}
+use Rattle.ipc_state.specs.declared.objects.Entry.{Entry}
+use Rattle.ipc_state.specs.Bound.{AreBound, AreFound, ObjectsOf, number_of, rebound}
+use Rattle.ipc_state.specs.Numbered.{entry_of, with_entry}
+
+abbrev pub NamedEntry : Type 0 → Type 0
+NamedEntry X = Entry (List ℕ) X
 
 abbrev pub Named : Type 0 → Type 0
-Named X = Numbered (NamedEntry X)
+Named X = ObjectsOf (List ℕ) X
 
--- the name of each object, with the number
-abbrev pub name_row : {X : Type 0} → ℕ × NamedEntry X → List ℕ × ℕ
-name_row e = (e.1.name, e.0)
-
-abbrev pub names_in : {X : Type 0} → Named X → List (List ℕ × ℕ)
-names_in o = map name_row o.entries
+-- whoever made it owns it
+abbrev pub is_own : Perm → Bool
+is_own perm = nat_eq perm.cuid perm.uid && nat_eq perm.cgid perm.gid
 
 -- the number that a name names
 abbrev pub named : {X : Type 0} → Named X → List ℕ → Option ℕ
-named o name = if is_none name then None else value_at bytes_eq (names_in o) name
-
--- ---- entries
-
--- an entry with another object
-abbrev pub with_object : {X Y : Type 0} → NamedEntry X → Y → NamedEntry Y
-with_object e x = record { name = e.name; owner = e.owner; mode = e.mode; object = x }
+named o name = number_of bytes_eq [] o name
 
 -- an entry without its name
 abbrev pub nameless : {X : Type 0} → NamedEntry X → NamedEntry X
-nameless e = record { name = []; owner = e.owner; mode = e.mode; object = e.object }
-
--- ---- calls
-
--- another object at a number, if it is there, under the same name
-abbrev pub putting : {X : Type 0} → Named X → ℕ → X → Named X
-putting o n x = unwrap_or (option_map (λ e. with_entry o n (with_object e x)) (entry_of o n)) o
+nameless e = rebound e []
 
 -- without the name of an entry of the number, if it is there
 abbrev pub without_name : {X : Type 0} → Named X → ℕ → Option (NamedEntry X) → Named X
@@ -49,21 +36,8 @@ without_name o n (Some e) = with_entry o n (nameless e)
 abbrev pub unnamed : {X : Type 0} → Named X → ℕ → Named X
 unnamed o n = without_name o n (entry_of o n)
 
--- those for which a test stands are left: so those go that have no name and are no longer open
-abbrev pub kept_if : {X : Type 0} → (ℕ × NamedEntry X → Bool) → Named X → Named X
-kept_if test o = record { next = o.next; entries = filter test o.entries }
+abbrev pub HaveNames : {X : Type 0} → Named X → Type 0
+HaveNames o = AreFound bytes_eq [] o
 
--- ---- soundness
-
--- numbers rise, and each name names the object that has it
-pub record HaveNames {X : Type 0} (o : Named X) : Type 0 where
-  pub numbers : IsRising 1 (keys_of o.entries) o.next
-  pub names : All (λ k. k.0 ≢ [] → value_at bytes_eq (names_in o) k.0 ≡ Some k.1) (names_in o)
-
--- What holds of them, when something holds of each: their numbers are in order; each name names the object that has it,
--- so no two have the same; a mode has nine bits.
-pub record AreNamedObjects {X : Type 0} (most : ℕ) (IsSoundOne : X → Type 0) (o : Named X) : Type 0 where
-  pub numbered : AreNumbered most o
-  pub names : All (λ k. k.0 ≢ [] → value_at bytes_eq (names_in o) k.0 ≡ Some k.1) (names_in o)
-  pub modes : All (λ e. e.1.mode < 512) o.entries
-  pub each : All (λ e. IsSoundOne e.1.object) o.entries
+abbrev pub AreNamedObjects : {X : Type 0} → ℕ → (X → Type 0) → Named X → Type 0
+AreNamedObjects most IsSoundOne o = AreBound bytes_eq [] most IsSoundOne o

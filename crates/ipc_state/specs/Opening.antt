@@ -14,10 +14,10 @@ use Rattle.posix_mq.specs.declared.queue.Registration.{Registration}
 use Rattle.shm_segment.specs.Segment.{Segment}
 use Rattle.ipc_state.specs.declared.descriptors.Descriptor.{Descriptor}
 use Rattle.ipc_state.specs.declared.descriptors.Opened.{Opened}
-use Rattle.ipc_state.specs.declared.named.NamedEntry.{NamedEntry}
 use Rattle.ipc_state.specs.declared.processes.Process.{Process}
 use Rattle.ipc_state.specs.Descriptors.{Table}
-use Rattle.ipc_state.specs.Named.{Named, kept_if}
+use Rattle.ipc_state.specs.Bound.{kept_if}
+use Rattle.ipc_state.specs.Named.{Named, NamedEntry, is_own}
 use Rattle.ipc_state.specs.Numbered.{Numbered, entry_of, with_entry}
 
 -- whether two kinds are one
@@ -36,7 +36,7 @@ abbrev pub is_open : List (ℕ × Process) → Opened → Bool
 is_open processes this = list_any (λ p. list_any (λ d. is_on this d.1.on) p.1.descriptors) processes
 
 abbrev pub has_name : {X : Type 0} → NamedEntry X → Bool
-has_name e = not (is_none e.name)
+has_name e = not (is_none e.bound)
 
 -- an object of a kind, as a descriptor is open on it
 abbrev pub opened_as : NameKind → ℕ → Opened
@@ -144,6 +144,6 @@ is_by_descriptor processes n (Some r) =
 abbrev pub is_registered : List (ℕ × Process) → ℕ × NamedEntry Mq → Bool
 is_registered processes e = is_by_descriptor processes e.0 e.1.object.registration
 
--- a name, if there is one, is one that an object of the kind may have
+-- a name, if there is one, is one that an object of the kind may have; whoever made the object owns it
 abbrev pub is_named_so : {X : Type 0} → NameKind → ℕ × NamedEntry X → Bool
-is_named_so kind e = is_none e.1.name || is_ok (check_name kind e.1.name)
+is_named_so kind e = (is_none e.1.bound || is_ok (check_name kind e.1.bound)) && is_own e.1.perm

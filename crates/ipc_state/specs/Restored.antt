@@ -8,10 +8,10 @@ use Rattle.posix_mq.specs.Queue.{Queue as Mq}
 use Rattle.shm_segment.specs.Segment.{Segment}
 use Rattle.sysv_msg.specs.Queue.{Queue}
 use Rattle.sysv_sem.specs.Set.{Set}
-use Rattle.ipc_state.specs.declared.keyed.Entry.{Entry}
-use Rattle.ipc_state.specs.declared.named.NamedEntry.{NamedEntry}
 use Rattle.ipc_state.specs.declared.processes.Process.{Process}
 use Rattle.ipc_state.specs.declared.state.Numbers.{Numbers}
+use Rattle.ipc_state.specs.Keyed.{KeyedEntry}
+use Rattle.ipc_state.specs.Named.{NamedEntry}
 use Rattle.ipc_state.specs.Numbered.{with_last}
 use Rattle.ipc_state.specs.State.{State, undo_of}
 use Rattle.ipc_state.specs.Waiting.{PlainWaiting}
@@ -47,11 +47,11 @@ abbrev pub with_waits : State → List PlainWaiting → State
 with_waits s ws = record s { wait = ws }
 
 -- with a queue at the end
-abbrev pub with_last_msg_queue : State → ℕ → Entry Queue → State
+abbrev pub with_last_msg_queue : State → ℕ → KeyedEntry Queue → State
 with_last_msg_queue s id e = record s { msg = with_last s.msg id e }
 
 -- with a semaphore set at the end
-abbrev pub with_last_semset : State → ℕ → Entry Set → State
+abbrev pub with_last_semset : State → ℕ → KeyedEntry Set → State
 with_last_semset s id e = record s { semset = with_last s.semset id e }
 
 -- with a POSIX queue at the end

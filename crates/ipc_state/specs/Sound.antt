@@ -2,8 +2,7 @@
 -- is passed, each key is the key of one object that is there, and no object holds more than it may. What holds between
 -- parts is told where calls are put together.
 use Rattle.std.specs.Prelude.{◌≡◌, ⊤, ℕ, ◌^◌, ◌<◌, ◌≤◌, pos, int_lt, Bool, true, false, nat_lt}
-use Rattle.std.specs.Prelude.{length, All, sum_by, IsTrue}
-use Rattle.std.specs.Prelude.{option_map, unwrap_or, is_some, List}
+use Rattle.std.specs.Prelude.{length, All, sum_by, IsTrue, option_map, unwrap_or, is_some, List}
 use Rattle.std.specs.FinMap as fin
 use Rattle.ipc_base.specs.Table.{keys_of, EachValue, IsRising}
 use Rattle.sem_undo.specs.Undo.{Key, Undo}

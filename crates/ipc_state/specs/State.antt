@@ -17,18 +17,17 @@ use Rattle.sysv_msg.specs.Queue.{Queue, new_queue}
 use Rattle.sem_undo.specs.Undo.{Key, Undo, cleared}
 use Rattle.shm_segment.specs.Segment.{Segment, empty_segment}
 use Rattle.sysv_sem.specs.Set.{Set, new_set, after_exit}
-use Rattle.ipc_state.specs.declared.keyed.Entry.{Entry}
 use Rattle.ipc_perm.specs.declared.perm.Perm.{Perm}
+use Rattle.ipc_perm.specs.Perm.{perm_of}
 use Rattle.ipc_state.specs.declared.descriptors.Descriptor.{Descriptor}
 use Rattle.ipc_state.specs.declared.processes.Process.{Process}
 use Rattle.ipc_state.specs.Descriptors.{Table, opened, with_flags}
 use Rattle.ipc_state.specs.Numbered.{Numbered, none_yet, entry_of, is_full, with_entry, with_new, without_entry}
-use Rattle.ipc_state.specs.Keyed.{Keyed, holding}
-use Rattle.ipc_state.specs.Named.{Named, putting, unnamed}
+use Rattle.ipc_state.specs.Bound.{holding, putting}
+use Rattle.ipc_state.specs.Keyed.{Keyed, KeyedEntry}
+use Rattle.ipc_state.specs.Named.{Named, unnamed}
 use Rattle.ipc_state.specs.Opening.{Content, NamedObjects, each_kind, is_by, is_on, of_kind, opened_as, still_open}
-use Rattle.ipc_state.specs.Opening.{with_kind}
-use Rattle.ipc_state.specs.Opening.{without_registrations}
-use Rattle.ipc_state.specs.Opening.{descriptors_of, descriptor_at, with_table}
+use Rattle.ipc_state.specs.Opening.{with_kind, without_registrations, descriptors_of, descriptor_at, with_table}
 use Rattle.ipc_state.specs.Waiting.{PlainWaiting}
 
 pub record State : Type 0 where
@@ -149,8 +148,7 @@ with_object_of s kind n x = with_named_of s kind (putting (named_of s kind) n x)
 -- with a new object of a kind, of this name, owner and mode
 abbrev pub with_new_of : State → (kind : NameKind) → List ℕ → Cred → ℕ → Content kind → State
 with_new_of s kind name cred mode x =
-    with_named_of s kind
-    (with_new (named_of s kind) (record { name = name; owner = cred; mode = mode; object = x }))
+    with_named_of s kind (with_new (named_of s kind) (record { bound = name; perm = perm_of cred mode; object = x }))
 
 -- the name of an object of a kind is unlinked, and the object goes, if it is not open
 abbrev pub unlinked : State → NameKind → ℕ → State
@@ -288,29 +286,29 @@ receiver_waits s n = list_any (λ (w : PlainWaiting). receives_from s n w.pid.0 
 -- ---- message queues of msgget(2)
 
 -- the queue that an identifier has
-abbrev pub msg_queue_of : State → ℕ → Option (Entry Queue)
+abbrev pub msg_queue_of : State → ℕ → Option (KeyedEntry Queue)
 msg_queue_of s id = entry_of s.msg id
 
 -- the state with another queue at an identifier that it has
-abbrev pub with_msg_queue : State → ℕ → Entry Queue → State
+abbrev pub with_msg_queue : State → ℕ → KeyedEntry Queue → State
 with_msg_queue s id e = record s { msg = with_entry s.msg id e }
 
 -- the state with a new queue
 abbrev pub with_new_msg_queue : Limits → State → ℤ → Perm → State
 with_new_msg_queue limits s key perm =
-    record s { msg = with_new s.msg (record { key = key; perm = perm; object = new_queue limits.msgmnb s.clock }) }
+    record s { msg = with_new s.msg (record { bound = key; perm = perm; object = new_queue limits.msgmnb s.clock }) }
 
 -- ---- semaphore sets
 
 -- the set that an identifier has
-abbrev pub semset_of : State → ℕ → Option (Entry Set)
+abbrev pub semset_of : State → ℕ → Option (KeyedEntry Set)
 semset_of s id = entry_of s.semset id
 
 -- the state with another set at an identifier that it has
-abbrev pub with_semset : State → ℕ → Entry Set → State
+abbrev pub with_semset : State → ℕ → KeyedEntry Set → State
 with_semset s id e = record s { semset = with_entry s.semset id e }
 
 -- the state with a new set of so many semaphores
 abbrev pub with_new_semset : State → ℤ → Perm → ℕ → State
 with_new_semset s key perm nsems =
-    record s { semset = with_new s.semset (record { key = key; perm = perm; object = new_set nsems s.clock }) }
+    record s { semset = with_new s.semset (record { bound = key; perm = perm; object = new_set nsems s.clock }) }

@@ -12,8 +12,8 @@ ghost use Rattle.ipc_state.specs.State.{adjusted, undone, undo_of, with_undo, wi
 ghost use Rattle.ipc_state.specs.Rows.{has_room, item_row};
 ghost use Rattle.ipc_state.specs.Tables.{numbered_of};
 
-use crate::keyed::Keyed;
 use crate::numbered::{Item, Numbered};
+use crate::objects::Keyed;
 use crate::processes::Process;
 use crate::rows::Rows;
 use crate::state::State;
@@ -155,7 +155,7 @@ fn add_adjustments(sets: &mut Keyed<SemSet>, pid: Pid, rows: &[UndoRow])
 fn add_adjustment(sets: &mut Keyed<SemSet>, pid: Pid, row: &UndoRow)
     ensures { sets.new ≡ record sets.old { objects = adjusted pid.0 sets.old.objects (entry_of row.now) } }
 {
-    if let Some(set) = sets.get_mut(row.set) {
+    if let Some(set) = sets.get_mut(row.set.0) {
         if (row.num as usize) < set.semaphores().len() {
             set.adjust(row.num, row.adjustment, pid);
         }
@@ -222,7 +222,7 @@ fn have_semaphores(sets: &Keyed<SemSet>, rows: &[UndoRow]) -> bool
 fn has_semaphore_at(sets: &Keyed<SemSet>, row: &UndoRow) -> bool
     ensures { result ≡ has_semaphore sets.now.objects (key_of row.now) }
 {
-    match sets.get(row.set) {
+    match sets.get(row.set.0) {
         Some(entry) => (row.num as usize) < entry.object.semaphores().len(),
         None => false,
     }

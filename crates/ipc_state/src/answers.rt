@@ -4,6 +4,7 @@ ghost use Rattle.std.specs.Prelude.{◌≡◌, []};
 
 use ipc_base::Errno;
 use ipc_wire::Body;
+use posix_mq::Registration;
 use std::mem;
 
 /// How a call ends: the body of its reply, or the error.
@@ -15,6 +16,15 @@ pub enum Halt {
     Fails(Errno),
     /// It has to wait.
     Blocks,
+}
+
+/// What comes of a call that may wait.
+#[derive(Drop)]
+pub enum Tried<C> {
+    /// It ends so, and fires this registration, if one.
+    Finishes(Answer, Option<Registration>),
+    /// It has to wait, and is given back.
+    Waits(C),
 }
 
 /// The spare buffer, for the body of a reply; one without room is left in its place.

@@ -1,9 +1,11 @@
 //! What keeps an object with a name: the name, or a descriptor that is open on it. See mq_overview(7), sem_overview(7)
 //! and shm_overview(7).
 
-ghost use Rattle.std.specs.Prelude.{◌≡◌, ◌↔◌, ◌&&◌, true, map, All, IsTrue, None};
-ghost use Rattle.std.specs.Prelude.{filter, is_some};
+ghost use Rattle.std.specs.Prelude.{◌≡◌, ◌↔◌, ◌&&◌, ◌||◌, true, map, All, IsTrue, None, filter, is_some};
 ghost use Rattle.std.specs.List.{list_all, list_any};
+ghost use Rattle.std.specs.Result.{is_ok};
+ghost use Rattle.ipc_keys.specs.Names.{check_name, is_none};
+ghost use Rattle.ipc_state.specs.Named.{is_own};
 ghost use Rattle.ipc_state.specs.Held.{left};
 ghost use Rattle.ipc_state.specs.Opening.{descriptor_at, has_access, is_named_so, is_on, is_open, is_sound_descriptor};
 ghost use Rattle.ipc_state.specs.Numbered.{entry_of};
@@ -13,14 +15,15 @@ ghost use Rattle.ipc_state.specs.State.{named_in, named_of, swept};
 ghost use Rattle.ipc_state.specs.Tables.{item_row, numbered_of};
 
 use crate::descriptors::{Descriptor, DescriptorRow, Opened};
-use crate::named::{Named, NamedEntry};
 use crate::numbered::{Item, Numbered};
+use crate::objects::{Entry, NamedEntry, ObjectTable};
 use crate::processes::Process;
 use crate::rows::Rows;
 use crate::sound::SoundAlone;
 use crate::state::State;
 use ipc_base::{Limits, Pid};
-use ipc_keys::{NameKind, check_name};
+use ipc_keys::{Name, NameKind, check_name};
+use ipc_perm::Perm;
 
 impl State {
     /// Objects go that have no name and on which no descriptor is open. It takes no memory.
@@ -97,7 +100,7 @@ impl State {
     }
 }
 
-impl<T: Drop> Named<T> {
+impl<T: Drop> ObjectTable<Name, T> {
     /// Those go that have no name and on which no descriptor of these processes is open. Nothing is ready then.
     pub(crate) fn sweep(&mut self, processes: &[Item<Process>], kind: NameKind)
         ensures { self.new
@@ -108,7 +111,7 @@ impl<T: Drop> Named<T> {
     }
 }
 
-impl<T: Drop> Rows<NamedEntry<T>> {
+impl<T: Drop> Rows<Entry<Name, T>> {
     /// The same.
     fn sweep(&mut self, processes: &[Item<Process>], kind: NameKind)
         ensures rows { map item_row self.new.items
@@ -118,7 +121,7 @@ impl<T: Drop> Rows<NamedEntry<T>> {
     }
 }
 
-impl<T: SoundAlone> Named<T> {
+impl<T: SoundAlone> ObjectTable<Name, T> {
     /// Whether they are sound, and no more than `most`, and each has a name that an object of the kind may have, or is
     /// open.
     pub(crate) fn are_held(
@@ -147,7 +150,7 @@ fn have_names_or_stay<T>(
     have_forms(items, kind) && all_stay(items, processes, kind)
 }
 
-/// Whether each name is one that an object of the kind may have.
+/// Whether each name is one that an object of the kind may have, and whoever made the object owns it.
 fn have_forms<T>(items: &[Item<NamedEntry<T>>], kind: NameKind) -> bool
     ensures { result ≡ list_all (λ e. is_named_so kind (item_row e)) items.now }
 {
@@ -157,8 +160,21 @@ fn have_forms<T>(items: &[Item<NamedEntry<T>>], kind: NameKind) -> bool
 fn is_named_so<T>(item: &Item<NamedEntry<T>>, kind: NameKind) -> bool
     ensures { result ≡ is_named_so kind (item_row item.now) }
 {
-    let name = item.value.name.bytes();
+    has_form(item.value.bound.bytes(), kind) && is_own(item.value.perm)
+}
+
+/// Whether it is no name, or one that an object of the kind may have.
+fn has_form(name: &[u8], kind: NameKind) -> bool
+    ensures { result ≡ (is_none name.now || is_ok (check_name kind name.now)) }
+{
     name.is_empty() || check_name(kind, name).is_ok()
+}
+
+/// Whether who made an object owns it.
+fn is_own(perm: Perm) -> bool
+    ensures { result ≡ is_own perm }
+{
+    perm.cuid == perm.uid && perm.cgid == perm.gid
 }
 
 /// Whether each of some objects has a name, or a descriptor of some process is open on it.
@@ -172,7 +188,7 @@ fn stays<T>(processes: &[Item<Process>], item: &Item<NamedEntry<T>>, kind: NameK
     ensures { result ≡ stays kind (map item_row processes.now) (item_row item.now) }
 {
     let number = item.number;
-    !item.value.name.is_none() || is_open(processes, Opened { kind, number })
+    !item.value.bound.is_none() || is_open(processes, Opened { kind, number })
 }
 
 /// Whether an object of a kind may be open with these flags.

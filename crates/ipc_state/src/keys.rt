@@ -5,12 +5,15 @@ ghost use Rattle.std.specs.Ordering.{int_eq};
 ghost use Rattle.ipc_keys.specs.Directory.{is_vacant};
 ghost use Rattle.ipc_state.specs.Directory.{added, named_by, or_else};
 
-use crate::keyed::IPC_PRIVATE;
+use crate::bound::Bound;
 use ipc_keys::KeyDir;
-use std::alloc::AllocError;
+use std::alloc::{AllocError, Global};
+
+/// The key of a get that always makes a new object. See msgget(2).
+pub const IPC_PRIVATE: i32 = 0;
 
 /// The identifier of a key.
-pub(crate) fn named(keys: &KeyDir, key: i32) -> Option<u32>
+fn named(keys: &KeyDir, key: i32) -> Option<u32>
     ensures { result ≡ named_by keys.now key }
 {
     if key == IPC_PRIVATE {
@@ -20,7 +23,7 @@ pub(crate) fn named(keys: &KeyDir, key: i32) -> Option<u32>
 }
 
 /// Makes room for a key that has no identifier, so that `bind` takes no memory.
-pub(crate) fn reserve(keys: &mut KeyDir, key: i32) -> Result<(), AllocError>
+fn reserve(keys: &mut KeyDir, key: i32) -> Result<(), AllocError>
     ensures names { (other : ℤ) → named_by keys.new other ≡ named_by keys.old other }
     ensures ok { OnOk result (key ≢ pos 0 → named_by keys.old key ≡ None → is_vacant keys.new key ≡ true) }
     ensures others { (other : ℤ) → other ≢ key → is_vacant keys.new other ≡ is_vacant keys.old other }
@@ -37,7 +40,7 @@ pub(crate) fn reserve(keys: &mut KeyDir, key: i32) -> Result<(), AllocError>
 }
 
 /// Gives back the room of a key that has no identifier.
-pub(crate) fn release(keys: &mut KeyDir, key: i32)
+fn release(keys: &mut KeyDir, key: i32)
     ensures names { (other : ℤ) → named_by keys.new other ≡ named_by keys.old other }
     ensures key { is_vacant keys.new key ≡ false }
     ensures others { (other : ℤ) → other ≢ key → is_vacant keys.new other ≡ is_vacant keys.old other }
@@ -48,7 +51,7 @@ pub(crate) fn release(keys: &mut KeyDir, key: i32)
 }
 
 /// Gives a key, whose room is reserved, its identifier.
-pub(crate) fn bind(keys: &mut KeyDir, key: i32, id: u32)
+fn bind(keys: &mut KeyDir, key: i32, id: u32)
     requires vacant { key ≢ pos 0 → is_vacant keys.old key ≡ true }
     requires number { 0 < id }
     ensures names { (other : ℤ) → named_by keys.new other ≡ or_else (named_by keys.old other) (added key id other) }
@@ -63,7 +66,7 @@ pub(crate) fn bind(keys: &mut KeyDir, key: i32, id: u32)
 }
 
 /// Gives a key that was read its identifier, unless it has one. Refused for want of memory.
-pub(crate) fn restore(keys: &mut KeyDir, key: i32, id: u32) -> Result<(), AllocError>
+fn restore(keys: &mut KeyDir, key: i32, id: u32) -> Result<(), AllocError>
     ensures names { OnOk result (0 < id → (other : ℤ)
         → named_by keys.new other ≡ or_else (named_by keys.old other) (added key id other)) }
     ensures zero { OnOk result (id ≡ 0 → (other : ℤ) → named_by keys.new other ≡ named_by keys.old other) }
@@ -82,10 +85,58 @@ pub(crate) fn restore(keys: &mut KeyDir, key: i32, id: u32) -> Result<(), AllocE
 }
 
 /// Takes a key out.
-pub(crate) fn unbind(keys: &mut KeyDir, key: i32)
+fn unbind(keys: &mut KeyDir, key: i32)
     ensures names { (other : ℤ) → named_by keys.new other
         ≡ if int_eq key other then None else named_by keys.old other }
     ensures vacant { (other : ℤ) → is_vacant keys.old other ≡ false → is_vacant keys.new other ≡ false }
 {
     keys.unbind(key);
+}
+
+impl Bound for i32 {
+    ghost use Rattle.std.proofs.lemmas.Bool.Decides.{Decides-int_eq};
+
+    type Directory = KeyDir;
+
+    ghost same = { int_eq };
+
+    ghost none = { pos 0 };
+
+    ghost number_in = { named_by };
+
+    ghost is_vacant = { is_vacant };
+
+    fn new_directory(alloc: Global) -> KeyDir {
+        KeyDir::new(alloc)
+    }
+
+    fn names_none(&self) -> bool {
+        *self == IPC_PRIVATE
+    }
+
+    fn find(&self, directory: &KeyDir) -> Option<u32> {
+        named(directory, *self)
+    }
+
+    fn reserve(&self, directory: &mut KeyDir) -> Result<(), AllocError> {
+        reserve(directory, *self)
+    }
+
+    fn release(&self, directory: &mut KeyDir) {
+        release(directory, *self);
+    }
+
+    fn bind(&self, directory: &mut KeyDir, number: u32) {
+        bind(directory, *self, number);
+    }
+
+    fn restore(&self, directory: &mut KeyDir, number: u32) -> Result<(), AllocError> {
+        restore(directory, *self, number)
+    }
+
+    fn unbind(&self, directory: &mut KeyDir) {
+        unbind(directory, *self);
+    }
+
+    ghost decides = { Decides-int_eq };
 }

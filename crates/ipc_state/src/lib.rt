@@ -4,15 +4,15 @@
 
 mod adjustments;
 mod answers;
+mod bound;
 mod descriptors;
 mod holding;
-mod keyed;
 mod keys;
 mod mqs;
 mod msg_queues;
-mod named;
 mod names;
 mod numbered;
+mod objects;
 mod operations;
 mod parked;
 mod processes;
@@ -25,13 +25,14 @@ mod state;
 mod tables;
 mod waits;
 
-pub use answers::{Answer, Halt, take_spare};
+pub use answers::{Answer, Halt, Tried, take_spare};
+pub use bound::Bound;
 pub use descriptors::{
     Descriptor, DescriptorRow, Descriptors, Opened, lowest_unused_is_so, opened_is_there,
 };
-pub use keyed::{Entry, IPC_PRIVATE, Keyed};
-pub use named::{Named, NamedEntry};
+pub use keys::IPC_PRIVATE;
 pub use numbered::{Item, LAST_NUMBER};
+pub use objects::{Entry, Keyed, KeyedEntry, Named, NamedEntry, ObjectTable};
 pub use operations::Operations;
 pub use parked::{Awaited, Object, ObjectKind, Parked, ParkedKind, ParkedPosix, ParkedSysv};
 pub use processes::Process;

@@ -26,14 +26,15 @@ ghost use Rattle.ipc_state.specs.Waiting.{parked_kind};
 
 use crate::descriptors::Opened;
 use crate::holding::is_on;
-use crate::named::{Named, NamedEntry};
 use crate::numbered::Item;
+use crate::objects::{Entry, Named, NamedEntry, ObjectTable};
 use crate::parked::{ParkedKind, ParkedPosix};
 use crate::rows::Rows;
 use crate::sound::SoundAlone;
 use crate::state::State;
 use ipc_base::{Cred, Limits, Pid};
 use ipc_keys::{Name, NameKind};
+use ipc_perm::Perm;
 use posix_mq::{Message, Mq, Registration};
 use std::alloc::AllocError;
 
@@ -116,7 +117,8 @@ impl State {
         ensures number { result ≡ self.old.state.mq.next }
     {
         self.mq.ready_mut().unwrap().renew(maxmsg, msgsize);
-        let number = self.mq.add(cred, mode);
+        let perm = Perm::new(cred, mode);
+        let number = self.mq.add(perm);
         self.release();
         number
     }
@@ -207,7 +209,7 @@ impl State {
     }
 }
 
-impl Named<Mq> {
+impl ObjectTable<Name, Mq> {
     /// Registrations go that this process made, or any, by this descriptor, or any.
     fn deregister(&mut self, pid: Option<u32>, fd: Option<u32>)
         ensures { self.new ≡ record self.old { objects = without_registrations (is_by pid fd) self.old.objects } }
@@ -216,7 +218,7 @@ impl Named<Mq> {
     }
 }
 
-impl Rows<NamedEntry<Mq>> {
+impl Rows<Entry<Name, Mq>> {
     /// The same.
     fn deregister(&mut self, pid: Option<u32>, fd: Option<u32>)
         ensures rows { map item_row self.new.items

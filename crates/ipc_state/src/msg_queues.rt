@@ -7,9 +7,9 @@ ghost use Rattle.std.specs.List.{list_all};
 ghost use Rattle.std.specs.Option.{option_copied_mut};
 ghost use Rattle.ipc_base.specs.Limits.{ArePassed};
 ghost use Rattle.ipc_base.specs.Table.{IsRising, keys_of};
-ghost use Rattle.ipc_state.specs.declared.keyed.Entry.{Entry};
 ghost use Rattle.ipc_state.specs.Held.{Ready, left};
-ghost use Rattle.ipc_state.specs.Keyed.{AreKeyed, AreNamed, keyed, permitting};
+ghost use Rattle.ipc_state.specs.Bound.{permitting};
+ghost use Rattle.ipc_state.specs.Keyed.{AreKeyed, HaveKeys, KeyedEntry, keyed};
 ghost use Rattle.ipc_state.specs.LendsMsgQueue.{lends_msg_queue};
 ghost use Rattle.ipc_state.specs.Numbered.{entry_of, is_full, with_entry, without_entry};
 ghost use Rattle.ipc_state.specs.Restored.{with_last_msg_queue};
@@ -19,8 +19,8 @@ ghost use Rattle.ipc_state.specs.Tables.{item_row};
 ghost use Rattle.ipc_state.specs.Tests.{is_sound_message, is_sound_msg_queue};
 ghost use Rattle.sysv_msg.specs.Queue.{Queue, plain};
 
-use crate::keyed::{Entry, Keyed};
 use crate::numbered::Item;
+use crate::objects::{Keyed, KeyedEntry};
 use crate::sound::SoundAlone;
 use crate::state::State;
 use ipc_base::{Id, Limits};
@@ -37,7 +37,7 @@ impl State {
     }
 
     /// The queues, by identifier.
-    pub fn msg_queues(&self) -> &[Item<Entry<MsgQueue>>]
+    pub fn msg_queues(&self) -> &[Item<KeyedEntry<MsgQueue>>]
         ensures { map item_row result.now ≡ self.now.state.msg.entries }
     {
         self.msg.items()
@@ -56,20 +56,20 @@ impl State {
         ensures* writes_back { sem 𝓛 (lends_msg_queue self.entry id.0 result) }
         ensures object { option_copied_mut result ≡ option_map (λ e. e.object) (entry_of self.old.state.msg id.0) }
     {
-        self.msg.get_mut(id)
+        self.msg.get_mut(id.0)
     }
 
     /// Replaces who may use the queue of an identifier.
     pub fn set_msg_perm(&mut self, id: Id, perm: Perm)
         requires { is_some (entry_of self.old.state.msg id.0) ≡ true }
-        ensures { (e : Entry Queue) → entry_of self.old.state.msg id.0 ≡ Some e
+        ensures { (e : KeyedEntry Queue) → entry_of self.old.state.msg id.0 ≡ Some e
             → self.new ≡ record self.old {
               state = record self.old.state {
                 msg = with_entry self.old.state.msg id.0 (permitting e perm);
               };
             } }
     {
-        self.msg.set_perm(id, perm);
+        self.msg.set_perm(id.0, perm);
     }
 
     /// Takes the memory for one queue more of this key.
@@ -99,28 +99,32 @@ impl State {
             .ready_mut()
             .unwrap()
             .renew(self.limits.msgmnb, self.clock);
-        let id = self.msg.add(perm);
+        let number = self.msg.add(perm);
         self.release();
-        id
+        Id(number)
     }
 
     /// Takes a queue out. It takes no memory.
     pub fn remove_msg_queue(&mut self, id: Id)
-        requires named { AreNamed self.old.state.msg }
+        requires named { HaveKeys self.old.state.msg }
         requires there { is_some (entry_of self.old.state.msg id.0) ≡ true }
         ensures { self.new ≡ left self.old (record self.old.state { msg = without_entry self.old.state.msg id.0 }) }
     {
-        self.msg.remove(id);
+        self.msg.remove(id.0);
         self.release();
     }
 
     /// Adds a queue that was read, at the end. Refused for want of memory, the state is as before.
-    pub fn restore_msg_queue(&mut self, id: Id, entry: Entry<MsgQueue>) -> Result<(), AllocError>
+    pub fn restore_msg_queue(
+        &mut self,
+        id: Id,
+        entry: KeyedEntry<MsgQueue>,
+    ) -> Result<(), AllocError>
         ensures state { OnOk result (self.new.state ≡ with_last_msg_queue self.old.state id.0 entry) }
         ensures limits { self.new.limits ≡ self.old.limits }
         ensures err { OnErr result (self.new.state ≡ self.old.state) }
     {
-        self.msg.restore(id, entry)
+        self.msg.restore(id.0, entry)
     }
 
     /// Whether the queues are sound.

@@ -16,11 +16,12 @@ ghost use Rattle.ipc_state.specs.Restored.{with_last_psem};
 ghost use Rattle.ipc_state.specs.Sound.{AreSoundNamed};
 ghost use Rattle.ipc_state.specs.State.{has_all_psems, unlinked, with_new_psem};
 
-use crate::named::{Named, NamedEntry};
+use crate::objects::{Named, NamedEntry};
 use crate::sound::SoundAlone;
 use crate::state::State;
 use ipc_base::{Cred, Limits};
 use ipc_keys::{Name, NameKind};
+use ipc_perm::Perm;
 use posix_sem::{NamedSem, SEM_VALUE_MAX};
 use std::alloc::AllocError;
 
@@ -64,7 +65,8 @@ impl State {
         ensures number { result ≡ self.old.state.psem.next }
     {
         *self.psem.ready_mut().unwrap() = NamedSem::new(value);
-        let number = self.psem.add(cred, mode);
+        let perm = Perm::new(cred, mode);
+        let number = self.psem.add(perm);
         self.release();
         number
     }

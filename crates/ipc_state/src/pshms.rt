@@ -16,12 +16,13 @@ ghost use Rattle.ipc_state.specs.Sound.{AreSoundNamed, segment_bytes};
 ghost use Rattle.shm_segment.specs.Segment.{Segment, empty_segment, truncated};
 ghost use Rattle.ipc_state.specs.State.{has_all_pshms, unlinked, with_new_pshm};
 
-use crate::named::{Named, NamedEntry};
 use crate::numbered::Item;
+use crate::objects::{Named, NamedEntry};
 use crate::sound::SoundAlone;
 use crate::state::State;
 use ipc_base::{Cred, Limits};
 use ipc_keys::{Name, NameKind};
+use ipc_perm::Perm;
 use shm_segment::Segment;
 use std::alloc::AllocError;
 
@@ -91,7 +92,8 @@ impl State {
         ensures number { result ≡ self.old.state.pshm.next }
     {
         *self.pshm.ready_mut().unwrap() = Segment::new(self.alloc);
-        let number = self.pshm.add(cred, mode);
+        let perm = Perm::new(cred, mode);
+        let number = self.pshm.add(perm);
         self.release();
         number
     }

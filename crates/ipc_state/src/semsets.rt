@@ -6,9 +6,9 @@ ghost use Rattle.std.specs.Borrow.{sem};
 ghost use Rattle.std.specs.Option.{option_copied_mut};
 ghost use Rattle.ipc_base.specs.Limits.{ArePassed};
 ghost use Rattle.ipc_base.specs.Table.{IsRising, keys_of};
-ghost use Rattle.ipc_state.specs.declared.keyed.Entry.{Entry};
 ghost use Rattle.ipc_state.specs.Held.{Ready, left};
-ghost use Rattle.ipc_state.specs.Keyed.{AreNamed, keyed, permitting};
+ghost use Rattle.ipc_state.specs.Bound.{permitting};
+ghost use Rattle.ipc_state.specs.Keyed.{HaveKeys, KeyedEntry, keyed};
 ghost use Rattle.ipc_state.specs.LendsSemset.{lends_semset};
 ghost use Rattle.ipc_state.specs.Numbered.{entry_of, is_full, with_entry, without_entry};
 ghost use Rattle.ipc_state.specs.Restored.{with_last_semset};
@@ -17,8 +17,8 @@ ghost use Rattle.ipc_state.specs.State.{with_new_semset};
 ghost use Rattle.ipc_state.specs.Tables.{item_row};
 ghost use Rattle.sysv_sem.specs.Set.{Set};
 
-use crate::keyed::{Entry, Keyed};
 use crate::numbered::Item;
+use crate::objects::{Keyed, KeyedEntry};
 use crate::sound::SoundAlone;
 use crate::state::State;
 use ipc_base::{Id, Limits};
@@ -35,7 +35,7 @@ impl State {
     }
 
     /// The semaphore sets, by identifier.
-    pub fn semsets(&self) -> &[Item<Entry<SemSet>>]
+    pub fn semsets(&self) -> &[Item<KeyedEntry<SemSet>>]
         ensures { map item_row result.now ≡ self.now.state.semset.entries }
     {
         self.semset.items()
@@ -54,20 +54,20 @@ impl State {
         ensures* writes_back { sem 𝓛 (lends_semset self.entry id.0 result) }
         ensures object { option_copied_mut result ≡ option_map (λ e. e.object) (entry_of self.old.state.semset id.0) }
     {
-        self.semset.get_mut(id)
+        self.semset.get_mut(id.0)
     }
 
     /// Replaces who may use the set of an identifier.
     pub fn set_semset_perm(&mut self, id: Id, perm: Perm)
         requires { is_some (entry_of self.old.state.semset id.0) ≡ true }
-        ensures { (e : Entry Set) → entry_of self.old.state.semset id.0 ≡ Some e
+        ensures { (e : KeyedEntry Set) → entry_of self.old.state.semset id.0 ≡ Some e
             → self.new ≡ record self.old {
               state = record self.old.state {
                 semset = with_entry self.old.state.semset id.0 (permitting e perm);
               };
             } }
     {
-        self.semset.set_perm(id, perm);
+        self.semset.set_perm(id.0, perm);
     }
 
     /// Takes the memory for one set more of this key, and of so many semaphores.
@@ -92,20 +92,20 @@ impl State {
         ensures id { result.0 ≡ self.old.state.semset.next }
     {
         self.semset.ready_mut().unwrap().renew(self.clock);
-        let id = self.semset.add(perm);
+        let number = self.semset.add(perm);
         self.release();
-        id
+        Id(number)
     }
 
     /// Takes a set out. It takes no memory.
     pub fn remove_semset(&mut self, id: Id)
-        requires named { AreNamed self.old.state.semset }
+        requires named { HaveKeys self.old.state.semset }
         requires there { is_some (entry_of self.old.state.semset id.0) ≡ true }
         ensures { self.new ≡ left self.old (record self.old.state {
           semset = without_entry self.old.state.semset id.0;
         }) }
     {
-        self.semset.remove(id);
+        self.semset.remove(id.0);
         self.release();
     }
 
@@ -125,12 +125,12 @@ impl State {
     }
 
     /// Adds a set that was read, at the end. Refused for want of memory, all is as before.
-    pub fn restore_semset(&mut self, id: Id, entry: Entry<SemSet>) -> Result<(), AllocError>
+    pub fn restore_semset(&mut self, id: Id, entry: KeyedEntry<SemSet>) -> Result<(), AllocError>
         ensures state { OnOk result (self.new.state ≡ with_last_semset self.old.state id.0 entry) }
         ensures limits { self.new.limits ≡ self.old.limits }
         ensures err { OnErr result (self.new.state ≡ self.old.state) }
     {
-        self.semset.restore(id, entry)
+        self.semset.restore(id.0, entry)
     }
 
     /// Whether the sets are sound.
@@ -152,7 +152,7 @@ impl SoundAlone for SemSet {
 }
 
 /// Whether these sets have together no more semaphores than `most`.
-fn are_few(sets: &[Item<Entry<SemSet>>], most: usize) -> bool
+fn are_few(sets: &[Item<KeyedEntry<SemSet>>], most: usize) -> bool
     ensures { IsTrue result ↔ (sum_by (λ e. length e.value.object.semaphores) sets.now ≤ most) }
 {
     let mut left = most;

@@ -2,12 +2,11 @@
 
 ghost use Rattle.std.specs.Prelude.{◌↔◌, All, IsTrue};
 ghost use Rattle.ipc_base.specs.declared.limits.Limits.{Limits};
-ghost use Rattle.ipc_state.specs.Keyed.{AreKeyed};
-ghost use Rattle.ipc_state.specs.Named.{AreNamedObjects};
+ghost use Rattle.ipc_state.specs.Bound.{AreBound};
 
-use crate::keyed::{Entry, Keyed};
-use crate::named::{Named, NamedEntry};
+use crate::bound::Bound;
 use crate::numbered::Item;
+use crate::objects::{Entry, ObjectTable};
 use ipc_base::Limits;
 
 /// An object of which it is told whether it is sound by itself.
@@ -19,7 +18,7 @@ pub(crate) trait SoundAlone {
         ensures { IsTrue result ↔ IsSound limits.now self.now };
 }
 
-impl<T: SoundAlone> SoundAlone for Entry<T> {
+impl<B, T: SoundAlone> SoundAlone for Entry<B, T> {
     ghost IsSound = { λ limits e. T.IsSound limits e.object };
 
     fn is_sound(&self, limits: &Limits) -> bool {
@@ -27,29 +26,12 @@ impl<T: SoundAlone> SoundAlone for Entry<T> {
     }
 }
 
-impl<T: SoundAlone> SoundAlone for NamedEntry<T> {
-    ghost IsSound = { λ limits e. T.IsSound limits e.object };
-
-    fn is_sound(&self, limits: &Limits) -> bool {
-        self.object.is_sound(limits)
-    }
-}
-
-impl<T: SoundAlone> Keyed<T> {
+impl<B: Bound, T: SoundAlone> ObjectTable<B, T> {
     /// Whether they are sound, and no more than `most`.
     pub(crate) fn are_sound(&self, most: u32, limits: &Limits) -> bool
-        ensures { IsTrue result ↔ AreKeyed most (T.IsSound limits.now) self.now.objects }
+        ensures { IsTrue result ↔ AreBound B.same B.none most (T.IsSound limits.now) self.now.objects }
     {
-        self.are_keyed(most) && each_is_sound(self.items(), limits)
-    }
-}
-
-impl<T: SoundAlone> Named<T> {
-    /// Whether they are sound, and no more than `most`.
-    pub(crate) fn are_sound(&self, most: u32, limits: &Limits) -> bool
-        ensures { IsTrue result ↔ AreNamedObjects most (T.IsSound limits.now) self.now.objects }
-    {
-        self.are_named_objects(most) && each_is_sound(self.items(), limits)
+        self.are_bound(most) && each_is_sound(self.items(), limits)
     }
 }
 

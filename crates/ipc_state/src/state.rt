@@ -9,9 +9,8 @@ ghost use Rattle.ipc_state.specs.State.{start, at_moment, named_of};
 ghost use Rattle.ipc_keys.specs.declared.check.NameKind.{NameKind};
 
 use crate::descriptors::Descriptors;
-use crate::keyed::Keyed;
-use crate::named::Named;
 use crate::numbered::Numbered;
+use crate::objects::{Keyed, Named, ObjectTable};
 use crate::parked::{Awaited, Parked};
 use crate::processes::Process;
 use ipc_base::{Limits, Moment};
@@ -139,13 +138,13 @@ impl State {
             wait: WaitList::new(alloc),
             undo: Numbered::new(alloc),
             fresh: None,
-            msg: Keyed::new(alloc),
+            msg: ObjectTable::new(alloc),
             spare_msg_queue: None,
-            semset: Keyed::new(alloc),
-            mq: Named::new(alloc),
+            semset: ObjectTable::new(alloc),
+            mq: ObjectTable::new(alloc),
             spare_mq: None,
-            psem: Named::new(alloc),
-            pshm: Named::new(alloc),
+            psem: ObjectTable::new(alloc),
+            pshm: ObjectTable::new(alloc),
             zeros: None,
         }
     }

@@ -11,11 +11,11 @@ use Rattle.ipc_wire.specs.declared.reply.Body.TheVariants.{Empty}
 use Rattle.posix_mq.specs.Queue.{Queue as Mq, PlainMessage, deregistered as without_registration}
 use Rattle.posix_mq.specs.declared.queue.Registration.{Registration}
 use Rattle.ipc_state.specs.declared.descriptors.Descriptor.{Descriptor}
-use Rattle.ipc_state.specs.declared.named.NamedEntry.{NamedEntry}
 use Rattle.ipc_state.specs.declared.parked.Awaited.{Awaited}
 use Rattle.ipc_state.specs.declared.parked.Awaited.TheVariants as awaited
 use Rattle.ipc_state.specs.Descriptors.{Table}
-use Rattle.ipc_state.specs.Named.{nameless, unnamed, with_object, without_name}
+use Rattle.ipc_state.specs.Bound.{holding}
+use Rattle.ipc_state.specs.Named.{NamedEntry, nameless, unnamed, without_name}
 use Rattle.ipc_state.specs.Numbered.{entry_of, with_entry}
 use Rattle.ipc_keys.specs.declared.check.NameKind.{NameKind}
 use Rattle.ipc_keys.specs.declared.check.NameKind.TheVariants as names
@@ -79,11 +79,11 @@ module _ (p : ℕ) where
       → registrations (with_mq s n new) p + own p q.registration ≡ registrations s p + own p new.registration
   put-mq s n q new is =
       let e = has-entry s names.Mq n q is in
-      let whole = put s.mq.entries n e.entry (with_object e.entry new) e.there in
+      let whole = put s.mq.entries n e.entry (holding e.entry new) e.there in
       let same : own p e.entry.object.registration ≡ own p q.registration = ap (λ (r : Mq). own p r.registration) e.object in
-      let state : registrations (with_mq s n new) p ≡ sum_by of-entry (with_value nat_eq s.mq.entries n (with_object e.entry new)) =
+      let state : registrations (with_mq s n new) p ≡ sum_by of-entry (with_value nat_eq s.mq.entries n (holding e.entry new)) =
       ap
-      (λ (r : Option (NamedEntry Mq)). sum_by of-entry (unwrap_or (option_map (λ (f : NamedEntry Mq). with_entry s.mq n (with_object f new)) r) s.mq).entries)
+      (λ (r : Option (NamedEntry Mq)). sum_by of-entry (unwrap_or (option_map (λ (f : NamedEntry Mq). with_entry s.mq n (holding f new)) r) s.mq).entries)
       e.there in
       omega (arith, whole, same, state)
 
@@ -156,7 +156,8 @@ module _ (p : ℕ) where
       by_test true = omega arith
       by_test false = omega arith
 
-  pub fewer-arrived : (notifies : Bool) (q : Mq) (m : PlainMessage) → own p (firing notifies q) + own p (arrived notifies q m).registration ≤ own p q.registration
+  pub fewer-arrived : (notifies : Bool) (q : Mq) (m : PlainMessage)
+      → own p (firing notifies q) + own p (arrived notifies q m).registration ≤ own p q.registration
   fewer-arrived true q m = omega (arith, fewer-notifies q.registration)
   fewer-arrived false q m = omega arith
 

@@ -14,7 +14,7 @@ use Rattle.std.proofs.lemmas.Bool.{and_from, and_parts, eqb-true, not-false, not
 use Rattle.std.proofs.lemmas.List.Sums.{sum_by-append, sum_by-cons}
 use Rattle.std.proofs.lemmas.Option.{get_or_from_slice_get, slice_get_within}
 use Rattle.std.specs.Int.{w32, to_be_bytes}
-use Rattle.std.proofs.lemmas.Nat.{and_assoc, and_le_r, and_mask}
+use Rattle.std.proofs.lemmas.Nat.{and_assoc, and_mask}
 use Rattle.std.proofs.lemmas.Nat.Bits.{and_pow}
 use Rattle.ipc_base.specs.declared.errno.Errno.TheVariants.{EBADF, EBUSY, EINVAL, EMFILE, ENOSPC}
 use Rattle.ipc_base.specs.declared.identity.Cred.{Cred}
@@ -33,44 +33,43 @@ use Rattle.posix_mq.specs.Queue.{Queue as Mq, PlainMessage, deregistered, empty_
 use Rattle.posix_mq.specs.declared.queue.Registration.{Registration}
 use Rattle.ipc_state.specs.declared.descriptors.Descriptor.{Descriptor}
 use Rattle.ipc_state.specs.declared.descriptors.Opened.{Opened}
-use Rattle.ipc_state.specs.declared.named.NamedEntry.{NamedEntry}
 use Rattle.ipc_state.specs.declared.parked.Awaited.{Awaited}
 use Rattle.ipc_state.specs.declared.parked.Object.{Object}
 use Rattle.ipc_state.specs.Descriptors.{lowest_unused}
-use Rattle.ipc_state.specs.Named.{named}
 use Rattle.ipc_state.specs.Numbered.{entry_of}
-use Rattle.ipc_state.specs.Opening.{descriptor_at, descriptors_of, has_access, is_by_descriptor, is_on, is_there_for, opened_as}
-use Rattle.ipc_state.specs.Finish.{Done, answer, answer_firing, done_firing}
-use Rattle.ipc_state.specs.Sound.{FitsBody, HasSoundParts, IsSoundMq, IsSoundMqMessage}
+use Rattle.ipc_perm.specs.Perm.{perm_of}
+use Rattle.ipc_state.specs.Opening.{Content, NamedObjects, descriptor_at, descriptors_of, has_access, is_by_descriptor, is_on, is_there_for, of_kind, opened_as}
+use Rattle.ipc_state.specs.Finish.{Done, answer, answer_firing, done_firing, ◌>>=◌}
+use Rattle.ipc_state.specs.Sound.{FitsBody, HasSoundParts, IsSoundContent, IsSoundMq, IsSoundMqMessage, most_of}
 use Rattle.ipc_state.specs.State.{State, closed, cred_of, has_all_descriptors, is_waiting, unlinked, with_descriptor, with_descriptor_flags, with_mq}
-use Rattle.ipc_state.specs.State.{with_new_mq}
-use Rattle.ipc_state.specs.State.{with_descriptors}
+use Rattle.ipc_state.specs.State.{with_descriptors, with_new_of}
 use Rattle.ipc_state.specs.Descriptors.{Table}
-use Rattle.ipc_state.specs.Opening.{with_table}
+use Rattle.ipc_state.specs.Opening.{with_kind, with_table}
 use Rattle.ipc_state.specs.Descriptors.{opened as opened_table}
-use Rattle.ipc_state.specs.Named.{Named, with_object}
-use Rattle.ipc_state.specs.Numbered.{Numbered, with_entry, with_new}
+use Rattle.ipc_state.specs.Bound.{holding}
+use Rattle.ipc_state.specs.Named.{Named, NamedEntry, named}
+use Rattle.ipc_state.specs.Numbered.{Numbered, is_full, with_entry, with_new}
 use Rattle.ipc_state.specs.declared.processes.Process.{Process}
 use Rattle.posix_sem.specs.Semaphore.{post_answer, posted, sem_value_max, wait_answer, waited}
 use Rattle.shm_segment.specs.Segment.{Segment, empty_segment, is_within, part, truncated, written}
 use Rattle.ipc_state.specs.Sound.{segment_bytes}
-use Rattle.ipc_state.specs.State.{named_in, with_psem, with_new_psem, with_new_pshm, with_pshm}
+use Rattle.ipc_state.specs.State.{named_in, named_of, with_psem, with_pshm}
 use Rattle.ipc_state.specs.Touching.{IsAsBefore, object_of, object_on}
 use Rattle.ipc_state.specs.Waiting.{may_wait}
 use Rattle.ipc_state.proofs.CallerLemmas.{IsGood, as_before, same-but-table, same-objects, same-processes}
 use Rattle.ipc_state.proofs.CallerLemmas.{AtEnd, after, after-refuse, after-then, at-all, at-some, at-value, by-if_some, by-test}
 use Rattle.ipc_state.proofs.CallerLemmas.{closed-sound, unlinked-sound, with_descriptor-sound, with_descriptor_flags-sound}
 use Rattle.ipc_state.proofs.CallerLemmas.{descriptor-sound, mq-registered, received_mq-sound, sent_mq-sound}
-use Rattle.ipc_state.proofs.CallerLemmas.{content-sound, with_new-sound, with_object-sound}
+use Rattle.ipc_state.proofs.CallerLemmas.{MayJoin, content-sound, with_new-sound, with_object-sound}
 use Rattle.ipc_state.proofs.CallerLemmas.{before-then, elsewhere-closed, elsewhere-new, elsewhere-object, elsewhere-table, elsewhere-unlinked}
 use Rattle.posix_calls.specs.Calls.{definition_of, on_descriptor, touched}
-use Rattle.posix_calls.specs.Mq.{Found, arrived, attr_fields, close, firing, given_up, is_own, is_to_notify, kept_flags, made_mq}
-use Rattle.posix_calls.specs.Mq.{message_body, mq_getattr, mq_notify, mq_open, mq_receive, mq_send, mq_setattr, mq_unlink, opened_mq}
+use Rattle.posix_calls.specs.Mq.{Found, arrived, attr_fields, close, firing, given_up, is_own, is_to_notify, kept_flags}
+use Rattle.posix_calls.specs.Mq.{message_body, mq_getattr, mq_notify, mq_open, mq_receive, mq_send, mq_setattr}
 use Rattle.posix_calls.specs.Mq.{registering, registration}
 use Rattle.posix_calls.specs.declared.psem.FoundPsem.{FoundPsem}
-use Rattle.posix_calls.specs.Open.{access_of, asked_by, has, nonblock, opens}
-use Rattle.posix_calls.specs.Psem.{sem_getvalue, sem_open, sem_post, sem_trywait, sem_unlink, sem_wait}
-use Rattle.posix_calls.specs.Pshm.{FoundPshm, asked_of_pshm, cut_as, ftruncate, opened_pshm, segment_fields, shm_open, shm_read, shm_stat, shm_unlink}
+use Rattle.posix_calls.specs.Open.{access_of, asked_by, has, nonblock, opens, unlink, usable}
+use Rattle.posix_calls.specs.Psem.{sem_getvalue, sem_open, sem_post, sem_trywait, sem_wait}
+use Rattle.posix_calls.specs.Pshm.{FoundPshm, asked_of_pshm, cut_as, ftruncate, opened_pshm, segment_fields, shm_open, shm_read, shm_stat}
 use Rattle.posix_calls.specs.Pshm.{shm_write, trunc}
 use Rattle.posix_calls.specs.Registrations.{may_make, own, registrations}
 use Rattle.posix_calls.proofs.Debts.{fewer-arrived, fewer-closed, fewer-given_up, fewer-unlinked, made-one, none-own, of-entry, put-mq}
@@ -108,6 +107,12 @@ segment-mode flags is =
 
 -- ---- lengths
 
+-- those of a kind are what was put for it
+put-kind : (o : NamedObjects) (kind : NameKind) (those : Named (Content kind)) → of_kind (with_kind o kind those) kind ≡ those
+put-kind o names.Mq those = refl
+put-kind o names.Psem those = refl
+put-kind o names.Pshm those = refl
+
 -- a new object is there
 new-there : {X : Type 0} (o : Named X) (e : NamedEntry X) → IsRising 1 (keys_of o.entries) o.next → is_some (entry_of (with_new o e) o.next) ≡ true
 new-there {X} o e rising = ap is_some (at-push o.entries o.next e (none (entry_of o o.next) refl))
@@ -117,7 +122,9 @@ new-there {X} o e rising = ap is_some (at-push o.entries o.next e (none (entry_o
     none (Some d) is = let below = (rising-found 1 o.entries o.next o.next rising (ap is_some is)).1 in absurd (omega (arith, below))
 
 pub truncated-length : (x : Segment) (n : ℕ) → length (truncated n x).bytes ≡ n
-truncated-length x n = omega (arith, length-append (take n x.bytes) (replicate (n - length x.bytes) 0), length-take n x.bytes, length-replicate {A = ℕ} (n - length x.bytes) 0)
+truncated-length x n =
+    let more : ℕ = n - length x.bytes in
+    omega (arith, length-append (take n x.bytes) (replicate more 0), length-take n x.bytes, length-replicate {A = ℕ} more 0)
 
 written-length : (x : Segment) (offset : ℕ) (bytes : List ℕ) → is_within offset (length bytes) x ≡ true
     → length (written offset bytes x).bytes ≡ length x.bytes
@@ -152,10 +159,10 @@ fewer-of o n e is = found o.entries is
 
 -- what is put in the place of one is there
 put-there : {X : Type 0} (o : Named X) (n : ℕ) (e : NamedEntry X) (x : X) → entry_of o n ≡ Some e
-    → is_some (entry_of (unwrap_or (option_map (λ (f : NamedEntry X). with_entry o n (with_object f x)) (entry_of o n)) o) n) ≡ true
+    → is_some (entry_of (unwrap_or (option_map (λ (f : NamedEntry X). with_entry o n (holding f x)) (entry_of o n)) o) n) ≡ true
 put-there {X} o n e x is =
-    ap (λ (r : Option (NamedEntry X)). is_some (entry_of (unwrap_or (option_map (λ (f : NamedEntry X). with_entry o n (with_object f x)) r) o) n)) is
-    ∙ ap is_some (at-with o.entries n (with_object e x) e is)
+    ap (λ (r : Option (NamedEntry X)). is_some (entry_of (unwrap_or (option_map (λ (f : NamedEntry X). with_entry o n (holding f x)) r) o) n)) is
+    ∙ ap is_some (at-with o.entries n (holding e x) e is)
 
 -- ---- a segment that is cut to no bytes, or not
 
@@ -196,8 +203,10 @@ cut-same f same flags s n e = by_test (has flags trunc)
 
 -- ---- a queue that is open
 
-on-queue : (s : State) (pid fd : ℕ) (f : Found) → IsOpen s pid fd f → on_descriptor s pid fd ≡ Some (object_on (opened_as names.Mq f.number))
-on-queue s pid fd f o = ap (option_map (λ (d : Descriptor). object_on d.on)) o.at ∙ ap (λ (on : Opened). Some (object_on on)) o.on
+-- what a descriptor is open on is what a call by it may change
+on-object : (s : State) (pid fd : ℕ) (d : Descriptor) (on : Opened) → descriptor_at s.processes.entries pid fd ≡ Some d → d.on ≡ on
+    → on_descriptor s pid fd ≡ Some (object_on on)
+on-object s pid fd d on at is = ap (option_map (λ (e : Descriptor). object_on e.on)) at ∙ ap (λ (o : Opened). Some (object_on o)) is
 
 -- a registration by that descriptor
 registers-by : (s : State) (pid fd : ℕ) (f : Found) → IsOpen s pid fd f
@@ -318,7 +327,7 @@ module _ (limits : Limits) where
         (mq-registered limits s f.number e.entry e.there h) in
         with_object-sound limits s names.Mq f.number e.entry q e.there (good (was h)) (stays by) h)
         (λ h. fits (was h))
-        (λ h p on apart. elsewhere-object s names.Mq f.number q p on (λ _ same. apart (on-queue s pid fd f o ∙ same)))
+        (λ h p on apart. elsewhere-object s names.Mq f.number q p on (λ _ same. apart (on-object s pid fd o.descriptor _ o.at o.on ∙ same)))
         (λ p. omega (arith, put-mq p s f.number f.queue q o.there, owes p))
 
     mq_send-ends : (fd priority : ℕ) (text : List ℕ) → AtEnd false (Leaves (on_descriptor s pid fd)) (mq_send s pid fd priority text)
@@ -368,15 +377,11 @@ module _ (limits : Limits) where
       mq_getattr-ends fd = after (open-ends s pid fd) (λ f o. read-ends (Record (record_bytes (attr_fields f))) (omega arith))
 
       -- the name of an object is gone, and it, if it is not open
-      unlinked-ends : (kind : NameKind) (n : ℕ) → AtEnd never (Leaves None) (answer (unlinked s kind n) Empty)
-      unlinked-ends kind n =
+      unlink-ends : (kind : NameKind) (cred : Cred) (name : List ℕ) → AtEnd never (Leaves None) (unlink kind s cred name)
+      unlink-ends kind cred name =
+          after-then (proper-ends kind name) (λ _. after (unlinkable-ends (named_of s kind) cred name) (λ n _.
           same-ends (unlinked s kind n) Empty None refl refl refl (unlinked-sound limits s kind n) (λ _. omega arith)
-          (λ h p on apart. elsewhere-unlinked limits s h kind n p on) (λ p. omega (arith, fewer-unlinked p s kind n))
-
-      mq_unlink-ends : (cred : Cred) (name : List ℕ) → AtEnd never (Leaves None) (mq_unlink s cred name)
-      mq_unlink-ends cred name =
-          after-then (proper-ends names.Mq name) (λ _. after (unlinkable-ends s.mq cred name) (λ n _.
-          unlinked-ends names.Mq n))
+          (λ h p on apart. elsewhere-unlinked limits s h kind n p on) (λ p. omega (arith, fewer-unlinked p s kind n))))
 
       close-ends : (fd : ℕ) → AtEnd never (Leaves (on_descriptor s pid fd)) (close s pid fd)
       close-ends fd =
@@ -407,40 +412,42 @@ module _ (limits : Limits) where
           (λ h. with_descriptor-sound limits t pid d few (and_from _ _ (there h) access) (sound h)) (omega arith)
           (λ h p on other apart. before-then p on s t _ (others h p on) (elsewhere-table t pid table p on other)) owes
 
-      -- the queue that the name names, or a new one
-      opened-ends : (cred : Cred) (flags n : ℕ) → (access_of flags == 3) ≡ false → has_all_descriptors limits s pid ≡ false
-          → AtEnd never (Leaves None) (opened_mq s cred pid flags n)
-      opened-ends cred flags n mode few =
-          after (usable-ends s.mq cred n (asked_by flags)) (λ e there.
-          opens-ends s (kept_flags flags) (opened_as names.Mq n) refl refl refl few (λ h. h) (λ _. ap is_some there) (kept-mode flags mode) as_it_is
-          (λ p. omega arith))
+      module _ (kind : NameKind) (cred : Cred) (flags : ℕ) (few : has_all_descriptors limits s pid ≡ false) (access : has_access kind flags ≡ true) where
+        -- a descriptor on an object that is there, and that the caller may use
+        there-ends : (n asked : ℕ)
+            → AtEnd never (Leaves None) (usable (named_of s kind) cred n asked >>= (λ e. opens s pid flags (opened_as kind n)))
+        there-ends n asked =
+            after (usable-ends (named_of s kind) cred n asked) (λ e there.
+            opens-ends s flags (opened_as kind n) refl refl refl few (λ h. h) (λ _. ap is_some there) access as_it_is (λ p. omega arith))
 
-      made-ends : (cred : Cred) (flags mode attr : ℕ) (maxmsg msgsize : ℤ) (name : List ℕ) → (access_of flags == 3) ≡ false
-          → has_all_descriptors limits s pid ≡ false → is_ok (check_name names.Mq name) ≡ true → named s.mq name ≡ None
-          → AtEnd never (Leaves None) (made_mq limits s cred pid flags mode attr maxmsg msgsize name)
-      made-ends cred flags mode attr maxmsg msgsize name access few right unused =
-          after (attributes-ends limits attr maxmsg msgsize) (λ given good. after-refuse ENOSPC (λ room.
-          let bits : ℕ = bit_and mode 511 in
-          let q : Mq = empty_queue given.0 given.1 None in
-          let e : NamedEntry Mq = record { name = name; owner = cred; mode = bits; object = q } in
-          opens-ends (with_new_mq s name cred bits q) (kept_flags flags) (opened_as names.Mq s.mq.next) refl refl refl few
-          (with_new-sound limits s names.Mq name cred bits q unused room (omega (arith, and_le_r mode 511)) right good refl)
-          (λ h. new-there s.mq e (h.named names.Mq).held.named.numbered.numbers) (kept-mode flags access)
-          (λ h p on. elsewhere-new limits s h names.Mq name cred bits q p on)
-          (λ p. omega (arith, sum_by-append (of-entry p) s.mq.entries ((s.mq.next, e) ∷ [])))))
+        -- a descriptor on a new object
+        new-ends : (name : List ℕ) (mode : ℕ) (x : Content kind) → is_ok (check_name kind name) ≡ true → named (named_of s kind) name ≡ None
+            → is_full (most_of limits kind) (named_of s kind) ≡ false → IsSoundContent limits kind x
+            → (HasSoundParts limits s → MayJoin limits kind (named_of s kind) x)
+            → ((p : ℕ) → registrations (with_new_of s kind name cred mode x) p ≤ registrations s p)
+            → AtEnd never (Leaves None) (opens (with_new_of s kind name cred mode x) pid flags (opened_as kind (named_of s kind).next))
+        new-ends name mode x right unused room good may owes =
+            let those : Named (Content kind) = named_of s kind in
+            let e : NamedEntry (Content kind) = record { bound = name; perm = perm_of cred mode; object = x } in
+            opens-ends (with_new_of s kind name cred mode x) flags (opened_as kind those.next) refl refl refl few
+            (λ h. with_new-sound limits s kind name cred mode x unused room right good (may h) h)
+            (λ h. ap (λ (o : Named (Content kind)). is_some (entry_of o those.next)) (put-kind (named_in s) kind (with_new those e))
+            ∙ new-there those e (h.named kind).held.named.numbered.numbers)
+            access (λ h p on. elsewhere-new limits s h kind name cred mode x p on) owes
 
       mq_open-ends : (cred : Cred) (flags mode attr : ℕ) (maxmsg msgsize : ℤ) (name : List ℕ)
           → AtEnd never (Leaves None) (mq_open limits s cred pid flags mode attr maxmsg msgsize name)
       mq_open-ends cred flags mode attr maxmsg msgsize name =
           after-then (proper-ends names.Mq name) (λ right. after-refuse EINVAL (λ access. after-refuse EMFILE (λ few.
           after (sought-ends s.mq name flags) (λ found unused.
-          by-if_some {o = found} (λ n _. opened-ends cred flags n access few)
-          (λ none. made-ends cred flags mode attr maxmsg msgsize name access few right (unused none))))))
+          by-if_some {o = found} (λ n _. there-ends names.Mq cred (kept_flags flags) few (kept-mode flags access) n (asked_by flags))
+          (λ none. after (attributes-ends limits attr maxmsg msgsize) (λ given good. after-refuse ENOSPC (λ room.
+          let q : Mq = empty_queue given.0 given.1 None in
+          let e : NamedEntry Mq = record { bound = name; perm = perm_of cred mode; object = q } in
+          new-ends names.Mq cred (kept_flags flags) few (kept-mode flags access) name mode q right (unused none) room good (λ _. refl)
+          (λ p. omega (arith, sum_by-append (of-entry p) s.mq.entries ((s.mq.next, e) ∷ []))))))))))
 
     -- ---- named semaphores
-
-    on-semaphore : (fd : ℕ) (f : FoundPsem) → IsOpenPsem s pid fd f → on_descriptor s pid fd ≡ Some (object_on (opened_as names.Psem f.number))
-    on-semaphore fd f o = ap (option_map (λ (d : Descriptor). object_on d.on)) o.at ∙ ap (λ (on : Opened). Some (object_on on)) o.on
 
     -- another value of one that is open
     change-ends : {never : Bool} (fd : ℕ) (f : FoundPsem) (value : ℕ) → IsOpenPsem s pid fd f → (f.value ≤ sem_value_max → value ≤ sem_value_max)
@@ -450,7 +457,9 @@ module _ (limits : Limits) where
         same-ends (with_psem s f.number value) Empty None refl refl refl
         (λ h. let most = content-sound limits s names.Psem f.number e.entry e.there h in
         with_object-sound limits s names.Psem f.number e.entry value e.there (good (subst (λ (n : ℕ). n ≤ sem_value_max) e.object most)) tt h)
-        (λ _. omega arith) (λ h p on apart. elsewhere-object s names.Psem f.number value p on (λ _ same. apart (on-semaphore fd f o ∙ same))) (λ p. omega arith)
+        (λ _. omega arith)
+        (λ h p on apart. elsewhere-object s names.Psem f.number value p on (λ _ same. apart (on-object s pid fd o.descriptor _ o.at o.on ∙ same)))
+        (λ p. omega arith)
 
     posted-few : (n : ℕ) → n ≤ sem_value_max → posted n ≤ sem_value_max
     posted-few n few = by_test (n == sem_value_max) refl
@@ -465,7 +474,8 @@ module _ (limits : Limits) where
     module _ {never : Bool} where
       sem_post-ends : (fd : ℕ) → AtEnd never (Leaves (on_descriptor s pid fd)) (sem_post s pid fd)
       sem_post-ends fd =
-          after (open_psem-ends s pid fd) (λ f o. after-then (passed-ends (post_answer f.value)) (λ _. change-ends fd f (posted f.value) o (posted-few f.value)))
+          after (open_psem-ends s pid fd) (λ f o. after-then (passed-ends (post_answer f.value)) (λ _.
+          change-ends fd f (posted f.value) o (posted-few f.value)))
 
       sem_trywait-ends : (fd : ℕ) → AtEnd never (Leaves (on_descriptor s pid fd)) (sem_trywait s pid fd)
       sem_trywait-ends fd =
@@ -479,22 +489,10 @@ module _ (limits : Limits) where
           → AtEnd never (Leaves None) (sem_open limits s cred pid flags mode value name)
       sem_open-ends cred flags mode value name =
           after-then (proper-ends names.Psem name) (λ right. after-refuse EMFILE (λ few. after (sought-ends s.psem name flags) (λ found unused.
-          by-if_some {o = found}
-          (λ n _. after (usable-ends s.psem cred n 6) (λ e there.
-          opens-ends s 0 (opened_as names.Psem n) refl refl refl few (λ h. h) (λ _. ap is_some there) refl as_it_is (λ p. omega arith)))
+          by-if_some {o = found} (λ n _. there-ends names.Psem cred 0 few refl n 6)
           (λ none. after-refuse EINVAL (λ most. after-refuse ENOSPC (λ room.
-          let bits : ℕ = bit_and mode 511 in
-          let e : NamedEntry ℕ = record { name = name; owner = cred; mode = bits; object = value } in
           let short : value ≤ sem_value_max = grind (arith, nat_tests) in
-          opens-ends (with_new_psem s name cred bits value) 0 (opened_as names.Psem s.psem.next) refl refl refl few
-          (with_new-sound limits s names.Psem name cred bits value (unused none) room (omega (arith, and_le_r mode 511)) right short tt)
-          (λ h. new-there s.psem e (h.named names.Psem).held.named.numbered.numbers) refl
-          (λ h p on. elsewhere-new limits s h names.Psem name cred bits value p on) (λ p. omega arith)))))))
-
-      sem_unlink-ends : (cred : Cred) (name : List ℕ) → AtEnd never (Leaves None) (sem_unlink s cred name)
-      sem_unlink-ends cred name =
-          after-then (proper-ends names.Psem name) (λ _. after (unlinkable-ends s.psem cred name) (λ n _.
-          unlinked-ends names.Psem n))
+          new-ends names.Psem cred 0 few refl name mode value right (unused none) room short (λ _. tt) (λ p. omega arith)))))))
 
       -- ---- segments
 
@@ -515,7 +513,8 @@ module _ (limits : Limits) where
       shm_write-ends fd offset bytes =
           after (writable-ends s pid fd) (λ f o. after-refuse EINVAL (λ _. after-refuse EINVAL (λ within.
           put_segment-ends fd f (written offset bytes f.entry.object) o (λ h.
-          omega (arith, (h.named names.Pshm).together, written-length f.entry.object offset bytes (not-false _ within), fewer-of s.pshm f.number f.entry o.there)))))
+          let same = written-length f.entry.object offset bytes (not-false _ within) in
+          omega (arith, (h.named names.Pshm).together, same, fewer-of s.pshm f.number f.entry o.there)))))
 
       shm_read-ends : (fd offset len : ℕ) → AtEnd never (Leaves None) (shm_read limits s pid fd offset len)
       shm_read-ends fd offset len =
@@ -525,11 +524,6 @@ module _ (limits : Limits) where
 
       shm_stat-ends : (fd : ℕ) → AtEnd never (Leaves None) (shm_stat s pid fd)
       shm_stat-ends fd = after (open_pshm-ends s pid fd) (λ f o. read-ends (Record (record_bytes (segment_fields f.entry))) (omega arith))
-
-      shm_unlink-ends : (cred : Cred) (name : List ℕ) → AtEnd never (Leaves None) (shm_unlink s cred name)
-      shm_unlink-ends cred name =
-          after-then (proper-ends names.Pshm name) (λ _. after (unlinkable-ends s.pshm cred name) (λ n _.
-          unlinked-ends names.Pshm n))
 
       opened_pshm-ends : (cred : Cred) (flags n : ℕ) → (bit_and flags 1 == 1) ≡ false → has_all_descriptors limits s pid ≡ false
           → AtEnd never (Leaves None) (opened_pshm s cred pid flags n)
@@ -550,31 +544,26 @@ module _ (limits : Limits) where
           after (sought-ends s.pshm name flags) (λ found unused.
           by-if_some {o = found} (λ n _. opened_pshm-ends cred flags n access few)
           (λ none. after-refuse ENOSPC (λ room.
-          let bits : ℕ = bit_and mode 511 in
-          let e : NamedEntry Segment = record { name = name; owner = cred; mode = bits; object = empty_segment } in
-          opens-ends (with_new_pshm s name cred bits) (access_of flags) (opened_as names.Pshm s.pshm.next) refl refl refl few
-          (λ h. with_new-sound limits s names.Pshm name cred bits empty_segment (unused none) room (omega (arith, and_le_r mode 511)) right tt
-          (omega (arith, (h.named names.Pshm).together)) h)
-          (λ h. new-there s.pshm e (h.named names.Pshm).held.named.numbered.numbers) (segment-mode flags access)
-          (λ h p on. elsewhere-new limits s h names.Pshm name cred bits empty_segment p on) (λ p. omega arith)))))))
+          new-ends names.Pshm cred (access_of flags) few (segment-mode flags access) name mode empty_segment right (unused none) room tt
+          (λ h. omega (arith, (h.named names.Pshm).together)) (λ p. omega arith)))))))
 
     pub call-ends : (call : PlainPosix) → AtEnd (not (may_wait (Posix call))) (Leaves (touched s pid call)) (definition_of limits s pid call)
     call-ends (requests.Close fd) = close-ends fd
     call-ends (requests.MqOpen flags mode attr maxmsg msgsize name) = mq_open-ends (cred_of s pid) flags mode attr maxmsg msgsize name
-    call-ends (requests.MqUnlink name) = mq_unlink-ends (cred_of s pid) name
+    call-ends (requests.MqUnlink name) = unlink-ends names.Mq (cred_of s pid) name
     call-ends (requests.MqSend fd deadline priority text) = mq_send-ends fd priority text
     call-ends (requests.MqReceive fd deadline size) = mq_receive-ends fd size
     call-ends (requests.MqNotify fd kind cookie) = mq_notify-ends fd kind cookie
     call-ends (requests.MqGetattr fd) = mq_getattr-ends fd
     call-ends (requests.MqSetattr fd flags) = mq_setattr-ends fd flags
     call-ends (requests.SemOpen flags mode value name) = sem_open-ends (cred_of s pid) flags mode value name
-    call-ends (requests.SemUnlink name) = sem_unlink-ends (cred_of s pid) name
+    call-ends (requests.SemUnlink name) = unlink-ends names.Psem (cred_of s pid) name
     call-ends (requests.SemPost fd) = sem_post-ends fd
     call-ends (requests.SemWait fd deadline) = sem_wait-ends fd
     call-ends (requests.SemTrywait fd) = sem_trywait-ends fd
     call-ends (requests.SemGetvalue fd) = sem_getvalue-ends fd
     call-ends (requests.ShmOpen flags mode name) = shm_open-ends (cred_of s pid) flags mode name
-    call-ends (requests.ShmUnlink name) = shm_unlink-ends (cred_of s pid) name
+    call-ends (requests.ShmUnlink name) = unlink-ends names.Pshm (cred_of s pid) name
     call-ends (requests.Ftruncate fd len) = ftruncate-ends fd len
     call-ends (requests.ShmRead fd offset len) = shm_read-ends fd offset len
     call-ends (requests.ShmWrite fd offset bytes) = shm_write-ends fd offset bytes

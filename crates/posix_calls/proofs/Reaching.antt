@@ -17,8 +17,7 @@ use Rattle.ipc_keys.specs.declared.check.NameKind.TheVariants as names
 use Rattle.posix_mq.specs.Queue.{Queue as Mq, PlainMessage, empty_queue, is_full, received_message}
 use Rattle.ipc_state.specs.declared.descriptors.Descriptor.{Descriptor}
 use Rattle.ipc_state.specs.declared.descriptors.Opened.{Opened}
-use Rattle.ipc_state.specs.declared.named.NamedEntry.{NamedEntry}
-use Rattle.ipc_state.specs.Named.{Named, named}
+use Rattle.ipc_state.specs.Named.{Named, NamedEntry, named}
 use Rattle.ipc_state.specs.Numbered.{entry_of}
 use Rattle.ipc_state.specs.Opening.{Content, descriptor_at, opened_as, same_kind}
 use Rattle.ipc_state.specs.State.{State, named_of}

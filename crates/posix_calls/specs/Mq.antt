@@ -17,14 +17,13 @@ use Rattle.posix_mq.specs.Queue.{Queue as Mq, PlainMessage, empty_queue, is_full
 use Rattle.posix_mq.specs.Queue.{received, received_message, registered, deregistered}
 use Rattle.posix_mq.specs.declared.queue.Registration.{Registration}
 use Rattle.ipc_state.specs.Opening.{opened_as}
-use Rattle.ipc_state.specs.State.{State, closed, has_all_descriptors, has_all_mqs, receiver_waits, unlinked}
+use Rattle.ipc_state.specs.State.{State, closed, has_all_descriptors, has_all_mqs, receiver_waits}
 use Rattle.ipc_state.specs.Touching.{mq_object}
 use Rattle.ipc_state.specs.State.{with_descriptor_flags, with_mq, with_new_mq}
 use Rattle.ipc_state.specs.Finish.{Halt, Fails, Blocks, Attempt, Done, answer, answer_firing, refuse, stop, if_some}
 use Rattle.ipc_state.specs.Finish.{◌orelse◌, ◌orstop◌, ◌>>◌, ◌>>=◌}
 use Rattle.posix_calls.specs.Open.{has, nonblock, access_of, asked_by, reads, writes, proper}
-use Rattle.posix_calls.specs.Open.{sought, usable, unlinkable}
-use Rattle.posix_calls.specs.Open.{number_in, described, opens}
+use Rattle.posix_calls.specs.Open.{sought, usable, number_in, described, opens}
 
 -- ---- a queue that is open
 
@@ -53,7 +52,7 @@ open_to allows s pid fd = do
 abbrev pub waits_or_fails : ℕ → Halt
 waits_or_fails flags = if has flags nonblock then Fails EAGAIN else Blocks
 
--- ---- mq_open(3), mq_unlink(3), mq_close(3)
+-- ---- mq_open(3), mq_close(3)
 
 -- the flags that still mean something after the open: the access mode and O_NONBLOCK
 abbrev pub kept_flags : ℕ → ℕ
@@ -86,7 +85,7 @@ abbrev pub made_mq : Limits → State → Cred → ℕ → ℕ → ℕ → ℕ �
 made_mq limits s cred pid flags mode attr maxmsg msgsize name = do
   most ← attributes limits attr maxmsg msgsize
   refuse ENOSPC (has_all_mqs limits s)
-  opens (with_new_mq s name cred (bit_and mode 0o777) (empty_queue most.0 most.1 None)) pid (kept_flags flags)
+  opens (with_new_mq s name cred mode (empty_queue most.0 most.1 None)) pid (kept_flags flags)
       (opened_as names.Mq s.mq.next)
 
 -- mq_open(3): the queue that the name names, or a new one
@@ -97,13 +96,6 @@ mq_open limits s cred pid flags mode attr maxmsg msgsize name = do
   refuse EMFILE (has_all_descriptors limits s pid)
   found ← sought s.mq name flags
   if_some found (opened_mq s cred pid flags) (made_mq limits s cred pid flags mode attr maxmsg msgsize name)
-
--- mq_unlink(3)
-abbrev pub mq_unlink : State → Cred → List ℕ → Attempt Done
-mq_unlink s cred name = do
-  proper names.Mq name
-  n ← unlinkable s.mq cred name
-  answer (unlinked s names.Mq n) Empty
 
 -- close(2), and so mq_close(3)
 abbrev pub close : State → ℕ → ℕ → Attempt Done

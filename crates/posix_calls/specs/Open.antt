@@ -11,15 +11,14 @@ use Rattle.ipc_keys.specs.declared.check.NameKind.{NameKind}
 use Rattle.ipc_keys.specs.Names.{check_name}
 use Rattle.ipc_perm.specs.declared.perm.Perm.{Perm}
 use Rattle.ipc_perm.specs.Perm.{may}
-use Rattle.ipc_wire.specs.declared.reply.Body.TheVariants.{Number}
+use Rattle.ipc_wire.specs.declared.reply.Body.TheVariants.{Empty, Number}
 use Rattle.ipc_state.specs.declared.descriptors.Descriptor.{Descriptor}
 use Rattle.ipc_state.specs.declared.descriptors.Opened.{Opened}
-use Rattle.ipc_state.specs.declared.named.NamedEntry.{NamedEntry}
 use Rattle.ipc_state.specs.Numbered.{entry_of}
-use Rattle.ipc_state.specs.Named.{Named, named}
+use Rattle.ipc_state.specs.Named.{Named, NamedEntry, named}
 use Rattle.ipc_state.specs.Descriptors.{lowest_unused}
 use Rattle.ipc_state.specs.Opening.{descriptor_at, descriptors_of, same_kind}
-use Rattle.ipc_state.specs.State.{State, with_descriptor}
+use Rattle.ipc_state.specs.State.{State, named_of, unlinked, with_descriptor}
 use Rattle.ipc_state.specs.Finish.{Attempt, Done, Fails, answer, refuse, if_some, ◌orelse◌, ◌>>◌, ◌>>=◌}
 
 -- the number of what a descriptor is open on, if it is of this kind
@@ -79,24 +78,15 @@ sought o name flags =
     (λ n. refuse EEXIST (is_exclusive flags) >> Ok (Some n))
     (refuse ENOENT (not (has flags creat)) >> Ok None)
 
--- who owns it, with the mode: whoever made it
-abbrev pub perm_of : {X : Type 0} → NamedEntry X → Perm
-perm_of e =
-    record { uid = e.owner.uid; gid = e.owner.gid; cuid = e.owner.uid; cgid = e.owner.gid; mode = e.mode }
-
--- a caller may use it as is asked: 4 is to read, 2 is to write
-abbrev pub may_use : {X : Type 0} → Cred → NamedEntry X → ℕ → Bool
-may_use cred e asked = may cred (perm_of e) asked
-
 -- a caller may unlink it: the owner, or uid 0
-abbrev pub may_unlink : {X : Type 0} → Cred → NamedEntry X → Bool
-may_unlink cred e = cred.uid == e.owner.uid || cred.uid == 0
+abbrev pub may_unlink : Cred → Perm → Bool
+may_unlink cred perm = cred.uid == perm.uid || cred.uid == 0
 
--- an object that is there, for a caller that may use it as is asked
+-- an object that is there, for a caller that may use it as is asked: 4 is to read, 2 is to write
 abbrev pub usable : {X : Type 0} → Named X → Cred → ℕ → ℕ → Attempt (NamedEntry X)
 usable o cred n asked = do
   e ← entry_of o n orelse ENOENT
-  refuse EACCES (not (may_use cred e asked))
+  refuse EACCES (not (may cred e.perm asked))
   Ok e
 
 -- the object that a name names, for a caller that may unlink it
@@ -104,8 +94,15 @@ abbrev pub unlinkable : {X : Type 0} → Named X → Cred → List ℕ → Attem
 unlinkable o cred name = do
   n ← named o name orelse ENOENT
   e ← entry_of o n orelse ENOENT
-  refuse EACCES (not (may_unlink cred e))
+  refuse EACCES (not (may_unlink cred e.perm))
   Ok n
+
+-- mq_unlink(3), sem_unlink(3) and shm_unlink(3)
+abbrev pub unlink : NameKind → State → Cred → List ℕ → Attempt Done
+unlink kind s cred name = do
+  proper kind name
+  n ← unlinkable (named_of s kind) cred name
+  answer (unlinked s kind n) Empty
 
 -- ---- descriptors
 

@@ -1,7 +1,6 @@
 -- The calls of named semaphores (sem_overview(7)), in this server's profile. Refusals stand in the order in which they
 -- are tested. A wait that cannot go on waits, and is tried again by all rules of a new one.
 use Rattle.std.specs.Prelude.{ℕ, ◌==◌, nat_lt, List, Ok}
-use Rattle.std.specs.Int.RustNames.{bit_and}
 use Rattle.ipc_base.specs.declared.errno.Errno.TheVariants.{EINVAL, EMFILE, ENOSPC}
 use Rattle.ipc_base.specs.declared.identity.Cred.{Cred}
 use Rattle.ipc_base.specs.declared.limits.Limits.{Limits}
@@ -9,12 +8,11 @@ use Rattle.ipc_keys.specs.declared.check.NameKind.TheVariants as names
 use Rattle.ipc_wire.specs.declared.reply.Body.TheVariants.{Empty, Number}
 use Rattle.posix_sem.specs.Semaphore.{sem_value_max, post_answer, posted, wait_answer, waited}
 use Rattle.ipc_state.specs.Opening.{opened_as}
-use Rattle.ipc_state.specs.State.{State, has_all_descriptors, has_all_psems, unlinked, with_psem}
-use Rattle.ipc_state.specs.State.{with_new_psem}
+use Rattle.ipc_state.specs.State.{State, has_all_descriptors, has_all_psems, with_psem, with_new_psem}
 use Rattle.ipc_state.specs.Touching.{psem_value}
 use Rattle.ipc_state.specs.Finish.{Attempt, Done, Blocks, answer, refuse, stop, if_some, ◌orelse◌, ◌>>◌, ◌>>=◌}
 use Rattle.posix_calls.specs.declared.psem.FoundPsem.{FoundPsem}
-use Rattle.posix_calls.specs.Open.{number_in, described_or, opens, passed, proper, sought, unlinkable, usable}
+use Rattle.posix_calls.specs.Open.{number_in, described_or, opens, passed, proper, sought, usable}
 
 -- the semaphore on which a descriptor of the process is open
 abbrev pub open_semaphore : State → ℕ → ℕ → Attempt FoundPsem
@@ -24,7 +22,7 @@ open_semaphore s pid fd = do
   value ← psem_value s n orelse EINVAL
   Ok (record { number = n; value = value })
 
--- ---- sem_open(3), sem_unlink(3)
+-- ---- sem_open(3)
 
 -- the semaphore that the name names, for a caller that may read and write it
 abbrev pub opened_semaphore : State → Cred → ℕ → ℕ → Attempt Done
@@ -37,7 +35,7 @@ abbrev pub made_semaphore : Limits → State → Cred → ℕ → ℕ → ℕ �
 made_semaphore limits s cred pid mode value name = do
   refuse EINVAL (nat_lt sem_value_max value)
   refuse ENOSPC (has_all_psems limits s)
-  opens (with_new_psem s name cred (bit_and mode 0o777) value) pid 0 (opened_as names.Psem s.psem.next)
+  opens (with_new_psem s name cred mode value) pid 0 (opened_as names.Psem s.psem.next)
 
 -- sem_open(3): the semaphore that the name names, or a new one
 abbrev pub sem_open : Limits → State → Cred → ℕ → ℕ → ℕ → ℕ → List ℕ → Attempt Done
@@ -46,13 +44,6 @@ sem_open limits s cred pid flags mode value name = do
   refuse EMFILE (has_all_descriptors limits s pid)
   found ← sought s.psem name flags
   if_some found (opened_semaphore s cred pid) (made_semaphore limits s cred pid mode value name)
-
--- sem_unlink(3)
-abbrev pub sem_unlink : State → Cred → List ℕ → Attempt Done
-sem_unlink s cred name = do
-  proper names.Psem name
-  n ← unlinkable s.psem cred name
-  answer (unlinked s names.Psem n) Empty
 
 -- ---- sem_post(3), sem_wait(3), sem_trywait(3), sem_getvalue(3)
 

@@ -13,13 +13,12 @@ use Rattle.ipc_keys.specs.declared.check.NameKind.TheVariants as names
 use Rattle.ipc_wire.specs.declared.reply.Body.TheVariants.{Empty, Record}
 use Rattle.shm_segment.specs.Segment.{Segment, is_within, part, truncated, written}
 use Rattle.ipc_state.specs.Opening.{opened_as}
-use Rattle.ipc_state.specs.declared.named.NamedEntry.{NamedEntry}
+use Rattle.ipc_state.specs.Named.{NamedEntry}
 use Rattle.ipc_state.specs.Numbered.{entry_of}
 use Rattle.ipc_state.specs.Sound.{segment_bytes}
-use Rattle.ipc_state.specs.State.{State, has_all_descriptors, has_all_pshms, unlinked, with_new_pshm}
-use Rattle.ipc_state.specs.State.{with_pshm}
+use Rattle.ipc_state.specs.State.{State, has_all_descriptors, has_all_pshms, with_new_pshm, with_pshm}
 use Rattle.ipc_state.specs.Finish.{Attempt, Done, answer, refuse, if_some, ◌orelse◌, ◌>>◌, ◌>>=◌}
-use Rattle.posix_calls.specs.Open.{access_of, asked_by, described, has, number_in, opens, proper, sought, unlinkable}
+use Rattle.posix_calls.specs.Open.{access_of, asked_by, described, has, number_in, opens, proper, sought}
 use Rattle.posix_calls.specs.Open.{usable, writes}
 
 -- what a descriptor finds: its segment's number, the segment with whose it is, and the descriptor's flags
@@ -43,7 +42,7 @@ writable s pid fd = do
   refuse EBADF (not (writes found.flags))
   Ok found
 
--- ---- shm_open(3), shm_unlink(3)
+-- ---- shm_open(3)
 
 abbrev pub trunc : ℕ
 trunc = 0o1000
@@ -66,7 +65,7 @@ opened_pshm s cred pid flags n = do
 abbrev pub made_pshm : Limits → State → Cred → ℕ → ℕ → ℕ → List ℕ → Attempt Done
 made_pshm limits s cred pid flags mode name = do
   refuse ENOSPC (has_all_pshms limits s)
-  opens (with_new_pshm s name cred (bit_and mode 0o777)) pid (access_of flags) (opened_as names.Pshm s.pshm.next)
+  opens (with_new_pshm s name cred mode) pid (access_of flags) (opened_as names.Pshm s.pshm.next)
 
 -- shm_open(3): the segment that the name names, or a new one; to read, or to read and write
 abbrev pub shm_open : Limits → State → Cred → ℕ → ℕ → ℕ → List ℕ → Attempt Done
@@ -76,13 +75,6 @@ shm_open limits s cred pid flags mode name = do
   refuse EMFILE (has_all_descriptors limits s pid)
   found ← sought s.pshm name flags
   if_some found (opened_pshm s cred pid flags) (made_pshm limits s cred pid flags mode name)
-
--- shm_unlink(3)
-abbrev pub shm_unlink : State → Cred → List ℕ → Attempt Done
-shm_unlink s cred name = do
-  proper names.Pshm name
-  n ← unlinkable s.pshm cred name
-  answer (unlinked s names.Pshm n) Empty
 
 -- ---- ftruncate(2), reads and writes, fstat(2)
 
@@ -115,7 +107,7 @@ shm_write limits s pid fd offset bytes = do
 
 -- its length, its owner and its mode
 abbrev pub segment_fields : NamedEntry Segment → List Field
-segment_fields e = U64 (length e.object.bytes) ∷ U32 e.owner.uid ∷ U32 e.owner.gid ∷ U32 e.mode ∷ []
+segment_fields e = U64 (length e.object.bytes) ∷ U32 e.perm.uid ∷ U32 e.perm.gid ∷ U32 e.perm.mode ∷ []
 
 -- fstat(2)
 abbrev pub shm_stat : State → ℕ → ℕ → Attempt Done

@@ -1,14 +1,11 @@
 -- What the program's functions answer, as values of the definitions.
-use Rattle.std.specs.Prelude.{◌≡◌, ℕ, Result, Ok, Err}
+use Rattle.std.specs.Prelude.{ℕ, Result, Ok, Err}
 use Rattle.std.specs.Borrow.{Bor}
 use Rattle.ipc_base.specs.declared.errno.Errno.{Errno}
-use Rattle.ipc_wire.specs.Posix.{PlainPosix}
 use Rattle.ipc_wire.specs.declared.reply.Body.TheVariants.{Number}
 use Rattle.ipc_state.specs.State.{State}
-use Rattle.ipc_state.specs.Finish.{Attempt, Done, Fails, Tried, Finishes, Waits, answer, finish_firing}
+use Rattle.ipc_state.specs.Finish.{Attempt, Done, Fails, answer}
 use Rattle.ipc_state.specs.Steps.{seen}
-use Rattle.ipc_state.specs.Held.{Held}
-use Rattle.ipc_state.specs.Waiting.{parked_posix}
 use Rattle.ipc_state.specs.declared.parked.ParkedPosix.{ParkedPosix}
 use Rattle.ipc_state.specs.declared.parked.ParkedPosix.TheVariants as parked
 use Rattle.posix_calls.specs.Mq.{Found as PlainFound, sendable, receivable}
@@ -16,8 +13,6 @@ use Rattle.posix_calls.specs.Psem.{lowerable}
 use Rattle.posix_calls.specs.Pshm.{FoundPshm as PlainSegment}
 use Rattle.posix_calls.specs.declared.mq.Found.{Found}
 use Rattle.posix_calls.specs.declared.pshm.FoundPshm.{FoundPshm}
-use Rattle.posix_calls.specs.declared.waiting.Tried.{Tried as Comes}
-use Rattle.posix_calls.specs.declared.waiting.Tried.TheVariants as comes
 
 -- what a descriptor found
 abbrev pub plain_found : Found → PlainFound
@@ -50,13 +45,3 @@ number_in s pid (parked.MqSend fd deadline message) =
     seen (λ found. found.number) (sendable s pid fd message.priority message.text.items)
 number_in s pid (parked.MqReceive fd deadline size) = seen (λ found. found.0.number) (receivable s pid fd size)
 number_in s pid (parked.SemWait fd deadline) = seen (λ found. found.number) (lowerable s pid fd)
-
--- what came of a call that may wait and left this state
-abbrev pub tried_of : State → Comes → Tried
-tried_of s (comes.Finishes answer fired) = Finishes (finish_firing s answer fired)
-tried_of s (comes.Waits call) = Waits
-
--- if it waits, it is the same call as before, and the state is as it was
-abbrev pub WaitsUnchanged : Held → PlainPosix → Held → Comes → Type 0
-WaitsUnchanged before call after (comes.Finishes answer fired) = Unit {0}
-WaitsUnchanged before call after (comes.Waits kept) = (parked_posix kept ≡ call) × (after ≡ before)

@@ -48,31 +48,11 @@ fn is_exclusive(flags: OpenFlags) -> bool
     flags.contains(OpenFlags::O_CREAT) && flags.contains(OpenFlags::O_EXCL)
 }
 
-/// Who owns an object, with its mode: whoever made it.
-fn perm_of<T>(entry: &NamedEntry<T>) -> Perm
-    ensures { result ≡ defined.perm_of entry.now }
-{
-    Perm {
-        uid: entry.owner.uid,
-        gid: entry.owner.gid,
-        cuid: entry.owner.uid,
-        cgid: entry.owner.gid,
-        mode: entry.mode,
-    }
-}
-
-/// Whether a caller may use an object as is asked.
-fn may_use<T>(cred: Cred, entry: &NamedEntry<T>, asked: Access) -> bool
-    ensures { result ≡ defined.may_use cred entry.now asked.0 }
-{
-    may(&cred, &perm_of(entry), asked)
-}
-
 /// Whether a caller may unlink an object: its owner, or uid 0.
-fn may_unlink<T>(cred: Cred, entry: &NamedEntry<T>) -> bool
-    ensures { result ≡ defined.may_unlink cred entry.now }
+fn may_unlink(cred: Cred, perm: &Perm) -> bool
+    ensures { result ≡ defined.may_unlink cred perm.now }
 {
-    cred.uid == entry.owner.uid || cred.uid == 0
+    cred.uid == perm.uid || cred.uid == 0
 }
 
 /// The object that an open finds by its name; none, if it may make one.
@@ -110,7 +90,7 @@ pub(crate) fn usable<'a, T>(
     let Some(entry) = objects.get(number) else {
         return Err(Errno::ENOENT);
     };
-    if !may_use(cred, entry, asked) {
+    if !may(&cred, &entry.perm, asked) {
         return Err(Errno::EACCES);
     }
     Ok(entry)
@@ -128,7 +108,7 @@ pub(crate) fn unlinkable<T>(objects: &Named<T>, cred: Cred, name: &[u8]) -> Resu
     let Some(entry) = objects.get(number) else {
         return Err(Errno::ENOENT);
     };
-    if !may_unlink(cred, entry) {
+    if !may_unlink(cred, &entry.perm) {
         return Err(Errno::EACCES);
     }
     Ok(number)

@@ -13,4 +13,4 @@ mod waiting;
 pub use calls::{attempt, touched};
 pub use memory::reserve;
 pub use mq::registrations;
-pub use waiting::{Tried, has_to_wait, try_parked};
+pub use waiting::{has_to_wait, try_parked};

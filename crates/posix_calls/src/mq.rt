@@ -5,6 +5,7 @@ ghost use Rattle.std.specs.Prelude.{◌≡◌, ◌+◌, ◌≤◌, ◌++◌, [],
 ghost use Rattle.std.specs.Prelude.{vec_len, vec_capacity, IfOk, OnOk};
 ghost use Rattle.ipc_base.specs.Limits.{ArePassed};
 ghost use Rattle.ipc_base.specs.Numbers.{record_bytes};
+ghost use Rattle.ipc_keys.specs.declared.check.NameKind.TheVariants as kinds;
 ghost use Rattle.ipc_state.specs.Finish.{Finishes, ended, finish_of};
 ghost use Rattle.ipc_state.specs.Held.{Ready, left};
 ghost use Rattle.ipc_state.specs.Named.{named};
@@ -219,7 +220,7 @@ pub(crate) fn mq_notify(state: &mut State, pid: Pid, fd: u32, kind: u32, cookie:
 pub(crate) fn mq_unlink(state: &mut State, cred: Cred, name: &[u8]) -> Answer
     requires sound { HasSoundParts state.old.limits state.old.state }
     ensures finish { Finishes (finish_of state.new.state result)
-        ≡ ended state.old.state (defined.mq_unlink state.old.state cred name.now) }
+        ≡ ended state.old.state (opening.unlink kinds.Mq state.old.state cred name.now) }
     ensures held { state.old.ready ≡ Ready.Nothing → state.new ≡ left state.old state.new.state }
 {
     check_name(NameKind::Mq, name)?;

@@ -146,7 +146,7 @@ fn make_mq(state: &mut State, cred: Cred, pid: Pid, flags: OpenFlags, wanted: Wa
     if state.has_all_mqs() {
         return Err(Errno::ENOSPC);
     }
-    let number = state.add_mq(cred, wanted.mode & 0o777, maxmsg, msgsize);
+    let number = state.add_mq(cred, wanted.mode, maxmsg, msgsize);
     let on = Opened {
         kind: NameKind::Mq,
         number,

@@ -15,6 +15,7 @@ ghost use Rattle.ipc_state.specs.Sound.{HasSoundParts};
 ghost use Rattle.ipc_state.specs.State.{has_all_descriptors, is_process, with_psem};
 ghost use Rattle.ipc_state.specs.Steps.{result_of};
 ghost use Rattle.ipc_state.specs.Touching.{psem_value};
+ghost use Rattle.posix_calls.specs.Open as opening;
 ghost use Rattle.posix_calls.specs.Psem as defined;
 
 use crate::access::{described_or, open_on, seek, unlinkable, usable};
@@ -146,7 +147,7 @@ fn make_semaphore(state: &mut State, cred: Cred, pid: Pid, mode: u32, value: u32
     if state.psems().is_full(state.limits().named_semaphores) {
         return Err(Errno::ENOSPC);
     }
-    let number = state.add_psem(cred, mode & 0o777, value);
+    let number = state.add_psem(cred, mode, value);
     let on = Opened {
         kind: NameKind::Psem,
         number,
@@ -158,7 +159,7 @@ fn make_semaphore(state: &mut State, cred: Cred, pid: Pid, mode: u32, value: u32
 pub(crate) fn sem_unlink(state: &mut State, cred: Cred, name: &[u8]) -> Answer
     requires sound { HasSoundParts state.old.limits state.old.state }
     ensures finish { Finishes (finish_of state.new.state result)
-        ≡ ended state.old.state (defined.sem_unlink state.old.state cred name.now) }
+        ≡ ended state.old.state (opening.unlink kinds.Psem state.old.state cred name.now) }
     ensures held { state.old.ready ≡ Ready.Nothing → state.new ≡ left state.old state.new.state }
 {
     check_name(NameKind::Psem, name)?;

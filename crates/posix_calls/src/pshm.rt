@@ -12,14 +12,14 @@ ghost use Rattle.ipc_keys.specs.declared.check.NameKind.TheVariants as kinds;
 ghost use Rattle.shm_segment.specs.Segment.{Segment, empty_segment, truncated, written, is_within};
 ghost use Rattle.ipc_state.specs.Finish.{Finishes, ended, finish_of};
 ghost use Rattle.ipc_state.specs.Held.{Ready, left};
-ghost use Rattle.ipc_state.specs.Named.{named};
+ghost use Rattle.ipc_state.specs.Named.{NamedEntry, named};
 ghost use Rattle.ipc_state.specs.Numbered.{entry_of};
 ghost use Rattle.ipc_state.specs.Sound.{HasSoundParts};
-ghost use Rattle.ipc_state.specs.declared.named.NamedEntry.{NamedEntry};
 ghost use Rattle.ipc_state.specs.Spare.{IsSpare, KeepsBuffer};
 ghost use Rattle.ipc_state.specs.State.{has_all_descriptors, is_process, with_pshm};
 ghost use Rattle.posix_calls.specs.Needs.{most_segment_bytes, zeros_of};
 ghost use Rattle.posix_calls.specs.Seen.{segment_of};
+ghost use Rattle.posix_calls.specs.Open as opening;
 ghost use Rattle.posix_calls.specs.Pshm as defined;
 
 use crate::access::{asked_by, described, open_on, seek, unlinkable, usable, writes};
@@ -176,7 +176,7 @@ fn make_pshm(state: &mut State, cred: Cred, pid: Pid, flags: OpenFlags, mode: u3
     if state.pshms().is_full(state.limits().segments) {
         return Err(Errno::ENOSPC);
     }
-    let number = state.add_pshm(cred, mode & 0o777);
+    let number = state.add_pshm(cred, mode);
     let on = Opened {
         kind: NameKind::Pshm,
         number,
@@ -188,7 +188,7 @@ fn make_pshm(state: &mut State, cred: Cred, pid: Pid, flags: OpenFlags, mode: u3
 pub(crate) fn shm_unlink(state: &mut State, cred: Cred, name: &[u8]) -> Answer
     requires sound { HasSoundParts state.old.limits state.old.state }
     ensures finish { Finishes (finish_of state.new.state result)
-        ≡ ended state.old.state (defined.shm_unlink state.old.state cred name.now) }
+        ≡ ended state.old.state (opening.unlink kinds.Pshm state.old.state cred name.now) }
     ensures held { state.old.ready ≡ Ready.Nothing → state.new ≡ left state.old state.new.state }
 {
     check_name(NameKind::Pshm, name)?;
@@ -332,9 +332,9 @@ fn push_stat(body: &mut Vec<u8>, entry: &NamedEntry<Segment>)
         body,
         &[
             Field::U64(entry.object.len() as u64),
-            Field::U32(entry.owner.uid),
-            Field::U32(entry.owner.gid),
-            Field::U32(entry.mode),
+            Field::U32(entry.perm.uid),
+            Field::U32(entry.perm.gid),
+            Field::U32(entry.perm.mode),
         ],
     );
 }

@@ -8,6 +8,7 @@ ghost use Rattle.ipc_state.specs.Finish as finish;
 ghost use Rattle.ipc_state.specs.Numbered.{entry_of};
 ghost use Rattle.ipc_state.specs.Sound.{HasSoundParts};
 ghost use Rattle.ipc_state.specs.State.{with_mq};
+ghost use Rattle.ipc_state.specs.Tries.{WaitsUnchanged, tried_of};
 ghost use Rattle.ipc_state.specs.Waiting.{parked_posix};
 ghost use Rattle.ipc_state.specs.Touching.{mq_object};
 ghost use Rattle.posix_mq.specs.Queue.{Queue, most_messages, plain, received, received_message};
@@ -15,32 +16,23 @@ ghost use Rattle.posix_calls.specs.Calls as calls;
 ghost use Rattle.posix_calls.specs.Mq as defined;
 ghost use Rattle.posix_calls.specs.Psem as sem;
 ghost use Rattle.ipc_state.specs.Steps.{attempted, plain_halt, seen};
-ghost use Rattle.posix_calls.specs.Seen.{WaitsUnchanged, number_in, tried_of};
+ghost use Rattle.posix_calls.specs.Seen.{number_in};
 
 use crate::access::{reads, writes};
 use crate::mq::open_mq;
 use crate::psem::{lower, open_semaphore};
 use bitflags::Flags;
 use ipc_base::{Errno, OpenFlags, Pid};
-use ipc_state::{Answer, Halt, ParkedPosix, State};
+use ipc_state::{Halt, ParkedPosix, State, Tried};
 use ipc_wire::Body;
 use posix_mq::{Message, Mq, Registration, received_is_oldest_of_greatest};
 
-/// What comes of a call that may wait.
-#[derive(Drop)]
-pub enum Tried {
-    /// It ends so, and fires this registration, if one.
-    Finishes(Answer, Option<Registration>),
-    /// It has to wait, and is given back.
-    Waits(ParkedPosix),
-}
-
 /// Tries a call by a process. It takes no memory.
-pub fn try_parked(state: &mut State, pid: Pid, call: ParkedPosix) -> Tried
+pub fn try_parked(state: &mut State, pid: Pid, call: ParkedPosix) -> Tried<ParkedPosix>
     requires sound { HasSoundParts state.old.limits state.old.state }
     ensures finish { tried_of state.new.state result
         ≡ calls.attempt state.old.limits state.old.state pid.0 (parked_posix call) }
-    ensures kept { WaitsUnchanged state.old (parked_posix call) state.new result }
+    ensures kept { WaitsUnchanged parked_posix state.old call state.new result }
     ensures held { state.new ≡ record state.old { state = state.new.state } }
 {
     let number = match ready(state, pid, &call) {

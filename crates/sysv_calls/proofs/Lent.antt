@@ -2,22 +2,22 @@
 use Rattle.std.proofs.Common.{◌≡◌, ◌∙◌, ℕ, ℤ, pos, List, Some, sym, ap}
 use Rattle.ipc_base.proofs.CallerLemmas.{at-with, twice}
 use Rattle.ipc_perm.specs.declared.perm.Perm.{Perm}
-use Rattle.ipc_state.specs.declared.keyed.Entry.{Entry}
 use Rattle.ipc_state.specs.Held.{Held, Ready}
 use Rattle.ipc_state.specs.Held.Ready.{MsgQueue, Semset}
-use Rattle.ipc_state.specs.Keyed.{Keyed, holding, permitting}
+use Rattle.ipc_state.specs.Bound.{holding, permitting}
+use Rattle.ipc_state.specs.Keyed.{Keyed, KeyedEntry}
 use Rattle.ipc_state.specs.Numbered.{entry_of, with_entry}
 use Rattle.ipc_state.specs.State.{State}
 
 -- an object that was given other permissions, and then lent
-module _ {X : Type 0} (o : Keyed X) (id : ℕ) (e : Entry X) (perm : Perm) where
+module _ {X : Type 0} (o : Keyed X) (id : ℕ) (e : KeyedEntry X) (perm : Perm) where
   pub permitted : entry_of o id ≡ Some e → entry_of (with_entry o id (permitting e perm)) id ≡ Some (permitting e perm)
   permitted there = at-with o.entries id (permitting e perm) e there
 
   pub permitted-put : (x : X) → with_entry (with_entry o id (permitting e perm)) id (holding (permitting e perm) x)
       ≡ with_entry o id (holding (permitting e perm) x)
   permitted-put x =
-      ap (λ (es : List (ℕ × Entry X)). let t : Keyed X = record { next = o.next; entries = es } in t)
+      ap (λ (es : List (ℕ × KeyedEntry X)). let t : Keyed X = record { next = o.next; entries = es } in t)
       (twice o.entries id (permitting e perm) (holding (permitting e perm) x))
 
 -- ---- what stays

@@ -15,9 +15,9 @@ use Rattle.ipc_perm.specs.Perm.{perm_of, owned_by, asked_by}
 use Rattle.ipc_wire.specs.declared.reply.Body.TheVariants.{Empty, Number, Message, Record}
 use Rattle.ipc_wire.specs.Reply.{PlainBody}
 use Rattle.sysv_msg.specs.Queue.{Queue, PlainMessage, sent, taken, changed}
-use Rattle.ipc_state.specs.declared.keyed.Entry.{Entry}
 use Rattle.ipc_state.specs.Finish.{answer}
-use Rattle.ipc_state.specs.Keyed.{Keyed, holding, permitting}
+use Rattle.ipc_state.specs.Bound.{holding, permitting}
+use Rattle.ipc_state.specs.Keyed.{Keyed, KeyedEntry}
 use Rattle.ipc_state.specs.Sound.{HasSoundParts, IsSoundMessage, IsSoundMsgQueue, FitsBody}
 use Rattle.ipc_state.specs.State.{State, with_msg_queue}
 use Rattle.ipc_state.proofs.CallerLemmas.{AtEnd, after, after-refuse, at-all, by-if_some}
@@ -31,7 +31,7 @@ use Rattle.sysv_calls.proofs.Reaching.{accessible-ends, owned-ends, receives, re
 
 module _ {limits : Limits} {s : State} {never : Bool} where
   -- another queue in the place of one
-  put-ends : (id : ℕ) (e : Entry Queue) (body : PlainBody) → (HasSoundParts limits s → HasSoundParts limits (with_msg_queue s id e))
+  put-ends : (id : ℕ) (e : KeyedEntry Queue) (body : PlainBody) → (HasSoundParts limits s → HasSoundParts limits (with_msg_queue s id e))
       → (HasSoundParts limits s → FitsBody limits body) → AtEnd never (Leaves limits s (queue id)) (answer (with_msg_queue s id e) body)
   put-ends id e body sound fits = queues-ends _ body sound fits (λ n apart there. other-with s.msg.entries id n.0 e (other_queue apart))
 

@@ -19,8 +19,7 @@ use Rattle.sysv_sem.specs.Operation.{Done as IsDone, has_undo, is_adjustment}
 use Rattle.sysv_sem.specs.Operation.{judged, performed, adjusted, outcome_from, unless_stopped}
 use Rattle.sysv_sem.specs.Set.{Set, values_of}
 use Rattle.sysv_sem.proofs.CallerLemmas.{adjustment-judged}
-use Rattle.ipc_state.specs.declared.keyed.Entry.{Entry}
-use Rattle.ipc_state.specs.Keyed.{Keyed}
+use Rattle.ipc_state.specs.Keyed.{Keyed, KeyedEntry}
 use Rattle.ipc_state.specs.Numbered.{entry_of}
 use Rattle.ipc_state.specs.Sound.{HasSoundParts, AreAt, has_semaphore}
 use Rattle.ipc_state.specs.State.{State, is_process, undo_of, with_undo}
@@ -69,10 +68,10 @@ room limits s pid sound passed there u at =
     omega (arith, few, (passed-bounds limits passed).semmns)
 
 -- a semaphore of a set that is there
-pub has-within : (sets : Keyed Set) (id num : ℕ) (e : Entry Set) → entry_of sets id ≡ Some e → num < length e.object.semaphores
+pub has-within : (sets : Keyed Set) (id num : ℕ) (e : KeyedEntry Set) → entry_of sets id ≡ Some e → num < length e.object.semaphores
     → has_semaphore sets (id, num) ≡ true
 has-within sets id num e there within =
-    ap (λ (r : Option (Entry Set)). unwrap_or (option_map (λ (f : Entry Set). nat_lt num (length f.object.semaphores)) r) false) there
+    ap (λ (r : Option (KeyedEntry Set)). unwrap_or (option_map (λ (f : KeyedEntry Set). nat_lt num (length f.object.semaphores)) r) false) there
     ∙ lt-ltb num (length e.object.semaphores) within
 
 -- adjustments stay at semaphores that are there, if operations on such are noted
@@ -90,7 +89,7 @@ noted-all sets id u (o ∷ rest) at within =
     noted-all sets id (noted id u o) rest (noted-at sets id u o (All-head (λ o. has_semaphore sets (id, o.num) ≡ true) o rest within) at)
     (All-tail (λ o. has_semaphore sets (id, o.num) ≡ true) o rest within)
 
-module _ (sets : Keyed Set) (id : ℕ) (e : Entry Set) (found : entry_of sets id ≡ Some e) (most : (u : Undo) → AreAt sets u → fin.len u ≤ most_rows)
+module _ (sets : Keyed Set) (id : ℕ) (e : KeyedEntry Set) (found : entry_of sets id ≡ Some e) (most : (u : Undo) → AreAt sets u → fin.len u ≤ most_rows)
     (subtracted-there : (u : Undo) (k : Key) (a : ℤ) → adjustment (subtracted u k a) k ≡ adjustment u k -ℤ a) where
   -- the adjustments of the definition are those that are noted
   noted-adjusted : (u : Undo) (held : ℕ → ℤ) (o : Operation) → ((n : ℕ) → held n ≡ adjustment u (id, n)) → (n : ℕ)

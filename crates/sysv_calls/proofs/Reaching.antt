@@ -16,11 +16,10 @@ use Rattle.ipc_base.specs.Table.{value_at}
 use Rattle.ipc_base.proofs.CallerLemmas.{passed-bounds}
 use Rattle.ipc_base.specs.declared.errno.Errno.TheVariants.{EACCES, EEXIST, EFBIG, ENOENT, EINVAL, EAGAIN, ENOMSG, EPERM, E2BIG, ERANGE}
 use Rattle.ipc_base.specs.declared.identity.Cred.{Cred}
-use Rattle.ipc_state.specs.declared.keyed.Entry.{Entry}
 use Rattle.ipc_perm.specs.Perm.{may}
 use Rattle.sysv_msg.specs.Queue.{Queue, PlainMessage, is_allowed, pick, full}
 use Rattle.ipc_state.specs.Numbered.{entry_of, last_number, without_entry}
-use Rattle.ipc_state.specs.Keyed.{Keyed, keyed}
+use Rattle.ipc_state.specs.Keyed.{Keyed, KeyedEntry, keyed}
 use Rattle.sysv_sem.specs.declared.set.Semaphore.{Semaphore}
 use Rattle.sysv_sem.specs.declared.operation.Operation.{Operation}
 use Rattle.sysv_sem.specs.Operation.{Outcome, Done as IsDone, Blocks as Stops, Fails as IsRefused, most_value, outcome}
@@ -41,10 +40,10 @@ use Rattle.ipc_state.specs.Steps.{seen}
 
 module _ {X : Type 0} {never : Bool} where
   pub accessible-ends : (again : Bool) (o : Keyed X) (cred : Cred) (id access : ℕ)
-      → AtEnd never (λ (e : Entry X). entry_of o id ≡ Some e) (accessible again o cred id access)
+      → AtEnd never (λ (e : KeyedEntry X). entry_of o id ≡ Some e) (accessible again o cred id access)
   accessible-ends again o cred id access = after-orelse (gone again) (λ e there. after-refuse EACCES (λ _. at-value e there))
 
-  pub owned-ends : (o : Keyed X) (cred : Cred) (id : ℕ) → AtEnd never (λ (e : Entry X). entry_of o id ≡ Some e) (owned o cred id)
+  pub owned-ends : (o : Keyed X) (cred : Cred) (id : ℕ) → AtEnd never (λ (e : KeyedEntry X). entry_of o id ≡ Some e) (owned o cred id)
   owned-ends o cred id = after-orelse EINVAL (λ e there. after-refuse EPERM (λ _. at-value e there))
 
   -- what is left is all but that
@@ -57,7 +56,7 @@ module _ {X : Type 0} {never : Bool} where
       by-if_some {o = keyed o key} (λ id _. after-refuse EEXIST (λ _. at-value (Some id) (λ is. cc)))
       (λ none. after-refuse ENOENT (λ _. at-value None (λ _. none)))
 
-module _ {X : Type 0} (o : Keyed X) (cred : Cred) (id : ℕ) (e : Entry X) where
+module _ {X : Type 0} (o : Keyed X) (cred : Cred) (id : ℕ) (e : KeyedEntry X) where
   pub accessible-there : (access : ℕ) → accessible false o cred id access ≡ Ok e → entry_of o id ≡ Some e
   accessible-there access is = (accessible-ends {never = true} false o cred id access).holds e is
 
@@ -78,7 +77,7 @@ there-append (e ∷ es) more n is = by_test (nat_eq e.0 n) is (there-append es m
 -- ---- what holds where the tests of a call are passed
 
 -- of a message that may be sent now, and of the queue
-pub record Sends (limits : Limits) (s : State) (id : ℕ) (mtype : ℤ) (text : List ℕ) (e : Entry Queue) : Type 0 where
+pub record Sends (limits : Limits) (s : State) (id : ℕ) (mtype : ℤ) (text : List ℕ) (e : KeyedEntry Queue) : Type 0 where
   pub message : IsSoundMessage limits (record { mtype = mtype; text = text })
   pub there : entry_of s.msg id ≡ Some e
   pub room : full e.object (length text) ≡ false
@@ -96,7 +95,7 @@ sends limits s cred again id flags mtype text =
     })))))
 
 -- of a queue from which a message may be received now, and of its place
-pub record Receives (s : State) (id : ℕ) (found : Entry Queue × ℕ) : Type 0 where
+pub record Receives (s : State) (id : ℕ) (found : KeyedEntry Queue × ℕ) : Type 0 where
   pub there : entry_of s.msg id ≡ Some found.0
   pub inside : found.1 < length found.0.object.messages
 
@@ -111,7 +110,7 @@ receives s cred again id flags size mtype =
     at-value (e, at) (record { there = there; inside = (position-Some (is_allowed ms mtype (has flags except)) ms at none picked).0 })))))
 
 -- of a semaphore that was found
-pub record IsFound (s : State) (id num : ℕ) (found : Entry Set × Semaphore) : Type 0 where
+pub record IsFound (s : State) (id num : ℕ) (found : KeyedEntry Set × Semaphore) : Type 0 where
   pub there : semset_of s id ≡ Some found.0
   pub at : slice_get found.0.object.semaphores num ≡ Some found.1
 
@@ -120,7 +119,7 @@ semaphore-ends s cred id num access =
     after-orelse EINVAL (λ e there. after-orelse EINVAL (λ x at. after-refuse EACCES (λ _. at-value (e, x) (record { there = there; at = at }))))
 
 -- of a set of which all values may be set
-pub record IsSettable (s : State) (id : ℕ) (to : List ℕ) (e : Entry Set) : Type 0 where
+pub record IsSettable (s : State) (id : ℕ) (to : List ℕ) (e : KeyedEntry Set) : Type 0 where
   pub there : semset_of s id ≡ Some e
   pub count : length to ≡ length e.object.semaphores
   pub values : All (λ v. v ≤ most_value) to
@@ -135,7 +134,7 @@ settable-ends s cred id values =
     })))))
 
 -- of a set of which operations may be tried
-record IsOperable (limits : Limits) (s : State) (id : ℕ) (ops : List Operation) (e : Entry Set) : Type 0 where
+record IsOperable (limits : Limits) (s : State) (id : ℕ) (ops : List Operation) (e : KeyedEntry Set) : Type 0 where
   few : length ops ≤ limits.semopm
   there : semset_of s id ≡ Some e
   within : All (λ o. o.num < length e.object.semaphores) ops
@@ -153,7 +152,7 @@ operable-ends limits s cred again id ops =
     }))))))
 
 -- of a list of operations that can be performed, of its set, and of the values after it
-pub record Operates (limits : Limits) (s : State) (pid id : ℕ) (ops : List Operation) (found : Entry Set × List ℕ) : Type 0 where
+pub record Operates (limits : Limits) (s : State) (pid id : ℕ) (ops : List Operation) (found : KeyedEntry Set × List ℕ) : Type 0 where
   pub few : length ops ≤ limits.semopm
   pub there : semset_of s id ≡ Some found.0
   pub within : All (λ o. o.num < length found.0.object.semaphores) ops
@@ -177,11 +176,11 @@ operates limits s cred pid again id ops =
     })))
   where
     -- the set, and what the operations meet there
-    Met : Entry Set × Outcome → Type 0
+    Met : KeyedEntry Set × Outcome → Type 0
     Met found = IsOperable limits s id ops found.0 × (found.1 ≡ outcome (values_of found.0.object) (held_by s pid id) ops)
 
 -- such a list has no more than a buffer has room for
-pub operates-passes : (limits : Limits) (s : State) (pid id : ℕ) (ops : List Operation) (found : Entry Set × List ℕ) → ArePassed limits
+pub operates-passes : (limits : Limits) (s : State) (pid id : ℕ) (ops : List Operation) (found : KeyedEntry Set × List ℕ) → ArePassed limits
     → Operates limits s pid id ops found → Passes limits s pid id ops found
 operates-passes limits s pid id ops found checked ok =
     let most = (passed-bounds limits checked).semopm in

@@ -24,9 +24,9 @@ use Rattle.sem_undo.proofs.CallerLemmas.{cleared_others}
 use Rattle.sysv_sem.specs.declared.set.Semaphore.{Semaphore}
 use Rattle.sysv_sem.specs.Operation.{most_value}
 use Rattle.sysv_sem.specs.Set.{Set, changed, values_of, with_value, with_values}
-use Rattle.ipc_state.specs.declared.keyed.Entry.{Entry}
 use Rattle.ipc_state.specs.Finish.{answer}
-use Rattle.ipc_state.specs.Keyed.{Keyed, holding, keyed, permitting}
+use Rattle.ipc_state.specs.Bound.{holding, permitting}
+use Rattle.ipc_state.specs.Keyed.{Keyed, KeyedEntry, keyed}
 use Rattle.ipc_state.specs.Numbered.{is_full}
 use Rattle.ipc_state.specs.Sound.{semaphore_count}
 use Rattle.ipc_state.specs.State.{State, semset_of, without_adjustments}
@@ -82,7 +82,7 @@ module _ (limits : Limits) (s : State) (cred : Cred) {never : Bool} where
   pub semctl_setval-ends : (pid id num : ℕ) (value : ℤ) → AtEnd never (Leaves limits s (set id)) (semctl_setval s cred pid id num value)
   semctl_setval-ends pid id num value =
       after (semaphore-ends s cred id num write) (λ found ok. after-orelse ERANGE {o = value_of value} (λ v is.
-      let e : Entry Set = found.0 in
+      let e : KeyedEntry Set = found.0 in
       let p : Pid = record { 0 = pid } in
       let new : Set = with_value e.object num v p s.clock in
       one_set-ends id _ _ (λ h. without_adjustments-sound limits _ id (Some num) (with_semset-sound limits s id e new ok.there

@@ -16,8 +16,8 @@ use Rattle.sysv_sem.specs.declared.operation.Operation.{Operation}
 use Rattle.sysv_sem.specs.Operation.{has_undo}
 use Rattle.sysv_sem.specs.Set.{Set, carried}
 use Rattle.sysv_sem.proofs.CallerLemmas.{length-carried}
-use Rattle.ipc_state.specs.declared.keyed.Entry.{Entry}
-use Rattle.ipc_state.specs.Keyed.{holding}
+use Rattle.ipc_state.specs.Bound.{holding}
+use Rattle.ipc_state.specs.Keyed.{KeyedEntry}
 use Rattle.ipc_state.specs.Numbered.{entry_of}
 use Rattle.ipc_state.specs.Sound.{HasSoundParts, has_semaphore}
 use Rattle.ipc_state.specs.State.{State, undo_of, with_semset}
@@ -58,10 +58,10 @@ noted-apart id undo (o ∷ rest) k apart = noted-apart id (noted id undo o) rest
 
 module _ (limits : Limits) (s : State) where
   -- what a list of operations leaves is sound
-  operated-sound : (pid id : ℕ) (ops : List Operation) (found : Entry Set × List ℕ) → Operates limits s pid id ops found → HasSoundParts limits s
+  operated-sound : (pid id : ℕ) (ops : List Operation) (found : KeyedEntry Set × List ℕ) → Operates limits s pid id ops found → HasSoundParts limits s
       → HasSoundParts limits (operated s pid id ops found)
   operated-sound pid id ops found ok h =
-      let e : Entry Set = found.0 in
+      let e : KeyedEntry Set = found.0 in
       let p : Pid = record { 0 = pid } in
       let new : Set = carried e.object found.1 ops p s.clock in
       let t : State = with_semset s id (holding e new) in

@@ -11,7 +11,7 @@ use Rattle.sysv_sem.specs.declared.operation.Trial.TheVariants as trial
 use Rattle.sysv_sem.specs.Operation.{Outcome, Done as IsDone, Blocks as Stops, Fails as IsRefused, outcome, trial_of}
 use Rattle.sysv_sem.specs.Set.{Set, values_of}
 use Rattle.sysv_sem.proofs.CallerLemmas.{stops-inside}
-use Rattle.ipc_state.specs.declared.keyed.Entry.{Entry}
+use Rattle.ipc_state.specs.Keyed.{KeyedEntry}
 use Rattle.ipc_state.specs.Finish.{Attempt, Fails, ◌>>=◌}
 use Rattle.ipc_state.specs.State.{State}
 use Rattle.ipc_state.specs.Steps.{seen}
@@ -29,12 +29,12 @@ module _ (ops all : List Operation) (at : ℕ) (front : take (length ops) all �
 
 -- ---- what the tests came to
 
-abbrev pub Tried : Type 0
-Tried = Attempt (Entry Set × Outcome)
+abbrev pub Tested : Type 0
+Tested = Attempt (KeyedEntry Set × Outcome)
 
 -- what is seen of them
-abbrev pub met : Tried → Attempt Trial
-met tried = seen (λ (found : Entry Set × Outcome). trial_of found.1) tried
+abbrev pub met : Tested → Attempt Trial
+met tried = seen (λ (found : KeyedEntry Set × Outcome). trial_of found.1) tried
 
 -- whether the list may be performed, by that
 abbrev pub settled : List Operation → Trial → Attempt (Unit {0})
@@ -42,9 +42,9 @@ settled ops trial.Done = Ok tt
 settled ops (trial.Blocks at) = Err (stopped_by (slice_get ops at))
 settled ops (trial.Fails e) = Err (Fails e)
 
-pub settles : (ops : List Operation) (tried : Tried)
+pub settles : (ops : List Operation) (tried : Tested)
     → (met tried >>= settled ops)
-    ≡ seen (λ (found : Entry Set × List ℕ). tt) (tried >>= (λ found. decided ops found.1 >>= (λ values. Ok (found.0, values))))
+    ≡ seen (λ (found : KeyedEntry Set × List ℕ). tt) (tried >>= (λ found. decided ops found.1 >>= (λ values. Ok (found.0, values))))
 settles ops (Err h) = refl
 settles ops (Ok (e, IsDone values after)) = refl
 settles ops (Ok (e, Stops at)) = refl
@@ -55,7 +55,7 @@ abbrev pub stopper : List Operation → Attempt Trial → Option Operation
 stopper ops (Ok (trial.Blocks at)) = slice_get ops at
 stopper ops a = None
 
-pub stops : (ops : List Operation) (tried : Tried) → stopper ops (met tried) ≡ stopping ops tried
+pub stops : (ops : List Operation) (tried : Tested) → stopper ops (met tried) ≡ stopping ops tried
 stops ops (Err h) = refl
 stops ops (Ok (e, IsDone values after)) = refl
 stops ops (Ok (e, Stops at)) = refl
@@ -66,13 +66,14 @@ pub stops-within : (limits : Limits) (s : State) (cred : Cred) (pid : ℕ) (agai
     → met (tried_list limits s cred pid again id ops) ≡ Ok (trial.Blocks at) → at < length ops
 stops-within limits s cred pid again id ops at is = by_set (operable limits s cred again id ops) is
   where
-    by_outcome : (e : Entry Set) (r : Outcome) → outcome (values_of e.object) (held_by s pid id) ops ≡ r
+    by_outcome : (e : KeyedEntry Set) (r : Outcome) → outcome (values_of e.object) (held_by s pid id) ops ≡ r
         → (let a : Attempt Trial = Ok (trial_of r) in a) ≡ Ok (trial.Blocks at) → at < length ops
     by_outcome e (IsDone values after) was is = cc
     by_outcome e (Stops b) was is =
         let same : b ≡ at = cc in stops-inside (values_of e.object) (held_by s pid id) ops at (was ∙ ap Stops same)
     by_outcome e (IsRefused errno) was is = cc
 
-    by_set : (a : Attempt (Entry Set)) → met (a >>= (λ e. Ok (e, outcome (values_of e.object) (held_by s pid id) ops))) ≡ Ok (trial.Blocks at) → at < length ops
+    by_set : (a : Attempt (KeyedEntry Set)) → met (a >>= (λ e. Ok (e, outcome (values_of e.object) (held_by s pid id) ops))) ≡ Ok (trial.Blocks at)
+        → at < length ops
     by_set (Err h) is = cc
     by_set (Ok e) is = by_outcome e (outcome (values_of e.object) (held_by s pid id) ops) refl is

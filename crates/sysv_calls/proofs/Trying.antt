@@ -15,11 +15,11 @@ use Rattle.sysv_msg.specs.declared.message.Message.{Message}
 use Rattle.sysv_sem.specs.Set.{Set}
 use Rattle.ipc_state.specs.declared.answers.Halt.{Halt as Stops}
 use Rattle.ipc_state.specs.declared.operations.Operations.{Operations}
-use Rattle.ipc_state.specs.declared.keyed.Entry.{Entry}
 use Rattle.ipc_state.specs.declared.parked.ParkedSysv.{ParkedSysv}
 use Rattle.ipc_state.specs.declared.parked.ParkedSysv.TheVariants as parked
 use Rattle.ipc_state.specs.Finish.{Finishes, done}
-use Rattle.ipc_state.specs.Keyed.{holding}
+use Rattle.ipc_state.specs.Bound.{holding}
+use Rattle.ipc_state.specs.Keyed.{KeyedEntry}
 use Rattle.ipc_state.specs.Sound.{HasSoundParts}
 use Rattle.ipc_state.specs.State.{State, cred_of, is_process, msg_queue_of, with_msg_queue}
 use Rattle.ipc_state.specs.Steps.{attempted}
@@ -60,21 +60,22 @@ module _ {limits : Limits} {s : State} {pid : ℕ} {again : Bool} {call : Parked
     {at : ℕ} (was : r ≡ Ok at) where
   -- a send
   module _ {id : Id} {flags : MsgFlags} {m : Message} (is : call ≡ parked.Msgsnd id flags m) where
-    pub send : HasFound (λ (e : Entry Queue). 0) (Sends limits s id.0 m.mtype m.text.items)
+    pub send : HasFound (λ (e : KeyedEntry Queue). 0) (Sends limits s id.0 m.mtype m.text.items)
         (sendable limits s (cred_of s pid) again id.0 flags.0 m.mtype m.text.items) at
     send = has-found (sends limits s (cred_of s pid) again id.0 flags.0 m.mtype m.text.items) (said tests.is was _ is)
 
     pub sends-there : is_some (msg_queue_of s id.0) ≡ true
     sends-there = ap is_some send.holds.there
 
-    pub sends-room : HasSoundParts limits s → ArePassed limits → (e : Entry Queue) → msg_queue_of s id.0 ≡ Some e → length e.object.messages < most_messages
+    pub sends-room : HasSoundParts limits s → ArePassed limits → (e : KeyedEntry Queue) → msg_queue_of s id.0 ≡ Some e
+        → length e.object.messages < most_messages
     sends-room sound passed e there =
         let one : send.value ≡ e = cc (send.holds.there) in
         let most = (passed-bounds limits passed).msgmnb in
         has_places e.object (length m.text.items) limits.msgmnb (queue-sound limits s id.0 e there sound).qbytes (omega (arith, most))
-        (subst (λ (f : Entry Queue). full f.object (length m.text.items) ≡ false) one send.holds.room)
+        (subst (λ (f : KeyedEntry Queue). full f.object (length m.text.items) ≡ false) one send.holds.room)
 
-    pub sends-finish : (t : State) → ((e : Entry Queue) → msg_queue_of s id.0 ≡ Some e
+    pub sends-finish : (t : State) → ((e : KeyedEntry Queue) → msg_queue_of s id.0 ≡ Some e
         → t ≡ with_msg_queue s id.0 (holding e (sent e.object (record { mtype = m.mtype; text = m.text.items }) pid s.clock)))
         → Finishes (done t Empty) ≡ attempt limits s pid again (parked_sysv call)
     sends-finish t left =
@@ -82,26 +83,26 @@ module _ {limits : Limits} {s : State} {pid : ℕ} {again : Bool} {call : Parked
 
   -- a receive
   module _ {id : Id} {flags : MsgFlags} {size : ℕ} {mtype : ℤ} (is : call ≡ parked.Msgrcv id flags size mtype) where
-    pub receive : HasFound (λ (found : Entry Queue × ℕ). found.1) (Receives s id.0) (receivable s (cred_of s pid) again id.0 flags.0 size mtype) at
+    pub receive : HasFound (λ (found : KeyedEntry Queue × ℕ). found.1) (Receives s id.0) (receivable s (cred_of s pid) again id.0 flags.0 size mtype) at
     receive = has-found (receives s (cred_of s pid) again id.0 flags.0 size mtype) (said tests.is was _ is)
 
     pub receives-there : is_some (msg_queue_of s id.0) ≡ true
     receives-there = ap is_some receive.holds.there
 
-    pub receives-inside : (e : Entry Queue) → msg_queue_of s id.0 ≡ Some e → at < length e.object.messages
+    pub receives-inside : (e : KeyedEntry Queue) → msg_queue_of s id.0 ≡ Some e → at < length e.object.messages
     receives-inside e there =
         let one : receive.value.0 ≡ e = cc (receive.holds.there) in
         let inside = receive.holds.inside in
         let place = receive.is in
-        omega (arith, inside, place, ap (λ (f : Entry Queue). length f.object.messages) one)
+        omega (arith, inside, place, ap (λ (f : KeyedEntry Queue). length f.object.messages) one)
 
     pub receives-finish : (t : State) (body : PlainBody)
-        → ((e : Entry Queue) → msg_queue_of s id.0 ≡ Some e → t ≡ with_msg_queue s id.0 (holding e (taken e.object at pid s.clock)))
-        → ((e : Entry Queue) → msg_queue_of s id.0 ≡ Some e
+        → ((e : KeyedEntry Queue) → msg_queue_of s id.0 ≡ Some e → t ≡ with_msg_queue s id.0 (holding e (taken e.object at pid s.clock)))
+        → ((e : KeyedEntry Queue) → msg_queue_of s id.0 ≡ Some e
         → body ≡ Received (message_at e.object at).mtype (take size (message_at e.object at).text))
         → Finishes (done t body) ≡ attempt limits s pid again (parked_sysv call)
     receives-finish t body left says =
-        let e : Entry Queue = receive.value.0 in
+        let e : KeyedEntry Queue = receive.value.0 in
         ends-as tests.is _ is _ (finishes receive s _ (done t body) ((λ i. done (left e receive.holds.there i) (says e receive.holds.there i))
         ∙ (λ i. done (with_msg_queue s id.0 (holding e (taken e.object (sym receive.is i) pid s.clock)))
         (Received (message_at e.object (sym receive.is i)).mtype (take size (message_at e.object (sym receive.is i)).text)))))
@@ -109,7 +110,7 @@ module _ {limits : Limits} {s : State} {pid : ℕ} {again : Bool} {call : Parked
   -- a list of operations, whose bytes are lent
   module _ {id : Id} {timeout : ℕ} {operations : Operations} (is : call ≡ parked.Semop id timeout operations) (checked : ArePassed limits)
       (bytes : List ℕ) (same : bytes ≡ operations.bytes.items) where
-    operate : HasFound (λ (found : Entry Set × List ℕ). 0) (Operates limits s pid id.0 (operations_of operations.bytes.items))
+    operate : HasFound (λ (found : KeyedEntry Set × List ℕ). 0) (Operates limits s pid id.0 (operations_of operations.bytes.items))
         (performable limits s (cred_of s pid) pid again id.0 (operations_of operations.bytes.items)) at
     operate = has-found (operates limits s (cred_of s pid) pid again id.0 (operations_of operations.bytes.items)) (said tests.is was _ is)
 
@@ -121,7 +122,7 @@ module _ {limits : Limits} {s : State} {pid : ℕ} {again : Bool} {call : Parked
     pub operates-ready : is_process s pid ≡ true → IsReady limits s pid id.0 (operations_of bytes)
     operates-ready process = record { passed = checked; process = process; found = (operate.value, passes) }
 
-    pub operates-finish : (t : State) → ((found : Entry Set × List ℕ) → Passes limits s pid id.0 (operations_of bytes) found
+    pub operates-finish : (t : State) → ((found : KeyedEntry Set × List ℕ) → Passes limits s pid id.0 (operations_of bytes) found
         → t ≡ operated s pid id.0 (operations_of bytes) found) → Finishes (done t Empty) ≡ attempt limits s pid again (parked_sysv call)
     operates-finish t left =
         ends-as tests.is _ is _ (finishes operate s _ (done t Empty) (ap (λ (u : State). done u Empty) (left operate.value passes

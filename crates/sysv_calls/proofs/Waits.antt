@@ -17,11 +17,11 @@ use Rattle.sysv_msg.proofs.CallerLemmas.{pick-removed}
 use Rattle.sysv_sem.specs.declared.operation.Operation.{Operation}
 use Rattle.sysv_sem.specs.Operation.{outcome}
 use Rattle.sysv_sem.specs.Set.{values_of}
-use Rattle.ipc_state.specs.declared.keyed.Entry.{Entry}
 use Rattle.ipc_state.specs.declared.parked.Awaited.{Awaited}
 use Rattle.ipc_state.specs.declared.parked.Awaited.TheVariants as awaited
 use Rattle.ipc_state.specs.Finish.{Attempt, Finish, Finishes, Halt, IfFinishes, done_firing, has_to_wait, refuse, ◌orelse◌, ◌orstop◌, ◌>>◌, ◌>>=◌}
-use Rattle.ipc_state.specs.Keyed.{Keyed, holding}
+use Rattle.ipc_state.specs.Bound.{holding}
+use Rattle.ipc_state.specs.Keyed.{Keyed, KeyedEntry}
 use Rattle.ipc_state.specs.Numbered.{entry_of, last_number}
 use Rattle.ipc_state.specs.State.{State, cred_of, semset_of, with_msg_queue}
 use Rattle.ipc_state.specs.Touching.{IsAsBefore, is_there}
@@ -110,7 +110,8 @@ module _ (limits : Limits) (s : State) (pid : ℕ) (again : Bool) where
 -- ---- receives
 
 -- what is blocked on an entry is blocked on another with the same permissions, if its last steps are
-still-blocked : (b1 b2 : Bool) (e f : Entry Queue) (k : Entry Queue → Attempt (Entry Queue × ℕ)) → (is_blocked (k e) ≡ true → is_blocked (k f) ≡ true)
+still-blocked : (b1 b2 : Bool) (e f : KeyedEntry Queue) (k : KeyedEntry Queue → Attempt (KeyedEntry Queue × ℕ))
+    → (is_blocked (k e) ≡ true → is_blocked (k f) ≡ true)
     → is_blocked (refuse EINVAL b1 >> (refuse EACCES b2 >> Ok e >>= k)) ≡ true → is_blocked (refuse EINVAL b1 >> (refuse EACCES b2 >> Ok f >>= k)) ≡ true
 still-blocked true b2 e f k still is = cc
 still-blocked false true e f k still is = cc
@@ -142,29 +143,29 @@ received-waits limits s pid again id flags size mtype f is other n flags' size' 
     P g = has_to_wait (attempt limits g.state other true (requests.Msgrcv n flags' size' mtype')) ≡ true
 
     -- the tests of the other
-    mine : Entry Queue → Attempt (Entry Queue × ℕ)
+    mine : KeyedEntry Queue → Attempt (KeyedEntry Queue × ℕ)
     mine e = pick e.object.messages mtype' (has flags' except) orstop waits_or flags' ENOMSG
         >>= (λ at. refuse E2BIG (is_too_long flags' size' (length (message_at e.object at).text)) >> Ok (e, at))
 
-    IsBlocked : Option (Entry Queue) → Type 0
+    IsBlocked : Option (KeyedEntry Queue) → Type 0
     IsBlocked o = is_blocked (refuse EINVAL (nat_lt last_number size')
         >> ((o orelse gone true >>= (λ e. refuse EACCES (not (may (cred_of s other) e.perm read)) >> Ok e)) >>= mine)) ≡ true
 
-    still : (found : Entry Queue × ℕ) → Receives s id found
+    still : (found : KeyedEntry Queue × ℕ) → Receives s id found
         → has_to_wait (attempt limits (with_msg_queue s id (holding found.0 (taken found.0.object found.1 pid s.clock))) other true
         (requests.Msgrcv n flags' size' mtype')) ≡ true
     still found ok = by_id (nat_eq n id) refl
       where
-        e : Entry Queue
+        e : KeyedEntry Queue
         e = found.0
 
-        new : Entry Queue
+        new : KeyedEntry Queue
         new = holding e (taken e.object found.1 pid s.clock)
 
         t : State
         t = with_msg_queue s id new
 
-        tests : State → Attempt (Entry Queue × ℕ)
+        tests : State → Attempt (KeyedEntry Queue × ℕ)
         tests u = receivable u (cred_of s other) true n flags' size' mtype'
 
         on_same : n ≡ id → IsBlocked (entry_of t.msg n)

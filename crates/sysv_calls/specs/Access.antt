@@ -12,9 +12,8 @@ use Rattle.ipc_base.specs.Numbers.{record_bytes}
 use Rattle.ipc_perm.specs.declared.perm.Perm.{Perm}
 use Rattle.ipc_perm.specs.Perm.{may, owns}
 use Rattle.ipc_wire.specs.declared.reply.Body.TheVariants.{Record}
-use Rattle.ipc_state.specs.declared.keyed.Entry.{Entry}
 use Rattle.ipc_state.specs.Numbered.{entry_of, without_entry}
-use Rattle.ipc_state.specs.Keyed.{Keyed, keyed}
+use Rattle.ipc_state.specs.Keyed.{Keyed, KeyedEntry, keyed}
 use Rattle.ipc_state.specs.State.{State}
 use Rattle.ipc_state.specs.Finish.{Attempt, Done, answer, refuse, if_some, ◌orelse◌, ◌>>◌, ◌>>=◌}
 use Rattle.sysv_calls.specs.Records.{perm_fields}
@@ -54,18 +53,18 @@ abbrev pub gone : Bool → Errno
 gone again = if again then EIDRM else EINVAL
 
 -- what an identifier has, unless its permissions refuse the caller
-abbrev pub reached : {X : Type 0} → Bool → Keyed X → ℕ → Errno → (Perm → Bool) → Attempt (Entry X)
+abbrev pub reached : {X : Type 0} → Bool → Keyed X → ℕ → Errno → (Perm → Bool) → Attempt (KeyedEntry X)
 reached again o id refusal refuses = do
   e ← entry_of o id orelse gone again
   refuse refusal (refuses e.perm)
   Ok e
 
 -- for a caller that may use it so
-abbrev pub accessible : {X : Type 0} → Bool → Keyed X → Cred → ℕ → ℕ → Attempt (Entry X)
+abbrev pub accessible : {X : Type 0} → Bool → Keyed X → Cred → ℕ → ℕ → Attempt (KeyedEntry X)
 accessible again o cred id access = reached again o id EACCES (λ perm. not (may cred perm access))
 
 -- for a caller that may change it by IPC_SET and remove it
-abbrev pub owned : {X : Type 0} → Keyed X → Cred → ℕ → Attempt (Entry X)
+abbrev pub owned : {X : Type 0} → Keyed X → Cred → ℕ → Attempt (KeyedEntry X)
 owned o cred id = reached false o id EPERM (λ perm. not (owns cred perm))
 
 -- what a get finds: the object that the key names, or none, and one may be made

@@ -9,9 +9,9 @@ use Rattle.ipc_base.specs.declared.limits.Limits.{Limits}
 use Rattle.ipc_perm.specs.Perm.{perm_of, owned_by, asked_by}
 use Rattle.ipc_wire.specs.declared.reply.Body.TheVariants.{Empty, Number, Message}
 use Rattle.sysv_msg.specs.Queue.{Queue, PlainMessage, pick, full, sent, taken, changed}
-use Rattle.ipc_state.specs.declared.keyed.Entry.{Entry}
 use Rattle.ipc_state.specs.Numbered.{is_full, last_number}
-use Rattle.ipc_state.specs.Keyed.{holding, permitting}
+use Rattle.ipc_state.specs.Bound.{holding, permitting}
+use Rattle.ipc_state.specs.Keyed.{KeyedEntry}
 use Rattle.ipc_state.specs.State.{State, with_msg_queue, with_new_msg_queue}
 use Rattle.ipc_state.specs.Finish.{Halt, Fails, Blocks, Attempt, Done, answer, refuse, stop, if_some}
 use Rattle.ipc_state.specs.Finish.{◌orstop◌, ◌>>◌, ◌>>=◌}
@@ -56,7 +56,7 @@ msgget limits s cred key flags = do
   if_some found (found_queue s cred flags) (made_queue limits s cred key flags)
 
 -- the queue to which a message may be sent now
-abbrev pub sendable : Limits → State → Cred → Bool → ℕ → ℕ → ℤ → List ℕ → Attempt (Entry Queue)
+abbrev pub sendable : Limits → State → Cred → Bool → ℕ → ℕ → ℤ → List ℕ → Attempt (KeyedEntry Queue)
 sendable limits s cred again id flags mtype text = do
   refuse EINVAL (not (int_lt (pos 0) mtype))
   refuse EINVAL (nat_lt limits.msgmax (length text))
@@ -79,7 +79,7 @@ abbrev pub is_too_long : ℕ → ℕ → ℕ → Bool
 is_too_long flags size bytes = nat_lt size bytes && not (has flags noerror)
 
 -- the queue from which a message may be received now, and the place of that message
-abbrev pub receivable : State → Cred → Bool → ℕ → ℕ → ℕ → ℤ → Attempt (Entry Queue × ℕ)
+abbrev pub receivable : State → Cred → Bool → ℕ → ℕ → ℕ → ℤ → Attempt (KeyedEntry Queue × ℕ)
 receivable s cred again id flags size mtype = do
   refuse EINVAL (nat_lt last_number size)
   e ← accessible again s.msg cred id read

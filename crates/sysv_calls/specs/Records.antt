@@ -4,12 +4,12 @@ use Rattle.ipc_base.specs.declared.field.Field.{Field}
 use Rattle.ipc_base.specs.declared.field.Field.TheVariants.{I32, U32, U64}
 use Rattle.sysv_msg.specs.Queue.{Queue, byte_count}
 use Rattle.sysv_sem.specs.Set.{Set}
-use Rattle.ipc_state.specs.declared.keyed.Entry.{Entry}
+use Rattle.ipc_state.specs.Keyed.{KeyedEntry}
 
 -- key, owner, creator, mode
-abbrev pub perm_fields : {X : Type 0} → Entry X → List Field
+abbrev pub perm_fields : {X : Type 0} → KeyedEntry X → List Field
 perm_fields e =
-    I32 e.key ∷ U32 e.perm.uid ∷ U32 e.perm.gid ∷ U32 e.perm.cuid ∷ U32 e.perm.cgid ∷ U32 e.perm.mode ∷ []
+    I32 e.bound ∷ U32 e.perm.uid ∷ U32 e.perm.gid ∷ U32 e.perm.cuid ∷ U32 e.perm.cgid ∷ U32 e.perm.mode ∷ []
 
 -- times of the last send, receive and change; who sent and received last; the most bytes, how many messages there are,
 -- and how many bytes

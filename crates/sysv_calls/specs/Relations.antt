@@ -10,12 +10,12 @@ use Rattle.sem_undo.specs.Undo.{Undo, adjustment, is_adjustment, most_rows}
 use Rattle.sysv_sem.specs.declared.operation.Operation.{Operation}
 use Rattle.sysv_sem.specs.Operation.{Done, has_undo, outcome}
 use Rattle.sysv_sem.specs.Set.{Set, values_of}
-use Rattle.ipc_state.specs.declared.keyed.Entry.{Entry}
+use Rattle.ipc_state.specs.Keyed.{KeyedEntry}
 use Rattle.ipc_state.specs.State.{State, is_process, semset_of, undo_of}
 use Rattle.sysv_calls.specs.Semop.{held_by, noted}
 
 -- there are no more than a buffer has room for, their set is there, and they can be performed
-pub record Passes (limits : Limits) (s : State) (pid id : ℕ) (ops : List Operation) (found : Entry Set × List ℕ)
+pub record Passes (limits : Limits) (s : State) (pid id : ℕ) (ops : List Operation) (found : KeyedEntry Set × List ℕ)
     : Type 0 where
   pub few : length ops ≤ 32
   pub there : semset_of s id ≡ Some found.0
@@ -26,7 +26,7 @@ pub record Passes (limits : Limits) (s : State) (pid id : ℕ) (ops : List Opera
 pub record IsReady (limits : Limits) (s : State) (pid id : ℕ) (ops : List Operation) : Type 0 where
   pub passed : ArePassed limits
   pub process : is_process s pid ≡ true
-  pub found : (found : Entry Set × List ℕ) × Passes limits s pid id ops found
+  pub found : (found : KeyedEntry Set × List ℕ) × Passes limits s pid id ops found
 
 -- an operation can be noted: its adjustment is one, and there is room for it
 pub record CanNote (id : ℕ) (undo : Undo) (o : Operation) : Type 0 where

@@ -1,22 +1,17 @@
 -- What the program's functions answer, as values of the definitions.
-use Rattle.std.specs.Prelude.{◌≡◌, ℕ, Bool, Option, option_map, Result, Ok, Err}
+use Rattle.std.specs.Prelude.{ℕ, Bool, Option, option_map, Result, Ok, Err}
 use Rattle.std.specs.Borrow.{Bor}
 use Rattle.ipc_base.specs.declared.errno.Errno.{Errno}
 use Rattle.ipc_base.specs.declared.identity.Cred.{Cred}
 use Rattle.ipc_base.specs.declared.identity.Id.{Id}
 use Rattle.ipc_base.specs.declared.limits.Limits.{Limits}
-use Rattle.ipc_wire.specs.Request.{PlainSysv}
-use Rattle.ipc_state.specs.Finish.{Attempt, Fails, Tried, Finishes, Waits, finish_of}
+use Rattle.ipc_state.specs.Finish.{Attempt, Fails}
 use Rattle.ipc_state.specs.Steps.{seen}
-use Rattle.ipc_state.specs.Held.{Held}
 use Rattle.ipc_state.specs.State.{State}
-use Rattle.ipc_state.specs.Waiting.{parked_sysv}
 use Rattle.ipc_state.specs.declared.parked.ParkedSysv.{ParkedSysv}
 use Rattle.ipc_state.specs.declared.parked.ParkedSysv.TheVariants as parked
 use Rattle.sysv_calls.specs.Msg.{sendable, receivable}
 use Rattle.sysv_calls.specs.Semop.{operations_of, performable}
-use Rattle.sysv_calls.specs.declared.waiting.Tried.{Tried as Comes}
-use Rattle.sysv_calls.specs.declared.waiting.Tried.TheVariants as comes
 
 -- what a reference shows
 abbrev pub attempt_of : {X : Type 0} → Result (Bor X) Errno → Attempt X
@@ -37,13 +32,3 @@ place_in limits s cred pid again (parked.Msgrcv id flags size mtype) =
     seen (λ found. found.1) (receivable s cred again id.0 flags.0 size mtype)
 place_in limits s cred pid again (parked.Semop id timeout operations) =
     seen (λ found. 0) (performable limits s cred pid again id.0 (operations_of operations.bytes.items))
-
--- what came of a call that may wait and left this state
-abbrev pub tried_of : State → Comes → Tried
-tried_of s (comes.Finishes answer) = Finishes (finish_of s answer)
-tried_of s (comes.Waits call) = Waits
-
--- if it waits, it is the same call as before, and the state is as it was
-abbrev pub WaitsUnchanged : Held → PlainSysv → Held → Comes → Type 0
-WaitsUnchanged before call after (comes.Finishes answer) = Unit {0}
-WaitsUnchanged before call after (comes.Waits kept) = (parked_sysv kept ≡ call) × (after ≡ before)

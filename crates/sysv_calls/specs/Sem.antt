@@ -14,9 +14,9 @@ use Rattle.ipc_wire.specs.declared.reply.Body.TheVariants.{Empty, Number, Record
 use Rattle.sysv_sem.specs.declared.set.Semaphore.{Semaphore}
 use Rattle.sysv_sem.specs.Operation.{most_value}
 use Rattle.sysv_sem.specs.Set.{Set, values_of, with_value, with_values, changed}
-use Rattle.ipc_state.specs.declared.keyed.Entry.{Entry}
 use Rattle.ipc_state.specs.Numbered.{is_full}
-use Rattle.ipc_state.specs.Keyed.{holding, permitting}
+use Rattle.ipc_state.specs.Bound.{holding, permitting}
+use Rattle.ipc_state.specs.Keyed.{KeyedEntry}
 use Rattle.ipc_state.specs.Sound.{semaphore_count}
 use Rattle.ipc_state.specs.State.{State, semset_of, with_semset, with_new_semset, without_adjustments}
 use Rattle.ipc_state.specs.Finish.{Attempt, Done, answer, refuse, if_some, ◌orelse◌, ◌>>◌, ◌>>=◌}
@@ -33,7 +33,7 @@ value_of (pos n) = if nat_le n most_value then Some n else None
 value_of (negsuc n) = None
 
 -- the set that an identifier has, if there is one, has fewer semaphores
-abbrev pub has_fewer : Option (Entry Set) → ℕ → Bool
+abbrev pub has_fewer : Option (KeyedEntry Set) → ℕ → Bool
 has_fewer None nsems = false
 has_fewer (Some e) nsems = nat_lt (length e.object.semaphores) nsems
 
@@ -60,7 +60,7 @@ semget limits s cred key nsems flags = do
   if_some found (found_set s cred flags n) (made_set limits s cred key flags n)
 
 -- a set and a semaphore of it, for a caller that may use it so
-abbrev pub semaphore : State → Cred → ℕ → ℕ → ℕ → Attempt (Entry Set × Semaphore)
+abbrev pub semaphore : State → Cred → ℕ → ℕ → ℕ → Attempt (KeyedEntry Set × Semaphore)
 semaphore s cred id num access = do
   e ← semset_of s id orelse EINVAL
   x ← slice_get e.object.semaphores num orelse EINVAL
@@ -97,7 +97,7 @@ abbrev pub are_values : List ℕ → Bool
 are_values values = list_all (λ v. nat_le v most_value) values
 
 -- the set of which all values may be set to these
-abbrev pub settable : State → Cred → ℕ → List ℕ → Attempt (Entry Set)
+abbrev pub settable : State → Cred → ℕ → List ℕ → Attempt (KeyedEntry Set)
 settable s cred id values = do
   e ← semset_of s id orelse EINVAL
   refuse EINVAL (not (length values == length e.object.semaphores))

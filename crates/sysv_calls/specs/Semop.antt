@@ -18,8 +18,8 @@ use Rattle.sem_undo.specs.Undo.{Undo, adjustment, subtracted}
 use Rattle.sysv_sem.specs.declared.operation.Operation.{Operation}
 use Rattle.sysv_sem.specs.Operation.{Outcome, Done as IsDone, Blocks as Stops, Fails as IsRefused, has_undo, outcome}
 use Rattle.sysv_sem.specs.Set.{Set, values_of, carried}
-use Rattle.ipc_state.specs.declared.keyed.Entry.{Entry}
-use Rattle.ipc_state.specs.Keyed.{holding}
+use Rattle.ipc_state.specs.Bound.{holding}
+use Rattle.ipc_state.specs.Keyed.{KeyedEntry}
 use Rattle.ipc_state.specs.State.{State, cred_of, semset_of, undo_of, with_semset, with_undo}
 use Rattle.ipc_state.specs.Waiting.{PlainWaiting}
 use Rattle.ipc_state.specs.Finish.{Halt, Fails, Blocks, Attempt, Done, answer, refuse, ◌orelse◌, ◌>>◌, ◌>>=◌}
@@ -56,7 +56,7 @@ noted id undo o = if has_undo o then subtracted undo (id, o.num) o.sem_op else u
 -- ---- semop
 
 -- the set of which the operations may be tried
-abbrev pub operable : Limits → State → Cred → Bool → ℕ → List Operation → Attempt (Entry Set)
+abbrev pub operable : Limits → State → Cred → Bool → ℕ → List Operation → Attempt (KeyedEntry Set)
 operable limits s cred again id ops = do
   refuse EINVAL (length ops == 0)
   e ← semset_of s id orelse gone again
@@ -66,7 +66,7 @@ operable limits s cred again id ops = do
   Ok e
 
 -- that set, and what the operations meet there
-abbrev pub tried_list : Limits → State → Cred → ℕ → Bool → ℕ → List Operation → Attempt (Entry Set × Outcome)
+abbrev pub tried_list : Limits → State → Cred → ℕ → Bool → ℕ → List Operation → Attempt (KeyedEntry Set × Outcome)
 tried_list limits s cred pid again id ops = do
   e ← operable limits s cred again id ops
   Ok (e, outcome (values_of e.object) (held_by s pid id) ops)
@@ -83,14 +83,14 @@ decided ops (Stops at) = Err (stopped_by (slice_get ops at))
 decided ops (IsRefused e) = Err (Fails e)
 
 -- the set, and its values after them
-abbrev pub performable : Limits → State → Cred → ℕ → Bool → ℕ → List Operation → Attempt (Entry Set × List ℕ)
+abbrev pub performable : Limits → State → Cred → ℕ → Bool → ℕ → List Operation → Attempt (KeyedEntry Set × List ℕ)
 performable limits s cred pid again id ops = do
   found ← tried_list limits s cred pid again id ops
   values ← decided ops found.1
   Ok (found.0, values)
 
 -- the state after them
-abbrev pub operated : State → ℕ → ℕ → List Operation → Entry Set × List ℕ → State
+abbrev pub operated : State → ℕ → ℕ → List Operation → KeyedEntry Set × List ℕ → State
 operated s pid id ops found =
     with_undo (with_semset s id (holding found.0 (carried found.0.object found.1 ops (record { 0 = pid }) s.clock))) pid
     (fold (noted id) (undo_of s pid) ops)
@@ -104,7 +104,7 @@ semop limits s cred pid again id bytes = do
 -- ---- how many wait
 
 -- the operation that stops a list now, if one does
-abbrev pub stopping : List Operation → Attempt (Entry Set × Outcome) → Option Operation
+abbrev pub stopping : List Operation → Attempt (KeyedEntry Set × Outcome) → Option Operation
 stopping ops (Ok (e, Stops at)) = slice_get ops at
 stopping ops _ = None
 

@@ -11,7 +11,7 @@ ghost use Rattle.sysv_calls.specs.Seen.{attempt_of, sought_of};
 use bitflags::Flags;
 use ipc_base::{Cred, Errno, Field, GetFlags, Id};
 use ipc_perm::{Access, may, owns};
-use ipc_state::{Entry, IPC_PRIVATE, Keyed};
+use ipc_state::{IPC_PRIVATE, Keyed, KeyedEntry};
 use ipc_wire::push_fields;
 
 /// What an identifier has, for a caller that may use it so; `again` for a call that waited.
@@ -21,10 +21,10 @@ pub(crate) fn accessible<T>(
     again: bool,
     id: Id,
     access: Access,
-) -> Result<&Entry<T>, Errno>
+) -> Result<&KeyedEntry<T>, Errno>
     ensures { attempt_of result ≡ defined.accessible again objects.now.objects cred id.0 access.0 }
 {
-    let Some(entry) = objects.get(id) else {
+    let Some(entry) = objects.get(id.0) else {
         return Err(gone(again));
     };
     if !may(&cred, &entry.perm, access) {
@@ -41,10 +41,10 @@ pub(crate) fn gone(again: bool) -> Errno
 }
 
 /// What an identifier has, for a caller that may change it by IPC_SET and remove it.
-pub(crate) fn owned<T>(objects: &Keyed<T>, cred: Cred, id: Id) -> Result<&Entry<T>, Errno>
+pub(crate) fn owned<T>(objects: &Keyed<T>, cred: Cred, id: Id) -> Result<&KeyedEntry<T>, Errno>
     ensures { attempt_of result ≡ defined.owned objects.now.objects cred id.0 }
 {
-    let Some(entry) = objects.get(id) else {
+    let Some(entry) = objects.get(id.0) else {
         return Err(Errno::EINVAL);
     };
     if !owns(&cred, &entry.perm) {
@@ -85,7 +85,7 @@ fn may_make(key: i32, flags: GetFlags) -> bool
 }
 
 /// Adds what is alike for the records of every kind to a body that has room for it.
-pub(crate) fn push_perm<T>(body: &mut Vec<u8>, entry: &Entry<T>)
+pub(crate) fn push_perm<T>(body: &mut Vec<u8>, entry: &KeyedEntry<T>)
     requires { vec_len body.old + 24 ≤ vec_capacity body.old }
     ensures bytes { body.new.items ≡ body.old.items ++ record_bytes (perm_fields entry.now) }
     ensures room { vec_capacity body.old ≤ vec_capacity body.new }
@@ -94,7 +94,7 @@ pub(crate) fn push_perm<T>(body: &mut Vec<u8>, entry: &Entry<T>)
     push_fields(
         body,
         &[
-            Field::I32(entry.key),
+            Field::I32(entry.bound),
             Field::U32(perm.uid),
             Field::U32(perm.gid),
             Field::U32(perm.cuid),

@@ -10,4 +10,4 @@ mod semop;
 mod waiting;
 
 pub use calls::{attempt, reserve, touched};
-pub use waiting::{Tried, has_to_wait, is_receive, try_parked};
+pub use waiting::{has_to_wait, is_receive, try_parked};

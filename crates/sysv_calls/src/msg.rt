@@ -6,10 +6,10 @@ ghost use Rattle.ipc_base.specs.Limits.{ArePassed};
 ghost use Rattle.ipc_base.specs.Numbers.{record_bytes};
 ghost use Rattle.ipc_state.specs.Finish.{Finishes, ended, finish_of};
 ghost use Rattle.ipc_state.specs.Held.{Ready, left};
-ghost use Rattle.ipc_state.specs.Keyed.{holding, keyed};
+ghost use Rattle.ipc_state.specs.Bound.{holding};
+ghost use Rattle.ipc_state.specs.Keyed.{KeyedEntry, keyed};
 ghost use Rattle.ipc_state.specs.Sound.{HasSoundParts, HasNumbers};
 ghost use Rattle.ipc_state.specs.State.{msg_queue_of, with_msg_queue};
-ghost use Rattle.ipc_state.specs.declared.keyed.Entry.{Entry};
 ghost use Rattle.ipc_wire.specs.Reply.{body_of};
 ghost use Rattle.ipc_wire.specs.declared.reply.Body.TheVariants as body;
 ghost use Rattle.sysv_calls.specs.Msg as defined;
@@ -106,9 +106,9 @@ pub(crate) fn ready_to_send(
 /// Sends a message to a queue that is there.
 pub(crate) fn send(state: &mut State, pid: Pid, id: Id, message: Message)
     requires there { is_some (msg_queue_of state.old.state id.0) ≡ true }
-    requires room { (e : Entry Queue) → msg_queue_of state.old.state id.0 ≡ Some e
+    requires room { (e : KeyedEntry Queue) → msg_queue_of state.old.state id.0 ≡ Some e
         → length e.object.messages < most_messages }
-    ensures { (e : Entry Queue) → msg_queue_of state.old.state id.0 ≡ Some e → state.new ≡ record state.old {
+    ensures { (e : KeyedEntry Queue) → msg_queue_of state.old.state id.0 ≡ Some e → state.new ≡ record state.old {
       state = with_msg_queue state.old.state id.0
           (holding e (sent e.object (plain message) pid.0 state.old.state.clock));
     } }
@@ -150,12 +150,13 @@ pub(crate) fn ready_to_receive(
 /// Receives the message at a place of a queue that is there. Its text is cut to `size`.
 pub(crate) fn receive(state: &mut State, pid: Pid, id: Id, at: usize, size: u32) -> Body<Vec<u8>>
     requires there { is_some (msg_queue_of state.old.state id.0) ≡ true }
-    requires inside { (e : Entry Queue) → msg_queue_of state.old.state id.0 ≡ Some e
+    requires inside { (e : KeyedEntry Queue) → msg_queue_of state.old.state id.0 ≡ Some e
         → at < length e.object.messages }
-    ensures held { (e : Entry Queue) → msg_queue_of state.old.state id.0 ≡ Some e → state.new ≡ record state.old {
+    ensures held { (e : KeyedEntry Queue) → msg_queue_of state.old.state id.0 ≡ Some e → state.new ≡ record state.old {
       state = with_msg_queue state.old.state id.0 (holding e (taken e.object at pid.0 state.old.state.clock));
     } }
-    ensures body { (e : Entry Queue) → msg_queue_of state.old.state id.0 ≡ Some e → body_of (λ text. text.items) result
+    ensures body { (e : KeyedEntry Queue) → msg_queue_of state.old.state id.0 ≡ Some e
+        → body_of (λ text. text.items) result
         ≡ body.Message (defined.message_at e.object at).mtype (take size (defined.message_at e.object at).text) }
 {
     let now = state.clock();

@@ -89,7 +89,7 @@ fn count_of(limits: &Limits, nsems: i32) -> Option<usize>
 fn has_fewer(sets: &Keyed<SemSet>, id: Id, count: usize) -> bool
     ensures { result ≡ defined.has_fewer (entry_of sets.now.objects id.0) count }
 {
-    match sets.get(id) {
+    match sets.get(id.0) {
         Some(entry) => entry.object.semaphores().len() < count,
         None => false,
     }
@@ -128,7 +128,7 @@ pub(crate) fn semaphore(
         ≡ seen (λ found. found.1) (defined.semaphore state.now.state cred id.0 num access.0) }
     ensures passed { OnOk result (ArePassed state.now.limits) }
 {
-    let Some(entry) = state.semset().get(id) else {
+    let Some(entry) = state.semset().get(id.0) else {
         return Err(Errno::EINVAL);
     };
     let Some(semaphore) = entry.object.semaphores().get(num as usize) else {
@@ -248,7 +248,7 @@ fn ready_to_set(state: &State, cred: Cred, id: Id, values: &Pairs<'_>) -> Result
         ≡ seen (λ e. tt) (defined.settable state.now.state cred id.0 (numbers_in (bytes_of values.now))) }
     ensures passed { OnOk result (ArePassed state.now.limits) }
 {
-    let Some(entry) = state.semset().get(id) else {
+    let Some(entry) = state.semset().get(id.0) else {
         return Err(Errno::EINVAL);
     };
     if values.len() != entry.object.semaphores().len() {

@@ -9,7 +9,7 @@ ghost use Rattle.ipc_wire.specs.Sixes.{bytes_of};
 ghost use Rattle.sysv_sem.specs.declared.operation.Operation.{Operation as PlainOperation};
 ghost use Rattle.sysv_sem.specs.Operation.{has_undo, trial_of};
 ghost use Rattle.sysv_sem.specs.Set.{Set};
-ghost use Rattle.ipc_state.specs.declared.keyed.Entry.{Entry};
+ghost use Rattle.ipc_state.specs.Keyed.{KeyedEntry};
 ghost use Rattle.ipc_state.specs.Finish.{Finishes, ended, finish_of};
 ghost use Rattle.ipc_state.specs.Sound.{HasSoundParts};
 ghost use Rattle.ipc_state.specs.State.{cred_of, undo_of, with_undo};
@@ -135,7 +135,7 @@ fn try_operations(
     if count == 0 {
         return Err(Halt::Fails(Errno::EINVAL));
     }
-    let Some(entry) = state.semset().get(id) else {
+    let Some(entry) = state.semset().get(id.0) else {
         return Err(Halt::Fails(gone(again)));
     };
     if count > state.limits().semopm as usize {
@@ -190,7 +190,7 @@ pub(crate) fn ready_to_operate(
 pub(crate) fn operate(state: &mut State, pid: Pid, id: Id, operations: &Sixes<'_>)
     requires sound { HasSoundParts state.old.limits state.old.state }
     requires ready { IsReady state.old.limits state.old.state pid.0 id.0 (operations_of (bytes_of operations.now)) }
-    ensures { (found : Entry Set × List ℕ)
+    ensures { (found : KeyedEntry Set × List ℕ)
         → Passes state.old.limits state.old.state pid.0 id.0 (operations_of (bytes_of operations.now)) found
         → state.new ≡ record state.old {
           state = defined.operated state.old.state pid.0 id.0 (operations_of (bytes_of operations.now)) found;

@@ -6,52 +6,45 @@ ghost use Rattle.ipc_wire.specs.Request.{Sysv};
 ghost use Rattle.ipc_state.specs.Finish as finish;
 ghost use Rattle.ipc_state.specs.Sound.{HasSoundParts};
 ghost use Rattle.ipc_state.specs.State.{is_process};
+ghost use Rattle.ipc_state.specs.Tries.{WaitsUnchanged, tried_of};
 ghost use Rattle.ipc_state.specs.Waiting.{parked_sysv};
 ghost use Rattle.sysv_calls.specs.Calls as defined;
 ghost use Rattle.ipc_state.specs.Steps.{attempted};
-ghost use Rattle.sysv_calls.specs.Seen.{WaitsUnchanged, place_in, tried_of};
+ghost use Rattle.sysv_calls.specs.Seen.{place_in};
 
 use crate::msg::{ready_to_receive, ready_to_send, receive, send};
 use crate::semop::{operate, ready_to_operate};
 use ipc_base::{Cred, Pid};
-use ipc_state::{Answer, Halt, ParkedSysv, State};
+use ipc_state::{Halt, ParkedSysv, State, Tried};
 use ipc_wire::Body;
 
-/// What comes of a call that may wait.
-#[derive(Drop)]
-pub enum Tried {
-    /// It ends so.
-    Finishes(Answer),
-    /// It has to wait, and is given back.
-    Waits(ParkedSysv),
-}
-
 /// Tries a call by a process; `again`, if it has waited. It takes no memory.
-pub fn try_parked(state: &mut State, pid: Pid, again: bool, call: ParkedSysv) -> Tried
+pub fn try_parked(state: &mut State, pid: Pid, again: bool, call: ParkedSysv) -> Tried<ParkedSysv>
     requires sound { HasSoundParts state.old.limits state.old.state }
     requires process { is_process state.old.state pid.0 ≡ true }
     ensures finish { tried_of state.new.state result
         ≡ defined.attempt state.old.limits state.old.state pid.0 again (parked_sysv call) }
-    ensures kept { WaitsUnchanged state.old (parked_sysv call) state.new result }
+    ensures kept { WaitsUnchanged parked_sysv state.old call state.new result }
     ensures held { state.new ≡ record state.old { state = state.new.state } }
 {
     let cred = state.cred(pid);
     let at = match ready(state, cred, pid, again, &call) {
         Ok(at) => at,
-        Err(Halt::Fails(e)) => return Tried::Finishes(Err(e)),
+        Err(Halt::Fails(e)) => return Tried::Finishes(Err(e), None),
         Err(Halt::Blocks) => return Tried::Waits(call),
     };
     match call {
         ParkedSysv::Msgsnd { id, message, .. } => {
             send(state, pid, id, message);
-            Tried::Finishes(Ok(Body::Empty))
+            Tried::Finishes(Ok(Body::Empty), None)
         }
-        ParkedSysv::Msgrcv { id, size, .. } => Tried::Finishes(Ok(receive(
-            state, pid, id, at, size,
-        ))),
+        ParkedSysv::Msgrcv { id, size, .. } => Tried::Finishes(
+            Ok(receive(state, pid, id, at, size)),
+            None,
+        ),
         ParkedSysv::Semop { id, operations, .. } => {
             operate(state, pid, id, &operations.lend());
-            Tried::Finishes(Ok(Body::Empty))
+            Tried::Finishes(Ok(Body::Empty), None)
         }
     }
 }

@@ -4,18 +4,26 @@ use Rattle.ipc_state.specs.Held.{Held, Ready}
 use Rattle.ipc_state.specs.Held.Ready.{Nothing}
 use Rattle.ipc_state.specs.State.{is_waiting}
 use Rattle.ipc_engine.specs.Step.{interrupt}
+use Rattle.ipc_engine.proofs.Doing.{does-from}
 use Rattle.ipc_engine.proofs.asking.ask.Goals as goal
 
 nothing-else : (b : Bool) → (if b then Nothing else Nothing) ≡ Nothing
 nothing-else true = refl
 nothing-else false = refl
 
-pub returns-in-Hello-clause-outcomes : goal.returns-in-Hello-clause-outcomes
-returns-in-Hello-clause-outcomes c = rw c.in-Hello.is (c.refuse.ensures.outcomes c.args.state.now.state)
+pub returns-in-Hello-clause-does : goal.returns-in-Hello-clause-does
+returns-in-Hello-clause-does c =
+    let s = c.args.state.now in
+    let nothing : s.ready ≡ Nothing = (rw c.in-Hello.is at c.requires.reserved.ready) ∙ nothing-else (is_waiting s.state c.args.pid.0) in
+    rw c.in-Hello.is (record {
+      state = ap (λ (r : Ready). let h : Held = record s { ready = r } in h) nothing;
+      outcomes = c.refuse.ensures.outcomes s.state;
+      capacity = c.refuse.ensures.capacity;
+    })
 
-pub returns-in-Interrupt-clause-state : goal.returns-in-Interrupt-clause-state
-returns-in-Interrupt-clause-state c =
+pub returns-in-Interrupt-clause-does : goal.returns-in-Interrupt-clause-does
+returns-in-Interrupt-clause-does c =
     let s = c.args.state.now in
     let nothing : s.ready ≡ Nothing = (rw c.in-Interrupt.is at c.requires.reserved.ready) ∙ nothing-else (is_waiting s.state c.args.pid.0) in
-    let now = (interrupt c.args.pid.0 c.args.request.now.serial s.state).state in
-    rw c.in-Interrupt.is (c.interrupt.ensures.state ∙ ap (λ (r : Ready). let h : Held = record s { state = now; ready = r } in h) nothing)
+    rw c.in-Interrupt.is (does-from (λ h. interrupt c.args.pid.0 c.args.request.now.serial h.state)
+    (ap (λ (r : Ready). let h : Held = record s { ready = r } in h) nothing) c.interrupt.ensures)

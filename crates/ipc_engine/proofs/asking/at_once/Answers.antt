@@ -8,6 +8,7 @@ use Rattle.ipc_state.specs.Held.{Held, left}
 use Rattle.ipc_engine.specs.Step.{after, replied, settle, replied_or_joined}
 use Rattle.ipc_engine.specs.View.{plain_outcome}
 use Rattle.ipc_engine.proofs.Buffers.{finish-state, waits-kept, with_state}
+use Rattle.ipc_engine.proofs.Doing.{does-as, does-from}
 use Rattle.ipc_engine.proofs.Resumes.{ended-of, good-here}
 use Rattle.ipc_engine.proofs.Tries.{HasEnded}
 use Rattle.ipc_engine.proofs.asking.at_once.Goals as goal
@@ -29,24 +30,12 @@ finish-requires-clause-places c =
     let good = (ended-of s.limits s.state c.args.pid.0 (plain_kind c.args.request.now.kind) f c.requires.free c.try_at_once-answer.ensures.finish).good in
     omega (arith, c.requires.places, ap length (waits-kept c.try_at_once-answer.new.state.state s.state c.try_at_once-answer.result.0 None good.wait))
 
-pub returns-clause-state : goal.returns-clause-state
-returns-clause-state c =
+pub returns-clause-does : goal.returns-clause-does
+returns-clause-does c =
     let s = c.args.state.now in
     let f = finish_of c.try_at_once-answer.new.state.state c.try_at_once-answer.result.0 in
-    let held = c.try_at_once-answer.ensures.held in
-    c.finish.ensures.state
-    ∙ ((λ i. with_state (held i) (after (replied c.args.pid.0 c.args.request.now.serial f) (settle (held i).limits)).state)
-    ∙ ap (λ (t : Tried). left s (replied_or_joined s.limits c.args.pid.0 (plain_request c.args.request.now) s.state t).state)
-    c.try_at_once-answer.ensures.finish)
-
-pub returns-clause-outcomes : goal.returns-clause-outcomes
-returns-clause-outcomes c =
-    let s = c.args.state.now in
-    let f = finish_of c.try_at_once-answer.new.state.state c.try_at_once-answer.result.0 in
-    let old = map plain_outcome c.args.outcomes.now.items in
-    c.finish.ensures.outcomes
-    ∙ ((λ i. old ++ (after (replied c.args.pid.0 c.args.request.now.serial f) (settle (c.try_at_once-answer.ensures.held i).limits)).outcomes)
-    ∙ ap (λ (t : Tried). old ++ (replied_or_joined s.limits c.args.pid.0 (plain_request c.args.request.now) s.state t).outcomes) c.try_at_once-answer.ensures.finish)
+    does-as (ap (λ (t : Tried). replied_or_joined s.limits c.args.pid.0 (plain_request c.args.request.now) s.state t) c.try_at_once-answer.ensures.finish)
+    (does-from (λ h. after (replied c.args.pid.0 c.args.request.now.serial f) (settle h.limits)) c.try_at_once-answer.ensures.held c.finish.ensures.does)
 
 pub returns-clause-buffer : goal.returns-clause-buffer
 returns-clause-buffer c = omega (arith, c.try_at_once-answer.ensures.spare, c.finish.ensures.room)

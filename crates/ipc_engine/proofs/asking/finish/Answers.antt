@@ -8,6 +8,7 @@ use Rattle.ipc_engine.specs.Settling.{AreLinked, HaveSameObjects, OthersWait}
 use Rattle.ipc_engine.specs.Step.{settle, replied}
 use Rattle.ipc_engine.specs.View.{plain_outcome}
 use Rattle.ipc_engine.proofs.Buffers.{finish-state}
+use Rattle.ipc_engine.proofs.Doing.{does-after, does-as}
 use Rattle.ipc_engine.proofs.Going.{others-after, linked-after}
 use Rattle.ipc_engine.proofs.asking.finish.Goals as goal
 
@@ -33,19 +34,8 @@ settle-requires-clause-others c =
     subst (λ (t : State). OthersWait s.limits t c.args.touched) is
     (others-after s.limits g.0 c.args.touched f g.1 g.2 (subst (λ (t : State). HaveSameObjects g.0 t) (sym is) g.3))
 
-pub returns-clause-state : goal.returns-clause-state
-returns-clause-state c =
+pub returns-clause-does : goal.returns-clause-does
+returns-clause-does c =
     let s = c.args.state.now in
-    c.settle.ensures.state
-    ∙ ap (λ (t : State). let h : Held = record s { state = (settle s.limits t).state } in h) (sym (finish-state s.state c.args.answer c.args.fired))
-
-pub returns-clause-outcomes : goal.returns-clause-outcomes
-returns-clause-outcomes c =
-    let s = c.args.state.now in
-    let old = map plain_outcome c.args.outcomes.now.items in
-    let own = (replied c.args.pid.0 c.args.serial (finish_firing s.state c.args.answer c.args.fired)).outcomes in
-    let others = (settle s.limits s.state).outcomes in
-    c.settle.ensures.outcomes
-    ∙ (ap (λ (xs : List PlainOutcome). xs ++ others) (c.push_reply.ensures.outcomes s.state)
-    ∙ (append_assoc old own others
-    ∙ ap (λ (t : State). old ++ (own ++ (settle s.limits t).outcomes)) (sym (finish-state s.state c.args.answer c.args.fired))))
+    does-after (replied c.args.pid.0 c.args.serial (finish_firing s.state c.args.answer c.args.fired)).outcomes (c.push_reply.ensures.outcomes s.state) c.push_reply.ensures.capacity
+    (does-as (ap (settle s.limits) (sym (finish-state s.state c.args.answer c.args.fired))) c.settle.ensures.does)

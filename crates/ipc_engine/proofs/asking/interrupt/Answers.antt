@@ -1,4 +1,4 @@
-use Rattle.std.proofs.Common.{List, ◌++◌, map, ap, ◌∙◌, append_assoc}
+use Rattle.std.proofs.Common.{List, ◌++◌, map, ap, ◌∙◌, append_assoc, arith}
 use Rattle.ipc_wait.specs.Waits.{waiting_call_of}
 use Rattle.ipc_state.specs.Finish.{done}
 use Rattle.ipc_wire.specs.declared.reply.Body.TheVariants.{Empty}
@@ -8,12 +8,17 @@ use Rattle.ipc_engine.specs.View.{plain_outcome}
 use Rattle.ipc_engine.proofs.Buffers.{pushed}
 use Rattle.ipc_engine.proofs.asking.interrupt.Goals as goal
 
-pub returns-clause-outcomes : goal.returns-clause-outcomes
-returns-clause-outcomes c =
+pub returns : goal.returns
+returns c =
     let s = c.args.state.now.state in
     let first = interrupted s c.args.pid.0 (waiting_call_of c.args.pid s.wait) in
     let own = (replied c.args.pid.0 c.args.serial (done first.state Empty)).outcomes in
-    pushed c.end_waiting.new.outcomes.items c.push.new.outcomes.items c.reply_to.result own c.push.ensures.items
-    (ap (λ (t : Step). t.outcomes) (c.reply_to.ensures.reply first.state))
-    ∙ (ap (λ (xs : List PlainOutcome). xs ++ own) c.end_waiting.ensures.outcomes
-    ∙ append_assoc (map plain_outcome c.args.outcomes.now.items) first.outcomes own)
+    let ended = c.end_waiting.ensures.does in
+    record {
+      state = ended.state;
+      outcomes = pushed c.end_waiting.new.outcomes.items c.push.new.outcomes.items c.reply_to.result own c.push.ensures.items
+          (ap (λ (t : Step). t.outcomes) (c.reply_to.ensures.reply first.state))
+          ∙ (ap (λ (xs : List PlainOutcome). xs ++ own) ended.outcomes
+          ∙ append_assoc (map plain_outcome c.args.outcomes.now.items) first.outcomes own);
+      capacity = omega (arith, ended.capacity, c.push.ensures.capacity);
+    }

@@ -1,14 +1,15 @@
-use Rattle.std.proofs.Common.{◌≡◌, ℕ, true, ◌++◌, map, ap, ◌∙◌, sym}
+use Rattle.std.proofs.Common.{◌≡◌, ℕ, true, ◌++◌, map, refl, ap, ◌∙◌, sym}
 use Rattle.ipc_wait.specs.Waits.{is_due}
 use Rattle.ipc_state.specs.Finish.{refused}
 use Rattle.ipc_state.specs.Waiting.{PlainWaiting, deadline_of}
 use Rattle.ipc_engine.specs.Step.{Step, replied}
 use Rattle.ipc_engine.specs.View.{plain_outcome}
+use Rattle.ipc_engine.proofs.Doing.{does-as}
 use Rattle.ipc_engine.proofs.Expiring.{joined}
 use Rattle.ipc_engine.proofs.asking.join.Goals as goal
 
-pub returns-then-is_due-clause-outcomes : goal.returns-then-is_due-clause-outcomes
-returns-then-is_due-clause-outcomes c =
+pub returns-then-is_due : goal.returns-then-is_due
+returns-then-is_due c =
     let s = c.args.state.now.state in
     let request = c.args.parked in
     let w : PlainWaiting = record { pid = record { 0 = c.args.pid.0 }; on = c.awaited.result; deadline = c.deadline.result; call = request } in
@@ -17,6 +18,9 @@ returns-then-is_due-clause-outcomes c =
     let until = c.deadline.ensures ∙ ap (λ (n : ℕ). deadline_of n request.kind) c.clock-now.ensures in
     let same = joined s c.args.pid.0 request c.awaited.result c.deadline.result true c.awaited.ensures.on until late in
     let old = map plain_outcome c.args.outcomes.now.items in
-    c.refuse.ensures.outcomes s
-    ∙ ((λ i. old ++ (replied c.args.pid.0 (c.serial-serial.ensures i) (refused s (c.expiry-errno.ensures i))).outcomes)
-    ∙ ap (λ (t : Step). old ++ t.outcomes) (sym same))
+    does-as (sym same) (record {
+      state = refl;
+      outcomes = c.refuse.ensures.outcomes s
+          ∙ (λ i. old ++ (replied c.args.pid.0 (c.serial-serial.ensures i) (refused s (c.expiry-errno.ensures i))).outcomes);
+      capacity = c.refuse.ensures.capacity;
+    })

@@ -8,6 +8,7 @@ use Rattle.ipc_state.proofs.CallerLemmas.{exit-sound}
 use Rattle.ipc_engine.specs.Settling.{AreLinked}
 use Rattle.ipc_engine.specs.Step.{settle}
 use Rattle.ipc_engine.specs.View.{plain_outcome}
+use Rattle.ipc_engine.proofs.Doing.{does-from}
 use Rattle.ipc_engine.proofs.Soundness.{exit-linked}
 use Rattle.ipc_engine.proofs.asking.leave.Goals as goal
 
@@ -26,12 +27,5 @@ settle_all-requires-clause-room c =
     let fewer = length-filter_both (is_of c.args.pid) (λ (w : PlainWaiting). not (is_of c.args.pid w)) (λ w. refl) c.args.state.now.state.wait in
     omega (arith, c.requires.places, fewer, ap (λ (h : Held). length h.state.wait) c.remove_process.ensures)
 
-pub returns-clause-state : goal.returns-clause-state
-returns-clause-state c =
-    let gone = c.remove_process.ensures in
-    c.settle_all.ensures.state ∙ (λ i. let h : Held = record (gone i) { state = (settle (gone i).limits (gone i).state).state } in h)
-
-pub returns-clause-outcomes : goal.returns-clause-outcomes
-returns-clause-outcomes c =
-    c.settle_all.ensures.outcomes
-    ∙ (λ i. map plain_outcome c.args.outcomes.now.items ++ (settle (c.remove_process.ensures i).limits (c.remove_process.ensures i).state).outcomes)
+pub returns : goal.returns
+returns c = does-from (λ h. settle h.limits h.state) c.remove_process.ensures c.settle_all.ensures.does

@@ -10,6 +10,7 @@ use Rattle.ipc_state.specs.State.{is_waiting}
 use Rattle.ipc_state.specs.Waiting.{may_wait}
 use Rattle.ipc_engine.specs.Reserved.{kept_of, needs}
 use Rattle.ipc_engine.specs.Step.{Step, replied_or_joined, tried}
+use Rattle.ipc_engine.proofs.Doing.{does-as, does-from}
 use Rattle.ipc_engine.proofs.asking.make.Goals.{In-Some}
 use Rattle.ipc_engine.proofs.asking.make.Goals as goal
 
@@ -38,22 +39,22 @@ kept-ready c =
     let both = kept-is (plain_request c.args.request.now) c.in-Some.parked (sym (rw free at c.requires.reserved.kept) ∙ c.in-Some.is) in
     (both.0, rw free at c.requires.reserved.ready ∙ both.1)
 
-pub returns-then-is_waiting-clause-state : goal.returns-then-is_waiting-clause-state
-returns-then-is_waiting-clause-state c =
+pub returns-then-is_waiting-clause-does : goal.returns-then-is_waiting-clause-does
+returns-then-is_waiting-clause-does c =
     let s = c.args.state.now in
     let waits : is_waiting s.state c.args.pid.0 ≡ true = sym c.is_waiting.ensures ∙ c.if-is_waiting.true in
     let nothing : s.ready ≡ Nothing = rw waits at c.requires.reserved.ready in
-    rw waits (ap (λ (r : Ready). let h : Held = record s { ready = r } in h) nothing)
+    rw waits (record {
+      state = ap (λ (r : Ready). let h : Held = record s { ready = r } in h) nothing;
+      outcomes = c.refuse.ensures.outcomes s.state;
+      capacity = c.refuse.ensures.capacity;
+    })
 
-pub returns-then-is_waiting-clause-outcomes : goal.returns-then-is_waiting-clause-outcomes
-returns-then-is_waiting-clause-outcomes c =
-    let waits : is_waiting c.args.state.now.state c.args.pid.0 ≡ true = sym c.is_waiting.ensures ∙ c.if-is_waiting.true in
-    rw waits (c.refuse.ensures.outcomes c.args.state.now.state)
-
-pub returns-in-Some-clause-state : goal.returns-in-Some-clause-state
-returns-in-Some-clause-state c =
+pub returns-in-Some-clause-does : goal.returns-in-Some-clause-does
+returns-in-Some-clause-does c =
     let s = c.args.state.now in
     let free : is_waiting s.state c.args.pid.0 ≡ false = sym c.is_waiting.ensures ∙ c.if-is_waiting.false in
-    let both = kept-ready (goal.at.returns-in-Some-clause-state c).In-Some in
+    let both = kept-ready (goal.at.returns-in-Some-clause-does c).In-Some in
     let went : PlainRequest → Step = λ r. replied_or_joined s.limits c.args.pid.0 r s.state (tried s.limits s.state c.args.pid.0 false r.kind) in
-    rw free (c.try_once.ensures.state ∙ (λ i. let h : Held = record s { state = (went (both.0 i)).state; ready = both.1 i } in h))
+    rw free (does-from (λ h. went (plain_request c.args.request.now)) (ap (λ (r : Ready). let h : Held = record s { ready = r } in h) both.1)
+    (does-as (ap went both.0) c.try_once.ensures))

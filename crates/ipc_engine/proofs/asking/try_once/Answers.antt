@@ -11,6 +11,7 @@ use Rattle.ipc_engine.specs.Settling.{ReceivesWait, touched_by}
 use Rattle.ipc_engine.specs.Step.{after, replied, settle, replied_or_joined, joins}
 use Rattle.ipc_engine.specs.View.{plain_outcome}
 use Rattle.ipc_engine.proofs.Buffers.{finish-state, waits-kept, with_state}
+use Rattle.ipc_engine.proofs.Doing.{does-as, does-from}
 use Rattle.ipc_engine.proofs.Going.{receives-tried}
 use Rattle.ipc_engine.proofs.Resumes.{ended-of, good-here}
 use Rattle.ipc_engine.proofs.Soundness.{linked}
@@ -58,23 +59,14 @@ finish-requires-clause-places c =
       ap length (waits-kept c.try_kept.new.state.state c.args.state.now.state c.in-Finishes.answer c.in-Finishes.fired good.wait),
     )
 
-pub returns-in-Finishes-clause-state : goal.returns-in-Finishes-clause-state
-returns-in-Finishes-clause-state c =
+pub returns-in-Finishes : goal.returns-in-Finishes
+returns-in-Finishes c =
     let s = c.args.state.now in
     let f = finish_firing c.try_kept.new.state.state c.in-Finishes.answer c.in-Finishes.fired in
-    let held = c.try_kept.ensures.held in
-    c.finish.ensures.state
-    ∙ ((λ i. with_state (held i) (after (replied c.args.pid.0 (c.serial-serial.ensures i) f) (settle (held i).limits)).state)
-    ∙ ap (λ (t : Tried). with_state s (replied_or_joined s.limits c.args.pid.0 c.args.parked s.state t).state) c.in-Finishes.ensures.finish)
-
-pub returns-in-Finishes-clause-outcomes : goal.returns-in-Finishes-clause-outcomes
-returns-in-Finishes-clause-outcomes c =
-    let s = c.args.state.now in
-    let old = map plain_outcome c.args.outcomes.now.items in
-    let f = finish_firing c.try_kept.new.state.state c.in-Finishes.answer c.in-Finishes.fired in
-    c.finish.ensures.outcomes
-    ∙ ((λ i. old ++ (after (replied c.args.pid.0 (c.serial-serial.ensures i) f) (settle (c.try_kept.ensures.held i).limits)).outcomes)
-    ∙ ap (λ (t : Tried). old ++ (replied_or_joined s.limits c.args.pid.0 c.args.parked s.state t).outcomes) c.in-Finishes.ensures.finish)
+    let limits = c.try_kept.new.state.limits in
+    does-as (ap (λ (t : Tried). replied_or_joined s.limits c.args.pid.0 c.args.parked s.state t) c.in-Finishes.ensures.finish)
+    (does-from (λ h. after (replied c.args.pid.0 c.args.parked.serial f) (settle h.limits)) c.try_kept.ensures.held
+    (does-as (λ i. after (replied c.args.pid.0 (c.serial-serial.ensures i) f) (settle limits)) c.finish.ensures.does))
 
 pub join-requires-clause-room : goal.join-requires-clause-room
 join-requires-clause-room c =
@@ -83,19 +75,11 @@ join-requires-clause-room c =
     c.requires.process in
     subst (λ (h : Held). length h.state.wait < h.waits) (sym c.in-Waits.ensures.kept.1) (omega (arith, fewer, c.requires.waits))
 
-pub returns-in-Waits-clause-state : goal.returns-in-Waits-clause-state
-returns-in-Waits-clause-state c =
+pub returns-in-Waits : goal.returns-in-Waits
+returns-in-Waits c =
     let s = c.args.state.now in
     let kept = c.in-Waits.ensures.kept in
-    c.join.ensures.state
-    ∙ ((λ i. with_state (kept.1 i) (joins (kept.1 i).state c.args.pid.0 (kept.0 i) (awaited_by (kept.0 i).kind)).state)
-    ∙ ap (λ (t : Tried). with_state s (replied_or_joined s.limits c.args.pid.0 c.args.parked s.state t).state) c.in-Waits.ensures.finish)
-
-pub returns-in-Waits-clause-outcomes : goal.returns-in-Waits-clause-outcomes
-returns-in-Waits-clause-outcomes c =
-    let s = c.args.state.now in
-    let kept = c.in-Waits.ensures.kept in
-    let old = map plain_outcome c.args.outcomes.now.items in
-    c.join.ensures.outcomes
-    ∙ ((λ i. old ++ (joins (kept.1 i).state c.args.pid.0 (kept.0 i) (awaited_by (kept.0 i).kind)).outcomes)
-    ∙ ap (λ (t : Tried). old ++ (replied_or_joined s.limits c.args.pid.0 c.args.parked s.state t).outcomes) c.in-Waits.ensures.finish)
+    let pid = c.args.pid.0 in
+    does-as (ap (λ (t : Tried). replied_or_joined s.limits pid c.args.parked s.state t) c.in-Waits.ensures.finish)
+    (does-from (λ h. joins h.state pid c.args.parked (awaited_by c.args.parked.kind)) kept.1
+    (does-as (λ i. joins c.try_kept.new.state.state pid (kept.0 i) (awaited_by (kept.0 i).kind)) c.join.ensures))

@@ -7,10 +7,9 @@ use Rattle.ipc_keys.specs.declared.check.NameKind.{NameKind}
 use Rattle.ipc_keys.specs.declared.check.NameKind.TheVariants as names
 use Rattle.posix_mq.specs.Queue.{Queue as Mq}
 use Rattle.posix_mq.specs.declared.queue.Registration.{Registration}
-use Rattle.shm_segment.specs.Segment.{Segment}
-use Rattle.ipc_state.specs.declared.named.NamedEntry.{NamedEntry}
-use Rattle.ipc_state.specs.Named.{Named}
-use Rattle.ipc_state.specs.Opening.{deregistered, has_name, is_by, stays, unless_so, without_registrations}
+use Rattle.ipc_state.specs.Bound.{kept_if}
+use Rattle.ipc_state.specs.Named.{Named, NamedEntry}
+use Rattle.ipc_state.specs.Opening.{deregistered, has_name, is_by, stays, still_open, unless_so, without_registrations}
 use Rattle.ipc_state.proofs.CallerLemmas.{restart-sets}
 use Rattle.ipc_engine.proofs.laws.restart_keeps_objects.Goals as goal
 
@@ -31,6 +30,10 @@ named-stay {X} kind (g ∷ es) =
     alone : (b : Bool) → b || false ≡ b
     alone true = refl
     alone false = refl
+
+named-kept : {X : Type 0} (kind : NameKind) (o : Named X) → still_open kind [] o ≡ kept_if (λ (e : ℕ × NamedEntry X). has_name e.1) o
+named-kept {X} kind o =
+    ap (λ (es : List (ℕ × NamedEntry X)). let p : Named X = record { next = o.next; entries = es } in p) (named-stay kind o.entries)
 
 -- what has a name is left
 left : (es : List (ℕ × NamedEntry Mq)) (n : ℕ) (e : NamedEntry Mq) → value_at nat_eq es n ≡ Some e → has_name e ≡ true
@@ -88,11 +91,7 @@ returns-clause-no_other c limits s =
     (all-left es)
 
 pub returns-clause-psems : goal.returns-clause-psems
-returns-clause-psems c limits s =
-    ap (λ (es : List (ℕ × NamedEntry ℕ)). let o : Named ℕ = record { next = s.psem.next; entries = es } in o)
-    (named-stay names.Psem s.psem.entries)
+returns-clause-psems c limits s = named-kept names.Psem s.psem
 
 pub returns-clause-segments : goal.returns-clause-segments
-returns-clause-segments c limits s =
-    ap (λ (es : List (ℕ × NamedEntry Segment)). let o : Named Segment = record { next = s.pshm.next; entries = es } in o)
-    (named-stay names.Pshm s.pshm.entries)
+returns-clause-segments c limits s = named-kept names.Pshm s.pshm

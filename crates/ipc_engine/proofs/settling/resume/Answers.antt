@@ -1,4 +1,4 @@
-use Rattle.std.proofs.Common.{◌≡◌, true, List, ◌++◌, map, sym, ap, subst, ◌∙◌, append-nil}
+use Rattle.std.proofs.Common.{◌≡◌, true, List, ◌++◌, map, sym, ap, subst, ◌∙◌, append-nil, arith}
 use Rattle.ipc_base.specs.declared.identity.Pid.{Pid}
 use Rattle.ipc_state.specs.Finish.{finish_firing}
 use Rattle.ipc_state.specs.Held.{Held}
@@ -10,18 +10,13 @@ use Rattle.ipc_engine.specs.Event.{PlainOutcome}
 use Rattle.ipc_engine.specs.Step.{Step, can_resume}
 use Rattle.ipc_engine.specs.View.{plain_outcome}
 use Rattle.ipc_engine.proofs.Buffers.{finish-state, held-still}
+use Rattle.ipc_engine.proofs.Doing.{does-as}
 use Rattle.ipc_engine.proofs.Lists.{found-all}
 use Rattle.ipc_engine.proofs.Resumes.{left-is, left-some, resumed-finishes, resumed-waits}
 use Rattle.ipc_engine.proofs.settling.resume.Goals as goal
 
-pub returns-in_default-clause-state : goal.returns-in_default-clause-state
-returns-in_default-clause-state c w also =
-    let s = c.args.state.now in
-    absurd (left-some s.limits s.state c.args.pid c.requires.first.0 c.leave_wait.result c.requires.parts c.requires.first.1 c.requires.first.2
-    c.leave_wait.ensures.call c.in_default.is)
-
-pub returns-in_default-clause-outcomes : goal.returns-in_default-clause-outcomes
-returns-in_default-clause-outcomes c w also =
+pub returns-in_default-clause-does : goal.returns-in_default-clause-does
+returns-in_default-clause-does c w also =
     let s = c.args.state.now in
     absurd (left-some s.limits s.state c.args.pid c.requires.first.0 c.leave_wait.result c.requires.parts c.requires.first.1 c.requires.first.2
     c.leave_wait.ensures.call c.in_default.is)
@@ -41,33 +36,26 @@ try_kept-requires-clause-process c =
     (λ (w : PlainWaiting). is_process s.state w.pid.0 ≡ true) s.state.wait first c.requires.linked c.requires.first.1 in
     ap (λ (h : Held). is_process h.state c.args.pid.0) c.leave_wait.ensures.held ∙ (ap (λ (p : Pid). is_process s.state p.0) (sym c.requires.first.2) ∙ there)
 
-pub returns-in-Finishes-clause-state : goal.returns-in-Finishes-clause-state
-returns-in-Finishes-clause-state c w also =
+pub returns-in-Finishes-clause-does : goal.returns-in-Finishes-clause-does
+returns-in-Finishes-clause-does c w also =
     let s = c.args.state.now in
     let first = c.requires.first in
     let v = c.in-Some.waiting in
     let its = left-is s.limits s.state c.args.pid first.0 v c.leave_wait.result c.requires.parts first.1 first.2 c.leave_wait.ensures.call c.in-Some.is in
-    let f = finish_firing c.try_kept.new.state.state c.in-Finishes.answer c.in-Finishes.fired in
+    let now = c.try_kept.new.state in
+    let f = finish_firing now.state c.in-Finishes.answer c.in-Finishes.fired in
     let is = resumed-finishes s.limits s.state c.leave_wait.new.self.state c.leave_wait.new.self.limits c.args.pid c.serial-serial.result first.0 v w
     c.requires.parts first.1 its first.2
     c.serial-serial.ensures (ap (λ (h : Held). h.limits) c.leave_wait.ensures.held) (ap (λ (h : Held). h.state) c.leave_wait.ensures.held) also f c.in-Finishes.ensures.finish in
-    held-still s c.leave_wait.new.self c.try_kept.new.state _ _ c.leave_wait.ensures.held c.try_kept.ensures.held
-    (sym (ap (λ (t : Step). t.state) is ∙ finish-state c.try_kept.new.state.state c.in-Finishes.answer c.in-Finishes.fired))
+    does-as (sym is) (record {
+      state = held-still s c.leave_wait.new.self now _ _ c.leave_wait.ensures.held c.try_kept.ensures.held
+          (sym (finish-state now.state c.in-Finishes.answer c.in-Finishes.fired));
+      outcomes = c.push_reply.ensures.outcomes now.state;
+      capacity = c.push_reply.ensures.capacity;
+    })
 
-pub returns-in-Finishes-clause-outcomes : goal.returns-in-Finishes-clause-outcomes
-returns-in-Finishes-clause-outcomes c w also =
-    let s = c.args.state.now in
-    let first = c.requires.first in
-    let v = c.in-Some.waiting in
-    let its = left-is s.limits s.state c.args.pid first.0 v c.leave_wait.result c.requires.parts first.1 first.2 c.leave_wait.ensures.call c.in-Some.is in
-    let f = finish_firing c.try_kept.new.state.state c.in-Finishes.answer c.in-Finishes.fired in
-    let is = resumed-finishes s.limits s.state c.leave_wait.new.self.state c.leave_wait.new.self.limits c.args.pid c.serial-serial.result first.0 v w
-    c.requires.parts first.1 its first.2
-    c.serial-serial.ensures (ap (λ (h : Held). h.limits) c.leave_wait.ensures.held) (ap (λ (h : Held). h.state) c.leave_wait.ensures.held) also f c.in-Finishes.ensures.finish in
-    c.push_reply.ensures.outcomes c.try_kept.new.state.state ∙ ap (λ (t : Step). map plain_outcome c.args.outcomes.now.items ++ t.outcomes) (sym is)
-
-pub returns-in-Waits-clause-state : goal.returns-in-Waits-clause-state
-returns-in-Waits-clause-state c w also =
+pub returns-in-Waits-clause-does : goal.returns-in-Waits-clause-does
+returns-in-Waits-clause-does c w also =
     let s = c.args.state.now in
     let first = c.requires.first in
     let v = c.in-Some.waiting in
@@ -75,17 +63,9 @@ returns-in-Waits-clause-state c w also =
     let is = resumed-waits s.limits s.state c.leave_wait.new.self.state c.leave_wait.new.self.limits c.args.pid c.serial-serial.result first.0 v w
     c.requires.parts first.1 its first.2
     c.serial-serial.ensures (ap (λ (h : Held). h.limits) c.leave_wait.ensures.held) (ap (λ (h : Held). h.state) c.leave_wait.ensures.held) also c.in-Waits.ensures.finish in
-    held-still s c.leave_wait.new.self c.try_kept.new.state _ _ c.leave_wait.ensures.held c.try_kept.ensures.held
-    (ap (λ (h : Held). h.state) c.in-Waits.ensures.kept.1 ∙ sym (ap (λ (t : Step). t.state) is))
-
-pub returns-in-Waits-clause-outcomes : goal.returns-in-Waits-clause-outcomes
-returns-in-Waits-clause-outcomes c w also =
-    let s = c.args.state.now in
-    let first = c.requires.first in
-    let v = c.in-Some.waiting in
-    let its = left-is s.limits s.state c.args.pid first.0 v c.leave_wait.result c.requires.parts first.1 first.2 c.leave_wait.ensures.call c.in-Some.is in
-    let is = resumed-waits s.limits s.state c.leave_wait.new.self.state c.leave_wait.new.self.limits c.args.pid c.serial-serial.result first.0 v w
-    c.requires.parts first.1 its first.2
-    c.serial-serial.ensures (ap (λ (h : Held). h.limits) c.leave_wait.ensures.held) (ap (λ (h : Held). h.state) c.leave_wait.ensures.held) also c.in-Waits.ensures.finish in
-    sym (ap (λ (xs : List PlainOutcome). map plain_outcome c.args.outcomes.now.items ++ xs) (ap (λ (t : Step). t.outcomes) is)
-    ∙ append-nil (map plain_outcome c.args.outcomes.now.items))
+    does-as (sym is) (record {
+      state = held-still s c.leave_wait.new.self c.try_kept.new.state _ _ c.leave_wait.ensures.held c.try_kept.ensures.held
+          (ap (λ (h : Held). h.state) c.in-Waits.ensures.kept.1);
+      outcomes = sym (append-nil (map plain_outcome c.args.outcomes.now.items));
+      capacity = omega arith;
+    })

@@ -4,20 +4,15 @@ use Rattle.ipc_state.specs.Held.{Held}
 use Rattle.ipc_engine.specs.Settling.{OthersWait}
 use Rattle.ipc_engine.specs.Step.{Step}
 use Rattle.ipc_engine.specs.View.{plain_outcome}
+use Rattle.ipc_engine.proofs.Doing.{does-as, does-nothing}
 use Rattle.ipc_engine.proofs.Going.{untouched-settled}
 use Rattle.ipc_engine.proofs.settling.settle.Goals as goal
 
-pub returns-in_default-clause-state : goal.returns-in_default-clause-state
-returns-in_default-clause-state c =
+pub returns-in_default-clause-does : goal.returns-in_default-clause-does
+returns-in_default-clause-does c =
     let s = c.args.state.now in
     let none = untouched-settled s.limits s.state (subst (λ (o : Option Object). OthersWait s.limits s.state o) c.in_default.is c.requires.others) in
-    sym (ap (λ (t : Step). let h : Held = record s { state = t.state } in h) none)
-
-pub returns-in_default-clause-outcomes : goal.returns-in_default-clause-outcomes
-returns-in_default-clause-outcomes c =
-    let s = c.args.state.now in
-    let none = untouched-settled s.limits s.state (subst (λ (o : Option Object). OthersWait s.limits s.state o) c.in_default.is c.requires.others) in
-    sym (ap (λ (t : Step). map plain_outcome c.args.outcomes.now.items ++ t.outcomes) none ∙ append-nil (map plain_outcome c.args.outcomes.now.items))
+    does-as (sym none) does-nothing
 
 pub settle_among-requires-clause-rest : goal.settle_among-requires-clause-rest
 settle_among-requires-clause-rest c =

@@ -1,9 +1,12 @@
-use Rattle.std.proofs.Common.{◌≡◌, ◌+◌, ◌*◌, ◌-◌, ◌≤◌, ◌++◌, true, length, map, vec_capacity}
+use Rattle.std.proofs.Common.{◌≡◌, ◌+◌, ◌*◌, ◌-◌, ◌≤◌, true, length, vec_capacity}
+use Rattle.std.specs.Global.{Vec}
+use Rattle.ipc_state.specs.Held.{Held}
 use Rattle.ipc_state.specs.Sound.{HasSoundParts}
 use Rattle.ipc_engine.specs.Buffer.{room_in}
+use Rattle.ipc_engine.specs.Does.{Does}
 use Rattle.ipc_engine.specs.Settling.{AreLinked, ReceivesWait, RestWaits}
 use Rattle.ipc_engine.specs.Step.{settle as settled, settle_within}
-use Rattle.ipc_engine.specs.View.{plain_outcome}
+use Rattle.ipc_engine.specs.declared.event.Outcome.{Outcome}
 use Rattle.ipc_engine.proofs.settling.settle_among.Given as goal
 
 -- what is left to be done comes to what was asked for
@@ -16,10 +19,7 @@ invariant-loop-gone l =
       rest : RestWaits l.state.limits l.state.state l.among;
       receives : l.received ≡ true → ReceivesWait l.state.limits l.state.state;
       room : length l.outcomes.items + 2 * length l.state.state.wait ≤ vec_capacity l.outcomes;
-      held : l.state ≡ record l.fn.state { state = l.state.state };
-      capacity : vec_capacity l.fn.outcomes ≤ vec_capacity l.outcomes;
       buffer : room_in l.fn.outcomes.items ≤ room_in l.outcomes.items;
-      state : (settle_within l.state.limits left l.state.state).state ≡ (settled l.fn.state.limits l.fn.state.state).state;
-      outcomes : map plain_outcome l.outcomes.items ++ (settle_within l.state.limits left l.state.state).outcomes
-          ≡ map plain_outcome l.fn.outcomes.items ++ (settled l.fn.state.limits l.fn.state.state).outcomes;
+      does : (new : Held) (last : Vec Outcome) → Does (settle_within l.state.limits left l.state.state) l.state new l.outcomes last
+          → Does (settled l.fn.state.limits l.fn.state.state) l.fn.state new l.fn.outcomes last;
     }

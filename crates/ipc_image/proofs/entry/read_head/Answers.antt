@@ -6,5 +6,5 @@ use Rattle.ipc_image.proofs.entry.read_head.Goals as goal
 
 pub returns-clause-head : goal.returns-clause-head
 returns-clause-head g c =
-    let typed : FitsSigned w32 c.args.entry.now.key = search rules in
+    let typed : FitsSigned w32 c.args.entry.now.bound = search rules in
     ((Fits-of_z typed).fits, c.read_perm.ensures)

@@ -1,9 +1,10 @@
 use Rattle.std.proofs.Common.{◌≡◌, ℕ, ap, sym, subst, ◌∙◌, arith}
-use Rattle.std.specs.Prelude.{All, nat_eq}
+use Rattle.std.specs.Prelude.{All, ⊤, nat_eq}
 use Rattle.std.specs.List.{IsDistinct}
 use Rattle.std.proofs.lemmas.List.Elements.{All-map}
 use Rattle.ipc_base.proofs.CallerLemmas.{passed-bounds}
 use Rattle.ipc_base.specs.Table.{keys_of}
+use Rattle.ipc_keys.specs.declared.check.NameKind.TheVariants as names
 use Rattle.sem_undo.specs.Undo.{Undo}
 use Rattle.shm_segment.specs.Segment.{Segment}
 use Rattle.ipc_state.specs.Named.{Named}
@@ -12,9 +13,11 @@ use Rattle.ipc_state.specs.Tables.{item_row}
 use Rattle.ipc_state.specs.Waiting.{IsSoundWaiting}
 use Rattle.ipc_image.specs.Kind.{FitsIn}
 use Rattle.ipc_image.specs.Saved.{adjustments_of, FitsAdjustment, FitsProcess, FitsWaiting, FitsQueue, FitsSet, FitsMq, FitsPsem, FitsSegment}
+use Rattle.ipc_image.specs.SavedParts.{IsSmallMq}
 use Rattle.ipc_image.proofs.AdjustmentLists.{each-fit}
 use Rattle.ipc_image.proofs.Attaching.{rising-distinct}
-use Rattle.ipc_image.proofs.SavedObjects.{processes-numbers, rows-numbers, sets-numbers, mqs-numbers, sems-numbers, segments-numbers, undo-counted}
+use Rattle.ipc_image.proofs.MqObjects.{mq-small}
+use Rattle.ipc_image.proofs.SavedObjects.{processes-numbers, rows-numbers, sets-numbers, named-numbers, undo-counted}
 use Rattle.ipc_image.proofs.widths.read_state.Goals as goal
 
 pub read_each-requires : goal.read_each-requires
@@ -34,17 +37,19 @@ read_each-requires-5 c =
 
 pub read_each-requires-6 : goal.read_each-requires-6
 read_each-requires-6 c =
-    mqs-numbers c.args.state.now.limits c.args.state.now.state c.requires.passed c.requires.sound c.mqs.result.now c.mqs.ensures
+    let limits = c.args.state.now.limits in
+    named-numbers limits c.args.state.now.state c.requires.passed c.requires.sound names.Mq IsSmallMq (mq-small limits c.requires.passed)
+    c.mqs.result.now c.mqs.ensures
 
 pub read_each-requires-7 : goal.read_each-requires-7
 read_each-requires-7 c =
-    sems-numbers c.args.state.now.limits c.args.state.now.state c.requires.passed c.requires.sound c.items.result.now
-    (c.items.ensures ∙ ap (λ (o : Named ℕ). o.entries) c.psems.ensures.objects)
+    named-numbers c.args.state.now.limits c.args.state.now.state c.requires.passed c.requires.sound names.Psem (λ value. ⊤) (λ value good. tt)
+    c.items.result.now (c.items.ensures ∙ ap (λ (o : Named ℕ). o.entries) c.psems.ensures.objects)
 
 pub read_each-requires-8 : goal.read_each-requires-8
 read_each-requires-8 c =
-    segments-numbers c.args.state.now.limits c.args.state.now.state c.requires.passed c.requires.sound c.items-2.result.now
-    (c.items-2.ensures ∙ ap (λ (o : Named Segment). o.entries) c.pshms.ensures.objects)
+    named-numbers c.args.state.now.limits c.args.state.now.state c.requires.passed c.requires.sound names.Pshm (λ x. ⊤) (λ x good. tt)
+    c.items-2.result.now (c.items-2.ensures ∙ ap (λ (o : Named Segment). o.entries) c.pshms.ensures.objects)
 
 pub returns : goal.returns
 returns c =

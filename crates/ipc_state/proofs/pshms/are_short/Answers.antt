@@ -1,7 +1,7 @@
 use Rattle.std.proofs.Common.{ℕ, length, ap, arith}
 use Rattle.std.proofs.lemmas.List.Sums.{sum_by_more}
 use Rattle.shm_segment.specs.Segment.{Segment}
-use Rattle.ipc_state.specs.declared.named.NamedEntry.{NamedEntry}
+use Rattle.ipc_state.specs.Named.{NamedEntry}
 use Rattle.ipc_state.specs.declared.numbered.Item.{Item}
 use Rattle.ipc_state.proofs.pshms.are_short.Goals as goal
 

@@ -1,9 +1,10 @@
-use Rattle.std.proofs.Common.{◌≡◌, ℕ, Bool, true, false, ◌∙◌, ◌<◌, ◌≤◌, ◌^◌, cond, get_or, length-take-le, take, List, [], ◌∷◌, length, map, ap, arith, refl, rules}
+use Rattle.std.proofs.Common.{◌≡◌, ℕ, Bool, true, false, ◌∙◌, ◌<◌, ◌≤◌, ◌^◌, cond, get_or, length-take-le, take, List, [], ◌∷◌, length, map}
+use Rattle.std.proofs.Common.{ap, arith, refl, rules}
 use Rattle.std.specs.Prelude.{sum_by, if◌then◌else◌}
 use Rattle.std.proofs.lemmas.List.{take_all}
 use Rattle.std.proofs.lemmas.List.Sums.{sum_by-cons, sum_by-le, sum_by_more}
 use Rattle.posix_mq.specs.Queue.{Queue as Mq}
-use Rattle.ipc_state.specs.declared.named.NamedEntry.{NamedEntry}
+use Rattle.ipc_state.specs.Named.{NamedEntry}
 use Rattle.ipc_state.specs.declared.numbered.Item.{Item}
 use Rattle.ipc_state.specs.Tables.{item_row}
 use Rattle.posix_calls.specs.Mq.{is_own}

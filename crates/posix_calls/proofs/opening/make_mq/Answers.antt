@@ -1,6 +1,4 @@
-use Rattle.std.proofs.Common.{◌∙◌, ◌<◌, false, None, refl, sym, ap, subst, arith}
-use Rattle.std.proofs.lemmas.Nat.{and_le_r}
-use Rattle.std.specs.Int.RustNames.{bit_and}
+use Rattle.std.proofs.Common.{◌∙◌, false, None, refl, sym, ap, subst}
 use Rattle.ipc_base.specs.declared.limits.Limits.{Limits}
 use Rattle.posix_mq.specs.Queue.{empty_queue}
 use Rattle.ipc_keys.specs.declared.check.NameKind.TheVariants as names
@@ -22,9 +20,8 @@ open_on-requires-clause-sound g c =
     let w = c.args.wanted in
     let given = sym c.attributes.ensures ∙ ap result_of c.in_ok-maxmsg.was in
     let good = (attributes-ends {never = false} c.limits.result.now w.attr w.maxmsg w.msgsize).holds _ given in
-    let mode : bit_and w.mode 511 < 512 = omega (arith, and_le_r w.mode 511) in
     subst (λ (h : Held). HasSoundParts h.limits h.state) (sym c.add_mq-number.ensures.added)
-    (with_new-sound old.limits old.state names.Mq g.name c.args.cred (bit_and w.mode 511) _ c.requires.1.1.1.1.0
-    (sym c.has_all_mqs.ensures ∙ c.if-has_all_mqs.false) mode c.requires.1.1.1.0
+    (with_new-sound old.limits old.state names.Mq g.name c.args.cred w.mode _ c.requires.1.1.1.1.0
+    (sym c.has_all_mqs.ensures ∙ c.if-has_all_mqs.false) c.requires.1.1.1.0
     (subst (λ (l : Limits). IsSoundMq l (empty_queue c.in_ok-maxmsg.maxmsg c.in_ok-maxmsg.msgsize None)) c.limits.ensures.limits good) refl
     c.requires.0)

@@ -1,6 +1,4 @@
-use Rattle.std.proofs.Common.{◌≡◌, ◌∙◌, ◌<◌, ◌≤◌, false, sym, subst, arith}
-use Rattle.std.proofs.lemmas.Nat.{and_le_r}
-use Rattle.std.specs.Int.RustNames.{bit_and}
+use Rattle.std.proofs.Common.{◌≡◌, ◌∙◌, ◌≤◌, false, sym, subst, arith}
 use Rattle.ipc_base.specs.declared.limits.Limits.{Limits}
 use Rattle.posix_sem.specs.Semaphore.{sem_value_max}
 use Rattle.ipc_keys.specs.declared.check.NameKind.TheVariants as names
@@ -31,7 +29,6 @@ pub open_on-requires-clause-sound : goal.open_on-requires-clause-sound
 open_on-requires-clause-sound g c =
     let a = (goal.at.open_on-requires-clause-sound g c).Else-is_full in
     let old = c.args.state.now in
-    let mode : bit_and c.args.mode 511 < 512 = omega (arith, and_le_r c.args.mode 511) in
     subst (λ (h : Held). HasSoundParts h.limits h.state) (sym c.add_psem-number.ensures.added)
-    (with_new-sound old.limits old.state names.Psem g.name c.args.cred (bit_and c.args.mode 511) c.args.value c.requires.1.1.1.1.0 (more g a) mode
+    (with_new-sound old.limits old.state names.Psem g.name c.args.cred c.args.mode c.args.value c.requires.1.1.1.1.0 (more g a)
     c.requires.1.1.1.0 (short g a) tt c.requires.0)

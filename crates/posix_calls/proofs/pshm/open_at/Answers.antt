@@ -2,11 +2,10 @@ use Rattle.std.proofs.Common.{◌≡◌, ◌∙◌, Some, refl, sym, ap, subst}
 use Rattle.shm_segment.specs.Segment.{Segment}
 use Rattle.ipc_keys.specs.declared.check.NameKind.TheVariants as names
 use Rattle.ipc_state.specs.Opening.{opened_as}
-use Rattle.ipc_state.specs.declared.named.NamedEntry.{NamedEntry}
 use Rattle.ipc_state.specs.declared.processes.Process.{Process}
 use Rattle.ipc_state.specs.Finish.{Attempt, Done, ended, ◌>>=◌}
 use Rattle.ipc_state.specs.Held.{Held}
-use Rattle.ipc_state.specs.Named.{Named}
+use Rattle.ipc_state.specs.Named.{Named, NamedEntry}
 use Rattle.ipc_state.specs.Numbered.{Numbered, entry_of}
 use Rattle.ipc_state.specs.Sound.{HasSoundParts}
 use Rattle.ipc_state.specs.State.{State, has_all_descriptors, is_process}
@@ -56,13 +55,14 @@ returns-clause-finish c =
     let s = c.args.state.now.state in
     let n = c.args.number in
     let flags = c.args.flags.0 in
-    let next : NamedEntry Segment → Attempt Done = λ (e : NamedEntry Segment). opens (cut_as flags s n e) c.args.pid.0 (access_of flags) (opened_as names.Pshm n) in
+    let next : NamedEntry Segment → Attempt Done = λ e. opens (cut_as flags s n e) c.args.pid.0 (access_of flags) (opened_as names.Pshm n) in
     let used : Attempt (NamedEntry Segment) = usable s.pshm c.args.cred n (asked_of_pshm flags) in
     let found : (let r : Attempt (NamedEntry Segment) = _ in r) ≡ used =
     c.in_ok-usable.ensures.entry ∙ ((λ i. usable (c.pshms.ensures.objects i) c.args.cred n c.asked_of_pshm.result.0)
     ∙ ap (usable s.pshm c.args.cred n) c.asked_of_pshm.ensures) in
     ap (ended s) c.open_on.ensures.opens
-    ∙ ((λ i. ended s (opens (cut-is a i).state c.args.pid.0 (c.access_mode.ensures i) (opened_as names.Pshm n))) ∙ ap (λ (r : Attempt (NamedEntry Segment)). ended s (r >>= next)) found)
+    ∙ ((λ i. ended s (opens (cut-is a i).state c.args.pid.0 (c.access_mode.ensures i) (opened_as names.Pshm n)))
+    ∙ ap (λ (r : Attempt (NamedEntry Segment)). ended s (r >>= next)) found)
 
 pub returns-clause-held : goal.returns-clause-held
 returns-clause-held c = rw c.open_on.ensures.held (rw (cut-is (goal.at.returns-clause-held c).After-cut) refl)

@@ -4,7 +4,8 @@ use Rattle.ipc_wire.specs.declared.reply.Body.TheVariants.{Empty}
 use Rattle.sysv_sem.specs.Set.{Set, changed}
 use Rattle.ipc_state.specs.Finish.{Finishes, done}
 use Rattle.ipc_state.specs.Held.{Held}
-use Rattle.ipc_state.specs.Keyed.{Keyed, holding, permitting}
+use Rattle.ipc_state.specs.Bound.{holding, permitting}
+use Rattle.ipc_state.specs.Keyed.{Keyed}
 use Rattle.ipc_state.specs.Numbered.{entry_of}
 use Rattle.ipc_state.specs.State.{with_semset}
 use Rattle.sysv_calls.specs.Access.{owned}

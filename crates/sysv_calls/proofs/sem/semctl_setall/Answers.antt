@@ -4,10 +4,10 @@ use Rattle.ipc_wire.specs.Pairs.{bytes_of, numbers_in}
 use Rattle.ipc_wire.specs.declared.reply.Body.TheVariants.{Empty}
 use Rattle.sysv_sem.specs.Operation.{most_value}
 use Rattle.sysv_sem.specs.Set.{Set, with_values}
-use Rattle.ipc_state.specs.declared.keyed.Entry.{Entry}
 use Rattle.ipc_state.specs.Finish.{Finishes, done}
 use Rattle.ipc_state.specs.Held.{Held}
-use Rattle.ipc_state.specs.Keyed.{holding}
+use Rattle.ipc_state.specs.Bound.{holding}
+use Rattle.ipc_state.specs.Keyed.{KeyedEntry}
 use Rattle.ipc_state.specs.State.{semset_of, with_semset, without_adjustments}
 use Rattle.ipc_state.proofs.CallerLemmas.{set-sound}
 use Rattle.ipc_state.specs.Steps.{result_of}
@@ -18,7 +18,7 @@ use Rattle.sysv_calls.proofs.Reaching.{IsSettable, settable-ends}
 use Rattle.sysv_calls.proofs.sem.semctl_setall.Goals.{After-clear_adjustments, After-len, In_ok-ready_to_set}
 use Rattle.sysv_calls.proofs.sem.semctl_setall.Goals as goal
 
-abbrev nothing : Entry Set → Unit {0}
+abbrev nothing : KeyedEntry Set → Unit {0}
 nothing e = tt
 
 -- the set of a caller that may set its values
@@ -51,7 +51,7 @@ set_all-requires-clause-values c =
     let g = goal.at.set_all-requires-clause-values c in
     subst (All (λ v. v ≤ most_value)) (sym (values g.After-len)) (found g.In_ok-ready_to_set).holds.values
 
-leaves : (c : After-clear_adjustments) (e : Entry Set) → semset_of c.args.state.now.state c.args.id.0 ≡ Some e → c.clear_adjustments.new.self
+leaves : (c : After-clear_adjustments) (e : KeyedEntry Set) → semset_of c.args.state.now.state c.args.id.0 ≡ Some e → c.clear_adjustments.new.self
     ≡ with_state c.args.state.now (without_adjustments c.args.id.0 None (with_semset c.args.state.now.state c.args.id.0 (holding e c.set_all.new.self)))
 leaves c e there =
     c.clear_adjustments.ensures
@@ -62,7 +62,7 @@ returns-clause-finish c =
     let g = goal.at.returns-clause-finish c in
     let s = c.args.state.now.state in
     let f = found g.In_ok-ready_to_set in
-    let e : Entry Set = f.value in
+    let e : KeyedEntry Set = f.value in
     let there = f.holds.there in
     let read = values g.After-len in
     let sets : c.set_all.new.self ≡ with_values e.object (numbers_in (bytes_of c.args.values.now)) c.args.pid s.clock =

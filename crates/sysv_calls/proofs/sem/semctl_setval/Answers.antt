@@ -6,9 +6,9 @@ use Rattle.sysv_sem.specs.declared.set.Semaphore.{Semaphore}
 use Rattle.sysv_sem.specs.Set.{Set, with_value}
 use Rattle.ipc_state.specs.Finish.{Finishes, done}
 use Rattle.ipc_state.specs.Held.{Held}
-use Rattle.ipc_state.specs.Keyed.{holding}
+use Rattle.ipc_state.specs.Bound.{holding}
+use Rattle.ipc_state.specs.Keyed.{KeyedEntry}
 use Rattle.ipc_state.specs.State.{semset_of, with_semset, without_adjustments}
-use Rattle.ipc_state.specs.declared.keyed.Entry.{Entry}
 use Rattle.ipc_state.proofs.CallerLemmas.{set-sound}
 use Rattle.ipc_state.proofs.CallerLemmas.{HasFound, has-found}
 use Rattle.sysv_calls.specs.Access.{write}
@@ -20,7 +20,7 @@ use Rattle.sysv_calls.proofs.sem.semctl_setval.Goals.{After-clear_adjustments, A
 use Rattle.sysv_calls.proofs.sem.semctl_setval.Goals as goal
 
 -- the semaphore of a caller that may set it
-found : (c : After-unwrap-set) → HasFound (λ (found : Entry Set × Semaphore). found.1) (IsFound c.args.state.now.state c.args.id.0 c.args.num)
+found : (c : After-unwrap-set) → HasFound (λ (found : KeyedEntry Set × Semaphore). found.1) (IsFound c.args.state.now.state c.args.id.0 c.args.num)
     (semaphore c.args.state.now.state c.args.cred c.args.id.0 c.args.num write) c.in_ok-semaphore.field-0
 found c =
     has-found (semaphore-ends {never = true} c.args.state.now.state c.args.cred c.args.id.0 c.args.num write)
@@ -42,7 +42,7 @@ overflow_cast-num c =
 pub set_value-requires-clause-num : goal.set_value-requires-clause-num
 set_value-requires-clause-num c = subst (λ (s : Set). c.args.num < length s.semaphores) (sym (object c)) (inside c)
 
-leaves : (c : After-clear_adjustments) (e : Entry Set) → semset_of c.args.state.now.state c.args.id.0 ≡ Some e → c.clear_adjustments.new.self
+leaves : (c : After-clear_adjustments) (e : KeyedEntry Set) → semset_of c.args.state.now.state c.args.id.0 ≡ Some e → c.clear_adjustments.new.self
     ≡ with_state c.args.state.now (without_adjustments c.args.id.0 (Some c.args.num)
     (with_semset c.args.state.now.state c.args.id.0 (holding e c.set_value.new.self)))
 leaves c e there =
@@ -56,7 +56,7 @@ returns-clause-finish c =
     let u = g.After-unwrap-set in
     let s = c.args.state.now.state in
     let num = c.args.num in
-    let e : Entry Set = (found u).value.0 in
+    let e : KeyedEntry Set = (found u).value.0 in
     let there = (found u).holds.there in
     let value : value_of c.args.value ≡ Some c.in-Some.value = search rules in
     let sets : c.set_value.new.self ≡ with_value e.object num c.in-Some.value c.args.pid s.clock = search (rules, there) in

@@ -9,17 +9,17 @@ use Rattle.ipc_state.specs.Finish.{Attempt}
 use Rattle.ipc_state.specs.State.{cred_of}
 use Rattle.ipc_state.specs.Steps.{attempted, plain_halt}
 use Rattle.sysv_calls.specs.Semop.{is_of, operations_of, stopping, tried_list}
-use Rattle.sysv_calls.proofs.Stopping.{Tried, at-front, front-inside, met, stopper, stops, stops-within}
+use Rattle.sysv_calls.proofs.Stopping.{Tested, at-front, front-inside, met, stopper, stops, stops-within}
 use Rattle.sysv_calls.proofs.semop.is_stopping.Goals.{After-try_operations, In-Ok-Blocks}
 use Rattle.sysv_calls.proofs.semop.is_stopping.Goals as goal
 
 abbrev operations : After-try_operations → List Operation
 operations c = operations_of (bytes_of c.args.operations.now)
 
-abbrev tried : After-try_operations → Cred → Tried
+abbrev tried : After-try_operations → Cred → Tested
 tried c cred = tried_list c.args.state.now.limits c.args.state.now.state cred c.args.pid.0 true c.args.id.0 (operations c)
 
-abbrev now : After-try_operations → Tried
+abbrev now : After-try_operations → Tested
 now c = tried c (cred_of c.args.state.now.state c.args.pid.0)
 
 -- what the tests came to, as this process

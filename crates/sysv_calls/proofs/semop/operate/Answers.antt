@@ -5,9 +5,9 @@ use Rattle.ipc_wire.specs.Sixes.{bytes_of, operations_in}
 use Rattle.sysv_sem.specs.declared.operation.Operation.{Operation}
 use Rattle.sysv_sem.specs.Operation.{outcome}
 use Rattle.sysv_sem.specs.Set.{Set, carried, values_of}
-use Rattle.ipc_state.specs.declared.keyed.Entry.{Entry}
 use Rattle.ipc_state.specs.Held.{Held}
-use Rattle.ipc_state.specs.Keyed.{holding}
+use Rattle.ipc_state.specs.Bound.{holding}
+use Rattle.ipc_state.specs.Keyed.{KeyedEntry}
 use Rattle.ipc_state.specs.State.{undo_of, with_semset, with_undo}
 use Rattle.sysv_calls.specs.Relations.{CanBeNoted, Passes}
 use Rattle.sysv_calls.specs.Semop.{held_by, noted, operation_of, operations_of}
@@ -26,7 +26,7 @@ front c =
     ap (λ (n : ℕ). take n c.put_operations.new.all) (c.len.ensures ∙ sym many) ∙ c.put_operations.ensures.operations
 
 -- the set that is lent
-module _ (c : After-unwrap-set) (found : Entry Set × List ℕ)
+module _ (c : After-unwrap-set) (found : KeyedEntry Set × List ℕ)
     (p : Passes c.args.state.now.limits c.args.state.now.state c.args.pid.0 c.args.id.0 (operations c) found) where
   object : c.unwrap-set.result.now ≡ found.0.object
   object = let there = p.there in search (rules, there)

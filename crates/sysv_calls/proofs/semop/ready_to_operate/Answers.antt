@@ -5,18 +5,18 @@ use Rattle.sysv_sem.specs.declared.operation.Operation.{Operation}
 use Rattle.sysv_sem.specs.declared.operation.Trial.{Trial}
 use Rattle.sysv_sem.specs.declared.operation.Trial.TheVariants as trial
 use Rattle.sysv_sem.specs.Set.{Set}
-use Rattle.ipc_state.specs.declared.keyed.Entry.{Entry}
+use Rattle.ipc_state.specs.Keyed.{KeyedEntry}
 use Rattle.ipc_state.specs.Finish.{Attempt, Halt, ◌>>=◌}
 use Rattle.ipc_state.specs.Steps.{attempted, plain_halt, seen}
 use Rattle.sysv_calls.specs.Semop.{operations_of, performable, stopped_by, tried_list}
-use Rattle.sysv_calls.proofs.Stopping.{Tried, at-front, front-inside, settled, settles, stops-within}
+use Rattle.sysv_calls.proofs.Stopping.{Tested, at-front, front-inside, settled, settles, stops-within}
 use Rattle.sysv_calls.proofs.semop.ready_to_operate.Goals.{After-try_operations, In-Blocks}
 use Rattle.sysv_calls.proofs.semop.ready_to_operate.Goals as goal
 
 abbrev operations : After-try_operations → List Operation
 operations c = operations_of (bytes_of c.args.operations.now)
 
-abbrev tried : After-try_operations → Tried
+abbrev tried : After-try_operations → Tested
 tried c = tried_list c.args.state.now.limits c.args.state.now.state c.args.cred c.args.pid.0 c.args.again c.args.id.0 (operations c)
 
 inside : (c : After-try_operations) (at : ℕ) → attempted c.try_operations.result ≡ Ok (trial.Blocks at) → at < length (operations c)
@@ -26,7 +26,7 @@ inside c at is =
 
 -- what becomes of the list, by what the tests came to
 comes : (c : After-try_operations) (a : Attempt Trial) → attempted c.try_operations.result ≡ a
-    → (a >>= settled (operations c)) ≡ seen (λ (found : Entry Set × List ℕ). tt) (performable c.args.state.now.limits c.args.state.now.state
+    → (a >>= settled (operations c)) ≡ seen (λ (found : KeyedEntry Set × List ℕ). tt) (performable c.args.state.now.limits c.args.state.now.state
     c.args.cred c.args.pid.0 c.args.again c.args.id.0 (operations c))
 comes c a is =
     ap (λ (b : Attempt Trial). b >>= settled (operations c)) (sym is ∙ c.try_operations.ensures.tests) ∙ settles (operations c) (tried c)

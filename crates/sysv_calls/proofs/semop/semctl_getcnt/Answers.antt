@@ -3,7 +3,7 @@ use Rattle.std.proofs.lemmas.Option.{slice_get_within}
 use Rattle.ipc_base.proofs.CallerLemmas.{passed-bounds}
 use Rattle.sysv_sem.specs.declared.set.Semaphore.{Semaphore}
 use Rattle.sysv_sem.specs.Set.{Set}
-use Rattle.ipc_state.specs.declared.keyed.Entry.{Entry}
+use Rattle.ipc_state.specs.Keyed.{KeyedEntry}
 use Rattle.ipc_state.proofs.CallerLemmas.{set-sound}
 use Rattle.ipc_state.proofs.CallerLemmas.{has-found}
 use Rattle.sysv_calls.specs.Access.{read}
@@ -14,7 +14,7 @@ use Rattle.sysv_calls.proofs.semop.semctl_getcnt.Goals as goal
 pub overflow_cast-num : goal.overflow_cast-num
 overflow_cast-num c =
     let old = c.args.state.now in
-    let f = has-found {f = λ (found : Entry Set × Semaphore). found.1} (semaphore-ends {never = true} old.state c.args.cred c.args.id.0 c.args.num read)
+    let f = has-found {f = λ (found : KeyedEntry Set × Semaphore). found.1} (semaphore-ends {never = true} old.state c.args.cred c.args.id.0 c.args.num read)
     (sym c.semaphore.ensures.found ∙ ap result_of c.in_ok-semaphore.was) in
     let inside = slice_get_within f.value.0.object.semaphores c.args.num f.value.1 f.holds.at in
     let few = (set-sound old.limits old.state c.args.id.0 f.value.0 f.holds.there c.requires.sound).few in

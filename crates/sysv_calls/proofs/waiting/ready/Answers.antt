@@ -1,6 +1,6 @@
 use Rattle.std.proofs.Common.{◌≡◌, ℕ, List, subst, sym, rules}
 use Rattle.std.specs.Prelude.{Err}
-use Rattle.ipc_state.specs.declared.keyed.Entry.{Entry}
+use Rattle.ipc_state.specs.Keyed.{KeyedEntry}
 use Rattle.ipc_state.specs.declared.parked.ParkedSysv.{ParkedSysv}
 use Rattle.ipc_state.specs.Finish.{Attempt}
 use Rattle.ipc_state.specs.Steps.{plain_halt, seen}
@@ -19,7 +19,7 @@ returns-in_err-ready_to_send-in-Msgsnd-clause-tests c =
     let h = c.in_err-ready_to_send-in-Msgsnd.field-0.0 in
     let from : c.from_residual.result ≡ Err h = search rules in
     rw from (subst (λ (w : ParkedSysv). Err (plain_halt h) ≡ place_in s.limits s.state c.args.cred c.args.pid.0 c.args.again w) (sym c.in-Msgsnd.is)
-    (other-seen (λ (e : Entry Queue). tt) (λ (e : Entry Queue). 0)
+    (other-seen (λ (e : KeyedEntry Queue). tt) (λ (e : KeyedEntry Queue). 0)
     (sendable s.limits s.state c.args.cred c.args.again c.in-Msgsnd.id.0 c.in-Msgsnd.flags.0 m.mtype m.text.items) (plain_halt h)
     c.in_err-ready_to_send-in-Msgsnd.ensures.tests))
 
@@ -28,9 +28,9 @@ returns-in_err-ready_to_operate-in-Semop-clause-tests c =
     let s = c.args.state.now in
     let h = c.in_err-ready_to_operate-in-Semop.field-0.0 in
     let from : c.from_residual-in_err-ready_to_operate-in-Semop.result ≡ Err h = search rules in
-    let met : List ℕ → Attempt (Entry Set × List ℕ) =
+    let met : List ℕ → Attempt (KeyedEntry Set × List ℕ) =
     λ bytes. performable s.limits s.state c.args.cred c.args.pid.0 c.args.again c.in-Semop.id.0 (operations_of bytes) in
     rw from (subst (λ (w : ParkedSysv). Err (plain_halt h) ≡ place_in s.limits s.state c.args.cred c.args.pid.0 c.args.again w) (sym c.in-Semop.is)
-    (other-seen (λ (found : Entry Set × List ℕ). tt) (λ (found : Entry Set × List ℕ). 0) (met c.in-Semop.operations.bytes.items) (plain_halt h)
-    (subst (λ (l : List ℕ). Err (plain_halt h) ≡ seen (λ (found : Entry Set × List ℕ). tt) (met l)) c.lend.ensures
+    (other-seen (λ (found : KeyedEntry Set × List ℕ). tt) (λ (found : KeyedEntry Set × List ℕ). 0) (met c.in-Semop.operations.bytes.items) (plain_halt h)
+    (subst (λ (l : List ℕ). Err (plain_halt h) ≡ seen (λ (found : KeyedEntry Set × List ℕ). tt) (met l)) c.lend.ensures
     c.in_err-ready_to_operate-in-Semop.ensures.tests)))

@@ -106,12 +106,12 @@ invariant_of-self-in-Call c =
     let new = c.ask.new.state in
     let same : new.limits ≡ old.limits = search rules in
     let mid = begun (goal.at.invariant_of-self-in-Call c).After-advance-in-Call in
-    let held = c.ask.ensures.state ∙ (λ i. left (mid i) (asked (mid i).limits pid request request.kind (mid i).state).state) in
+    let held = c.ask.ensures.does.state ∙ (λ i. left (mid i) (asked (mid i).limits pid request request.kind (mid i).state).state) in
     keeps old new _ (vec_capacity c.ask.new.outcomes) c.ask.new.spare c.ask.new.outcomes.items held (search rules)
     (after-sound old.limits new.limits old.state new.state (Call c.in-Call.pid.0 (plain_request c.in-Call.request) c.in-Call.moment.0) same (search rules)
     c.self.invariant.1 (search rules) c.in-Call.request.frame)
     c.self.invariant.2
-    (subst (λ (h : Held). HasBuffer h.limits c.ask.new.spare c.ask.new.outcomes.items) (sym c.ask.ensures.state) c.ask.ensures.buffer)
+    (subst (λ (h : Held). HasBuffer h.limits c.ask.new.spare c.ask.new.outcomes.items) (sym c.ask.ensures.does.state) c.ask.ensures.buffer)
     c.self.invariant.4
 
 pub returns-in-Interrupt-clause-sound : goal.returns-in-Interrupt-clause-sound

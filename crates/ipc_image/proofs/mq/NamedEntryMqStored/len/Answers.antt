@@ -10,7 +10,7 @@ long : (ms ns : List MqMessage) → ms ≡ ns → length (flat_map mq_message_by
 long ms ns same = ap (λ (l : List MqMessage). length (flat_map mq_message_bytes l)) same
 
 pub list_len-requires-clause-fit : goal.list_len-requires-clause-fit
-list_len-requires-clause-fit c = subst (All FitsMqMessage) (sym c.messages.ensures) c.requires.fits.1
+list_len-requires-clause-fit c = subst (All FitsMqMessage) (sym c.messages.ensures) c.requires.fits.object
 
 pub list_len-requires-clause-short : goal.list_len-requires-clause-short
 list_len-requires-clause-short c = omega (arith, long _ _ c.messages.ensures, mq-long c.args.self.now, c.requires.short)

@@ -14,10 +14,10 @@ returns-clause-passed c =
     let e = c.args.self.now in
     let w = c.args.window.now in
     let texts : List ℕ = flat_map mq_message_bytes e.object.messages in
-    let head : MqAttr → List ℕ → List ℕ = λ a l. e.owner.uid ∷ e.owner.gid ∷ e.mode ∷ a.maxmsg ∷ a.msgsize ∷ l in
+    let head : MqAttr → List ℕ → List ℕ = λ a l. e.perm.uid ∷ e.perm.gid ∷ e.perm.mode ∷ a.maxmsg ∷ a.msgsize ∷ l in
     let front : MqAttr → List ℕ → List ℕ → List ℕ =
     λ a r name. fields_bytes mq_sizes (head a (get_or r 0 0 ∷ get_or r 1 0 ∷ get_or r 2 0 ∷ get_or r 3 0 ∷ a.curmsgs ∷ length name ∷ [])) ++ name in
-    let known = numbers-spelled e.object.registration (length e.object.messages) (length e.name) in
+    let known = numbers-spelled e.object.registration (length e.object.messages) (length e.bound) in
     c.put_list.ensures.passed ∙ ap (λ (ms : List MqMessage). passed (flat_map mq_message_bytes ms) c.put_row.new.window) c.messages.ensures
     ∙ ap (passed texts) c.put_row.ensures
     ∙ passed-both w (front c.attr-attr.result c.registration_numbers-registration.result c.bytes-name.result.now) texts
@@ -25,4 +25,4 @@ returns-clause-passed c =
     ∙ ap (λ (l : List ℕ). passed (front (attr_of e.object) l c.bytes-name.result.now ++ texts) w)
     (c.registration_numbers-registration.ensures ∙ ap registration_numbers c.registration.ensures)
     ∙ ap (λ (l : List ℕ). passed (front (attr_of e.object) (registration_numbers e.object.registration) l ++ texts) w) c.bytes-name.ensures
-    ∙ ap (λ (l : List ℕ). passed ((fields_bytes mq_sizes (head (attr_of e.object) l) ++ e.name) ++ texts) w) (sym known)
+    ∙ ap (λ (l : List ℕ). passed ((fields_bytes mq_sizes (head (attr_of e.object) l) ++ e.bound) ++ texts) w) (sym known)

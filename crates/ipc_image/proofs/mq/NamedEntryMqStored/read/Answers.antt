@@ -8,14 +8,14 @@ use Rattle.ipc_image.specs.Saved.{mq_sizes, mq_numbers, mq_message_bytes, mq_byt
 use Rattle.ipc_image.specs.SavedParts.{with_mq_messages}
 use Rattle.posix_mq.specs.Queue.{Queue as Mq}
 use Rattle.posix_mq.specs.declared.queue.Registration.{Registration}
-use Rattle.ipc_state.specs.declared.named.NamedEntry.{NamedEntry}
+use Rattle.ipc_state.specs.Named.{NamedEntry}
 use Rattle.ipc_image.proofs.MqObjects.{is-cut, is-registered, is-counted, is-left, mq-read}
 use Rattle.ipc_image.proofs.mq.NamedEntryMqStored.read.Goals as goal
 
 pub returns-in_err-numbers-clause-damaged : goal.returns-in_err-numbers-clause-damaged
 returns-in_err-numbers-clause-damaged c is e fits same =
     let none = rw c.in_err-numbers.ensures.ok_part at c.take_fields.ensures.none in
-    none (mq_numbers e) _ fits.0.0 (same ∙ append_assoc (fields_bytes mq_sizes (mq_numbers e)) e.name (flat_map mq_message_bytes e.object.messages))
+    none (mq_numbers e) _ fits.tree.0 (same ∙ append_assoc (fields_bytes mq_sizes (mq_numbers e)) e.bound (flat_map mq_message_bytes e.object.messages))
 
 pub returns-in_err-name-clause-damaged : goal.returns-in_err-name-clause-damaged
 returns-in_err-name-clause-damaged c is e fits same =
@@ -48,7 +48,7 @@ returns-in_err-read_list-clause-damaged c is e fits same =
     let split = rw c.in_ok-name.ensures.ok_part at c.split_at_checked.ensures.cases in
     let why = rw is at c.from_residual-in_err-read_list.ensures in
     c.in_err-read_list.ensures.damaged (ap (λ e. Err e) (sym why.1)) e.object.messages
-    (is-counted c.args.bytes.now ns after found.0 found.1 e fits same) fits.1
+    (is-counted c.args.bytes.now ns after found.0 found.1 e fits same) fits.object
     (is-left c.args.bytes.now ns after found.0 found.1 e fits same c.in_ok-name.name.now c.in_ok-name.rest.now
     (cut after c.in_ok-name.name.now c.in_ok-name.rest.now (get_or ns 10 0) split.1 split.2) split.3)
 
@@ -64,10 +64,9 @@ returns-clause-ok c =
     let r : Option Registration = c.in_ok-registration.registration in
     let read = c.in_ok-read_list.ensures.ok in
     let object = read.4 ∙ ap (λ (q : Mq). with_mq_messages q (q.messages ++ read.0)) c.in_ok-object.ensures in
-    let entry : List ℕ → Mq → NamedEntry Mq =
-    λ name q. record { name = name; owner = record { uid = get_or ns 0 0; gid = get_or ns 1 0 }; mode = get_or ns 2 0; object = q } in
     let Is : NamedEntry Mq → Type 0 = λ e. FitsMq e × (c.args.bytes.now ≡ mq_bytes e) in
-    subst (λ (l : List ℕ). Is (entry l c.read_list.new.into)) (sym c.in_ok-name-2.ensures)
-    (subst (λ (q : Mq). Is (entry text q)) (sym object)
-    (mq-read c.args.bytes.now ns after found.0 found.1 text rest r read.0 (cut after text rest (get_or ns 10 0) split.1 split.2) split.3 registered read.2
-    read.1 read.3))
+    let made = mq-read c.args.bytes.now ns after found.0 found.1 text rest r read.0 (cut after text rest (get_or ns 10 0) split.1 split.2) split.3
+    registered read.2 read.1 read.3 in
+    let name = sym c.in_ok-name-2.ensures in
+    let perm = sym c.own_perm.ensures.perm in
+    subst Is (λ i. record { bound = name i; perm = perm i; object = sym object i }) made

@@ -3,8 +3,9 @@ use Rattle.posix_mq.specs.Queue.{Queue as Mq, empty_queue}
 use Rattle.ipc_state.specs.contracts.state.State.{the_view}
 use Rattle.ipc_state.specs.Held.{Held, left}
 use Rattle.ipc_state.specs.Named.{named}
+use Rattle.ipc_state.specs.Numbered.{with_new}
 use Rattle.ipc_state.specs.State.{with_new_mq}
-use Rattle.ipc_state.specs.Tables.{HeldNamed}
+use Rattle.ipc_state.specs.Tables.{HeldObjects}
 use Rattle.ipc_state.proofs.Inside.{state_in, ready-in}
 use Rattle.ipc_state.proofs.Reserved.{MayCome, made-ready, may-come}
 use Rattle.ipc_state.proofs.state.State.add_mq.Goals.{After-renew}
@@ -30,10 +31,12 @@ returns-clause-added g c =
     let t = c.self.inside in
     let put = rw (made g ((goal.at.returns-clause-added g c).After-renew)) at c.add-number.ensures.added in
     c.release.ensures ∙ (λ i. left (the_view t) (record (state_in t) { mq = (put i).objects }))
-    ∙ ap (λ (q : Mq). left (the_view t) (with_new_mq (state_in t) g.name c.args.cred c.args.mode q)) c.renew.ensures
+    ∙ (λ i. left (the_view t) (record (state_in t) {
+      mq = with_new t.mq.objects (record { bound = g.name; perm = c.new-perm.ensures.perm i; object = c.renew.ensures i });
+    }))
     ∙ ap (λ (m : Held). left m (with_new_mq m.state g.name c.args.cred c.args.mode (empty_queue c.args.maxmsg c.args.msgsize None))) c.self.view_is
 
 pub returns-clause-number : goal.returns-clause-number
 returns-clause-number g c =
-    c.add-number.ensures.number ∙ ap (λ (h : HeldNamed Mq). h.objects.next) (made g ((goal.at.returns-clause-number g c).After-renew))
+    c.add-number.ensures.number ∙ ap (λ (h : HeldObjects _ Mq). h.objects.next) (made g ((goal.at.returns-clause-number g c).After-renew))
     ∙ ap (λ (m : Held). m.state.mq.next) c.self.view_is

@@ -2,8 +2,9 @@ use Rattle.std.proofs.Common.{◌≡◌, ◌∙◌, ℕ, None, Some, refl, sym, 
 use Rattle.ipc_state.specs.contracts.state.State.{the_view}
 use Rattle.ipc_state.specs.Held.{Held, left}
 use Rattle.ipc_state.specs.Named.{named}
+use Rattle.ipc_state.specs.Numbered.{with_new}
 use Rattle.ipc_state.specs.State.{with_new_psem}
-use Rattle.ipc_state.specs.Tables.{HeldNamed}
+use Rattle.ipc_state.specs.Tables.{HeldObjects}
 use Rattle.ipc_state.proofs.Inside.{state_in, ready-in}
 use Rattle.ipc_state.proofs.Reserved.{MayCome, made-ready, may-come}
 use Rattle.ipc_state.proofs.state.State.add_psem.Goals.{After-unwrap}
@@ -30,10 +31,12 @@ returns-clause-added g c =
     let t = c.self.inside in
     let put = rw (made g ((goal.at.returns-clause-added g c).After-unwrap)) at c.add-number.ensures.added in
     c.release.ensures ∙ (λ i. left (the_view t) (record (state_in t) { psem = (put i).objects }))
-    ∙ ap (λ (x : ℕ). left (the_view t) (with_new_psem (state_in t) g.name c.args.cred c.args.mode x)) c.new.ensures
+    ∙ (λ i. left (the_view t) (record (state_in t) {
+      psem = with_new t.psem.objects (record { bound = g.name; perm = c.new-perm.ensures.perm i; object = c.new.ensures i });
+    }))
     ∙ ap (λ (m : Held). left m (with_new_psem m.state g.name c.args.cred c.args.mode c.args.value)) c.self.view_is
 
 pub returns-clause-number : goal.returns-clause-number
 returns-clause-number g c =
-    c.add-number.ensures.number ∙ ap (λ (h : HeldNamed ℕ). h.objects.next) (made g ((goal.at.returns-clause-number g c).After-unwrap))
+    c.add-number.ensures.number ∙ ap (λ (h : HeldObjects _ ℕ). h.objects.next) (made g ((goal.at.returns-clause-number g c).After-unwrap))
     ∙ ap (λ (m : Held). m.state.psem.next) c.self.view_is

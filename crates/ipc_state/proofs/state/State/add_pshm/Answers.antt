@@ -5,7 +5,7 @@ use Rattle.ipc_state.specs.Held.{Held, left}
 use Rattle.ipc_state.specs.Named.{named}
 use Rattle.ipc_state.specs.Numbered.{with_new}
 use Rattle.ipc_state.specs.State.{with_new_pshm}
-use Rattle.ipc_state.specs.Tables.{HeldNamed}
+use Rattle.ipc_state.specs.Tables.{HeldObjects}
 use Rattle.ipc_state.proofs.Inside.{state_in, ready-in}
 use Rattle.ipc_state.proofs.Reserved.{MayCome, made-ready, may-come}
 use Rattle.ipc_state.proofs.state.State.add_pshm.Goals.{After-unwrap}
@@ -32,12 +32,12 @@ returns-clause-added g c =
     let t = c.self.inside in
     let put = rw (made g ((goal.at.returns-clause-added g c).After-unwrap)) at c.add-number.ensures.added in
     c.release.ensures ∙ (λ i. left (the_view t) (record (state_in t) { pshm = (put i).objects }))
-    ∙ ap (λ (x : Segment). left (the_view t) (record (state_in t) {
-      pshm = with_new t.pshm.objects (record { name = g.name; owner = c.args.cred; mode = c.args.mode; object = x });
-    })) c.new.ensures
+    ∙ (λ i. left (the_view t) (record (state_in t) {
+      pshm = with_new t.pshm.objects (record { bound = g.name; perm = c.new-perm.ensures.perm i; object = c.new.ensures i });
+    }))
     ∙ ap (λ (m : Held). left m (with_new_pshm m.state g.name c.args.cred c.args.mode)) c.self.view_is
 
 pub returns-clause-number : goal.returns-clause-number
 returns-clause-number g c =
-    c.add-number.ensures.number ∙ ap (λ (h : HeldNamed Segment). h.objects.next) (made g ((goal.at.returns-clause-number g c).After-unwrap))
+    c.add-number.ensures.number ∙ ap (λ (h : HeldObjects _ Segment). h.objects.next) (made g ((goal.at.returns-clause-number g c).After-unwrap))
     ∙ ap (λ (m : Held). m.state.pshm.next) c.self.view_is

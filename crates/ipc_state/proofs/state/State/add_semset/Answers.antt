@@ -27,26 +27,26 @@ made g c =
     made-ready (λ r. record t.semset { ready = r }) t.semset.ready c.renew.new.self (c.ready_mut.follows.lender c.renew.new.self) g.asked.0
     (of-set g c).0 (c.ready_mut.follows.holds c.renew.new.self)
 
-pub add-id-requires : goal.add-id-requires
-add-id-requires g c =
+pub add-number-requires : goal.add-number-requires
+add-number-requires g c =
     let old = c.args.self.now in
     let unused = subst (λ (m : Held). keyed m.state.semset g.asked.0 ≡ None) (sym c.self.view_is) c.requires.1.0 in
     let one = may-come old.limits.semmni old.state.semset c.requires.1.1.0 c.requires.1.1.1 in
     let more = subst (λ (m : Held). MayCome m.state.semset) (sym c.self.view_is) one in
-    rw (made g ((goal.at.add-id-requires g c).After-renew)) (record { ready = refl; unused = unused; positive = more.positive; number = more.number })
+    rw (made g ((goal.at.add-number-requires g c).After-renew)) (record { ready = refl; unused = unused; positive = more.positive; number = more.number })
 
 pub returns-clause-added : goal.returns-clause-added
 returns-clause-added g c =
     let t = c.self.inside in
-    let put = rw (made g ((goal.at.returns-clause-added g c).After-renew)) at c.add-id.ensures.added in
+    let put = rw (made g ((goal.at.returns-clause-added g c).After-renew)) at c.add-number.ensures.added in
     c.release.ensures ∙ (λ i. left (the_view t) (record (state_in t) { semset = (put i).objects }))
     ∙ ap (λ (x : Set). left (the_view t) (record (state_in t) {
-      semset = with_new t.semset.objects (record { key = g.asked.0; perm = c.args.perm; object = x });
+      semset = with_new t.semset.objects (record { bound = g.asked.0; perm = c.args.perm; object = x });
     }))
     (c.renew.ensures ∙ ap (λ (n : ℕ). new_set n t.clock.0) (of-set g ((goal.at.returns-clause-added g c).After-renew)).1)
     ∙ ap (λ (m : Held). left m (with_new_semset m.state g.asked.0 c.args.perm g.asked.1)) c.self.view_is
 
 pub returns-clause-id : goal.returns-clause-id
 returns-clause-id g c =
-    c.add-id.ensures.id ∙ ap (λ (h : HeldObjects Set). h.objects.next) (made g ((goal.at.returns-clause-id g c).After-renew))
+    c.add-number.ensures.number ∙ ap (λ (h : HeldObjects _ Set). h.objects.next) (made g ((goal.at.returns-clause-id g c).After-renew))
     ∙ ap (λ (m : Held). m.state.semset.next) c.self.view_is

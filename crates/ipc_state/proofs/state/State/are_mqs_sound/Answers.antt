@@ -3,7 +3,7 @@ use Rattle.std.specs.Prelude.{All, Bool}
 use Rattle.std.specs.Bool.{Decides}
 use Rattle.ipc_keys.specs.declared.check.NameKind.TheVariants as names
 use Rattle.posix_mq.specs.Queue.{Queue as Mq}
-use Rattle.ipc_state.specs.declared.named.NamedEntry.{NamedEntry}
+use Rattle.ipc_state.specs.Named.{NamedEntry}
 use Rattle.ipc_state.specs.Held.{Held}
 use Rattle.ipc_state.specs.Opening.{is_registered}
 use Rattle.ipc_state.specs.Sound.{AreHeld, IsSoundMq}
@@ -23,8 +23,9 @@ returns-then-are_held c =
     let ps = c.args.self.now.state.processes.entries in
     let items = c.items.result.now in
     let is = c.items.ensures ∙ ap (λ (m : Held). m.state.mq.entries) c.self.view_is in
-    let registered = subst (λ (es : List (ℕ × NamedEntry Mq)). Decides c.are_registered.result (All (λ (e : ℕ × NamedEntry Mq). is_registered ps e ≡ true) es)) is
-    (subst (λ (b : Bool). Decides b (All (λ (e : ℕ × NamedEntry Mq). is_registered ps e ≡ true) (map item_row items))) (sym c.are_registered.ensures)
+    let IsIt : ℕ × NamedEntry Mq → Type 0 = λ e. is_registered ps e ≡ true in
+    let registered = subst (λ (es : List (ℕ × NamedEntry Mq)). Decides c.are_registered.result (All IsIt es)) is
+    (subst (λ (b : Bool). Decides b (All IsIt (map item_row items))) (sym c.are_registered.ensures)
     (all-tests (is_registered ps) item_row items)) in
     let held = (told ((goal.at.returns-then-are_held c).After-are_held)).0 c.if-are_held.true in
     (λ yes. record { held = held; together = registered.0 yes }, λ h. registered.1 h.together)

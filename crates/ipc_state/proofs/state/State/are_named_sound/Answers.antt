@@ -10,7 +10,8 @@ pub returns-then-are_psems_sound : goal.returns-then-are_psems_sound
 returns-then-are_psems_sound c =
     let s = c.args.self.now in (
       λ yes. elim c.if-are_mqs_sound.branch [
-        | then-are_mqs_sound w ↦ on-kinds (AreSoundNamed s.limits s.state.processes.entries) (named_in s.state) (c.are_mqs_sound.ensures.0 w.if-are_mqs_sound.true)
+        | then-are_mqs_sound w ↦ on-kinds (AreSoundNamed s.limits s.state.processes.entries) (named_in s.state)
+            (c.are_mqs_sound.ensures.0 w.if-are_mqs_sound.true)
             (w.are_psems_sound.ensures.0 (sym w.value-is ∙ c.if-are_psems_sound.true)) (c.are_pshms_sound.ensures.0 yes)
         | else-are_mqs_sound w ↦ let no = sym w.value-is ∙ c.if-are_psems_sound.true in cc
       ],

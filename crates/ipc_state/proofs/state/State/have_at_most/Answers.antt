@@ -4,7 +4,7 @@ use Rattle.std.specs.Bool.{Decides}
 use Rattle.std.proofs.lemmas.List.Sums.{sum-map}
 use Rattle.std.proofs.lemmas.Simd.{map-map}
 use Rattle.sysv_sem.specs.Set.{Set}
-use Rattle.ipc_state.specs.declared.keyed.Entry.{Entry}
+use Rattle.ipc_state.specs.Keyed.{KeyedEntry}
 use Rattle.ipc_state.specs.Held.{Held}
 use Rattle.ipc_state.specs.Sound.{semaphore_count}
 use Rattle.ipc_state.specs.Tables.{item_row}
@@ -13,7 +13,7 @@ use Rattle.ipc_state.proofs.state.State.have_at_most.Goals as goal
 pub returns : goal.returns
 returns c =
     let items = c.items.result.now in
-    let size : ℕ × Entry Set → ℕ = λ e. length e.1.object.semaphores in
+    let size : ℕ × KeyedEntry Set → ℕ = λ e. length e.1.object.semaphores in
     let count : sum_by (λ e. size (item_row e)) items ≡ semaphore_count c.self.inside.semset.objects =
     sym (sum-map (λ e. size (item_row e)) items) ∙ ap sum (sym (map-map size item_row items)) ∙ sum-map size (map item_row items)
     ∙ ap (sum_by size) c.items.ensures in

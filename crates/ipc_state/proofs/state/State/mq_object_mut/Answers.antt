@@ -2,22 +2,22 @@ use Rattle.std.proofs.Common.{◌∙◌, refl, ap}
 use Rattle.std.specs.Prelude.{is_some, option_map}
 use Rattle.posix_mq.specs.Queue.{Queue as Mq}
 use Rattle.ipc_state.specs.contracts.state.State.{the_view}
-use Rattle.ipc_state.specs.declared.named.NamedEntry.{NamedEntry}
+use Rattle.ipc_state.specs.Named.{NamedEntry}
 use Rattle.ipc_state.specs.Held.{Held}
 use Rattle.ipc_state.specs.Numbered.{entry_of}
 use Rattle.ipc_state.specs.State.{with_mq}
-use Rattle.ipc_state.specs.Tables.{HeldNamed}
-use Rattle.ipc_state.proofs.Lent.{put-named}
+use Rattle.ipc_state.specs.Tables.{HeldObjects}
+use Rattle.ipc_state.proofs.Lent.{put-back}
 use Rattle.ipc_state.proofs.state.State.mq_object_mut.Goals as goal
 
 pub returns : goal.returns
 returns c =
     let n = c.args.number in
-    let viewed : HeldNamed Mq → Held = λ (p : HeldNamed Mq). the_view (record c.self.inside { mq = p }) in (
+    let viewed : HeldObjects _ Mq → Held = λ (p : HeldObjects _ Mq). the_view (record c.self.inside { mq = p }) in (
       (
         refl,
         λ x there. let some = ap (λ (m : Held). is_some (entry_of m.state.mq n)) c.self.view_is ∙ there in
-            ap viewed (put-named c.self.inside.mq n x (c.get_mut.follows.lender x) (c.get_mut.follows.holds x) some)
+            ap viewed (put-back c.self.inside.mq n x (c.get_mut.follows.lender x) (c.get_mut.follows.holds x) some)
             ∙ ap (λ (m : Held). let h : Held = record m { state = with_mq m.state n x } in h) c.self.view_is,
         ap viewed c.get_mut.follows.holds-at-none ∙ c.self.view_is,
       ),

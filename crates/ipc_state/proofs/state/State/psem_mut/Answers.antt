@@ -1,22 +1,22 @@
 use Rattle.std.proofs.Common.{ℕ, ◌∙◌, refl, ap}
 use Rattle.std.specs.Prelude.{is_some, option_map}
 use Rattle.ipc_state.specs.contracts.state.State.{the_view}
-use Rattle.ipc_state.specs.declared.named.NamedEntry.{NamedEntry}
+use Rattle.ipc_state.specs.Named.{NamedEntry}
 use Rattle.ipc_state.specs.Held.{Held}
 use Rattle.ipc_state.specs.Numbered.{entry_of}
 use Rattle.ipc_state.specs.State.{with_psem}
-use Rattle.ipc_state.specs.Tables.{HeldNamed}
-use Rattle.ipc_state.proofs.Lent.{put-named}
+use Rattle.ipc_state.specs.Tables.{HeldObjects}
+use Rattle.ipc_state.proofs.Lent.{put-back}
 use Rattle.ipc_state.proofs.state.State.psem_mut.Goals as goal
 
 pub returns : goal.returns
 returns c =
     let n = c.args.number in
-    let viewed : HeldNamed ℕ → Held = λ (p : HeldNamed ℕ). the_view (record c.self.inside { psem = p }) in (
+    let viewed : HeldObjects _ ℕ → Held = λ (p : HeldObjects _ ℕ). the_view (record c.self.inside { psem = p }) in (
       (
         refl,
         λ x there. let some = ap (λ (m : Held). is_some (entry_of m.state.psem n)) c.self.view_is ∙ there in
-            ap viewed (put-named c.self.inside.psem n x (c.get_mut.follows.lender x) (c.get_mut.follows.holds x) some)
+            ap viewed (put-back c.self.inside.psem n x (c.get_mut.follows.lender x) (c.get_mut.follows.holds x) some)
             ∙ ap (λ (m : Held). let h : Held = record m { state = with_psem m.state n x } in h) c.self.view_is,
         ap viewed c.get_mut.follows.holds-at-none ∙ c.self.view_is,
       ),
