@@ -12,7 +12,7 @@ use Rattle.ipc_store.specs.View.{StoreView}
 use Rattle.ipc_store.proofs.CallerLemmas.{Takes-both}
 use Rattle.ipc_hub.specs.Hub.{accepted, leave}
 use Rattle.ipc_hub.specs.Clients.{Clients, client_endpoint, tick, feed, hangup}
-use Rattle.ipc_hub.specs.View.{ConnectionView, HubView, StoredHub, HasNoFrame, IsBare, connection_of, kept}
+use Rattle.ipc_hub.specs.View.{ConnectionView, HubView, StoredHub, HasFewFrames, KeepsFew, connection_of, kept}
 use Rattle.ipc_hub.specs.Relations.Delivery.{released}
 use Rattle.ipc_hub.specs.Relations.Invariant.{HasPassed, SameButSeen}
 use Rattle.ipc_hub.specs.Relations.Matches.{HubMatches, StoredMatches, TakesIn, Comes, Accepts, Pends}
@@ -32,12 +32,12 @@ module _ (old new : HubView) (same : SameButSeen old new) (conn : ℕ) where
         | inr s ↦ subst (λ (t : Table). P (value_at nat_eq t conn)) (sym s) (subst P (sym (at-map released old.connections conn)) seen)
       ]
 
-  pub still-empty : HasNoFrame old conn → HasNoFrame new conn
-  still-empty none = now-at IsBare none (by_value (connection_of old conn) none)
+  pub still-few : HasFewFrames old conn → HasFewFrames new conn
+  still-few few = now-at KeepsFew few (by_value (connection_of old conn) few)
     where
-      by_value : (r : Option ConnectionView) → IsBare r → IsBare (option_map released r)
-      by_value None none = tt
-      by_value (Some v) none = append-nil (kept v.outbox) ∙ none
+      by_value : (r : Option ConnectionView) → KeepsFew r → KeepsFew (option_map released r)
+      by_value None few = tt
+      by_value (Some v) few = omega (arith, few, ap length (append-nil (kept v.outbox)))
 
   pub still-over : is_open_in old.connections conn ≡ false → is_open_in new.connections conn ≡ false
   still-over over = now-at (λ r. goes_on r ≡ false) over (by_value (connection_of old conn) over)
@@ -51,7 +51,7 @@ pub passes-then : (old mid new : HubView) → SameButSeen old mid → HasPassed 
 passes-then old mid new same passed =
     record {
       ended = λ conn over. passed.ended conn (still-over old mid same conn over);
-      space = λ conn none. passed.space conn (still-empty old mid same conn none);
+      space = λ conn few. passed.space conn (still-few old mid same conn few);
     }
 
 -- ---- what a hub comes to

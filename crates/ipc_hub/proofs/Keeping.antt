@@ -25,7 +25,7 @@ use Rattle.ipc_state.specs.State.{State, is_process}
 use Rattle.ipc_disk.specs.Medium.{Medium}
 use Rattle.ipc_store.specs.View.{StoreView}
 use Rattle.ipc_hub.specs.Hub.{is_for}
-use Rattle.ipc_hub.specs.View.{ConnectionView, HubView, HasNoFrame, IsBare, kept}
+use Rattle.ipc_hub.specs.View.{ConnectionView, HubView, HasNoFrame, IsBare, KeepsFew, ahead, kept}
 use Rattle.ipc_hub.proofs.Kept.{both_choose, heard-none}
 use Rattle.ipc_hub.proofs.Requests.{fits-short, quiet-owes}
 use Rattle.ipc_hub.proofs.Rows.{process_of, for-one}
@@ -275,17 +275,18 @@ module _ (old : HubView) (e : PlainEvent) (sound : IsSound old.limits old.state)
   pub quiet-space : ArePassed old.limits → HaveSpace sent old.connections
   quiet-space passed = owing-have_space old.limits (owed_to old.limits after) sent old.connections passed (step-fits old.limits old.state e sound) quiet-each
 
-  -- a connection that kept no frame has room for what its process is owed then, and for a request
-  quiet-spacious : (v : ConnectionView) → IsSoundIn old v → ((pid : ℕ) → v.process ≡ Some pid → is_process old.state pid ≡ true) → kept v.outbox ≡ []
-      → v.ended ≡ false → owed_to old.limits after v.process + longest_reply old.limits + last_frames ≤ (hears sent v).outbox.free
-  quiet-spacious v k is empty live =
+  -- a connection that kept a little has room for what its process is owed then, and for a request
+  quiet-spacious : (v : ConnectionView) → IsSoundIn old v → ((pid : ℕ) → v.process ≡ Some pid → is_process old.state pid ≡ true)
+      → length (kept v.outbox) ≤ ahead → v.ended ≡ false
+      → owed_to old.limits after v.process + longest_reply old.limits + last_frames ≤ (hears sent v).outbox.free
+  quiet-spacious v k is few live =
       let more : Option ℕ → ℕ = λ p. owed_to old.limits after p + longest_reply old.limits in
       let less = quiet-less old.limits old.state e sound v.process (λ pid some. (is pid some, none pid)) in
       let most = owed_to-most old.limits old.state v.process sound in
       let same = heard-same sent v in
       let space : IsSoundConnection old.limits (owing sent more) v =
       kept-owing old.limits (owed_to old.limits old.state) (owing sent more) v v.process k live
-      (omega (arith, k.size, ap length empty, less, most)) in
+      (omega (arith, k.size, few, less, most)) in
       omega (arith, (heard-kept old.limits more sent v space).last (same.1 ∙ live), ap more same.0)
 
   module _ (new : HubView) (is : Happened old new e) where
@@ -300,8 +301,8 @@ module _ (old : HubView) (e : PlainEvent) (sound : IsSound old.limits old.state)
         record {
           ended = λ conn over.
               subst (λ (r : Option ConnectionView). goes_on r ≡ false) (sym (at conn)) (still-over (value_at nat_eq old.connections conn) over);
-          space = λ conn empty.
-              subst (HasSpaceAt new (longest_reply new.limits)) (sym (at conn)) (spacious conn (value_at nat_eq old.connections conn) refl empty);
+          space = λ conn few.
+              subst (HasSpaceAt new (longest_reply new.limits)) (sym (at conn)) (spacious conn (value_at nat_eq old.connections conn) refl few);
         }
       where
         at : (conn : ℕ) → value_at nat_eq new.connections conn ≡ option_map (hears sent) (value_at nat_eq old.connections conn)
@@ -311,12 +312,12 @@ module _ (old : HubView) (e : PlainEvent) (sound : IsSound old.limits old.state)
         still-over None over = over
         still-over (Some v) over = ap not (heard-same sent v).1 ∙ over
 
-        spacious : (conn : ℕ) (r : Option ConnectionView) → value_at nat_eq old.connections conn ≡ r → IsBare r
+        spacious : (conn : ℕ) (r : Option ConnectionView) → value_at nat_eq old.connections conn ≡ r → KeepsFew r
             → HasSpaceAt new (longest_reply new.limits) (option_map (hears sent) r)
-        spacious conn None here empty = tt
-        spacious conn (Some v) here empty = λ live.
+        spacious conn None here few = tt
+        spacious conn (Some v) here few = λ live.
             let space = quiet-spacious v (each-at (IsSoundIn old) old.connections conn v inv.each here)
-            (λ pid some. inv.own.connected conn pid (ap process_of here ∙ some)) empty (sym (heard-same sent v).1 ∙ live) in
+            (λ pid some. inv.own.connected conn pid (ap process_of here ∙ some)) few (sym (heard-same sent v).1 ∙ live) in
             rw is.becomes.limits (rw is.becomes.state (rw (heard-same sent v).0 space))
 
 -- the machine took such a step, and the replies went where they go

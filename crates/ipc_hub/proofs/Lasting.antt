@@ -11,15 +11,16 @@ use Rattle.ipc_disk.specs.Medium.{Image, Medium}
 use Rattle.ipc_state.specs.State.{State, restart}
 use Rattle.ipc_engine.proofs.CallerLemmas.{restart-is}
 use Rattle.ipc_engine.specs.Event.{PlainEvent, Restart}
-use Rattle.ipc_store.specs.Histories.{History, acknowledged, accepted, state_after, reopened, Keeps, Takes, OpensOn}
+use Rattle.ipc_store.specs.Histories.{History, Past, acknowledged, accepted, grown, past_of, state_after, reopened, Keeps, Takes, OpensOn}
 use Rattle.ipc_store.specs.Lives.{IsLeft, StoppedOpens, Rests, Found}
+use Rattle.ipc_store.specs.Lives.StoppedOpens.{None as no_open}
 use Rattle.ipc_store.specs.View.{StoreView}
 use Rattle.ipc_store.proofs.CallerLemmas.{Takes-none}
 use Rattle.ipc_hub.specs.Clients.{Frame, Client, Clients, all_bytes, confirmed_bytes}
-use Rattle.ipc_hub.specs.Lives.{HubCall, Shows, Serving, Life, life_of, Lives, HasHistory}
+use Rattle.ipc_hub.specs.Lives.{HubCall, Shows, Serving, Life, life_of, Lives, Rested, IsHistory, RestsAfter, HasHistory}
 use Rattle.ipc_hub.specs.Lives.HubCall.{Serves, Still, Fails}
 use Rattle.ipc_hub.specs.Lives.Serving.{New, Call, Look}
-use Rattle.ipc_hub.specs.Lives.Lives.{First, Next}
+use Rattle.ipc_hub.specs.Lives.Rested.{Begun, Stops, Lived as life_over}
 use Rattle.ipc_hub.specs.Lives.IsHistory.{None as no_life, More as life_more}
 use Rattle.ipc_hub.specs.View.{ConnectionView, HubView, StoredHub}
 use Rattle.ipc_hub.specs.Relations.Matches.{AreFrames, ClientMatches, HubMatches}
@@ -96,21 +97,24 @@ Lasts limits base confirmed events f = (f.mark ≤ confirmed) × IsAnswer limits
 
 -- A hub after some calls of a life: its store has a history, which begins with what was found; the events of the clients
 -- are those since then; and the frames that were in an output are of events that are confirmed.
-record Lived {D : Type 0} (medium : D → Medium) (limits : Limits) (kept : List PlainEvent) (v : StoredHub D) (h : Clients) (seen : List Frame)
-    : Type 0 where
+record Lived {D : Type 0} (medium : D → Medium) (past : Past) (v : StoredHub D) (h : Clients) (seen : List Frame) : Type 0 where
   history : History
   keeps : Keeps (medium v.store.disk) v.store history
-  found : history.found ≡ kept
+  base : history.base ≡ past.base
+  found : history.found ≡ past.events
   events : history.confirmed ++ history.waiting ≡ h.events
-  under : v.store.machine.limits ≡ limits
+  under : v.store.machine.limits ≡ past.limits
   confirmed : ℕ
-  matches : HubMatches limits confirmed v.hub h
+  matches : HubMatches past.limits confirmed v.hub h
   within : confirmed ≤ v.store.confirmed
-  told : IsTold limits (state_after limits kept) h
-  shown : All (Lasts limits (state_after limits kept) v.store.confirmed h.events) seen
+  told : IsTold past.limits (state_after past) h
+  shown : All (Lasts past.limits (state_after past) v.store.confirmed h.events) seen
 
 module _ {D : Type 0} (medium : D → Medium) (law : (d : D) (image : Image) → (medium d).images_since (medium d).moment image → (medium d).images_now image)
-    (limits : Limits) where
+    (past : Past) where
+  abbrev limits : Limits
+  limits = past.limits
+
   -- the events that a call accepts, which its store takes
   took : (old new : StoredHub D) (h next : Clients) → HubCall medium limits old h new next
       → (events : List PlainEvent) × Takes medium old.store events new.store × (next.events ≡ h.events ++ events)
@@ -151,9 +155,9 @@ module _ {D : Type 0} (medium : D → Medium) (law : (d : D) (image : Image) →
   told-after base old new h _ told (Fails takes matches) = told-fail limits base h old.store.confirmed told
 
   -- one call more
-  lived-call : (kept : List PlainEvent) (old new : StoredHub D) (h next : Clients) (seen : List Frame) → Lived medium limits kept old h seen
-      → HubCall medium limits old h new next → Lived medium limits kept new next seen
-  lived-call kept old new h next seen so_far call =
+  lived-call : (old new : StoredHub D) (h next : Clients) (seen : List Frame) → Lived medium past old h seen
+      → HubCall medium limits old h new next → Lived medium past new next seen
+  lived-call old new h next seen so_far call =
       let t = took old new h next call in
       let moves = t.1 so_far.history so_far.keeps in
       let more = stays old.store new.store so_far.history t.0 so_far.keeps t.1 in
@@ -163,6 +167,7 @@ module _ {D : Type 0} (medium : D → Medium) (law : (d : D) (image : Image) →
       record {
         history = moves.after;
         keeps = moves.keeps;
+        base = follows.base ∙ so_far.base;
         found = follows.found ∙ so_far.found;
         events =
             append_cancel_left before.found (moves.after.confirmed ++ moves.after.waiting) (next.events)
@@ -175,38 +180,40 @@ module _ {D : Type 0} (medium : D → Medium) (law : (d : D) (image : Image) →
         confirmed = shown.0;
         matches = shown.1;
         within = shown.2;
-        told = told-after (state_after limits kept) old new h next so_far.told call;
-        shown = subst (λ (es : List PlainEvent). All (Lasts limits (state_after limits kept) new.store.confirmed es) seen) (sym t.2)
-            (All-weaker (Lasts limits (state_after limits kept) old.store.confirmed h.events)
-            (Lasts limits (state_after limits kept) new.store.confirmed (h.events ++ t.0))
-            (λ f is. (omega (arith, is.0, more), answer-more limits (state_after limits kept) h.events t.0 f is.1)) seen so_far.shown);
+        told = told-after (state_after past) old new h next so_far.told call;
+        shown = subst (λ (es : List PlainEvent). All (Lasts limits (state_after past) new.store.confirmed es) seen) (sym t.2)
+            (All-weaker (Lasts limits (state_after past) old.store.confirmed h.events)
+            (Lasts limits (state_after past) new.store.confirmed (h.events ++ t.0))
+            (λ f is. (omega (arith, is.0, more), answer-more limits (state_after past) h.events t.0 f is.1)) seen so_far.shown);
       }
 
   -- all calls of a life
-  lived : (kept : List PlainEvent) (opened : StoreView D) (last : StoredHub D) (now : Clients) (seen : List Frame)
-      → Keeps (medium opened.disk) opened (reopened kept) → opened.machine.limits ≡ limits
-      → opened.machine.state ≡ restart (state_after limits kept) → Serving medium limits opened last now seen → Lived medium limits kept last now seen
-  lived kept opened hub _ _ keeps under state (New _ store matches) = record {
-    history = reopened kept;
-    keeps = subst (λ (s : StoreView D). Keeps (medium s.disk) s (reopened kept)) (sym store) keeps;
+  lived : (opened : StoreView D) (last : StoredHub D) (now : Clients) (seen : List Frame)
+      → Keeps (medium opened.disk) opened (reopened past) → opened.machine.limits ≡ limits
+      → opened.machine.state ≡ restart (state_after past) → Serving medium limits opened last now seen → Lived medium past last now seen
+  lived opened hub _ _ keeps under state (New _ store matches) = record {
+    history = reopened past;
+    keeps = subst (λ (s : StoreView D). Keeps (medium s.disk) s (reopened past)) (sym store) keeps;
+    base = refl;
     found = refl;
     events = refl;
     under = ap (λ (s : StoreView D). s.machine.limits) store ∙ under;
     confirmed = hub.store.confirmed;
     matches = matches.hub;
     within = omega arith;
-    told = record { state = state ∙ sym (restart-is limits (state_after limits kept)); each = tt };
-    shown = All-nil (Lasts limits (state_after limits kept) hub.store.confirmed (Restart ∷ []));
+    told = record { state = state ∙ sym (restart-is limits (state_after past)); each = tt };
+    shown = All-nil (Lasts limits (state_after past) hub.store.confirmed (Restart ∷ []));
   }
-  lived kept opened next then seen keeps under state (Call last _ now _ _ serving call) =
-      lived-call kept last next now then seen (lived kept opened last now seen keeps under state serving) call
-  lived kept opened last now _ keeps under state (Look _ _ seen frames conn serving shows) =
-      let so_far = lived kept opened last now seen keeps under state serving in
+  lived opened next then seen keeps under state (Call last _ now _ _ serving call) =
+      lived-call last next now then seen (lived opened last now seen keeps under state serving) call
+  lived opened last now _ keeps under state (Look _ _ seen frames conn serving shows) =
+      let so_far = lived opened last now seen keeps under state serving in
       let within = shows-confirmed limits so_far.confirmed last.hub now conn frames so_far.matches shows in
-      let says = first-say limits (state_after limits kept) now frames conn last.hub so_far.told shows in
+      let says = first-say limits (state_after past) now frames conn last.hub so_far.told shows in
       record {
         history = so_far.history;
         keeps = so_far.keeps;
+        base = so_far.base;
         found = so_far.found;
         events = so_far.events;
         under = so_far.under;
@@ -214,7 +221,7 @@ module _ {D : Type 0} (medium : D → Medium) (law : (d : D) (image : Image) →
         matches = so_far.matches;
         within = so_far.within;
         told = so_far.told;
-        shown = All-append (Lasts limits (state_after limits kept) last.store.confirmed now.events) frames seen
+        shown = All-append (Lasts limits (state_after past) last.store.confirmed now.events) frames seen
             (λ k d inside. let here = within k d inside in (omega (arith, here, so_far.within), says k d inside)) so_far.shown;
       }
 
@@ -225,66 +232,96 @@ abbrev pub Leaves : {D : Type 0} → (D → Medium) → Type 0
 Leaves {D} medium =
     (last next : StoreView D) (before : History) (events : List PlainEvent) (left : D) → Keeps (medium last.disk) last before
     → Takes medium last events next → IsLeft (medium last.disk) (medium next.disk) (medium left)
-    → Rests last.machine.limits (acknowledged before) (before.waiting ++ events) (medium left)
+    → Rests (past_of last.machine.limits before) (before.waiting ++ events) (medium left)
+
+-- what opens that are stopped leave
+abbrev pub StaysAtRest : {D : Type 0} → (D → Medium) → Type 0
+StaysAtRest {D} medium =
+    (past : Past) (others : List PlainEvent) (left disk : D) → Rests past others (medium left) → StoppedOpens medium left disk
+    → Rests past others (medium disk)
 
 -- what an open finds there
 abbrev pub Finds : {D : Type 0} → (D → Medium) → Type 0
 Finds {D} medium =
-    (limits : Limits) (acked others : List PlainEvent) (left disk : D) (opened : StoreView D) → Rests limits acked others (medium left)
-    → StoppedOpens medium left disk → OpensOn (medium disk).contents (medium opened.disk) opened → Found limits acked others (medium opened.disk) opened
+    (past : Past) (others : List PlainEvent) (left disk : D) (opened : StoreView D) → Rests past others (medium left)
+    → StoppedOpens medium left disk → OpensOn (medium disk).contents (medium opened.disk) opened → Found past others (medium opened.disk) opened
 
 nothing-kept : (kept lost : List PlainEvent) → kept ++ lost ≡ [] → kept ≡ []
 nothing-kept [] lost is = refl
 nothing-kept (e ∷ es) lost is = cc
 
+-- events that come after others
+grown-twice : (past : Past) (some more : List PlainEvent) → grown (grown past some) more ≡ grown past (some ++ more)
+grown-twice past some more = ap (λ (es : List PlainEvent). record past { events = es }) (append_assoc past.events some more)
+
 module _ {D : Type 0} (medium : D → Medium) (law : (d : D) (image : Image) → (medium d).images_since (medium d).moment image → (medium d).images_now image)
-    (limits : Limits) (leaves : Leaves medium) (finds : Finds medium) where
-  -- the history after one life more
-  one-more : (found : List PlainEvent) (lives : List Life) (opened store : StoreView D) (last next : StoredHub D) (now then : Clients)
-      (seen : List Frame) (left from : D) → HasHistory (medium opened.disk) limits found lives opened → Serving medium limits opened last now seen
-      → HubCall medium limits last now next then → IsLeft (medium last.store.disk) (medium next.store.disk) (medium left)
-      → StoppedOpens medium left from → OpensOn (medium from).contents (medium store.disk) store
-      → HasHistory (medium store.disk) limits found (life_of opened last then seen ∷ lives) store
-  one-more found lives opened store last next now then seen left from has serving call is_left opens on =
-      let l = lived medium law limits has.history opened last now seen has.keeps has.under has.state serving in
-      let h : History = l.history in
-      let t = took medium law limits last next now then call in
-      let rests = leaves last.store next.store h t.0 left l.keeps t.1 is_left in
-      let f = finds last.store.machine.limits (acknowledged h) (h.waiting ++ t.0) left from store rests opens on in
-      let kept : List PlainEvent = h.confirmed ++ f.kept in
-      let all : acknowledged h ++ f.kept ≡ has.history ++ kept =
-      append_assoc h.found h.confirmed f.kept ∙ ap (λ (es : List PlainEvent). es ++ kept) l.found in
-      let most : last.store.confirmed ≤ length kept = omega (arith, l.keeps.count, length-append h.confirmed f.kept) in
+    (past : Past) (leaves : Leaves medium) (finds : Finds medium) (stays_at_rest : StaysAtRest medium) (disk : D) where
+  -- a disk at rest of which so much is sure
+  at-rest : (lives : List Life) (left : D) (sure others : List PlainEvent) → Rests (grown past sure) others (medium left)
+      → ((kept lost : List PlainEvent) → kept ++ lost ≡ others → IsHistory past lives (sure ++ kept)) → RestsAfter past lives (medium left)
+  at-rest lives left sure others rests histories =
+      let now = rests.left (medium left).contents rests.honest.reads in
+      record { sure = sure; others = others; rests = rests; histories = histories; reads = (now.state, now.stands) }
+
+  -- what an open of it finds: the history so far
+  finds-history : (lives : List Life) (left : D) (store : StoreView D) → RestsAfter past lives (medium left)
+      → OpensOn (medium left).contents (medium store.disk) store → HasHistory (medium store.disk) past lives store
+  finds-history lives left store rested opens =
+      let f = finds (grown past rested.sure) rested.others left left store rested.rests no_open opens in
+      let all = grown-twice past rested.sure f.kept in
       record {
-        history = has.history ++ kept;
-        is = life_more lives (life_of opened last then seen) has.history kept f.lost has.is has.state
-            (append_assoc h.confirmed f.kept f.lost ∙ ap (λ (es : List PlainEvent). h.confirmed ++ es) f.prefix
-            ∙ sym (append_assoc h.confirmed h.waiting t.0) ∙ ap (λ (es : List PlainEvent). es ++ t.0) l.events ∙ sym t.2)
-            most
-            (All-weaker (Lasts limits (state_after limits has.history) last.store.confirmed now.events)
-            (Lasts limits (state_after limits has.history) (length kept) then.events) (λ f is. (
-              omega (arith, is.0, most),
-              subst (λ (es : List PlainEvent). IsAnswer limits (state_after limits has.history) es f) (sym t.2)
-                  (answer-more limits (state_after limits has.history) now.events t.0 f is.1),
-            )) seen l.shown);
-        under = f.under ∙ l.under;
-        state = f.state ∙ ap (λ (k : Limits). restart (state_after k (acknowledged h ++ f.kept))) l.under
-            ∙ ap (λ (es : List PlainEvent). restart (state_after limits es)) all;
-        keeps = subst (λ (es : List PlainEvent). Keeps (medium store.disk) store (reopened es)) all f.keeps;
+        history = rested.sure ++ f.kept;
+        is = rested.histories f.kept f.lost f.prefix;
+        under = f.under;
+        state = f.state ∙ ap (λ (p : Past). restart (state_after p)) all;
+        keeps = subst (λ (p : Past). Keeps (medium store.disk) store (reopened p)) all f.keeps;
       }
 
-  -- the history after all of them
-  pub has-history : (found : List PlainEvent) (disk : D) (lives : List Life) (opened : StoreView D) → Rests limits found [] (medium disk)
-      → Lives medium limits disk lives opened → HasHistory (medium opened.disk) limits found lives opened
-  has-history found disk _ store rests (First from _ opens on) =
-      let f = finds limits found [] disk from store rests opens on in
-      let all : found ++ f.kept ≡ found = ap (λ (es : List PlainEvent). found ++ es) (nothing-kept f.kept f.lost f.prefix) ∙ append-nil found in
-      record {
-        history = found;
-        is = no_life;
-        under = f.under;
-        state = f.state ∙ ap (λ (es : List PlainEvent). restart (state_after limits es)) all;
-        keeps = subst (λ (es : List PlainEvent). Keeps (medium store.disk) store (reopened es)) all f.keeps;
-      }
-  has-history found disk _ store rests (Next lives opened _ last next now then seen left from before serving call is_left opens on) =
-      one-more found lives opened store last next now then seen left from (has-history found disk lives opened rests before) serving call is_left opens on
+  -- one life more
+  one-more : (lives : List Life) (before : D) (opened : StoreView D) (last next : StoredHub D) (now then : Clients) (seen : List Frame) (left : D)
+      → HasHistory (medium opened.disk) past lives opened → Serving medium past.limits opened last now seen → HubCall medium past.limits last now next then
+      → IsLeft (medium last.store.disk) (medium next.store.disk) (medium left) → RestsAfter past (life_of opened last then seen ∷ lives) (medium left)
+  one-more lives before opened last next now then seen left has serving call is_left =
+      let so_far = grown past has.history in
+      let l = lived medium law so_far opened last now seen has.keeps has.under has.state serving in
+      let h : History = l.history in
+      let t = took medium law so_far last next now then call in
+      let sure : past_of last.store.machine.limits h ≡ grown past (has.history ++ h.confirmed) =
+      let events : acknowledged h ≡ past.events ++ (has.history ++ h.confirmed) =
+      ap (λ (es : List PlainEvent). es ++ h.confirmed) l.found ∙ append_assoc past.events has.history h.confirmed in
+      (λ i. record { limits = l.under i; base = l.base i; events = events i }) in
+      let rests = leaves last.store next.store h t.0 left l.keeps t.1 is_left in
+      let Says : List PlainEvent → Frame → Type 0 = IsAnswer past.limits (state_after so_far) in
+      at-rest (life_of opened last then seen ∷ lives) left (has.history ++ h.confirmed) (h.waiting ++ t.0)
+      (subst (λ (p : Past). Rests p (h.waiting ++ t.0) (medium left)) sure rests)
+      (λ kept lost prefix.
+      let most : last.store.confirmed ≤ length (h.confirmed ++ kept) = omega (arith, l.keeps.count, length-append h.confirmed kept) in
+      subst (IsHistory past (life_of opened last then seen ∷ lives)) (sym (append_assoc has.history h.confirmed kept))
+      (life_more lives (life_of opened last then seen) has.history (h.confirmed ++ kept) lost has.is has.state
+      (append_assoc h.confirmed kept lost ∙ ap (λ (es : List PlainEvent). h.confirmed ++ es) prefix
+      ∙ sym (append_assoc h.confirmed h.waiting t.0) ∙ ap (λ (es : List PlainEvent). es ++ t.0) l.events ∙ sym t.2)
+      most
+      (All-weaker (Lasts past.limits (state_after so_far) last.store.confirmed now.events)
+      (Lasts past.limits (state_after so_far) (length (h.confirmed ++ kept)) then.events) (λ f is. (
+        omega (arith, is.0, most),
+        subst (λ (es : List PlainEvent). Says es f) (sym t.2) (answer-more past.limits (state_after so_far) now.events t.0 f is.1),
+      )) seen l.shown)))
+
+  -- the disk at rest after all of them
+  pub rests-after : Rests past [] (medium disk) → (lives : List Life) (left : D) → Rested medium past.limits disk lives left
+      → RestsAfter past lives (medium left)
+  rests-after rests _ _ Begun =
+      let same = ap (λ (es : List PlainEvent). record past { events = es }) (append-nil past.events) in
+      at-rest [] disk [] [] (subst (λ (p : Past). Rests p [] (medium disk)) (sym same) rests)
+      (λ kept lost is. subst (IsHistory past []) (sym (nothing-kept kept lost is)) no_life)
+  rests-after rests _ _ (Stops lives before left so_far opens) =
+      let was = rests-after rests lives before so_far in
+      at-rest lives left was.sure was.others (stays_at_rest (grown past was.sure) was.others before left was.rests opens) was.histories
+  rests-after rests _ _ (life_over lives before opened last next now then seen left so_far opens serving call is_left) =
+      one-more lives before opened last next now then seen left (finds-history lives before opened (rests-after rests lives before so_far) opens)
+      serving call is_left
+
+  -- and the store that is opened on it
+  pub has-history : Rests past [] (medium disk) → (lives : List Life) (store : StoreView D) → Lives medium past.limits disk lives store
+      → HasHistory (medium store.disk) past lives store
+  has-history rests lives store all = finds-history lives all.left store (rests-after rests lives all.left all.rested) all.opens

@@ -5,8 +5,9 @@ use Rattle.ipc_base.specs.declared.limits.Limits.{Limits}
 use Rattle.ipc_disk.specs.Medium.{Medium}
 use Rattle.ipc_state.specs.State.{State, restart}
 use Rattle.ipc_engine.specs.Event.{PlainEvent, Restart}
-use Rattle.ipc_store.specs.Histories.{Keeps, OpensOn, Takes, reopened, state_after}
-use Rattle.ipc_store.specs.Lives.{IsLeft, StoppedOpens}
+use Rattle.ipc_store.specs.Histories.{Past, Keeps, OpensOn, Takes, grown, reopened, state_after}
+use Rattle.ipc_store.specs.Image.{StandsFor}
+use Rattle.ipc_store.specs.Lives.{IsLeft, Rests, StoppedOpens}
 use Rattle.ipc_store.specs.View.{StoreView}
 use Rattle.ipc_hub.specs.Clients.{Frame, Client, Clients, all_bytes, client_at, no_clients}
 use Rattle.ipc_hub.specs.Clients.{connect, consume, fail, feed, hangup, tick}
@@ -82,38 +83,57 @@ life_of opened last then seen = record {
   seen = seen;
 }
 
--- Lives, the last one first, and the store that is opened after them. Each is opened on the disk that the one before
--- has left, after any number of opens that were stopped.
-pub data Lives {D : Type 0} (medium : D → Medium) (limits : Limits) (disk : D) : List Life → StoreView D → Type 0 where
-  First : (from : D) (store : StoreView D) → StoppedOpens medium disk from
-      → OpensOn (medium from).contents (medium store.disk) store → Lives medium limits disk [] store
-  Next : (lives : List Life) (opened store : StoreView D) (last next : StoredHub D) (now then : Clients)
-      (seen : List Frame) (left from : D) → Lives medium limits disk lives opened
-      → Serving medium limits opened last now seen → HubCall medium limits last now next then
-      → IsLeft (medium last.store.disk) (medium next.store.disk) (medium left) → StoppedOpens medium left from
-      → OpensOn (medium from).contents (medium store.disk) store
-      → Lives medium limits disk
-      (life_of opened last then seen ∷ lives) store
+-- A disk on which no server runs, and the lives that were on it, the last one first: nothing was, or any number of
+-- opens were stopped, or a life is over, which an open began and the last of its calls ended, at some moment of it.
+pub data Rested {D : Type 0} (medium : D → Medium) (limits : Limits) (disk : D) : List Life → D → Type 0 where
+  Begun : Rested medium limits disk [] disk
+  Stops : (lives : List Life) (before left : D) → Rested medium limits disk lives before
+      → StoppedOpens medium before left → Rested medium limits disk lives left
+  Lived : (lives : List Life) (before : D) (opened : StoreView D) (last next : StoredHub D) (now then : Clients)
+      (seen : List Frame) (left : D) → Rested medium limits disk lives before
+      → OpensOn (medium before).contents (medium opened.disk) opened → Serving medium limits opened last now seen
+      → HubCall medium limits last now next then
+      → IsLeft (medium last.store.disk) (medium next.store.disk) (medium left)
+      → Rested medium limits disk (life_of opened last then seen ∷ lives) left
+
+-- Lives, and the store that is opened after them.
+pub record Lives {D : Type 0} (medium : D → Medium) (limits : Limits) (disk : D) (lives : List Life)
+    (store : StoreView D) : Type 0 where
+  pub left : D
+  pub rested : Rested medium limits disk lives left
+  pub opens : OpensOn (medium left).contents (medium store.disk) store
 
 -- ---- what is promised of it
 
--- The machine's history over lives: what was there before them, and then of each life some of the events that it
--- accepted, from the first on. All that were confirmed are among them, and so is the event of each frame that was in an
--- output: the frame is a reply of it, or says that a request was no event or that the connection has ended. The open of
--- each life gave the state after the history so far, and a restart.
-pub data IsHistory (limits : Limits) (found : List PlainEvent) : List Life → List PlainEvent → Type 0 where
-  None : IsHistory limits found [] found
+-- The machine's history over lives, after what was there before them: of each life some of the events that it accepted,
+-- from the first on. All that were confirmed are among them, and so is the event of each frame that was in an output:
+-- the frame is a reply of it, or says that a request was no event or that the connection has ended. The open of each
+-- life gave the state after the history so far, and a restart.
+pub data IsHistory (past : Past) : List Life → List PlainEvent → Type 0 where
+  None : IsHistory past [] []
   More : (lives : List Life) (life : Life) (history kept lost : List PlainEvent)
-      → IsHistory limits found lives history → life.opened ≡ restart (state_after limits history)
+      → IsHistory past lives history → life.opened ≡ restart (state_after (grown past history))
       → kept ++ lost ≡ life.accepted → life.confirmed ≤ length kept
-      → All (λ f. (f.mark ≤ length kept) × IsAnswer limits (state_after limits history) life.accepted f) life.seen
-      → IsHistory limits found (life ∷ lives) (history ++ kept)
+      → All (λ f. (f.mark ≤ length kept)
+      × IsAnswer past.limits (state_after (grown past history)) life.accepted f) life.seen
+      → IsHistory past (life ∷ lives) (history ++ kept)
+
+-- The disk at rest after these lives: what is sure of their history, and the others of the events that the last life
+-- has accepted, of which each image keeps some, from the first on. Whichever are kept, they are a history of these
+-- lives. What the disk reads stands for a state; so an open of it is refused by the disk, for want of memory, or at the
+-- end of the epochs, and not otherwise.
+pub record RestsAfter (past : Past) (lives : List Life) (medium : Medium) : Type 0 where
+  pub sure : List PlainEvent
+  pub others : List PlainEvent
+  pub rests : Rests (grown past sure) others medium
+  pub histories : (kept lost : List PlainEvent) → kept ++ lost ≡ others → IsHistory past lives (sure ++ kept)
+  pub reads : (s : State) × StandsFor past.limits s medium.contents
 
 -- The store that is opened after these lives has such a history: its machine is in the state after it, and a restart.
-pub record HasHistory {D : Type 0} (medium : Medium) (limits : Limits) (found : List PlainEvent) (lives : List Life)
-    (store : StoreView D) : Type 0 where
+pub record HasHistory {D : Type 0} (medium : Medium) (past : Past) (lives : List Life) (store : StoreView D)
+    : Type 0 where
   pub history : List PlainEvent
-  pub is : IsHistory limits found lives history
-  pub under : store.machine.limits ≡ limits
-  pub state : store.machine.state ≡ restart (state_after limits history)
-  pub keeps : Keeps medium store (reopened history)
+  pub is : IsHistory past lives history
+  pub under : store.machine.limits ≡ past.limits
+  pub state : store.machine.state ≡ restart (state_after (grown past history))
+  pub keeps : Keeps medium store (reopened (grown past history))

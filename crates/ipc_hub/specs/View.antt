@@ -1,6 +1,6 @@
 -- What a caller sees of the hub: its limits, the state of its machine, and its connections by number, which rise.
-use Rattle.std.specs.Prelude.{◌≡◌, ◌<◌, ℕ, Bool, false, nat_eq, List, [], ◌++◌, Option, is_some, option_map}
-use Rattle.std.specs.Prelude.{unwrap_or, IfSome}
+use Rattle.std.specs.Prelude.{◌≡◌, ◌<◌, ◌≤◌, ℕ, Bool, false, nat_eq, List, [], ◌++◌, Option, is_some, option_map}
+use Rattle.std.specs.Prelude.{length, unwrap_or, IfSome}
 use Rattle.ipc_base.specs.declared.limits.Limits.{Limits}
 use Rattle.ipc_base.specs.Table.{keys_of, value_at}
 use Rattle.ipc_state.specs.State.{State}
@@ -81,3 +81,14 @@ IsBare r = IfSome r (λ c. kept c.outbox ≡ [])
 
 abbrev pub HasNoFrame : HubView → ℕ → Type 0
 HasNoFrame h conn = IsBare (connection_of h conn)
+
+-- how many bytes of frames a connection may keep while the next of its requests is taken all the same
+abbrev pub ahead : ℕ
+ahead = 4096
+
+-- the connection, if there is one, keeps no more
+abbrev pub KeepsFew : Option ConnectionView → Type 0
+KeepsFew r = IfSome r (λ c. length (kept c.outbox) ≤ ahead)
+
+abbrev pub HasFewFrames : HubView → ℕ → Type 0
+HasFewFrames h conn = KeepsFew (connection_of h conn)

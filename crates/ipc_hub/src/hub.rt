@@ -10,7 +10,8 @@ ghost use Rattle.ipc_store.specs.Histories.{Takes};
 ghost use Rattle.ipc_store.specs.View.{HasTurned, IsReadyFor, Spends};
 ghost use Rattle.ipc_wait.specs.Waits.{next_deadline};
 ghost use Rattle.ipc_hub.specs.Clients.{Clients, no_clients, connect, hangup, tick, consume, shown_at, ended_at};
-ghost use Rattle.ipc_hub.specs.View.{HasNoFrame, HasStopped, is_connected, numbers_of, output_of, ended_of};
+ghost use Rattle.ipc_hub.specs.View.{HasFewFrames, HasNoFrame, HasStopped, ended_of, is_connected, numbers_of};
+ghost use Rattle.ipc_hub.specs.View.{output_of};
 ghost use Rattle.ipc_hub.specs.View.{most_events, of_commit_error};
 ghost use Rattle.ipc_hub.specs.Relations.Matches.{HubMatches, StoredMatches, Simulates, Serves, ServesFeed};
 ghost use Rattle.ipc_hub.specs.Relations.Faults.{Halts, Refuses, Settles};
@@ -119,14 +120,15 @@ impl<D: SectorDisk> Hub<D> {
     /// Gives a connection the next bytes of its stream, at a moment. Answers how many it took: all of them if
     /// no frame of the connection is kept when it returns, or if the server has ended it. Requests are taken
     /// while the longest reply has room behind the frames that are kept and those that are owed, and an event has room
-    /// among those that wait. Where the first events may have none, the call begins with a release, which may be
+    /// among those that wait; of a connection that keeps at most 4096 bytes of frames at least one byte is taken. Where
+    /// the first events may have none, the call begins with a release, which may be
     /// `Stopped` once if the epochs are at their end.
     pub fn feed(&mut self, conn: u32, piece: &[u8], moment: Moment) -> Result<usize, ServeError>
         ensures ok { IfOk result (λ taken.
             ServesFeed D.medium self.old self.new conn (take taken piece.now) moment.0) }
         ensures within { IfOk result (λ taken. taken ≤ length piece.now) }
         ensures whole { IfOk result (λ taken. HasNoFrame self.new.hub conn → taken ≡ length piece.now) }
-        ensures starts { HasNoFrame self.old.hub conn → 0 < length piece.now → IfOk result (λ taken. 0 < taken) }
+        ensures starts { HasFewFrames self.old.hub conn → 0 < length piece.now → IfOk result (λ taken. 0 < taken) }
         ensures dropped { ended_of self.old.hub conn ≡ true → IfOk result (λ taken. taken ≡ length piece.now) }
         ensures numbers { numbers_of self.new.hub ≡ numbers_of self.old.hub }
         ensures refused { IfErr result (λ e. Refuses D.medium D.counts self.old self.new conn e) }

@@ -5,10 +5,10 @@ ghost use Rattle.std.specs.Prelude.{◌≡◌, ℕ, Bool, List, ◌++◌, length
 ghost use Rattle.ipc_base.specs.declared.limits.Limits.{Limits};
 ghost use Rattle.ipc_hub.specs.Clients.{Client, Clients, client_at, feed, take_in, arriving, fitted, all_bytes, shown};
 ghost use Rattle.ipc_hub.specs.Unmarked.{unmarked};
-ghost use Rattle.ipc_engine.specs.Event.{PlainEvent};
+ghost use Rattle.ipc_store.specs.Histories.{Past};
 ghost use Rattle.ipc_store.specs.Lives.{StandsAfter};
 ghost use Rattle.ipc_store.specs.View.{StoreView};
-ghost use Rattle.ipc_hub.specs.Lives.{Life, Lives, HasHistory};
+ghost use Rattle.ipc_hub.specs.Lives.{Life, Lives, Rested, HasHistory, RestsAfter};
 ghost use Rattle.ipc_hub.specs.Relations.Matches.{AreFrames};
 
 use ipc_disk::SectorDisk;
@@ -50,11 +50,14 @@ pub fn released_frames_are_all_shown()
 /// number of opens that are stopped at any moment before one succeeds: the machine has one history.
 /// It has what was there before, and of each life some of the accepted events, from the first on.
 /// All that were confirmed are among them, and so is the event of each frame that a client could
-/// see, in any life. Each open gives the state after the history so far, and a restart.
+/// see, in any life. Each open gives the state after the history so far, and a restart. It is so of
+/// the disk at rest after these lives, whatever it keeps, and of the store that is opened on it.
 pub fn no_answer_is_taken_back<D: SectorDisk>()
-    ensures { (limits : Limits) (found : List PlainEvent) (disk : D) (lives : List Life) (opened : StoreView D)
-        → StandsAfter limits found (D.medium disk) → Lives D.medium limits disk lives opened
-        → HasHistory (D.medium opened.disk) limits found lives opened }
+    ensures rests { (past : Past) (disk left : D) (lives : List Life) → StandsAfter past (D.medium disk)
+        → Rested D.medium past.limits disk lives left → RestsAfter past lives (D.medium left) }
+    ensures history { (past : Past) (disk : D) (lives : List Life) (opened : StoreView D)
+        → StandsAfter past (D.medium disk) → Lives D.medium past.limits disk lives opened
+        → HasHistory (D.medium opened.disk) past lives opened }
 {
     a_stop_leaves_what_was_acknowledged::<D>();
     an_open_finds_what_stands_there::<D>();

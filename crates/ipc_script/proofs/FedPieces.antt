@@ -9,7 +9,7 @@ use Rattle.std.proofs.lemmas.List.{take_rest, length-drop, take-append-drop}
 use Rattle.ipc_base.specs.declared.limits.Limits.{Limits}
 use Rattle.ipc_disk.specs.Medium.{Medium}
 use Rattle.ipc_hub.specs.Clients.{Client, client_at, feed}
-use Rattle.ipc_hub.specs.View.{StoredHub, is_connected, HasNoFrame}
+use Rattle.ipc_hub.specs.View.{StoredHub, is_connected, HasFewFrames}
 use Rattle.ipc_hub.specs.Relations.Matches.{Comes, ServesFeed}
 use Rattle.ipc_script.specs.declared.report.Opened.{Opened}
 use Rattle.ipc_script.specs.declared.script.Sender.{Sender}
@@ -25,7 +25,7 @@ use Rattle.ipc_script.specs.Relations.Simulation.{LineStops, text_of}
 use Rattle.ipc_base.proofs.CallerLemmas.{test_cases as test, at-map as value_mapped}
 use Rattle.ipc_script.proofs.FaultCases.{by_fault_both}
 use Rattle.ipc_script.proofs.WrittenText.{part_after, part_more}
-use Rattle.ipc_script.proofs.HubAndClients.{connected, no_frame}
+use Rattle.ipc_script.proofs.HubAndClients.{connected, few_frames, no_frame}
 use Rattle.ipc_script.proofs.UnchangedHeads.{heads, heads_feed, steady, same_open}
 
 -- after a text, what comes
@@ -140,7 +140,7 @@ open_here limits hub opened r conn i known =
 module _ {D : Type 0} (medium : D → Medium) (limits : Limits) (r : Run) (sender : Sender) (bytes : List ℕ) (taken : ℕ) (hub mid next : StoredHub D)
     (opened changed : List Opened) (w0 w2 : Option (List ℕ))
     (b : RunMatchesBetween limits hub opened r) (takes : ServesFeed medium hub mid sender.conn (take taken bytes) sender.moment.0)
-    (starts : HasNoFrame hub.hub sender.conn → 0 < length bytes → 0 < taken)
+    (starts : HasFewFrames hub.hub sender.conn → 0 < length bytes → 0 < taken)
     (known : is_connected hub.hub sender.conn ≡ false → ⊥) where
   taken_in : (refused : List Bool) × Comes medium limits hub mid r.hub (feed limits r.hub sender.conn (take taken bytes) sender.moment.0 refused)
   taken_in = takes limits r.hub b.run.matches
@@ -158,7 +158,9 @@ module _ {D : Type 0} (medium : D → Medium) (limits : Limits) (r : Run) (sende
   was_open = open_here limits hub opened r sender.conn b.run known
 
   some_taken : 0 < length bytes → 0 < taken
-  some_taken = starts (no_frame limits hub.store.confirmed hub.hub r.hub sender.conn b.run.matches.hub (b.run.whole sender.conn) (b.quiet sender.conn))
+  some_taken =
+      starts (few_frames hub.hub sender.conn
+      (no_frame limits hub.store.confirmed hub.hub r.hub sender.conn b.run.matches.hub (b.run.whole sender.conn) (b.quiet sender.conn)))
 
   pub feeds_some : ((limits : Limits) (r : Run) → RunMatches limits mid opened r → ProgressMatches limits next changed w0 w2 (report r))
       → SimulatesPiece limits r sender bytes taken next changed w0 w2

@@ -4,7 +4,8 @@ use Rattle.ipc_base.specs.declared.limits.Limits.{Limits}
 use Rattle.ipc_disk.specs.Medium.{Image, Medium}
 use Rattle.ipc_disk.specs.Since.{EachImageSince}
 use Rattle.ipc_engine.specs.Event.{PlainEvent, Restart}
-use Rattle.ipc_store.specs.Histories.{History, accepted, acknowledged, reopened, state_after, IsRunning, Keeps, OpensOn, StandsForPrefix, Takes}
+use Rattle.ipc_store.specs.Histories.{History, Past, accepted, acknowledged, full_past_of, grown, past_of, reopened, state_after}
+use Rattle.ipc_store.specs.Histories.{IsRunning, Keeps, OpensOn, StandsForPrefix, Takes}
 use Rattle.ipc_store.specs.Image.{StandsFor}
 use Rattle.ipc_store.specs.Lives.{StandsAfter}
 use Rattle.ipc_store.specs.View.{StoreView}
@@ -25,18 +26,20 @@ no-events (e ∷ es) none = absurd (omega arith)
 module _ {D : Type 0} (medium : D → Medium) where
   -- the disk of a store that goes on, in which nothing waits
   rests-on : (store : StoreView D) (h : History) → IsRunning (medium store.disk) store h → store.waiting ≡ 0
-      → StandsAfter store.machine.limits (accepted h) (medium store.disk)
+      → StandsAfter (full_past_of store.machine.limits h) (medium store.disk)
   rests-on store h goes empty =
       let none : h.waiting ≡ [] = no-events h.waiting (sym goes.waits.count ∙ empty) in
-      let all : accepted h ≡ acknowledged h = ap (λ (es : List PlainEvent). acknowledged h ++ es) none ∙ append-nil (acknowledged h) in
+      let past = past_of store.machine.limits h in
+      let all : full_past_of store.machine.limits h ≡ past =
+      ap (λ (es : List PlainEvent). record past { events = es }) (ap (λ (es : List PlainEvent). acknowledged h ++ es) none ∙ append-nil (acknowledged h)) in
       record {
         honest = goes.device.honest;
-        stands = λ image now. subst (λ (es : List PlainEvent). StandsFor store.machine.limits (state_after store.machine.limits es) image) (sym all)
-            (StoreMatches-stands (medium store.disk) store (state_after store.machine.limits (acknowledged h)) h.waiting goes image now);
+        stands = λ image now. subst (λ (p : Past). StandsFor store.machine.limits (state_after p) image) (sym all)
+            (StoreMatches-stands (medium store.disk) store (state_after past) h.waiting goes image now);
       }
 
   rests : (store : StoreView D) (h : History) → Keeps (medium store.disk) store h → store.stopped ≡ false → store.waiting ≡ 0
-      → StandsAfter store.machine.limits (accepted h) (medium store.disk)
+      → StandsAfter (full_past_of store.machine.limits h) (medium store.disk)
   rests store h keeps running empty =
       elim keeps.stands [
         | inl goes ↦ rests-on store h goes empty
@@ -55,6 +58,7 @@ module _ {D : Type 0} (medium : D → Medium) where
   begun store before keeps = record {
     after = before;
     keeps = keeps;
+    base = refl;
     more = [];
     accepts = sym (append-nil (accepted before));
     confirmed = [];
@@ -72,6 +76,7 @@ module _ {D : Type 0} (medium : D → Medium) where
       record {
         after = now;
         keeps = moves.keeps;
+        base = moves.follows.base ∙ so_far.base;
         more = so_far.more ++ next.0;
         accepts = moves.follows.accepts ∙ ap (λ (es : List PlainEvent). es ++ next.0) so_far.accepts
             ∙ append_assoc (accepted before) so_far.more next.0;
@@ -84,19 +89,21 @@ module _ {D : Type 0} (medium : D → Medium) where
         rests = rests new now moves.keeps;
       }
 
-  module _ (finds : (limits : Limits) (events : List PlainEvent) (disk : D) (opened : StoreView D) → StandsAfter limits events (medium disk)
-      → OpensOn (medium disk).contents (medium opened.disk) opened → Keeps (medium opened.disk) opened (reopened events)) where
+  module _ (finds : (past : Past) (disk : D) (opened : StoreView D) → StandsAfter past (medium disk)
+      → OpensOn (medium disk).contents (medium opened.disk) opened → Keeps (medium opened.disk) opened (reopened past)) where
     -- a life ends, and the next begins
     goes-again : (before : History) (closed opened : StoreView D) → ContinuesFrom medium before closed → IsReopened medium closed opened
         → ContinuesFrom medium before opened
     goes-again before closed opened so_far stop =
         let was : History = so_far.after in
         let one : List PlainEvent = Restart ∷ [] in
-        let keeps : Keeps (medium opened.disk) opened (reopened (accepted was)) =
-        finds closed.machine.limits (accepted was) closed.disk opened (so_far.rests stop.running stop.empty) stop.opens in
+        let past = full_past_of closed.machine.limits was in
+        let keeps : Keeps (medium opened.disk) opened (reopened past) =
+        finds past closed.disk opened (so_far.rests stop.running stop.empty) stop.opens in
         record {
-          after = reopened (accepted was);
+          after = reopened past;
           keeps = keeps;
+          base = so_far.base;
           more = so_far.more ++ one;
           accepts = append-nil (accepted was ++ one) ∙ (ap (λ (es : List PlainEvent). es ++ one) so_far.accepts
               ∙ append_assoc (accepted before) so_far.more one);
@@ -104,7 +111,7 @@ module _ {D : Type 0} (medium : D → Medium) where
           acknowledges = append_assoc (acknowledged was) was.waiting one
               ∙ (ap (λ (es : List PlainEvent). es ++ (was.waiting ++ one)) so_far.acknowledges
               ∙ append_assoc (acknowledged before) so_far.confirmed (was.waiting ++ one));
-          rests = rests opened (reopened (accepted was)) keeps;
+          rests = rests opened (reopened past) keeps;
         }
 
     pub goes-on : (before : History) (old new : StoreView D) → Keeps (medium old.disk) old before → LivesOn medium old new
@@ -150,12 +157,12 @@ module _ {D : Type 0} (medium : D → Medium) where
           let here = goes-on before old last keeps (lives-of number lines last r text runs) in
           let was : History = here.after in
           let none : was.waiting ≡ [] = none-waits last was here.keeps running (committed-of number lines last r text runs empty) in
-          let all : acknowledged was ≡ accepted before ++ here.more =
-          sym (ap (λ (es : List PlainEvent). acknowledged was ++ es) none ∙ append-nil (acknowledged was)) ∙ here.accepts in
+          let all : past_of last.machine.limits was ≡ grown (full_past_of last.machine.limits before) here.more =
+          let events = sym (ap (λ (es : List PlainEvent). acknowledged was ++ es) none ∙ append-nil (acknowledged was)) ∙ here.accepts in
+          (λ i. record { limits = last.machine.limits; base = here.base i; events = events i }) in
           record {
             more = here.more;
-            crash = subst (λ (es : List PlainEvent). EachImageSince (medium last.disk) (medium next.disk)
-                (StandsForPrefix last.machine.limits es events)) all
+            crash = subst (λ (p : Past). EachImageSince (medium last.disk) (medium next.disk) (StandsForPrefix p events)) all
                 (subst (λ (es : List PlainEvent). EachImageSince (medium last.disk) (medium next.disk)
-                (StandsForPrefix last.machine.limits (acknowledged was) (es ++ events))) none (takes was here.keeps).crash);
+                (StandsForPrefix (past_of last.machine.limits was) (es ++ events))) none (takes was here.keeps).crash);
           }

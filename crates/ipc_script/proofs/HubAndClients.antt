@@ -1,5 +1,5 @@
 -- What the clients of the definitions tell of the code's hub.
-use Rattle.std.proofs.Common.{◌≡◌, ◌<◌, ◌+◌, ℕ, Bool, true, false, List, [], ◌∷◌, drop, Option, Some, None, IfSome, Result}
+use Rattle.std.proofs.Common.{◌≡◌, ◌<◌, ◌+◌, ℕ, Bool, true, false, List, [], ◌∷◌, drop, length, Option, Some, None, IfSome, Result}
 use Rattle.std.proofs.Common.{Ok, Err, refl, sym, ap, ◌∙◌, subst, arith}
 use Rattle.std.specs.Prelude.{is_some, nat_eq}
 use Rattle.ipc_base.specs.declared.limits.Limits.{Limits}
@@ -16,7 +16,8 @@ use Rattle.ipc_script.specs.declared.fault.ScriptFault.TheVariants.{Unknown}
 use Rattle.ipc_script.specs.Relations.Faults.{ByFault, IfRefused, of_serve_error}
 use Rattle.ipc_hub.specs.Relations.Faults.{Refuses}
 use Rattle.ipc_hub.specs.Clients.{accepted, Clients, client_at, all_bytes, shown_at, ended_at}
-use Rattle.ipc_hub.specs.View.{ConnectionView, HubView, StoredHub, HasStopped, kept, is_connected, output_of, ended_of, HasNoFrame}
+use Rattle.ipc_hub.specs.View.{ConnectionView, HubView, StoredHub, HasFewFrames, HasNoFrame, HasStopped, IsBare, KeepsFew}
+use Rattle.ipc_hub.specs.View.{ended_of, is_connected, kept, output_of}
 use Rattle.ipc_hub.specs.Relations.Matches.{ClientMatches, HubMatches}
 
 -- the numbers that are connected
@@ -37,6 +38,14 @@ no_frame limits confirmed hub h conn m u q = by_value (value_at nat_eq hub.conne
         let none : p.0.consumed ≡ 0 = rw p.1.0 at u in
         let empty : p.0.frames ≡ [] = rw p.1.0 at q in
         p.1.1.kept ∙ ap (λ (n : ℕ). drop n (all_bytes p.0.frames)) none ∙ ap all_bytes empty
+
+-- none are few
+pub few_frames : (hub : HubView) (conn : ℕ) → HasNoFrame hub conn → HasFewFrames hub conn
+few_frames hub conn = by_value (value_at nat_eq hub.connections conn)
+  where
+    by_value : (r : Option ConnectionView) → IsBare r → KeepsFew r
+    by_value None none = tt
+    by_value (Some v) none = omega (arith, ap length none)
 
 -- what the hub shows of a connection is what the client may see, and so is whether it has ended
 pub shows : (limits : Limits) (confirmed : ℕ) (hub : HubView) (h : Clients) (conn : ℕ) → HubMatches limits confirmed hub h

@@ -5,7 +5,7 @@ use Rattle.ipc_base.specs.declared.limits.Limits.{Limits}
 use Rattle.ipc_disk.specs.Medium.{Medium}
 use Rattle.ipc_disk.specs.Since.{EachImageSince}
 use Rattle.ipc_engine.specs.Event.{PlainEvent}
-use Rattle.ipc_store.specs.Histories.{History, StandsForPrefix, accepted}
+use Rattle.ipc_store.specs.Histories.{History, StandsForPrefix, full_past_of, grown}
 use Rattle.ipc_store.specs.View.{StoreView}
 use Rattle.ipc_hub.specs.Clients.{Clients}
 use Rattle.ipc_script.specs.Line.{Stop, line_of, lines_of}
@@ -52,4 +52,4 @@ pub record KeepsLines {D : Type 0} (medium : D → Medium) (before : History) (l
     (events : List PlainEvent) (next : StoreView D) : Type 0 where
   pub more : List PlainEvent
   pub crash : EachImageSince (medium last.disk) (medium next.disk)
-      (StandsForPrefix last.machine.limits (accepted before ++ more) events)
+      (StandsForPrefix (grown (full_past_of last.machine.limits before) more) events)

@@ -4,7 +4,7 @@ use Rattle.std.specs.Prelude.{◌≡◌, ◌⊎◌, List, ◌++◌, false}
 use Rattle.ipc_disk.specs.Medium.{Medium, IsHonest}
 use Rattle.ipc_disk.specs.Since.{EachImageSince}
 use Rattle.ipc_engine.specs.Event.{PlainEvent}
-use Rattle.ipc_store.specs.Histories.{History, accepted, acknowledged, Keeps, OpensOn}
+use Rattle.ipc_store.specs.Histories.{History, accepted, acknowledged, full_past_of, Keeps, OpensOn}
 use Rattle.ipc_store.specs.Lives.{StandsAfter}
 use Rattle.ipc_store.specs.Relations.Matches.{OpensTo}
 use Rattle.ipc_store.specs.View.{StoreView}
@@ -36,9 +36,10 @@ IsHanded medium closed disk =
 pub record ContinuesFrom {D : Type 0} (medium : D → Medium) (before : History) (new : StoreView D) : Type 0 where
   pub after : History
   pub keeps : Keeps (medium new.disk) new after
+  pub base : after.base ≡ before.base
   pub more : List PlainEvent
   pub accepts : accepted after ≡ accepted before ++ more
   pub confirmed : List PlainEvent
   pub acknowledges : acknowledged after ≡ acknowledged before ++ confirmed
   pub rests : new.stopped ≡ false → new.waiting ≡ 0
-      → StandsAfter new.machine.limits (accepted after) (medium new.disk)
+      → StandsAfter (full_past_of new.machine.limits after) (medium new.disk)

@@ -6,11 +6,11 @@ use Rattle.ipc_base.specs.declared.limits.Limits.{Limits}
 use Rattle.ipc_disk.specs.Medium.{Image, Medium, IsHonest}
 use Rattle.ipc_disk.specs.Since.{EachImageSince}
 use Rattle.ipc_disk.proofs.CallerLemmas.{EachImageSince-start, EachImageSince-join, EachImageSince-weaken, EachImageSince-now}
-use Rattle.ipc_state.specs.State.{State, start}
+use Rattle.ipc_state.specs.State.{State}
 use Rattle.ipc_engine.specs.Event.{PlainEvent}
 use Rattle.ipc_engine.specs.Step.{run}
 use Rattle.ipc_engine.proofs.CallerLemmas.{run-parts}
-use Rattle.ipc_store.specs.Histories.{History, acknowledged, accepted, state_after, StandsForPrefix, IsRunning, Keeps, Follows, Takes}
+use Rattle.ipc_store.specs.Histories.{History, Past, acknowledged, accepted, past_of, state_after, StandsForPrefix, IsRunning, Keeps, Follows, Takes}
 use Rattle.ipc_store.specs.Image.{StandsFor}
 use Rattle.ipc_store.specs.View.{StoreView, IsStopped}
 use Rattle.ipc_store.specs.Relations.Matches.{StoreMatches, StandsForEither}
@@ -19,11 +19,12 @@ use Rattle.ipc_store.proofs.Committing.{stands_now}
 -- nothing was accepted, and nothing confirmed
 follows-none : (before : History) → Follows before [] before
 follows-none before =
-    record { found = refl; accepts = sym (append-nil (accepted before)); more = []; confirms = sym (append-nil before.confirmed) }
+    record { base = refl; found = refl; accepts = sym (append-nil (accepted before)); more = []; confirms = sym (append-nil before.confirmed) }
 
 -- one event waits more
 follows-one : (before : History) (e : PlainEvent) → Follows before (e ∷ []) (record before { waiting = before.waiting ++ e ∷ [] })
 follows-one before e = record {
+  base = refl;
   found = refl;
   accepts = sym (append_assoc (acknowledged before) before.waiting (e ∷ []));
   more = [];
@@ -39,26 +40,25 @@ acknowledged-all before = sym (append_assoc before.found before.confirmed before
 
 follows-all : (before : History) → Follows before [] (confirmed-all before)
 follows-all before = record {
+  base = refl;
   found = refl;
   accepts = ap (λ (es : List PlainEvent). es ++ []) (acknowledged-all before);
   more = before.waiting;
   confirms = refl;
 }
 
-module _ (limits : Limits) (acked : List PlainEvent) where
+module _ (past : Past) where
   -- what stands for the state after the acknowledged events keeps none of the others
-  keeps-none : (others : List PlainEvent) (image : Image) → StandsFor limits (state_after limits acked) image
-      → StandsForPrefix limits acked others image
+  keeps-none : (others : List PlainEvent) (image : Image) → StandsFor past.limits (state_after past) image → StandsForPrefix past others image
   keeps-none others image stands = record {
     kept = [];
     lost = others;
     prefix = refl;
-    stands = subst (λ (es : List PlainEvent). StandsFor limits (state_after limits es) image) (sym (append-nil acked)) stands;
+    stands = subst (λ (es : List PlainEvent). StandsFor past.limits (state_after (record past { events = es })) image) (sym (append-nil past.events)) stands;
   }
 
   -- a prefix of some events is one of these and more
-  keeps-more : (others more : List PlainEvent) (image : Image) → StandsForPrefix limits acked others image
-      → StandsForPrefix limits acked (others ++ more) image
+  keeps-more : (others more : List PlainEvent) (image : Image) → StandsForPrefix past others image → StandsForPrefix past (others ++ more) image
   keeps-more others more image is = record {
     kept = is.kept;
     lost = is.lost ++ more;
@@ -68,14 +68,13 @@ module _ (limits : Limits) (acked : List PlainEvent) where
 
   -- what stands for either state of a commit keeps none, or all that waited
   keeps-either : (waiting : List PlainEvent) (image : Image)
-      → StandsForEither limits (state_after limits acked) (run limits (state_after limits acked) waiting).state image
-      → StandsForPrefix limits acked waiting image
+      → StandsForEither past.limits (state_after past) (run past.limits (state_after past) waiting).state image → StandsForPrefix past waiting image
   keeps-either waiting image (inl stands) = keeps-none waiting image stands
   keeps-either waiting image (inr stands) = record {
     kept = waiting;
     lost = [];
     prefix = append-nil waiting;
-    stands = subst (λ (s : State). StandsFor limits s image) (sym (run-parts limits start acked waiting)) stands;
+    stands = subst (λ (s : State). StandsFor past.limits s image) (sym (run-parts past.limits past.base past.events waiting)) stands;
   }
 
 -- a store that goes on has not stopped
@@ -89,17 +88,17 @@ module _ {D : Type 0} (medium : D → Medium) (law : (d : D) (image : Image) →
     (old : StoreView D) where
   -- each image now keeps what was acknowledged
   now-keeps : (h : History) → Keeps (medium old.disk) old h → (others : List PlainEvent) (image : Image) → (medium old.disk).images_now image
-      → StandsForPrefix old.machine.limits (acknowledged h) (h.waiting ++ others) image
+      → StandsForPrefix (past_of old.machine.limits h) (h.waiting ++ others) image
   now-keeps h keeps others image now =
       ⊎_elim
-      (λ goes. keeps-none old.machine.limits (acknowledged h) (h.waiting ++ others) image
-      (stands_now (medium old.disk) old (state_after old.machine.limits (acknowledged h)) h.waiting goes image now))
-      (λ halted. keeps-more old.machine.limits (acknowledged h) h.waiting others image (halted.left image now)) keeps.stands
+      (λ goes. keeps-none (past_of old.machine.limits h) (h.waiting ++ others) image
+      (stands_now (medium old.disk) old (state_after (past_of old.machine.limits h)) h.waiting goes image now))
+      (λ halted. keeps-more (past_of old.machine.limits h) h.waiting others image (halted.left image now)) keeps.stands
 
   -- nothing has changed
   pub takes-none : Takes medium old [] old
   takes-none before keeps = record {
-    crash = EachImageSince-start (medium old.disk) (StandsForPrefix old.machine.limits (acknowledged before) (before.waiting ++ [])) (law old.disk)
+    crash = EachImageSince-start (medium old.disk) (StandsForPrefix (past_of old.machine.limits before) (before.waiting ++ [])) (law old.disk)
         (now-keeps before keeps []);
     limits = refl;
     after = before;
@@ -118,15 +117,15 @@ module _ {D : Type 0} (medium : D → Medium) (law : (d : D) (image : Image) →
       let after : History = record before { waiting = before.waiting ++ e ∷ [] } in
       record {
         crash = subst (λ (d : D). EachImageSince (medium old.disk) (medium d)
-            (StandsForPrefix old.machine.limits (acknowledged before) (before.waiting ++ e ∷ []))) (sym disk)
-            (EachImageSince-start (medium old.disk) (StandsForPrefix old.machine.limits (acknowledged before) (before.waiting ++ e ∷ []))
+            (StandsForPrefix (past_of old.machine.limits before) (before.waiting ++ e ∷ []))) (sym disk)
+            (EachImageSince-start (medium old.disk) (StandsForPrefix (past_of old.machine.limits before) (before.waiting ++ e ∷ []))
             (law old.disk) (now-keeps before keeps (e ∷ [])));
         limits = limits;
         after = after;
         follows = follows-one before e;
         keeps = record {
-          stands = inl (subst (λ (l : Limits). StoreMatches (medium new.disk) new (state_after l (acknowledged before)) (before.waiting ++ e ∷ []))
-              (sym limits) (matches (state_after old.machine.limits (acknowledged before)) before.waiting goes));
+          stands = inl (subst (λ (l : Limits). StoreMatches (medium new.disk) new (state_after (past_of l before)) (before.waiting ++ e ∷ []))
+              (sym limits) (matches (state_after (past_of old.machine.limits before)) before.waiting goes));
           count = confirmed ∙ keeps.count;
         };
       }
@@ -135,20 +134,20 @@ module _ {D : Type 0} (medium : D → Medium) (law : (d : D) (image : Image) →
       (moments : (base : State) (pending : List PlainEvent) → StoreMatches (medium old.disk) old base pending
       → EachImageSince (medium old.disk) (medium new.disk) (StandsForEither old.machine.limits base (run old.machine.limits base pending).state)) where
     since : (before : History) → IsRunning (medium old.disk) old before
-        → EachImageSince (medium old.disk) (medium new.disk) (StandsForPrefix old.machine.limits (acknowledged before) before.waiting)
+        → EachImageSince (medium old.disk) (medium new.disk) (StandsForPrefix (past_of old.machine.limits before) before.waiting)
     since before goes =
-        let base : State = state_after old.machine.limits (acknowledged before) in
+        let base : State = state_after (past_of old.machine.limits before) in
         EachImageSince-weaken (medium old.disk) (medium new.disk)
         (StandsForEither old.machine.limits base (run old.machine.limits base before.waiting).state)
-        (StandsForPrefix old.machine.limits (acknowledged before) before.waiting) (moments base before.waiting goes)
-        (keeps-either old.machine.limits (acknowledged before) before.waiting)
+        (StandsForPrefix (past_of old.machine.limits before) before.waiting) (moments base before.waiting goes)
+        (keeps-either (past_of old.machine.limits before) before.waiting)
 
     crash-since : (before : History) → IsRunning (medium old.disk) old before
-        → EachImageSince (medium old.disk) (medium new.disk) (StandsForPrefix old.machine.limits (acknowledged before) (before.waiting ++ []))
+        → EachImageSince (medium old.disk) (medium new.disk) (StandsForPrefix (past_of old.machine.limits before) (before.waiting ++ []))
     crash-since before goes =
-        EachImageSince-weaken (medium old.disk) (medium new.disk) (StandsForPrefix old.machine.limits (acknowledged before) before.waiting)
-        (StandsForPrefix old.machine.limits (acknowledged before) (before.waiting ++ [])) (since before goes)
-        (keeps-more old.machine.limits (acknowledged before) before.waiting [])
+        EachImageSince-weaken (medium old.disk) (medium new.disk) (StandsForPrefix (past_of old.machine.limits before) before.waiting)
+        (StandsForPrefix (past_of old.machine.limits before) (before.waiting ++ [])) (since before goes)
+        (keeps-more (past_of old.machine.limits before) before.waiting [])
 
     -- a commit
     pub takes-all : new.confirmed ≡ old.confirmed + old.waiting
@@ -157,17 +156,17 @@ module _ {D : Type 0} (medium : D → Medium) (law : (d : D) (image : Image) →
         → Takes medium old [] new
     takes-all confirmed matches before keeps =
         let goes = going (medium old.disk) old before keeps going-on in
-        let base : State = state_after old.machine.limits (acknowledged before) in
-        let state : (run old.machine.limits base before.waiting).state ≡ state_after old.machine.limits (acknowledged (confirmed-all before)) =
-        sym (run-parts old.machine.limits start (acknowledged before) before.waiting)
-        ∙ ap (λ (es : List PlainEvent). state_after old.machine.limits es) (sym (acknowledged-all before)) in
+        let base : State = state_after (past_of old.machine.limits before) in
+        let state : (run old.machine.limits base before.waiting).state ≡ state_after (past_of old.machine.limits (confirmed-all before)) =
+        sym (run-parts old.machine.limits before.base (acknowledged before) before.waiting)
+        ∙ ap (λ (es : List PlainEvent). (run old.machine.limits before.base es).state) (sym (acknowledged-all before)) in
         record {
           crash = crash-since before goes;
           limits = limits;
           after = confirmed-all before;
           follows = follows-all before;
           keeps = record {
-            stands = inl (subst (λ (l : Limits). StoreMatches (medium new.disk) new (state_after l (acknowledged (confirmed-all before))) []) (sym limits)
+            stands = inl (subst (λ (l : Limits). StoreMatches (medium new.disk) new (state_after (past_of l (confirmed-all before))) []) (sym limits)
                 (subst (λ (s : State). StoreMatches (medium new.disk) new s []) state (matches base before.waiting goes)));
             count = omega (arith, confirmed, keeps.count, goes.waits.count, length-append before.confirmed before.waiting);
           };
@@ -187,8 +186,8 @@ module _ {D : Type 0} (medium : D → Medium) (law : (d : D) (image : Image) →
             stands = inr (record {
               stopped = stopped;
               honest = honest goes.device.honest;
-              left = λ image now. subst (λ (l : Limits). StandsForPrefix l (acknowledged before) before.waiting image) (sym limits)
-                  (EachImageSince-now (medium old.disk) (medium new.disk) (StandsForPrefix old.machine.limits (acknowledged before) before.waiting)
+              left = λ image now. subst (λ (l : Limits). StandsForPrefix (past_of l before) before.waiting image) (sym limits)
+                  (EachImageSince-now (medium old.disk) (medium new.disk) (StandsForPrefix (past_of old.machine.limits before) before.waiting)
                   (since before goes) (honest goes.device.honest) image now);
             });
             count = confirmed ∙ keeps.count;
@@ -229,22 +228,26 @@ module _ (before mid : History) (events others : List PlainEvent) (first : Follo
       ∙ first.accepts ∙ append_assoc (acknowledged before) before.waiting events)
 
   -- so what keeps some of the events then keeps some of all of them
-  keeps-since : (limits : Limits) (image : Image) → StandsForPrefix limits (acknowledged mid) (mid.waiting ++ others) image
-      → StandsForPrefix limits (acknowledged before) (before.waiting ++ (events ++ others)) image
-  keeps-since limits image is = record {
-    kept = first.more ++ is.kept;
-    lost = is.lost;
-    prefix =
-        append_assoc first.more is.kept is.lost ∙ ap (λ (es : List PlainEvent). first.more ++ es) is.prefix
-        ∙ sym (append_assoc first.more mid.waiting others) ∙ ap (λ (es : List PlainEvent). es ++ others) waiting-more
-        ∙ append_assoc before.waiting events others;
-    stands = subst (λ (es : List PlainEvent). StandsFor limits (state_after limits es) image)
-        (ap (λ (es : List PlainEvent). es ++ is.kept) acknowledged-more ∙ append_assoc (acknowledged before) first.more is.kept) is.stands;
-  }
+  keeps-since : (limits : Limits) (image : Image) → StandsForPrefix (past_of limits mid) (mid.waiting ++ others) image
+      → StandsForPrefix (past_of limits before) (before.waiting ++ (events ++ others)) image
+  keeps-since limits image is =
+      let again : acknowledged mid ++ is.kept ≡ acknowledged before ++ (first.more ++ is.kept) =
+      ap (λ (es : List PlainEvent). es ++ is.kept) acknowledged-more ∙ append_assoc (acknowledged before) first.more is.kept in
+      record {
+        kept = first.more ++ is.kept;
+        lost = is.lost;
+        prefix =
+            append_assoc first.more is.kept is.lost ∙ ap (λ (es : List PlainEvent). first.more ++ es) is.prefix
+            ∙ sym (append_assoc first.more mid.waiting others) ∙ ap (λ (es : List PlainEvent). es ++ others) waiting-more
+            ∙ append_assoc before.waiting events others;
+        stands = subst (λ (p : Past). StandsFor limits (state_after p) image)
+            (λ i. record { limits = limits; base = first.base i; events = again i }) is.stands;
+      }
 
   -- the history goes on over both
   follows-both : (after : History) → Follows mid others after → Follows before (events ++ others) after
   follows-both after next = record {
+    base = next.base ∙ first.base;
     found = next.found ∙ first.found;
     accepts = next.accepts ∙ ap (λ (es : List PlainEvent). es ++ others) first.accepts ∙ append_assoc (accepted before) events others;
     more = first.more ++ next.more;
@@ -260,19 +263,19 @@ takes-both medium first mid last events others takes then before keeps =
     let one = takes before keeps in
     let two = then one.after one.keeps in
     let limits : Limits = first.machine.limits in
-    let acked : List PlainEvent = acknowledged before in
-    let P : Image → Type 0 = StandsForPrefix limits acked (before.waiting ++ (events ++ others)) in
-    let front : (image : Image) → StandsForPrefix limits acked (before.waiting ++ events) image → P image =
-    λ image is. subst (λ (es : List PlainEvent). StandsForPrefix limits acked es image) (append_assoc before.waiting events others)
-    (keeps-more limits acked (before.waiting ++ events) others image is) in
-    let back : (image : Image) → StandsForPrefix mid.machine.limits (acknowledged one.after) (one.after.waiting ++ others) image → P image =
+    let past : Past = past_of limits before in
+    let P : Image → Type 0 = StandsForPrefix past (before.waiting ++ (events ++ others)) in
+    let front : (image : Image) → StandsForPrefix past (before.waiting ++ events) image → P image =
+    λ image is. subst (λ (es : List PlainEvent). StandsForPrefix past es image) (append_assoc before.waiting events others)
+    (keeps-more past (before.waiting ++ events) others image is) in
+    let back : (image : Image) → StandsForPrefix (past_of mid.machine.limits one.after) (one.after.waiting ++ others) image → P image =
     λ image is. keeps-since before one.after events others one.follows limits image
-    (subst (λ (l : Limits). StandsForPrefix l (acknowledged one.after) (one.after.waiting ++ others) image) one.limits is) in
+    (subst (λ (l : Limits). StandsForPrefix (past_of l one.after) (one.after.waiting ++ others) image) one.limits is) in
     record {
       crash = EachImageSince-join (medium first.disk) (medium mid.disk) (medium last.disk) P
-          (EachImageSince-weaken (medium first.disk) (medium mid.disk) (StandsForPrefix limits acked (before.waiting ++ events)) P one.crash front)
+          (EachImageSince-weaken (medium first.disk) (medium mid.disk) (StandsForPrefix past (before.waiting ++ events)) P one.crash front)
           (EachImageSince-weaken (medium mid.disk) (medium last.disk)
-          (StandsForPrefix mid.machine.limits (acknowledged one.after) (one.after.waiting ++ others)) P two.crash back);
+          (StandsForPrefix (past_of mid.machine.limits one.after) (one.after.waiting ++ others)) P two.crash back);
       limits = two.limits ∙ one.limits;
       after = two.after;
       follows = follows-both before one.after events others one.follows two.after two.follows;

@@ -1,12 +1,11 @@
 -- What the life of a store leaves on its disk, and what the next open finds there. A life may end at any moment, and so
 -- may an open.
 use Rattle.std.specs.Prelude.{◌≡◌, List, ◌++◌}
-use Rattle.ipc_base.specs.declared.limits.Limits.{Limits}
 use Rattle.ipc_disk.specs.Medium.{Image, Medium, IsHonest}
 use Rattle.ipc_disk.specs.Since.{EachImageSince}
 use Rattle.ipc_state.specs.State.{State, restart}
 use Rattle.ipc_engine.specs.Event.{PlainEvent}
-use Rattle.ipc_store.specs.Histories.{state_after, reopened, Keeps}
+use Rattle.ipc_store.specs.Histories.{Past, grown, reopened, state_after, Keeps}
 use Rattle.ipc_store.specs.Image.{StandsFor}
 use Rattle.ipc_store.specs.View.{StoreView}
 use Rattle.ipc_store.specs.Relations.Matches.{OpensTo}
@@ -27,32 +26,32 @@ pub data StoppedOpens {D : Type 0} (medium : D → Medium) (disk : D) : D → Ty
       → IsLeft (medium before) (medium after) (medium left) → StoppedOpens medium disk left
 
 -- the disk stands for the state after these events
-pub record StandsAfter (limits : Limits) (events : List PlainEvent) (medium : Medium) : Type 0 where
+pub record StandsAfter (past : Past) (medium : Medium) : Type 0 where
   pub honest : IsHonest medium
-  pub stands : (image : Image) → medium.images_now image → StandsFor limits (state_after limits events) image
+  pub stands : (image : Image) → medium.images_now image → StandsFor past.limits (state_after past) image
 
--- The image stands for the state after the acknowledged events and some of the others, from the first on; or for what a
+-- The image stands for the state after these events and some of the others, from the first on; or for what a
 -- restart makes of that state.
-pub record ReopensTo (limits : Limits) (acked others : List PlainEvent) (image : Image) : Type 0 where
+pub record ReopensTo (past : Past) (others : List PlainEvent) (image : Image) : Type 0 where
   pub kept : List PlainEvent
   pub lost : List PlainEvent
   pub prefix : kept ++ lost ≡ others
   pub state : State
-  pub stands : StandsFor limits state image
-  pub same : restart state ≡ restart (state_after limits (acked ++ kept))
+  pub stands : StandsFor past.limits state image
+  pub same : restart state ≡ restart (state_after (grown past kept))
 
 -- So does each image that a crash now may leave. They need not all have kept the same events.
-pub record Rests (limits : Limits) (acked others : List PlainEvent) (medium : Medium) : Type 0 where
+pub record Rests (past : Past) (others : List PlainEvent) (medium : Medium) : Type 0 where
   pub honest : IsHonest medium
-  pub left : (image : Image) → medium.images_now image → ReopensTo limits acked others image
+  pub left : (image : Image) → medium.images_now image → ReopensTo past others image
 
--- What an open finds: the acknowledged events and some of the others, from the first on. They are the history of the
+-- What an open finds: these events and some of the others, from the first on. They are the history of the
 -- store, and a restart; its machine is in the state after them.
-pub record Found {D : Type 0} (limits : Limits) (acked others : List PlainEvent) (medium : Medium)
-    (store : StoreView D) : Type 0 where
+pub record Found {D : Type 0} (past : Past) (others : List PlainEvent) (medium : Medium) (store : StoreView D)
+    : Type 0 where
   pub kept : List PlainEvent
   pub lost : List PlainEvent
   pub prefix : kept ++ lost ≡ others
-  pub under : store.machine.limits ≡ limits
-  pub state : store.machine.state ≡ restart (state_after limits (acked ++ kept))
-  pub keeps : Keeps medium store (reopened (acked ++ kept))
+  pub under : store.machine.limits ≡ past.limits
+  pub state : store.machine.state ≡ restart (state_after (grown past kept))
+  pub keeps : Keeps medium store (reopened (grown past kept))

@@ -6,7 +6,7 @@ ghost use Rattle.ipc_disk.specs.Medium.{Image};
 ghost use Rattle.ipc_state.specs.State.{State};
 ghost use Rattle.ipc_engine.specs.Event.{PlainEvent};
 ghost use Rattle.ipc_store.specs.Batch.{batch_bytes, AreBatch};
-ghost use Rattle.ipc_store.specs.Histories.{History, acknowledged, reopened, Keeps, Takes, OpensOn};
+ghost use Rattle.ipc_store.specs.Histories.{History, Past, past_of, reopened, Keeps, Takes, OpensOn};
 ghost use Rattle.ipc_store.specs.Image.{StandsFor};
 ghost use Rattle.ipc_store.specs.Lives.{IsLeft, StoppedOpens, StandsAfter, Rests, Found};
 ghost use Rattle.ipc_store.specs.View.{StoreView};
@@ -31,25 +31,26 @@ pub fn a_stop_leaves_what_was_acknowledged<D: SectorDisk>()
     ensures { (last next : StoreView D) (before : History) (events : List PlainEvent) (left : D)
         → Keeps (D.medium last.disk) last before → Takes D.medium last events next
         → IsLeft (D.medium last.disk) (D.medium next.disk) (D.medium left)
-        → Rests last.machine.limits (acknowledged before) (before.waiting ++ events) (D.medium left) }
+        → Rests (past_of last.machine.limits before) (before.waiting ++ events) (D.medium left) }
 {}
 
 /// On a disk that such a stop has left, after any number of opens that were stopped too, an open
-/// finds what was acknowledged, and some of the other events, from the first on.
+/// finds what was acknowledged, and some of the other events, from the first on. Opens that are
+/// stopped leave that.
 pub fn an_open_finds_what_was_acknowledged<D: SectorDisk>()
-    ensures { (limits : Limits) (acked others : List PlainEvent) (left disk : D) (opened : StoreView D)
-        → Rests limits acked others (D.medium left) → StoppedOpens D.medium left disk
+    ensures rests { (past : Past) (others : List PlainEvent) (left disk : D) → Rests past others (D.medium left)
+        → StoppedOpens D.medium left disk → Rests past others (D.medium disk) }
+    ensures found { (past : Past) (others : List PlainEvent) (left disk : D) (opened : StoreView D)
+        → Rests past others (D.medium left) → StoppedOpens D.medium left disk
         → OpensOn (D.medium disk).contents (D.medium opened.disk) opened
-        → Found limits acked others (D.medium opened.disk) opened }
+        → Found past others (D.medium opened.disk) opened }
 {}
 
 /// A disk that stands for the state after some events is such a disk: an open finds these events,
 /// and they are the history of its store.
 pub fn an_open_finds_what_stands_there<D: SectorDisk>()
-    ensures rests { (limits : Limits) (events : List PlainEvent) (disk : D)
-        → StandsAfter limits events (D.medium disk) → Rests limits events [] (D.medium disk) }
-    ensures keeps { (limits : Limits) (events : List PlainEvent) (disk : D) (opened : StoreView D)
-        → StandsAfter limits events (D.medium disk)
+    ensures rests { (past : Past) (disk : D) → StandsAfter past (D.medium disk) → Rests past [] (D.medium disk) }
+    ensures keeps { (past : Past) (disk : D) (opened : StoreView D) → StandsAfter past (D.medium disk)
         → OpensOn (D.medium disk).contents (D.medium opened.disk) opened
-        → Keeps (D.medium opened.disk) opened (reopened events) }
+        → Keeps (D.medium opened.disk) opened (reopened past) }
 {}

@@ -8,7 +8,7 @@ ghost use Rattle.ipc_disk.specs.Memory.{memory_medium};
 ghost use Rattle.ipc_engine.specs.Event.{PlainEvent};
 ghost use Rattle.ipc_image.specs.Sizes.{need_of};
 ghost use Rattle.ipc_state.specs.State.{start};
-ghost use Rattle.ipc_store.specs.Histories.{Keeps, OpensOn, reopened};
+ghost use Rattle.ipc_store.specs.Histories.{Keeps, OpensOn, Past, new_past, reopened};
 ghost use Rattle.ipc_store.specs.Image.{IsNotFormatted, HasVersion, IsDamaged};
 ghost use Rattle.ipc_store.specs.Image.{IsFirstFault, IsAtEnd};
 ghost use Rattle.ipc_store.specs.Lives.{StandsAfter};
@@ -39,7 +39,8 @@ pub fn new_store(alloc: Global, limits: &Limits) -> Result<Store<MemoryDisk>, Fa
     ensures state { IfOk result (λ store. store.machine.state ≡ start) }
     ensures confirmed { IfOk result (λ store. store.confirmed ≡ 1) }
     // No event was there before: its history begins with the restart.
-    ensures history { IfOk result (λ store. Keeps (memory_medium store.disk) store (reopened [])) }
+    ensures history { IfOk result (λ store. Keeps (memory_medium store.disk) store
+        (reopened (new_past limits.now))) }
     ensures named { IfErr result (λ fault. (error : OpenError) × (fault ≡ of_open_error error)) }
 {
     let Ok(mut memory) = MemoryDisk::new(alloc, need(limits)) else {
@@ -55,9 +56,8 @@ pub fn open_store<D: SectorDisk + Drop>(alloc: Global, disk: D) -> Result<Store<
         → OpensOn (D.medium disk).contents (D.medium store.disk) store) }
     ensures confirmed { IfOk result (λ store. store.confirmed ≡ 1) }
     // If the disk stands for the state after some events, they are the history, and then the restart.
-    ensures history { IfOk result (λ store. (limits : Limits) (events : List PlainEvent)
-        → StandsAfter limits events (D.medium disk)
-        → Keeps (D.medium store.disk) store (reopened events)) }
+    ensures history { IfOk result (λ store. (past : Past) → StandsAfter past (D.medium disk)
+        → Keeps (D.medium store.disk) store (reopened past)) }
     ensures named { IfErr result (λ fault. (error : OpenError) × (fault ≡ of_open_error error)) }
     ensures not_formatted { IfErr result (λ fault. fault ≡ Run NotFormatted → IsHonest (D.medium disk)
         → IsNotFormatted (D.medium disk).contents) }

@@ -5,13 +5,12 @@ use Rattle.ipc_disk.specs.Medium.{Image, Medium, IsHonest}
 use Rattle.ipc_engine.specs.Event.{PlainEvent, Restart}
 use Rattle.ipc_store.specs.Histories.{OpensOn, Takes}
 use Rattle.ipc_store.specs.Lives.{IsLeft}
-use Rattle.ipc_store.specs.Lives.StoppedOpens.{None as no_open}
 use Rattle.ipc_store.specs.View.{StoreView}
 use Rattle.ipc_hub.specs.Clients.{Clients, no_clients, tick}
 use Rattle.ipc_hub.specs.Lives.{Life, Lives, Serving, life_of}
 use Rattle.ipc_hub.specs.Lives.ClientCall.{Ticks as to_tick, Stays as to_stay}
 use Rattle.ipc_hub.specs.Lives.HubCall.{Serves as call_serves, Still}
-use Rattle.ipc_hub.specs.Lives.Lives.{First, Next}
+use Rattle.ipc_hub.specs.Lives.Rested.{Begun, Lived}
 use Rattle.ipc_hub.specs.Lives.Serving.{New, Call}
 use Rattle.ipc_hub.specs.Relations.Matches.{Serves, StoredMatches}
 use Rattle.ipc_hub.specs.View.{StoredHub}
@@ -40,6 +39,9 @@ module _ {D : Type 0} (medium : D → Medium) (limits : Limits) (disk left : D) 
       Call ticked last now now [] timed
       (call_serves now to_stay (record { matches = still limits now came.matches; events = []; adds = sym (append-nil now.events); takes = takes })) in (
         life_of opened last now [],
-        Next [] opened store last last now now [] left left (First disk opened no_open opens) lasts
-            (Still now to_stay refl refl (λ confirmed m. m)) (is-left honest is) no_open again,
+        record {
+          left = left;
+          rested = Lived [] disk opened last last now now [] left Begun opens lasts (Still now to_stay refl refl (λ confirmed m. m)) (is-left honest is);
+          opens = again;
+        },
       )

@@ -5,7 +5,7 @@ ghost use Rattle.ipc_base.specs.declared.limits.Limits.{Limits};
 ghost use Rattle.ipc_disk.specs.Medium.{Image};
 ghost use Rattle.ipc_disk.specs.Memory.{memory_medium};
 ghost use Rattle.ipc_disk.specs.declared.memory.MemoryDisk.{MemoryDisk};
-ghost use Rattle.ipc_store.specs.Histories.{state_after};
+ghost use Rattle.ipc_store.specs.Histories.{Past, new_past, state_after};
 ghost use Rattle.ipc_store.specs.Image.{StandsFor};
 ghost use Rattle.ipc_store.specs.View.{StoreView};
 ghost use Rattle.ipc_hub.specs.Lives.{HasHistory, Life, Lives};
@@ -19,11 +19,11 @@ use std::alloc::Global;
 /// A disk in memory is honest, whatever calls led to it. So of lives on one that was made a device
 /// the law asks nothing more.
 pub fn lives_in_memory()
-    ensures { (limits : Limits) (disk : MemoryDisk) (lives : List Life) (opened : StoreView MemoryDisk)
+    ensures { (past : Past) (disk : MemoryDisk) (lives : List Life) (opened : StoreView MemoryDisk)
         → ((image : Image) → (memory_medium disk).images_now image
-        → StandsFor limits (state_after limits []) image)
-        → Lives memory_medium limits disk lives opened
-        → HasHistory (memory_medium opened.disk) limits [] lives opened }
+        → StandsFor past.limits (state_after past) image)
+        → Lives memory_medium past.limits disk lives opened
+        → HasHistory (memory_medium opened.disk) past lives opened }
 {
     no_answer_is_taken_back::<MemoryDisk>();
     disks_in_memory_are_honest();
@@ -38,7 +38,7 @@ pub fn one_life(
     moment: Moment,
 ) -> Option<Store<MemoryDisk>>
     ensures { IfSome result (λ store. (life : Life)
-        × HasHistory (memory_medium store.disk) limits.now [] (life ∷ []) store) }
+        × HasHistory (memory_medium store.disk) (new_past limits.now) (life ∷ []) store) }
 {
     no_answer_is_taken_back::<MemoryDisk>();
     disks_in_memory_are_honest();

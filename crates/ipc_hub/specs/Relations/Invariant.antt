@@ -8,7 +8,7 @@ use Rattle.ipc_wire.specs.Stream.{first}
 use Rattle.ipc_wire.specs.Stream.PlainFrame.{More}
 use Rattle.ipc_state.specs.State.{State, is_process}
 use Rattle.ipc_engine.specs.Bytes.{most_owed}
-use Rattle.ipc_hub.specs.View.{ConnectionView, HubView, StoredHub, HasNoFrame, kept}
+use Rattle.ipc_hub.specs.View.{ConnectionView, HubView, StoredHub, HasFewFrames, ahead, kept}
 use Rattle.ipc_hub.specs.Relations.Delivery.{last_frames, owed_to, released, HasSpaceFor, HasSpare}
 use Rattle.ipc_hub.specs.Relations.Rows.{Table, is_open_in, process_in}
 
@@ -24,14 +24,14 @@ pub record AreOwn (s : State) (table : Table) : Type 0 where
 
 -- The bytes kept of a request are no whole frame. There is room for what the process is owed, and behind it for the
 -- frames that may still be the last: both, or one where the server has ended the connection, which has no process then.
--- The most that a process is owed, the longest reply and both have room in an empty outbox, so that this always takes a
--- request.
+-- The most that a process is owed, the longest reply and both have room in an outbox that keeps a little, so that this
+-- always takes a request.
 pub record IsSoundConnection (limits : Limits) (owed : Option ℕ → ℕ) (c : ConnectionView) : Type 0 where
   pub input : first c.input ≡ More
   pub last : c.ended ≡ false → owed c.process + last_frames ≤ c.outbox.free
   pub over : c.ended ≡ true → c.process ≡ None
   pub spare : HasSpare c
-  pub size : most_owed limits + longest_reply limits + last_frames ≤ length (kept c.outbox) + c.outbox.free
+  pub size : ahead + most_owed limits + longest_reply limits + last_frames ≤ length (kept c.outbox) + c.outbox.free
 
 -- the same in a hub, of what it owes
 abbrev pub IsSoundIn : HubView → ConnectionView → Type 0
@@ -44,7 +44,7 @@ pub record IsNew (replies : ℕ) (c : ConnectionView) : Type 0 where
   pub ended : c.ended ≡ false
   pub visible : c.outbox.visible ≡ []
   pub waiting : c.outbox.waiting ≡ []
-  pub space : replies + last_frames ≤ c.outbox.free
+  pub space : ahead + replies + last_frames ≤ c.outbox.free
 
 pub record HubInvariant (h : HubView) : Type 0 where
   pub own : AreOwn h.state h.connections
@@ -68,10 +68,10 @@ abbrev pub SameButSeen : HubView → HubView → Type 0
 SameButSeen old new =
     (new.connections ≡ old.connections) ⊎ (new.connections ≡ seen_as released old.connections)
 
--- Time has passed: no connection goes on that did not before, and in one that kept no frame a request has room.
+-- Time has passed: no connection goes on that did not before, and in one that kept a little a request has room.
 pub record HasPassed (old new : HubView) : Type 0 where
   pub ended : (conn : ℕ) → is_open_in old.connections conn ≡ false → is_open_in new.connections conn ≡ false
-  pub space : (conn : ℕ) → HasNoFrame old conn → HasSpaceFor new (longest_reply new.limits) conn
+  pub space : (conn : ℕ) → HasFewFrames old conn → HasSpaceFor new (longest_reply new.limits) conn
 
 -- the process, if there is one, is connected
 abbrev pub IsConnected : State → Option ℕ → Type 0

@@ -1,4 +1,4 @@
-use Rattle.std.proofs.Common.{Err, [], ◌≡◌, ◌<◌, ◌^◌, ◌∙◌, ℕ, ap, length, arith}
+use Rattle.std.proofs.Common.{Err, ◌≡◌, ◌<◌, ◌^◌, ◌∙◌, ℕ, ap, length, arith}
 use Rattle.ipc_base.specs.declared.limits.Limits.{Limits}
 use Rattle.ipc_disk.specs.declared.memory.MemoryDisk.{MemoryDisk}
 use Rattle.ipc_disk.specs.Medium.{Medium, IsHonest, Image}
@@ -7,7 +7,7 @@ use Rattle.std.proofs.lemmas.Result.{IfOk-weaker, err_from_is_err_and}
 use Rattle.ipc_disk.specs.Memory.{memory_medium, memory_size}
 use Rattle.ipc_disk.specs.declared.memory.Slot.{Slot}
 use Rattle.ipc_state.specs.State.{start, restart}
-use Rattle.ipc_store.specs.Histories.{OpensOn}
+use Rattle.ipc_store.specs.Histories.{OpensOn, new_past}
 use Rattle.ipc_store.specs.Image.{StandsFor}
 use Rattle.ipc_store.specs.View.{StoreView}
 use Rattle.ipc_store.proofs.CallerLemmas.{StandsFor-one}
@@ -62,5 +62,5 @@ returns-clause-history c =
     let disk = c.format.new.disk in
     let honest : IsHonest (memory_medium disk) = c.format.ensures.same.honest.0 c.in-Ok.ensures.honest in
     IfOk-weaker c.open_store.result _ _
-    (λ store keeps. keeps c.args.limits.now [] (record { honest = honest; stands = c.in_ok-format.ensures.ok c.in-Ok.ensures.honest }))
+    (λ store keeps. keeps (new_past c.args.limits.now) (record { honest = honest; stands = c.in_ok-format.ensures.ok c.in-Ok.ensures.honest }))
     c.open_store.ensures.history

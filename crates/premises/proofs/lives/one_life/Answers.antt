@@ -6,6 +6,7 @@ use Rattle.ipc_disk.specs.Memory.{memory_medium, memory_size}
 use Rattle.ipc_disk.specs.declared.memory.MemoryDisk.{MemoryDisk}
 use Rattle.ipc_disk.specs.declared.memory.Slot.{Slot}
 use Rattle.ipc_engine.specs.Event.{Restart}
+use Rattle.ipc_store.specs.Histories.{new_past}
 use Rattle.ipc_store.proofs.CallerLemmas.{StandsFor-one}
 use Rattle.ipc_hub.specs.Clients.{no_clients}
 use Rattle.ipc_hub.specs.Relations.Matches.{StoredMatches}
@@ -37,5 +38,6 @@ returns-in-Ok-open-2 c =
     (honest c.release.new.self.store.disk) (c.close-2.ensures.disk ∙ ap (λ s. s.disk) c.close.ensures.store)
     (c.in-Ok-open-2.ensures.ok (honest left)) in (
       life.0,
-      c.no_answer_is_taken_back.ensures limits [] disk (life.0 ∷ []) c.in-Ok-open-2.store (record { honest = honest disk; stands = stands }) life.1,
+      c.no_answer_is_taken_back.ensures.history (new_past limits) disk (life.0 ∷ []) c.in-Ok-open-2.store
+          (record { honest = honest disk; stands = stands }) life.1,
     )
