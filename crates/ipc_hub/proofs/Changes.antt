@@ -24,7 +24,7 @@ use Rattle.ipc_hub.specs.Relations.Invariant.{IsSoundConnection, IsSoundIn, IsNe
 use Rattle.ipc_hub.specs.Relations.Matches.{IsFrame, ClientMatches, HubMatches, AreFrames}
 use Rattle.ipc_hub.proofs.Deliveries.{confirmed-weaker, IsOf, all-confirmed, confirmed-short}
 use Rattle.ipc_hub.proofs.Deliveries.{consumed-bytes, consumed-shown, consumed-all, table-matches, frames-later}
-use Rattle.ipc_hub.proofs.Keeping.{seen-same, table-invariant, by-changed, changed-keys, changed-invariant, at-changed}
+use Rattle.ipc_hub.proofs.Keeping.{seen-same, table-invariant, by-changed, changed-invariant, at-changed}
 use Rattle.ipc_hub.proofs.Ending.{change-matches, pair-at}
 use Rattle.std.proofs.lemmas.Bool.Decides.{nat_tests}
 use Rattle.std.proofs.lemmas.Grind.{flat_map-append}
@@ -226,11 +226,9 @@ consume-matches limits confirmed old new h conn n m within same state rows =
 
 pub consumed-stands : {D : Type 0} (v : StoredHub D) (conn n : ℕ) → n ≤ length (output_of v.hub conn) → StoredInvariant v
     → StoredInvariant (record v { hub = record (v.hub) { connections = changed (consumed n) conn v.hub.connections } })
-consumed-stands v conn n within inv = record {
-  rising = rw (changed-keys (consumed n) conn v.hub.connections) inv.rising;
-  running = λ on. changed-invariant v.hub conn (consumed n) (inv.running on)
-      (λ c is k. (λ pid mine. mine, consumed-kept v.hub.limits (owed_to v.hub.limits v.hub.state) c n (rw is at within) k));
-}
+consumed-stands v conn n within inv on =
+    changed-invariant v.hub conn (consumed n) (inv on)
+    (λ c is k. (λ pid mine. mine, consumed-kept v.hub.limits (owed_to v.hub.limits v.hub.state) c n (rw is at within) k))
 
 pub consumed-output : (table : Table) (conn n : ℕ) → output_in (changed (consumed n) conn table) conn ≡ drop n (output_in table conn)
 consumed-output table conn n =

@@ -14,7 +14,7 @@ use Rattle.ipc_hub.specs.Clients.{accepted}
 use Rattle.ipc_hub.specs.View.{StoredHub, HasStopped, most_events}
 use Rattle.ipc_hub.specs.Relations.Delivery.{released, failed, HasSpare}
 use Rattle.ipc_hub.specs.Relations.Faults.{Fails, Halts, Settles}
-use Rattle.ipc_hub.specs.Relations.Invariant.{IsSoundIn, HubInvariant, StoredInvariant}
+use Rattle.ipc_hub.specs.Relations.Invariant.{IsSoundIn, StoredInvariant}
 use Rattle.ipc_hub.specs.Relations.Matches.{Adds}
 use Rattle.ipc_hub.specs.Relations.Rows.{Table, hub_view, stored_view}
 use Rattle.ipc_hub.proofs.Keeping.{each-weaker}
@@ -54,7 +54,7 @@ module _ {D : Type 0} {old : StoreView D} {before : Table} (v : StoredHub D) (is
   goes = ap (λ w. w.store.stopped) is ∙ going v left
 
   pub told-spare : StoredInvariant (stored_view old before) → EachValue HasSpare before
-  told-spare inv = each-weaker (IsSoundIn (hub_view old.machine before)) HasSpare before (λ c k. k.spare) (inv.running goes).each
+  told-spare inv = each-weaker (IsSoundIn (hub_view old.machine before)) HasSpare before (λ c k. k.spare) (inv goes).each
 
 -- the frames that waited are seen, or they are dropped
 abbrev pub Told : Table → Table → Result ⊤ CommitError → Type 0
@@ -65,11 +65,8 @@ module _ {D : Type 0} {medium : D → Medium} {counts : D → Counts} {old new :
     (is : stored_view old before ≡ v) (left : ¬ HasStopped v) (inv : StoredInvariant (stored_view old before)) where
   pub told-stands : (done : Result ⊤ CommitError) → Wrote medium counts old new done → Told before after done → StoredInvariant (stored_view new after)
   told-stands (Ok _) w told =
-      let still : HubInvariant (hub_view new.machine after) =
-      rw (w.commits.machine, told.0) (released-invariant (hub_view old.machine before) (inv.running (goes v is left))) in
-      record { rising = still.rising; running = λ _. still }
-  told-stands (Err e) w told =
-      record { rising = rw told.1 (rw (keys-map failed before) inv.rising); running = λ on. let never : true ≡ false = sym w.commits.stops ∙ on in cc }
+      λ _. rw (w.commits.machine, told.0) (released-invariant (hub_view old.machine before) (inv (goes v is left)))
+  told-stands (Err e) w told = λ on. let never : true ≡ false = sym w.commits.stops ∙ on in cc
 
   fails : (e : CommitError) → Wrote medium counts old new (Err e) → after ≡ seen_as failed before
       → Fails medium (stored_view old before) (stored_view new after)

@@ -1,7 +1,7 @@
 -- The server ends a connection: what it is then, step by step over its rows, and what is the definitions' end of it.
 use Rattle.std.proofs.Common.{◌≡◌, ◌≤◌, ℕ, true, false, [], ◌++◌, Option, Some, None, refl, sym, ◌∙◌, subst, append-nil, arith}
 use Rattle.std.proofs.Common.{ap, ◌⊎◌, inl, inr, rules}
-use Rattle.std.specs.Prelude.{nat_eq, IfSome}
+use Rattle.std.specs.Prelude.{length, nat_eq, IfSome}
 use Rattle.ipc_base.specs.Table.{value_at, with_value, keys_of}
 use Rattle.ipc_base.specs.declared.errno.Errno.TheVariants.{EPROTO}
 use Rattle.ipc_base.specs.declared.limits.Limits.{Limits}
@@ -26,6 +26,11 @@ pub leave-adds : {E : Type 0} (kind : Endpoint E) (limits : Limits) (h : Hub E) 
     → (leave kind limits h p moment).events ≡ h.events ++ exit_of p moment
 leave-adds kind limits h None moment = sym (append-nil h.events)
 leave-adds kind limits h (Some pid) moment = refl
+
+-- it is one, if there is a process
+pub exit-few : (p : Option ℕ) (moment : ℕ) → length (exit_of p moment) ≤ 1
+exit-few None moment = omega arith
+exit-few (Some pid) moment = omega arith
 
 -- a hub of which the process of a connection has left
 left-becomes : (old new : HubView) (p : Option ℕ) (moment : ℕ) → Left old new p moment → Becomes old new (leave view_endpoint old.limits (hub_of old) p moment)

@@ -26,16 +26,16 @@ use Rattle.ipc_hub.specs.Relations.Delivery.{closed, last_frame, owed_to, unansw
 use Rattle.ipc_hub.specs.Relations.Delivery.{put_all, hears, answered as answered-by, with_answer, HasSpaceToAnswer}
 use Rattle.ipc_hub.specs.Relations.Delivery.{view_endpoint}
 use Rattle.ipc_hub.specs.Relations.Invariant.{AreApart, IsSoundConnection, IsSoundIn, Continues}
-use Rattle.ipc_hub.specs.Relations.Matches.{ClientMatches, Follows, Pends, TakesIn}
-use Rattle.ipc_hub.specs.Relations.Requests.{IsRequest, Steps, ComesTo, exit_of, taken_off, Received, Took, Waits}
+use Rattle.ipc_hub.specs.Relations.Matches.{Adds, ClientMatches, Follows, Pends, TakesIn}
+use Rattle.ipc_hub.specs.Relations.Requests.{HasAccepted, IsRequest, Steps, ComesTo, exit_of, taken_off, Received, Took, Waits}
 use Rattle.ipc_hub.proofs.Rows.{process_of}
 use Rattle.ipc_hub.proofs.Deliveries.{Matching, Since, matching-kept, matching-push, as-related, as-matches, all-pass, under-own}
 use Rattle.ipc_hub.proofs.Keeping.{at-changed, change-invariant, changed-keys, heard-same, pushed-frame, kept-pushed}
 use Rattle.ipc_hub.proofs.Kept.{comes_of, frame-kept}
-use Rattle.ipc_hub.proofs.Ending.{leave-adds}
+use Rattle.ipc_hub.proofs.Ending.{exit-few, leave-adds}
 use Rattle.ipc_hub.proofs.Requests.{Asks, request-asks}
 use Rattle.ipc_hub.proofs.Answering.{answer-space, answer-apart, answer-goes-on, told-none}
-use Rattle.ipc_hub.proofs.Taking.{Law, IsLast, taken, same-pends}
+use Rattle.ipc_hub.proofs.Taking.{Law, IsLast, taken, pends-adds, same-adds, same-pends}
 
 -- ---- bytes come, and a whole frame is taken off
 
@@ -137,6 +137,7 @@ module _ {D : Type 0} {medium : D → Medium} {old new : StoreView D} {before af
           };
           pends = same-pends medium law old new r.comes.1;
         });
+        adds = same-adds old new r.comes.1;
         answers = λ none. record {
           empty = rw r.found (rw (found' r) at none);
           event = inl (
@@ -221,6 +222,7 @@ module _ {D : Type 0} {medium : D → Medium} {old new : StoreView D} {before af
             becomes = record { limits = steps.limits; state = steps.state; rows = rows };
             pends = steps.pends;
           });
+          adds = pends-adds 1 steps.pends (omega arith);
           answers = served-waits;
         }
 
@@ -259,6 +261,7 @@ module _ {D : Type 0} {medium : D → Medium} {old new : StoreView D} {before af
           };
           pends = same-pends medium law old new r.comes.same;
         }));
+        adds = same-adds old new r.comes.same;
         answers = λ none. absurd (pushed-frame new.machine after conn (reply_of (refusal serial ENOMEM)) (read_out r.was) (found' r) none);
       }
 
@@ -269,12 +272,13 @@ module _ {D : Type 0} {medium : D → Medium} {old new : StoreView D} {before af
   pub broken-live : is_open_in after conn ≡ true
   broken-live = rw (found' r) (ap not r.live)
 
-  pub broken-took : (store : StoreView D) (last : Table) → Continues (hub_view new.machine after) (hub_view store.machine last)
+  pub broken-took : (store : StoreView D) (last : Table)
+      → HasAccepted medium (stored_view new after) (stored_view store last) (exit_of (process_in after conn) moment)
       → ((c : ConnectionView) → value_at nat_eq after conn ≡ Some c → Becomes (hub_view new.machine after) (hub_view store.machine last)
       (break_off view_endpoint new.machine.limits (hub_of (hub_view new.machine after)) conn c serial moment))
-      → Pends medium new (exit_of (process_in after conn) moment) store → (HasNoFrame (hub_view store.machine last) conn → ⊥)
+      → (HasNoFrame (hub_view store.machine last) conn → ⊥)
       → Took medium old store before last conn next moment
-  broken-took store last goes ends went some =
+  broken-took store last went ends some =
       let is = ends (read_out r.was) (found' r) in
       let now : ConnectionView = read_out r.was in
       let from : Leads r store last (break_off view_endpoint old.machine.limits (with_client (was-hub r) conn now) conn now serial moment) =
@@ -283,14 +287,15 @@ module _ {D : Type 0} {medium : D → Medium} {old new : StoreView D} {before af
         becomes = let b = rw r.comes.0 at is in record { limits = b.limits; state = b.state; rows = b.rows };
         pends =
             rw (leave-adds view_endpoint old.machine.limits (with_client (record (was-hub r) { clients = after }) conn (closed now)) r.was.process moment)
-            (rw (r.comes.0, ap process_of (found' r)) at went);
+            (rw (r.comes.0, ap process_of (found' r)) at went.pends);
       }) in
       record {
         continues = goes-further (hub_view old.machine before) (hub_view new.machine after) (hub_view store.machine last)
-            (ap (λ (s : StoreView D). s.machine.limits) r.comes.0) r.numbers goes;
+            (ap (λ (s : StoreView D). s.machine.limits) r.comes.0) r.numbers went.continues;
         bytes = elim r.comes.1 [
           | inl fault ↦ frame-taken r (Fault serial) false fault store last from
           | inr asked ↦ asked-taken r asked.0 false store last (rw asked.1 from)
         ];
+        adds = subst (λ (s : StoreView D). Adds 1 s store) r.comes.0 (pends-adds 1 went.pends (exit-few (process_in after conn) moment));
         answers = λ none. absurd (some none);
       }

@@ -1,5 +1,5 @@
 -- A piece of bytes, up to the end of a frame at most: what its taking in by the definitions comes to, and pieces in a row.
-use Rattle.std.proofs.Common.{◌≡◌, ℕ, Bool, true, false, List, [], ◌∷◌, ◌++◌, length, drop, Some, None, refl, sym, ap, ◌∙◌, subst, arith}
+use Rattle.std.proofs.Common.{◌≡◌, ◌≤◌, ℕ, Bool, true, false, List, [], ◌∷◌, ◌++◌, length, drop, Some, None, refl, sym, ap, ◌∙◌, subst, arith}
 use Rattle.std.proofs.Common.{append-nil, append_assoc, inl, inr}
 use Rattle.std.specs.Prelude.{not}
 use Rattle.std.proofs.lemmas.List.{length-append}
@@ -17,7 +17,7 @@ use Rattle.ipc_hub.specs.Hub.{client_at, with_client, on_request, on_ending, on_
 use Rattle.ipc_hub.specs.Clients.{Client, Clients, client_endpoint as kind, take_in, arriving}
 use Rattle.ipc_hub.specs.View.{StoredHub}
 use Rattle.ipc_hub.specs.Relations.Invariant.{IsSoundIn, HubInvariant}
-use Rattle.ipc_hub.specs.Relations.Matches.{Accepts, Follows, IsAhead, Pends, TakesIn}
+use Rattle.ipc_hub.specs.Relations.Matches.{Accepts, Adds, Follows, IsAhead, Pends, TakesIn}
 use Rattle.ipc_hub.specs.Relations.Rows.{is_open_in}
 use Rattle.ipc_hub.proofs.Ending.{pair-at}
 use Rattle.ipc_hub.proofs.Kept.{comes_of}
@@ -71,10 +71,22 @@ taken limits h conn moment c next here live f refused is last =
 abbrev pub Law : {D : Type 0} → (D → Medium) → Type 0
 Law {D} medium = (d : D) (image : Image) → (medium d).images_since (medium d).moment image → (medium d).images_now image
 
+-- events that are pending were added
+pub pends-adds : {D : Type 0} {medium : D → Medium} {old new : StoreView D} {events : List PlainEvent} (n : ℕ) → Pends medium old events new
+    → length events ≤ n → Adds n old new
+pends-adds n p few =
+    record { disk = p.disk; stopped = p.stopped; checkpoint = p.checkpoint; confirmed = p.confirmed; waiting = omega (arith, p.waiting, few) }
+
+pub same-adds : {D : Type 0} {n : ℕ} (old new : StoreView D) → new ≡ old → Adds n old new
+same-adds {D} {n} old new same =
+    subst (Adds n old) (sym same) (record { disk = refl; stopped = refl; checkpoint = refl; confirmed = refl; waiting = omega arith })
+
 module _ {D : Type 0} (medium : D → Medium) (law : Law medium) where
   -- no event came
   pub same-pends : (old new : StoreView D) → new ≡ old → Pends medium old [] new
-  same-pends old new same = subst (Pends medium old []) (sym same) (record { confirmed = refl; waiting = omega arith; takes = Takes-none medium law old })
+  same-pends old new same =
+      subst (Pends medium old []) (sym same)
+      (record { disk = refl; stopped = refl; checkpoint = refl; confirmed = refl; waiting = omega arith; takes = Takes-none medium law old })
 
   pub same-accepts : (old new : StoreView D) (h now : Clients) → now.events ≡ h.events → new ≡ old → Accepts medium old new h now
   same-accepts old new h now stay same = record { events = []; adds = stay ∙ sym (append-nil h.events); pends = same-pends old new same }
@@ -125,6 +137,9 @@ module _ {D : Type 0} (medium : D → Medium) (law : Law medium) where
             events = x.events ++ y.events;
             adds = y.adds ∙ ap (λ (es : List PlainEvent). es ++ y.events) x.adds ∙ append_assoc h.events x.events y.events;
             pends = record {
+              disk = y.pends.disk ∙ x.pends.disk;
+              stopped = y.pends.stopped ∙ x.pends.stopped;
+              checkpoint = y.pends.checkpoint ∙ x.pends.checkpoint;
               confirmed = y.pends.confirmed ∙ x.pends.confirmed;
               waiting = omega (arith, x.pends.waiting, y.pends.waiting, length-append x.events y.events);
               takes = Takes-both medium one.store two.store three.store x.events y.events x.pends.takes y.pends.takes;

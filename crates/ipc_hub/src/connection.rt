@@ -1,7 +1,7 @@
-//! One connection: bytes come in until they are a frame, and frames go out.
+//! One connection: its number, and its session, in which bytes come in until they are a frame, and frames go out.
 
 ghost use Rattle.std.specs.Prelude.{◌≡◌, ◌+◌, ◌<◌, ◌≤◌, ◌^◌, ◌↔◌, ◌++◌, [], None, true, false, IfOk, IsTrue};
-ghost use Rattle.std.specs.Prelude.{length, take, option_map, vec_len, vec_capacity};
+ghost use Rattle.std.specs.Prelude.{length, take, option_map};
 ghost use Rattle.std.specs.Option.{option_copied};
 ghost use Rattle.ipc_wire.specs.Reply.{plain_reply, reply_bytes, body_bytes};
 ghost use Rattle.ipc_wire.specs.Stream.{first, missing};
@@ -15,6 +15,7 @@ use ipc_base::{Errno, Pid};
 use ipc_engine::{Engine, Outcome};
 use ipc_wire::{Body, GREATEST_FRAME, Reply, bytes_missing};
 use std::alloc::{AllocError, Global};
+use std::marker::Model;
 
 /// At least so many bytes of frames may wait before a request is left untaken: some 400 short replies, so that a client
 /// that sends ahead is served many requests at a time.
@@ -28,20 +29,64 @@ const LAST_FRAMES: usize = 20;
 #[derive(Drop)]
 pub struct Connection {
     pub(crate) number: u32,
-    /// Its process, once it has said HELLO and until it ends.
-    pub(crate) process: Option<Pid>,
-    /// The bytes that are no whole frame yet.
-    pub(crate) input: Vec<u8>,
-    pub(crate) outbox: Outbox,
-    /// The server has ended it: what comes is dropped.
-    pub(crate) ended: bool,
-    ghost space: { 8452 ≤ vec_capacity input },
+    pub(crate) session: Session,
 }
 
 impl Connection {
+    /// The number under which it was made.
+    pub fn number(&self) -> u32
+        ensures { result ≡ self.now.number }
+    {
+        self.number
+    }
+
+    /// The bytes that its client may see.
+    pub fn output(&self) -> &[u8]
+        ensures { result.now ≡ self.now.session.outbox.visible }
+    {
+        self.session.output()
+    }
+
+    /// Whether the server has ended it.
+    pub fn ended(&self) -> bool
+        ensures { result ≡ self.now.session.ended }
+    {
+        self.session.ended()
+    }
+}
+
+/// All of a connection but its number, which stays: what its client has sent, and what it is sent.
+#[derive(Drop)]
+pub(crate) struct Session {
+    /// Its process, once it has said HELLO and until it ends.
+    process: Option<Pid>,
+    /// The bytes that are no whole frame yet.
+    input: Vec<u8>,
+    outbox: Outbox,
+    /// The server has ended it: what comes is dropped.
+    ended: bool,
+}
+
+impl Model for Session {
+    ghost use Rattle.std.specs.Prelude.{◌≤◌, option_map, vec_capacity};
+    ghost use Rattle.ipc_hub.specs.View.{ConnectionView};
+
+    ghost Value = { ConnectionView };
+
+    ghost view = { λ s. record {
+      process = option_map (λ p. p.0) s.process;
+      input = s.input.items;
+      outbox = s.outbox;
+      ended = s.ended;
+    } };
+
+    ghost invariant = { λ s. 8452 ≤ vec_capacity s.input };
+}
+
+impl Session {
     ghost use Rattle.ipc_engine.specs.View.{plain_outcome};
     ghost use Rattle.ipc_hub.specs.Relations.Invariant.{IsNew};
-    ghost use Rattle.ipc_hub.specs.Relations.Rows.{pid_of, view_of};
+    ghost use Rattle.ipc_hub.specs.Relations.Rows.{pid_of};
     ghost use Rattle.ipc_hub.specs.Relations.Delivery.{
       last_frame,
       last_frames,
@@ -55,15 +100,13 @@ impl Connection {
       failed,
     };
 
-    /// A connection without a process. Replies of so many bytes have room in it, some others before them, and the last
+    /// A session without a process. Replies of so many bytes have room in it, some others before them, and the last
     /// frames behind them.
-    pub(crate) fn new(alloc: Global, number: u32, replies: usize) -> Result<Connection, AllocError>
+    pub(crate) fn new(alloc: Global, replies: usize) -> Result<Session, AllocError>
         requires { replies < 2 ^ 32 }
-        ensures number { IfOk result (λ c. c.number ≡ number) }
-        ensures new { IfOk result (λ c. IsNew replies (view_of c)) }
+        ensures { IfOk result (IsNew replies) }
     {
-        Ok(Connection {
-            number,
+        Ok(Session {
             process: None,
             input: Vec::with_capacity(alloc, GREATEST_FRAME)?,
             outbox: Outbox::new(alloc, AHEAD + replies + LAST_FRAMES)?,
@@ -71,22 +114,29 @@ impl Connection {
         })
     }
 
-    /// The number under which it was made.
-    pub fn number(&self) -> u32
-        ensures { result ≡ self.now.number }
+    /// Its process, if it has one.
+    pub(crate) fn process(&self) -> Option<Pid>
+        ensures { pid_of result ≡ self.now.process }
     {
-        self.number
+        self.process
+    }
+
+    /// Its bytes that are no whole frame yet.
+    pub(crate) fn input(&self) -> &[u8]
+        ensures { result.now ≡ self.now.input }
+    {
+        &self.input
     }
 
     /// The bytes that its client may see.
-    pub fn output(&self) -> &[u8]
-        ensures { result.now ≡ (view_of self.now).outbox.visible }
+    pub(crate) fn output(&self) -> &[u8]
+        ensures { result.now ≡ self.now.outbox.visible }
     {
         self.outbox.visible()
     }
 
     /// Whether the server has ended it.
-    pub fn ended(&self) -> bool
+    pub(crate) fn ended(&self) -> bool
         ensures { result ≡ self.now.ended }
     {
         self.ended
@@ -102,7 +152,7 @@ impl Connection {
     /// Whether what its process is owed has room, and behind it a reply of so many bytes and the last frames. What it
     /// is owed is counted only where the most that any is owed has no room.
     pub(crate) fn has_space(&self, engine: &Engine, reply: u32) -> bool
-        ensures { IsTrue result ↔ (owed_to engine.now.limits engine.now.state (pid_of self.now.process) + reply
+        ensures { IsTrue result ↔ (owed_to engine.now.limits engine.now.state self.now.process + reply
             + last_frames ≤ self.now.outbox.free) }
     {
         let wanted = reply as usize + LAST_FRAMES;
@@ -119,7 +169,7 @@ impl Connection {
 
     /// How many bytes of replies its process is owed, if it has one.
     fn owed(&self, engine: &Engine) -> usize
-        ensures { result ≡ owed_to engine.now.limits engine.now.state (pid_of self.now.process) }
+        ensures { result ≡ owed_to engine.now.limits engine.now.state self.now.process }
     {
         match self.process {
             Some(pid) => engine.owed(pid),
@@ -129,19 +179,17 @@ impl Connection {
 
     /// Whether this is its process.
     pub(crate) fn has(&self, pid: Pid) -> bool
-        ensures { result ≡ is_for pid.0 (pid_of self.now.process) }
+        ensures { result ≡ is_for pid.0 self.now.process }
     {
         self.process == Some(pid)
     }
 
     /// Takes bytes of a piece, up to the end of a frame at most. Answers how many.
     pub(crate) fn fill(&mut self, piece: &[u8]) -> usize
-        requires { first self.old.input.items ≡ More }
-        ensures number { self.new.number ≡ self.old.number }
-        ensures view { view_of self.new
-            ≡ record (view_of self.old) { input = self.old.input.items ++ take result piece.now } }
+        requires { first self.old.input ≡ More }
+        ensures view { self.new ≡ record self.old { input = self.old.input ++ take result piece.now } }
         ensures within { result ≤ length piece.now }
-        ensures few { length (take result piece.now) ≤ missing self.old.input.items }
+        ensures few { length (take result piece.now) ≤ missing self.old.input }
         ensures some { 0 < length piece.now → 0 < result }
     {
         let count = piece.len().min(bytes_missing(&self.input));
@@ -149,12 +197,18 @@ impl Connection {
         count
     }
 
+    /// The bytes that are no whole frame yet are gone.
+    pub(crate) fn drop_input(&mut self)
+        ensures { self.new ≡ record self.old { input = [] } }
+    {
+        self.input.clear();
+    }
+
     /// Takes a reply.
     pub(crate) fn push(&mut self, reply: &Reply<'_>)
         requires space { length (reply_bytes (plain_reply reply.now)) ≤ self.old.outbox.free }
         requires length { 6 + length (body_bytes (plain_reply reply.now).body) < 2 ^ 32 }
-        ensures number { self.new.number ≡ self.old.number }
-        ensures view { view_of self.new ≡ pushed (plain_reply reply.now) (view_of self.old) }
+        ensures { self.new ≡ pushed (plain_reply reply.now) self.old }
     {
         self.outbox.push(reply);
     }
@@ -162,11 +216,9 @@ impl Connection {
     /// Is told the reply to its request. If it had no process, the request was a HELLO: it has the process that the
     /// reply names, or takes the reply if that names none.
     pub(crate) fn hear_own(&mut self, reply: Option<&Outcome>)
-        requires space { self.old.process ≡ None
-            → HasSpaceToGreet (option_map plain_outcome (option_copied reply)) (view_of self.old) }
-        ensures number { self.new.number ≡ self.old.number }
-        ensures view { view_of self.new
-            ≡ answered (option_map plain_outcome (option_copied reply.entry)) (view_of self.old) }
+        requires { self.old.process ≡ None
+            → HasSpaceToGreet (option_map plain_outcome (option_copied reply)) self.old }
+        ensures { self.new ≡ answered (option_map plain_outcome (option_copied reply.entry)) self.old }
     {
         if let (None, Some(outcome)) = (self.process, reply) {
             if outcome.pid.0 == 0 {
@@ -179,26 +231,23 @@ impl Connection {
 
     /// Lets the frames that wait be seen.
     pub(crate) fn release(&mut self)
-        ensures number { self.new.number ≡ self.old.number }
-        ensures view { view_of self.new ≡ released (view_of self.old) }
+        ensures { self.new ≡ released self.old }
     {
         self.outbox.release();
     }
 
     /// Its client has taken the first `count` bytes of its output.
     pub(crate) fn consume(&mut self, count: usize)
-        requires { count ≤ length (view_of self.old).outbox.visible }
-        ensures number { self.new.number ≡ self.old.number }
-        ensures view { view_of self.new ≡ consumed count (view_of self.old) }
+        requires { count ≤ length self.old.outbox.visible }
+        ensures { self.new ≡ consumed count self.old }
     {
         self.outbox.consume(count);
     }
 
     /// The server ends it: what comes is dropped. Answers its process, if it had one.
     pub(crate) fn close(&mut self) -> Option<Pid>
-        ensures process { pid_of result ≡ pid_of self.old.process }
-        ensures number { self.new.number ≡ self.old.number }
-        ensures view { view_of self.new ≡ closed (view_of self.old) }
+        ensures process { pid_of result ≡ self.old.process }
+        ensures view { self.new ≡ closed self.old }
     {
         self.input.clear();
         self.ended = true;
@@ -209,8 +258,7 @@ impl Connection {
     /// is dropped.
     pub(crate) fn fail(&mut self)
         requires { last_frame ≤ self.old.outbox.free }
-        ensures number { self.new.number ≡ self.old.number }
-        ensures view { view_of self.new ≡ failed (view_of self.old) }
+        ensures { self.new ≡ failed self.old }
     {
         self.process = None;
         self.input.clear();

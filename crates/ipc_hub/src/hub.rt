@@ -14,10 +14,10 @@ ghost use Rattle.ipc_hub.specs.View.{HasFewFrames, HasNoFrame, HasStopped, ended
 ghost use Rattle.ipc_hub.specs.View.{output_of};
 ghost use Rattle.ipc_hub.specs.View.{most_events, of_commit_error};
 ghost use Rattle.ipc_hub.specs.Relations.Matches.{HubMatches, StoredMatches, Simulates, Serves, ServesFeed};
-ghost use Rattle.ipc_hub.specs.Relations.Faults.{Halts, Refuses, Settles};
-ghost use Rattle.ipc_hub.specs.Relations.Invariant.{HasPassed, SameButSeen};
+ghost use Rattle.ipc_hub.specs.Relations.Faults.{Advances, Halts, Joins, Lasts, Refuses, Settles};
+ghost use Rattle.ipc_hub.specs.Relations.Invariant.{SameButSeen};
 
-use crate::connection::Connection;
+use crate::connection::{Connection, Session};
 use crate::connections::Connections;
 use crate::fault::{ConnectError, ServeError};
 use crate::serving;
@@ -49,12 +49,12 @@ impl<D: SectorDisk> Model for Hub<D> {
 
     ghost coded = { Prim.hlevel (codes, undo_code) };
 
-    ghost use Rattle.ipc_hub.specs.Relations.Rows.{stored_view, table_of};
+    ghost use Rattle.ipc_hub.specs.Relations.Rows.{stored_view};
     ghost use Rattle.ipc_hub.specs.Relations.Invariant.{StoredInvariant};
 
-    ghost view = { λ h. stored_view h.store (table_of h.connections) };
+    ghost view = { λ h. stored_view h.store h.connections };
 
-    ghost invariant = { λ h. StoredInvariant (stored_view h.store (table_of h.connections)) };
+    ghost invariant = { λ h. StoredInvariant (stored_view h.store h.connections) };
 }
 
 impl<D: SectorDisk> Hub<D> {
@@ -104,16 +104,12 @@ impl<D: SectorDisk> Hub<D> {
     fn add(&mut self, conn: u32) -> Result<(), AllocError>
         requires free { is_connected self.old.hub conn ≡ false }
         requires running { ¬ HasStopped self.old }
-        ensures ok { OnOk result (Simulates self.old.hub self.new.hub (λ _ h. connect h conn)) }
-        ensures joins { OnOk result ((other : ℕ) → is_connected self.new.hub other
-            ≡ (other == conn || is_connected self.old.hub other)) }
-        ensures store { self.new.store ≡ self.old.store }
-        ensures err { OnErr result (self.new ≡ self.old) }
+        ensures { Joins self.old self.new conn result }
     {
         let engine = self.store.engine();
         let replies = engine.most_owed() + engine.limits().longest_reply() as usize;
-        let connection = Connection::new(self.alloc, conn, replies)?;
-        self.connections.insert(connection)?;
+        let session = Session::new(self.alloc, replies)?;
+        self.connections.insert(conn, session)?;
         Ok(())
     }
 
@@ -196,14 +192,7 @@ impl<D: SectorDisk> Hub<D> {
     // Time passes, and two events more have room then. The call begins with a release if three may have no room.
     fn advance(&mut self, moment: Moment) -> Result<(), CommitError>
         requires { ¬ HasStopped self.old }
-        ensures ok { OnOk result (Serves D.medium self.old self.new (λ limits h. tick limits h moment.0)) }
-        ensures numbers { numbers_of self.new.hub ≡ numbers_of self.old.hub }
-        ensures ready { OnOk result (IsReadyFor self.new.store 2) }
-        ensures later { OnOk result (0 < self.new.store.waiting) }
-        ensures passed { OnOk result (HasPassed self.old.hub self.new.hub) }
-        ensures refused { IfErr result (λ e. Halts D.medium D.counts self.old self.new e) }
-        ensures spends { OnOk result (Spends D.counts 2 self.old.store self.new.store) }
-        ensures honest { IsHonest (D.medium self.old.store.disk) → IsHonest (D.medium self.new.store.disk) }
+        ensures { Advances D.medium D.counts self.old self.new moment.0 result }
     {
         if let Err(error) = self.make_space() {
             return Err(error);
@@ -265,10 +254,7 @@ impl<D: SectorDisk> Hub<D> {
     fn make_last(&mut self, whole: bool) -> Result<(), CommitError>
         requires { ¬ HasStopped self.old }
         ensures settles { Settles D.medium D.counts self.old self.new result }
-        ensures all { OnOk result (self.new.hub.connections ≡ seen_as released self.old.hub.connections) }
-        ensures confirmed { OnOk result (self.new.store.confirmed
-            ≡ self.old.store.confirmed + self.old.store.waiting) }
-        ensures waiting { OnOk result (self.new.store.waiting ≡ 0) }
+        ensures lasts { OnOk result (Lasts self.old self.new) }
         ensures nothing { whole ≡ false → self.old.store.waiting ≡ 0 → self.new.store ≡ self.old.store }
         ensures turned { whole ≡ true → OnOk result (HasTurned self.old.store self.new.store) }
     {

@@ -3,7 +3,7 @@
 ghost use Rattle.std.specs.Prelude.{◌≡◌, ◌+◌, ◌<◌, ◌≤◌, ◌^◌, true, false, [], ◌∷◌, length, map, take};
 ghost use Rattle.std.specs.Prelude.{◌↔◌, Some, nat_eq, option_map, IfSome, IsTrue};
 ghost use Rattle.ipc_base.specs.Limits.{longest_reply, ArePassed};
-ghost use Rattle.ipc_base.specs.Table.{value_at, keys_of, IsRising};
+ghost use Rattle.ipc_base.specs.Table.{value_at};
 ghost use Rattle.ipc_wire.specs.View.{plain_request};
 ghost use Rattle.ipc_wire.specs.Stream.{first};
 ghost use Rattle.ipc_engine.specs.Event.{Tick};
@@ -12,18 +12,19 @@ ghost use Rattle.ipc_engine.specs.View.{plain_event, plain_outcome, reply_of};
 ghost use Rattle.ipc_hub.specs.Hub.{break_off as breaks_off, event_of as event_made};
 ghost use Rattle.ipc_hub.specs.Clients.{refusal as refusal_of, tick as ticks};
 ghost use Rattle.ipc_hub.specs.View.{ConnectionView, HasNoFrame};
-ghost use Rattle.ipc_hub.specs.Relations.Rows.{pid_of, view_of, table_of, hub_view, stored_view};
+ghost use Rattle.ipc_hub.specs.Relations.Rows.{pid_of, hub_view, stored_view};
 ghost use Rattle.ipc_hub.specs.Relations.Rows.{Becomes, changed, hub_of, process_in, is_open_in};
 ghost use Rattle.ipc_hub.specs.Relations.Delivery.{last_frame, closed, pushed, put_all, view_endpoint, with_answer};
 ghost use Rattle.ipc_hub.specs.Relations.Delivery.{HasSpaceToAnswer, HasSpaceFor};
-ghost use Rattle.ipc_hub.specs.Relations.Invariant.{HubInvariant, Continues, HasPassed, IsConnected, IsNobodys};
+ghost use Rattle.ipc_hub.specs.Relations.Invariant.{Continues, HasPassed, IsConnected, IsNobodys};
 ghost use Rattle.ipc_hub.specs.Relations.Invariant.{AreApart, LeavesOthers};
-ghost use Rattle.ipc_hub.specs.Relations.Matches.{Adds, Simulates, TakesIn, Pends};
-ghost use Rattle.ipc_hub.specs.Relations.Requests.{ComesTo, IsQuiet, Left, Steps, exit_of, taken_off, Received, Took};
+ghost use Rattle.ipc_hub.specs.Relations.Matches.{Adds, Simulates, TakesIn};
+ghost use Rattle.ipc_hub.specs.Relations.Requests.{ComesTo, IsQuiet, Left, Steps, exit_of, taken_off};
+ghost use Rattle.ipc_hub.specs.Relations.Requests.{HasAccepted, HasRoom, IsReady, Received, Took};
 ghost use Rattle.ipc_image.specs.Records.{HasRecord};
 ghost use Rattle.ipc_store.specs.View.{IsReadyFor};
 
-use crate::connection::{Connection, refusal};
+use crate::connection::{Session, refusal};
 use crate::connections::Connections;
 use ipc_base::{Errno, Moment, Pid};
 use ipc_disk::SectorDisk;
@@ -72,12 +73,10 @@ fn event_of<'a>(process: Option<Pid>, request: &Request<'a>, moment: Moment) -> 
 
 /// The machine takes a step by which no process asks, and the replies go where they go.
 fn accept<D: SectorDisk>(store: &mut Store<D>, connections: &mut Connections, event: Event<'_>)
-    requires hub { HubInvariant (hub_view store.old.machine (table_of connections.old)) }
     requires quiet { IsQuiet store.old.machine.limits store.old.machine.state (plain_event event) }
-    requires ready { IsReadyFor store.old 1 }
+    requires ready { IsReady (stored_view store.old connections.old) 1 }
     ensures steps { Steps D.medium store.old store.new (plain_event event.entry) }
-    ensures replies { table_of connections.new ≡ put_all store.new.machine.outcomes (table_of connections.old) }
-    ensures adds { Adds 1 store.old store.new }
+    ensures replies { connections.new ≡ put_all store.new.machine.outcomes connections.old }
 {
     store.step(event).unwrap();
     connections.deliver(None, store.engine().outcomes());
@@ -89,18 +88,14 @@ pub(crate) fn tick<D: SectorDisk>(
     connections: &mut Connections,
     moment: Moment,
 )
-    requires hub { HubInvariant (hub_view store.old.machine (table_of connections.old)) }
-    requires ready { IsReadyFor store.old 3 }
+    requires { IsReady (stored_view store.old connections.old) 3 }
     ensures ready { IsReadyFor store.new 2 }
-    ensures accepts { Pends D.medium store.old (Tick moment.0 ∷ []) store.new }
-    ensures continues { Continues (hub_view store.old.machine (table_of connections.old))
-        (hub_view store.new.machine (table_of connections.new)) }
-    ensures ticks { Simulates (hub_view store.old.machine (table_of connections.old))
-        (hub_view store.new.machine (table_of connections.new))
-        (λ limits h. ticks limits h moment.0) }
-    ensures passed { HasPassed (hub_view store.old.machine (table_of connections.old))
-        (hub_view store.new.machine (table_of connections.new)) }
-    ensures adds { Adds 1 store.old store.new }
+    ensures accepts { HasAccepted D.medium (stored_view store.old connections.old)
+        (stored_view store.new connections.new) (Tick moment.0 ∷ []) }
+    ensures ticks { Simulates (hub_view store.old.machine connections.old)
+        (hub_view store.new.machine connections.new) (λ limits h. ticks limits h moment.0) }
+    ensures passed { HasPassed (hub_view store.old.machine connections.old)
+        (hub_view store.new.machine connections.new) }
 {
     accept(store, connections, Event::Tick { moment });
 }
@@ -112,17 +107,14 @@ pub(crate) fn leave<D: SectorDisk>(
     process: Option<Pid>,
     moment: Moment,
 )
-    requires hub { HubInvariant (hub_view store.old.machine (table_of connections.old)) }
     requires connected { IsConnected store.old.machine.state (pid_of process) }
-    requires nobodys { IsNobodys (table_of connections.old) (pid_of process) }
-    requires ready { IsReadyFor store.old 1 }
-    ensures accepts { Pends D.medium store.old (exit_of (pid_of process) moment.0) store.new }
-    ensures continues { Continues (hub_view store.old.machine (table_of connections.old))
-        (hub_view store.new.machine (table_of connections.new)) }
-    ensures leaves { Left (hub_view store.old.machine (table_of connections.old))
-        (hub_view store.new.machine (table_of connections.new)) (pid_of process) moment.0 }
-    ensures others { LeavesOthers (table_of connections.old) (table_of connections.new) }
-    ensures adds { Adds 1 store.old store.new }
+    requires nobodys { IsNobodys connections.old (pid_of process) }
+    requires ready { IsReady (stored_view store.old connections.old) 1 }
+    ensures accepts { HasAccepted D.medium (stored_view store.old connections.old)
+        (stored_view store.new connections.new) (exit_of (pid_of process) moment.0) }
+    ensures leaves { Left (hub_view store.old.machine connections.old)
+        (hub_view store.new.machine connections.new) (pid_of process) moment.0 }
+    ensures others { LeavesOthers connections.old connections.new }
 {
     if let Some(pid) = process {
         accept(store, connections, Event::Exit { pid, moment });
@@ -130,38 +122,33 @@ pub(crate) fn leave<D: SectorDisk>(
 }
 
 /// Takes the frame at the front of a connection off it, if it is whole, and asks the machine.
-fn ask<D: SectorDisk>(store: &mut Store<D>, connection: &mut Connection, moment: Moment) -> Asked
+fn ask<D: SectorDisk>(store: &mut Store<D>, session: &mut Session, moment: Moment) -> Asked
     requires ready { IsReadyFor store.old 1 }
-    requires connected { IsConnected store.old.machine.state (pid_of connection.old.process) }
-    ensures comes { ComesTo D.medium store.old store.new (pid_of connection.old.process)
-        (first connection.old.input.items) moment.0 result }
-    ensures number { connection.new.number ≡ connection.old.number }
-    ensures view { view_of connection.new ≡ taken_off result (view_of connection.old) }
-    ensures adds { Adds 1 store.old store.new }
+    requires connected { IsConnected store.old.machine.state session.old.process }
+    ensures comes { ComesTo D.medium store.old store.new session.old.process (first session.old.input) moment.0 result }
+    ensures view { session.new ≡ taken_off result session.old }
 {
-    let asked = come_to(store, connection, moment);
+    let asked = come_to(store, session, moment);
     match asked {
         Asked::More => {}
-        Asked::Served | Asked::NoMemory { .. } | Asked::Broken { .. } => connection.input.clear(),
+        Asked::Served | Asked::NoMemory { .. } | Asked::Broken { .. } => session.drop_input(),
     }
     asked
 }
 
 /// Reads what stands at the front of a connection. If that is a request which makes an event, the machine takes a step.
-fn come_to<D: SectorDisk>(store: &mut Store<D>, connection: &Connection, moment: Moment) -> Asked
+fn come_to<D: SectorDisk>(store: &mut Store<D>, session: &Session, moment: Moment) -> Asked
     requires ready { IsReadyFor store.old 1 }
-    requires connected { IsConnected store.old.machine.state (pid_of connection.now.process) }
-    ensures comes { ComesTo D.medium store.old store.new (pid_of connection.now.process)
-        (first connection.now.input.items) moment.0 result }
-    ensures adds { Adds 1 store.old store.new }
+    requires connected { IsConnected store.old.machine.state session.now.process }
+    ensures { ComesTo D.medium store.old store.new session.now.process (first session.now.input) moment.0 result }
 {
-    let request = match read_frame(&connection.input) {
+    let request = match read_frame(session.input()) {
         Frame::More => return Asked::More,
         Frame::Fault { serial } => return Asked::Broken { serial },
         Frame::Whole { request, .. } => request,
     };
     let serial = request.serial;
-    let Some(event) = event_of(connection.process, &request, moment) else {
+    let Some(event) = event_of(session.process(), &request, moment) else {
         return Asked::Broken { serial };
     };
     match store.step(event) {
@@ -173,38 +160,35 @@ fn come_to<D: SectorDisk>(store: &mut Store<D>, connection: &Connection, moment:
 
 /// Puts the replies to the request of a connection, and the others of its event, where they go.
 fn answer(connections: &mut Connections, conn: u32, outcomes: &[Outcome])
-    requires rising { IsRising 0 (keys_of (table_of connections.old)) (2 ^ 32) }
-    requires apart { AreApart (with_answer (map plain_outcome outcomes.now) conn (table_of connections.old)) }
-    requires space { HasSpaceToAnswer (map plain_outcome outcomes.now) conn (table_of connections.old) }
-    ensures { table_of connections.new ≡ put_all (map plain_outcome outcomes.now)
-        (with_answer (map plain_outcome outcomes.now) conn (table_of connections.old)) }
+    requires apart { AreApart (with_answer (map plain_outcome outcomes.now) conn connections.old) }
+    requires space { HasSpaceToAnswer (map plain_outcome outcomes.now) conn connections.old }
+    ensures { connections.new ≡ put_all (map plain_outcome outcomes.now)
+        (with_answer (map plain_outcome outcomes.now) conn connections.old) }
 {
-    if let Some(connection) = connections.get_mut(conn) {
-        connection.hear_own(outcomes.last());
+    if let Some(session) = connections.get_mut(conn) {
+        session.hear_own(outcomes.last());
     }
     connections.deliver(Some(conn), outcomes);
 }
 
 /// Puts a reply without a body into a connection: memory was refused to its request, or the server ends it.
 fn refuse(connections: &mut Connections, conn: u32, serial: u32, errno: Errno)
-    requires rising { IsRising 0 (keys_of (table_of connections.old)) (2 ^ 32) }
-    requires space { IfSome (value_at nat_eq (table_of connections.old) conn) (λ c. last_frame ≤ c.outbox.free) }
-    ensures { table_of connections.new
-        ≡ changed (pushed (reply_of (refusal_of serial errno))) conn (table_of connections.old) }
+    requires { IfSome (value_at nat_eq connections.old conn) (λ c. last_frame ≤ c.outbox.free) }
+    ensures { connections.new
+        ≡ changed (pushed (reply_of (refusal_of serial errno))) conn connections.old }
 {
-    if let Some(connection) = connections.get_mut(conn) {
-        connection.push(&refusal(serial, errno));
+    if let Some(session) = connections.get_mut(conn) {
+        session.push(&refusal(serial, errno));
     }
 }
 
 /// A connection is over: it keeps no bytes of a request, and has no process. Answers the one that it had.
 fn close(connections: &mut Connections, conn: u32) -> Option<Pid>
-    requires { IsRising 0 (keys_of (table_of connections.old)) (2 ^ 32) }
-    ensures process { pid_of result ≡ process_in (table_of connections.old) conn }
-    ensures table { table_of connections.new ≡ changed closed conn (table_of connections.old) }
+    ensures process { pid_of result ≡ process_in connections.old conn }
+    ensures table { connections.new ≡ changed closed conn connections.old }
 {
-    let connection = connections.get_mut(conn)?;
-    connection.close()
+    let session = connections.get_mut(conn)?;
+    session.close()
 }
 
 /// The server ends a connection: its process leaves, and an EPROTO frame is the last.
@@ -215,20 +199,16 @@ fn break_off<D: SectorDisk>(
     serial: u32,
     moment: Moment,
 )
-    requires hub { HubInvariant (hub_view store.old.machine (table_of connections.old)) }
-    requires live { is_open_in (table_of connections.old) conn ≡ true }
-    requires ready { IsReadyFor store.old 1 }
-    ensures accepts { Pends D.medium store.old
-        (exit_of (process_in (table_of connections.old) conn) moment.0) store.new }
-    ensures continues { Continues (hub_view store.old.machine (table_of connections.old))
-        (hub_view store.new.machine (table_of connections.new)) }
-    ensures ends { (c : ConnectionView) → value_at nat_eq (table_of connections.old) conn ≡ Some c
-        → Becomes (hub_view store.old.machine (table_of connections.old))
-        (hub_view store.new.machine (table_of connections.new))
+    requires live { is_open_in connections.old conn ≡ true }
+    requires ready { IsReady (stored_view store.old connections.old) 1 }
+    ensures accepts { HasAccepted D.medium (stored_view store.old connections.old)
+        (stored_view store.new connections.new) (exit_of (process_in connections.old conn) moment.0) }
+    ensures ends { (c : ConnectionView) → value_at nat_eq connections.old conn ≡ Some c
+        → Becomes (hub_view store.old.machine connections.old)
+        (hub_view store.new.machine connections.new)
         (breaks_off view_endpoint store.old.machine.limits
-        (hub_of (hub_view store.old.machine (table_of connections.old))) conn c serial moment.0) }
-    ensures answers { ¬ HasNoFrame (hub_view store.new.machine (table_of connections.new)) conn }
-    ensures adds { Adds 1 store.old store.new }
+        (hub_of (hub_view store.old.machine connections.old)) conn c serial moment.0) }
+    ensures answers { ¬ HasNoFrame (hub_view store.new.machine connections.new) conn }
 {
     let process = close(connections, conn);
     leave(store, connections, process, moment);
@@ -244,22 +224,16 @@ fn receive<D: SectorDisk>(
     piece: &[u8],
     moment: Moment,
 ) -> (usize, Asked)
-    requires passed { ArePassed store.old.machine.limits }
-    requires sound { IsSound store.old.machine.limits store.old.machine.state }
-    requires hub { HubInvariant (hub_view store.old.machine (table_of connections.old)) }
-    requires live { is_open_in (table_of connections.old) conn ≡ true }
-    requires space { HasSpaceFor (hub_view store.old.machine (table_of connections.old))
-        (longest_reply store.old.machine.limits) conn }
-    requires ready { IsReadyFor store.old 1 }
-    ensures received { Received D.medium store.old store.new (table_of connections.old) (table_of connections.new)
+    requires room { HasRoom (stored_view store.old connections.old) conn }
+    requires live { is_open_in connections.old conn ≡ true }
+    ensures received { Received D.medium store.old store.new connections.old connections.new
         conn (take result.0 piece.now) moment.0 result.1 }
     ensures within { result.0 ≤ length piece.now }
     ensures some { 0 < length piece.now → 0 < result.0 }
-    ensures adds { Adds 1 store.old store.new }
 {
-    let connection = connections.get_mut(conn).unwrap();
-    let count = connection.fill(piece);
-    let asked = ask(store, connection, moment);
+    let session = connections.get_mut(conn).unwrap();
+    let count = session.fill(piece);
+    let asked = ask(store, session, moment);
     (count, asked)
 }
 
@@ -272,17 +246,11 @@ fn take<D: SectorDisk>(
     piece: &[u8],
     moment: Moment,
 ) -> usize
-    requires passed { ArePassed store.old.machine.limits }
-    requires sound { IsSound store.old.machine.limits store.old.machine.state }
-    requires hub { HubInvariant (hub_view store.old.machine (table_of connections.old)) }
-    requires space { HasSpaceFor (hub_view store.old.machine (table_of connections.old))
-        (longest_reply store.old.machine.limits) conn }
-    requires ready { IsReadyFor store.old 1 }
-    ensures took { Took D.medium store.old store.new (table_of connections.old) (table_of connections.new)
+    requires { HasRoom (stored_view store.old connections.old) conn }
+    ensures took { Took D.medium store.old store.new connections.old connections.new
         conn (take result piece.now) moment.0 }
     ensures within { result ≤ length piece.now }
     ensures some { 0 < length piece.now → 0 < result }
-    ensures adds { Adds 1 store.old store.new }
 {
     if !connections.is_open(conn) {
         return piece.len();
@@ -299,9 +267,7 @@ fn take<D: SectorDisk>(
 
 /// Whether a request of a connection has room: its event in the store, and its reply behind what its process is owed.
 fn has_room<D: SectorDisk>(store: &Store<D>, connections: &Connections, conn: u32) -> bool
-    requires { IsRising 0 (keys_of (table_of connections.now)) (2 ^ 32) }
-    ensures room { IsTrue result ↔ (IsReadyFor store.now 1
-        × HasSpaceFor (hub_view store.now.machine (table_of connections.now))
+    ensures room { IsTrue result ↔ (IsReadyFor store.now 1 × HasSpaceFor (hub_view store.now.machine connections.now)
         (longest_reply store.now.machine.limits) conn) }
     ensures passed { ArePassed store.now.machine.limits }
     ensures sound { IsSound store.now.machine.limits store.now.machine.state }
@@ -321,18 +287,17 @@ pub(crate) fn take_in<D: SectorDisk>(
     piece: &[u8],
     moment: Moment,
 ) -> usize
-    requires hub { HubInvariant (hub_view store.old.machine (table_of connections.old)) }
-    requires ready { IsReadyFor store.old 2 }
-    ensures continues { Continues (hub_view store.old.machine (table_of connections.old))
-        (hub_view store.new.machine (table_of connections.new)) }
-    ensures bytes { TakesIn D.medium (stored_view store.old (table_of connections.old))
-        (stored_view store.new (table_of connections.new)) conn (take result piece.now) moment.0 }
+    requires { IsReady (stored_view store.old connections.old) 2 }
+    ensures continues { Continues (hub_view store.old.machine connections.old)
+        (hub_view store.new.machine connections.new) }
+    ensures bytes { TakesIn D.medium (stored_view store.old connections.old)
+        (stored_view store.new connections.new) conn (take result piece.now) moment.0 }
     ensures within { result ≤ length piece.now }
-    ensures whole { HasNoFrame (hub_view store.new.machine (table_of connections.new)) conn
+    ensures whole { HasNoFrame (hub_view store.new.machine connections.new) conn
         → result ≡ length piece.now }
-    ensures starts { HasSpaceFor (hub_view store.old.machine (table_of connections.old))
+    ensures starts { HasSpaceFor (hub_view store.old.machine connections.old)
         (longest_reply store.old.machine.limits) conn → 0 < length piece.now → 0 < result }
-    ensures dropped { is_open_in (table_of connections.old) conn ≡ false → result ≡ length piece.now }
+    ensures dropped { is_open_in connections.old conn ≡ false → result ≡ length piece.now }
     ensures adds { Adds result store.old store.new }
 {
     if !connections.is_open(conn) {

@@ -52,10 +52,9 @@ pub record HubInvariant (h : HubView) : Type 0 where
   -- the numbers of the connections rise
   pub rising : IsRising 0 (keys_of h.connections) (2 ^ 32)
 
--- Numbers rise. While the store goes on, the rest holds too.
-pub record StoredInvariant {D : Type 0} (v : StoredHub D) : Type 0 where
-  pub rising : IsRising 0 (keys_of v.hub.connections) (2 ^ 32)
-  pub running : v.store.stopped ≡ false → HubInvariant v.hub
+-- it holds while the store goes on
+abbrev pub StoredInvariant : {D : Type 0} → StoredHub D → Type 0
+StoredInvariant v = v.store.stopped ≡ false → HubInvariant v.hub
 
 -- the same connections go on
 pub record Continues (old new : HubView) : Type 0 where

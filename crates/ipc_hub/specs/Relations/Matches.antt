@@ -74,10 +74,13 @@ ServesFeed medium old new conn bytes moment =
 
 -- ---- within a call
 
--- Events are pending in a store that goes on, and nothing was committed. What a crash leaves at any moment of it is
--- what `Takes` says.
+-- Events are pending in a store that goes on; nothing was committed, and its disk is as it was. What a crash leaves at
+-- any moment of it is what `Takes` says.
 pub record Pends {D : Type 0} (medium : D → Medium) (old : StoreView D) (events : List PlainEvent) (new : StoreView D)
     : Type 0 where
+  pub disk : new.disk ≡ old.disk
+  pub stopped : new.stopped ≡ old.stopped
+  pub checkpoint : new.checkpoint ≡ old.checkpoint
   pub confirmed : new.confirmed ≡ old.confirmed
   pub waiting : new.waiting ≡ old.waiting + length events
   pub takes : Takes medium old events new

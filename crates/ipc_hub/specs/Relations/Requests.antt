@@ -19,11 +19,30 @@ use Rattle.ipc_store.specs.View.{StoreView, IsReadyFor}
 use Rattle.ipc_hub.specs.declared.serving.Asked.{Asked}
 use Rattle.ipc_hub.specs.declared.serving.Asked.TheVariants as asked
 use Rattle.ipc_hub.specs.Hub.{accept, event_of}
-use Rattle.ipc_hub.specs.View.{ConnectionView, HubView, HasNoFrame}
+use Rattle.ipc_hub.specs.View.{ConnectionView, HubView, StoredHub, HasNoFrame}
 use Rattle.ipc_hub.specs.Relations.Rows.{Becomes, Table, hub_of, hub_view, stored_view}
-use Rattle.ipc_hub.specs.Relations.Delivery.{last_frames, unanswered_at, owed_to, view_endpoint}
+use Rattle.ipc_hub.specs.Relations.Delivery.{last_frames, unanswered_at, owed_to, view_endpoint, HasSpaceFor}
 use Rattle.ipc_hub.specs.Relations.Invariant.{HubInvariant, Continues}
-use Rattle.ipc_hub.specs.Relations.Matches.{Pends, TakesIn}
+use Rattle.ipc_hub.specs.Relations.Matches.{Adds, Pends, TakesIn}
+
+-- what holds of a hub holds, and so many events have room in its store
+pub record IsReady {D : Type 0} (v : StoredHub D) (n : ℕ) : Type 0 where
+  pub invariant : HubInvariant v.hub
+  pub events : IsReadyFor v.store n
+
+-- A request of the connection with a number has room: its event in the store, and its reply behind what its process is
+-- owed.
+pub record HasRoom {D : Type 0} (v : StoredHub D) (conn : ℕ) : Type 0 where
+  pub passed : ArePassed v.hub.limits
+  pub sound : IsSound v.hub.limits v.hub.state
+  pub ready : IsReady v 1
+  pub space : HasSpaceFor v.hub (longest_reply v.hub.limits) conn
+
+-- A hub has accepted events: the same connections go on, and the events are pending in its store.
+pub record HasAccepted {D : Type 0} (medium : D → Medium) (old new : StoredHub D) (events : List PlainEvent)
+    : Type 0 where
+  pub continues : Continues old.hub new.hub
+  pub pends : Pends medium old.store events new.store
 
 -- the exit of a process, if there is one
 abbrev pub exit_of : Option ℕ → ℕ → List PlainEvent
@@ -134,4 +153,5 @@ pub record Took {D : Type 0} (medium : D → Medium) (old new : StoreView D) (be
     (piece : List ℕ) (moment : ℕ) : Type 0 where
   pub continues : Continues (hub_view old.machine before) (hub_view new.machine after)
   pub bytes : TakesIn medium (stored_view old before) (stored_view new after) conn piece moment
+  pub adds : Adds 1 old new
   pub answers : HasNoFrame (hub_view new.machine after) conn → Waits old new before after conn

@@ -5,7 +5,6 @@ use Rattle.ipc_base.specs.declared.identity.Pid.{Pid}
 use Rattle.ipc_base.specs.Table.{value_at, with_value}
 use Rattle.ipc_engine.specs.Engine.{Machine}
 use Rattle.ipc_hub.specs.declared.connection.Connection.{Connection}
-use Rattle.ipc_hub.specs.declared.connections.Connections.{Connections}
 use Rattle.ipc_store.specs.View.{StoreView}
 use Rattle.ipc_hub.specs.Hub.{Hub}
 use Rattle.ipc_hub.specs.View.{ConnectionView, HubView, StoredHub}
@@ -17,17 +16,11 @@ Table = List (ℕ × ConnectionView)
 abbrev pub pid_of : Option Pid → Option ℕ
 pid_of process = option_map (λ p. p.0) process
 
-abbrev pub view_of : Connection → ConnectionView
-view_of c = record { process = pid_of c.process; input = c.input.items; outbox = c.outbox; ended = c.ended }
-
 abbrev pub row : Connection → ℕ × ConnectionView
-row c = (c.number, view_of c)
+row c = (c.number, c.session)
 
 abbrev pub rows : List Connection → Table
 rows connections = map row connections
-
-abbrev pub table_of : Connections → Table
-table_of connections = rows connections.items.items
 
 abbrev pub hub_view : Machine → Table → HubView
 hub_view engine table = record { limits = engine.limits; state = engine.state; connections = table }

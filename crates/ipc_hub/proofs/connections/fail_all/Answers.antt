@@ -1,6 +1,6 @@
 use Rattle.std.proofs.Common.{sym, subst, arith}
+use Rattle.ipc_hub.specs.declared.connection.Connection.{Connection}
 use Rattle.ipc_hub.specs.Relations.Delivery.{failed, HasSpare}
-use Rattle.ipc_hub.specs.Relations.Rows.{view_of}
 use Rattle.ipc_hub.proofs.Rows.{each-get, seen-all}
 use Rattle.ipc_hub.proofs.connections.fail_all.Goals as goal
 
@@ -8,7 +8,7 @@ pub fail-requires : goal.fail-requires
 fail-requires c =
     let i = c.loop-connection.connection-index in
     let was = c.connection-item.result in
-    subst (λ d. HasSpare (view_of d)) (sym (c.loop-connection.invariant.rest i was (omega arith)))
+    subst (λ (d : Connection). HasSpare d.session) (sym (c.loop-connection.invariant.rest i was (omega arith)))
     (each-get HasSpare c.args.connections.now i was c.requires c.loop-connection-test.true)
 
 pub returns : goal.returns

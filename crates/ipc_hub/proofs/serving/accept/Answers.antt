@@ -1,7 +1,7 @@
 use Rattle.std.proofs.Common.{◌≡◌, map, ap, ◌∙◌}
 use Rattle.ipc_engine.specs.Engine.{Machine}
 use Rattle.ipc_engine.specs.View.{plain_event, plain_outcome}
-use Rattle.ipc_hub.specs.Relations.Rows.{table_of, hub_view}
+use Rattle.ipc_hub.specs.Relations.Rows.{hub_view}
 use Rattle.ipc_hub.proofs.Keeping.{quiet-space}
 use Rattle.ipc_store.proofs.CallerLemmas.{ready-less}
 use Rattle.ipc_hub.proofs.serving.accept.Given.{Over}
@@ -16,7 +16,7 @@ pub deliver-requires-clause-space : goal.deliver-requires-clause-space
 deliver-requires-clause-space g c =
     let stepped = rw c.unwrap.ensures at c.step.ensures in
     rw (are g (goal.at.deliver-requires-clause-space g c).After-outcomes ∙ stepped.outcomes)
-    (quiet-space (hub_view c.args.store.now.machine (table_of c.args.connections.now)) (plain_event c.args.event) stepped.was_sound c.requires.hub
+    (quiet-space (hub_view c.args.store.now.machine c.args.connections.now) (plain_event c.args.event) stepped.was_sound c.requires.ready.invariant
     c.requires.quiet.nobody stepped.passed)
 
 pub returns-clause-steps : goal.returns-clause-steps
@@ -28,6 +28,6 @@ returns-clause-steps g c =
       outcomes = s.outcomes;
       passed = s.passed;
       sound = s.was_sound;
-      pends = record { confirmed = s.confirmed; waiting = s.waiting; takes = s.takes.0 };
+      pends = record { disk = s.disk; stopped = s.running; checkpoint = s.checkpoint; confirmed = s.confirmed; waiting = s.waiting; takes = s.takes.0 };
       less = λ n. ready-less c.args.store.now c.step.new.self (plain_event c.args.event) n c.requires.quiet.has s.records s.waiting s.confirmed s.running;
     }

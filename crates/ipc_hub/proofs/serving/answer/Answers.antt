@@ -1,4 +1,4 @@
-use Rattle.std.proofs.Common.{◌≡◌, ◌-◌, suc, [], ◌∷◌, List, length, map, Option, sym, ap, ◌∙◌, subst, arith, rules}
+use Rattle.std.proofs.Common.{◌≡◌, ◌-◌, suc, [], ◌∷◌, List, length, map, Option, sym, ap, ◌∙◌, subst, arith}
 use Rattle.std.specs.Prelude.{option_map, slice_get}
 use Rattle.std.specs.Option.{option_copied}
 use Rattle.ipc_engine.specs.declared.event.Outcome.{Outcome}
@@ -6,8 +6,6 @@ use Rattle.ipc_engine.specs.Event.{PlainOutcome}
 use Rattle.ipc_engine.specs.View.{plain_outcome}
 use Rattle.ipc_hub.specs.Hub.{last_reply}
 use Rattle.ipc_hub.specs.Relations.Delivery.{answered, with_answer, put_all, HasSpaceToGreet}
-use Rattle.ipc_hub.specs.Relations.Rows.{pid_of, view_of, table_of}
-use Rattle.ipc_hub.proofs.Keeping.{changed-keys}
 use Rattle.ipc_hub.proofs.Rows.{put-changed, same-changed}
 use Rattle.ipc_hub.proofs.serving.answer.Goals.{Joined-get_mut, in-Some, in_default}
 use Rattle.ipc_hub.proofs.serving.answer.Goals as goal
@@ -22,33 +20,27 @@ last-is (o ∷ p ∷ os) last is =
     last-is (p ∷ os) last (is ∙ ap (slice_get (o ∷ p ∷ os)) next)
 
 -- the connection that asked has been told
-told : (c : Joined-get_mut) → table_of c.match-get_mut.connections
-    ≡ with_answer (map plain_outcome c.args.outcomes.now) c.args.conn (table_of c.args.connections.now)
+told : (c : Joined-get_mut) → c.match-get_mut.connections ≡ with_answer (map plain_outcome c.args.outcomes.now) c.args.conn c.args.connections.now
 told c =
     elim c.match-get_mut.branch [
       | in-Some w ↦
-          let was = w.in-Some.connection.now in
+          let was = w.in-Some.session.now in
           let now = w.hear_own.new.self in
-          ap table_of w.connections-is
-          ∙ put-changed (answered (last_reply (map plain_outcome c.args.outcomes.now))) (table_of c.args.connections.now) _ c.args.conn was now
-          (c.get_mut.follows.holds now) w.in-Some.ensures.found w.in-Some.ensures.number w.hear_own.ensures.number
-          (w.hear_own.ensures.view ∙ ap (λ (r : Option PlainOutcome). answered r (view_of was))
+          w.connections-is
+          ∙ put-changed (answered (last_reply (map plain_outcome c.args.outcomes.now))) c.args.connections.now _ c.args.conn was now
+          (c.get_mut.follows.holds now) w.in-Some.ensures.found
+          (w.hear_own.ensures ∙ ap (λ (r : Option PlainOutcome). answered r was)
           (last-is c.args.outcomes.now (option_copied w.last.result) w.last.ensures.value))
       | in_default w ↦
-          ap table_of w.connections-is ∙ c.get_mut.follows.holds-at-none
-          ∙ same-changed _ (table_of c.args.connections.now) c.args.conn w.in_default.ensures.found
+          w.connections-is ∙ c.get_mut.follows.holds-at-none
+          ∙ same-changed _ c.args.connections.now c.args.conn w.in_default.ensures.found
     ]
 
 pub hear_own-requires : goal.hear_own-requires
-hear_own-requires c = record {
-  space = λ none.
-      subst (λ (r : Option PlainOutcome). HasSpaceToGreet r (view_of c.in-Some.connection.now))
-      (sym (last-is c.args.outcomes.now (option_copied c.last.result) c.last.ensures.value))
-      ((rw (sym c.in-Some.ensures.found) at c.requires.space.own) (ap pid_of none));
-}
-
-pub deliver-requires-clause-rising : goal.deliver-requires-clause-rising
-deliver-requires-clause-rising c = search (rules, changed-keys)
+hear_own-requires c none =
+    subst (λ (r : Option PlainOutcome). HasSpaceToGreet r c.in-Some.session.now)
+    (sym (last-is c.args.outcomes.now (option_copied c.last.result) c.last.ensures.value))
+    ((rw (sym c.in-Some.ensures.found) at c.requires.space.own) none)
 
 pub deliver-requires-clause-apart : goal.deliver-requires-clause-apart
 deliver-requires-clause-apart c = rw (told (goal.at.deliver-requires-clause-apart c).Joined-get_mut) c.requires.apart

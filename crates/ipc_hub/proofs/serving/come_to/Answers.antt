@@ -8,41 +8,40 @@ use Rattle.ipc_engine.specs.Engine.{event_takes_memory}
 use Rattle.ipc_engine.specs.View.{plain_event}
 use Rattle.ipc_store.proofs.CallerLemmas.{ready-less}
 use Rattle.ipc_hub.specs.Relations.Requests.{IsRequest, Steps}
-use Rattle.ipc_hub.specs.Relations.Rows.{pid_of}
 use Rattle.ipc_engine.specs.declared.event.Event.{Event}
 use Rattle.ipc_hub.proofs.serving.come_to.Given.{Over}
 use Rattle.ipc_hub.proofs.serving.come_to.Goals.{After-event_of}
 use Rattle.ipc_hub.proofs.serving.come_to.Goals as goal
 
 -- the request that stands at the front, and the event that it makes
-front : (g : Over) (c : After-event_of g) → first c.args.connection.now.input.items ≡ Whole c.in-Whole.used (plain_request c.in-Whole.request)
+front : (g : Over) (c : After-event_of g) → first c.args.session.now.input ≡ Whole c.in-Whole.used (plain_request c.in-Whole.request)
 front g c = search rules
 
 abbrev asks : (g : Over) (c : After-event_of g) {made : Option Event} → c.event_of.result ≡ made
-    → IsRequest (first c.args.connection.now.input.items) (pid_of c.args.connection.now.process) c.args.moment.0 (option_map plain_event made)
+    → IsRequest (first c.args.session.now.input) c.args.session.now.process c.args.moment.0 (option_map plain_event made)
 asks g c is = record {
   used = c.in-Whole.used;
   request = plain_request c.in-Whole.request;
   whole = front g c;
-  event = sym c.event_of.ensures.event ∙ ap (option_map plain_event) is;
+  event = sym (rw c.process.ensures at c.event_of.ensures.event) ∙ ap (option_map plain_event) is;
 }
 
-pub returns-in_default-clause-comes : goal.returns-in_default-clause-comes
-returns-in_default-clause-comes g c = (refl, inr (asks g (goal.at.returns-in_default-clause-comes g c).After-event_of c.in_default.is, refl))
+pub returns-in_default : goal.returns-in_default
+returns-in_default g c = (refl, inr (asks g (goal.at.returns-in_default g c).After-event_of c.in_default.is, refl))
 
-pub returns-in-Err-NoMemory-clause-comes : goal.returns-in-Err-NoMemory-clause-comes
-returns-in-Err-NoMemory-clause-comes g c =
+pub returns-in-Err-NoMemory : goal.returns-in-Err-NoMemory
+returns-in-Err-NoMemory g c =
     let e = plain_event c.in-Some.event in
     let takes : event_takes_memory c.args.store.now.machine.limits c.args.store.now.machine.state e ≡ true =
     elim (test_cases (event_takes_memory c.args.store.now.machine.limits c.args.store.now.machine.state e)) [
       | inl does ↦ does
       | inr never ↦ absurd (search rules)
     ] in
-    let made = asks g (goal.at.returns-in-Err-NoMemory-clause-comes g c).After-event_of c.in-Some.is in
+    let made = asks g (goal.at.returns-in-Err-NoMemory g c).After-event_of c.in-Some.is in
     record { event = e; made = made; serial = refl; takes = takes; same = search rules }
 
-pub returns-in-Ok-clause-comes : goal.returns-in-Ok-clause-comes
-returns-in-Ok-clause-comes g c =
+pub returns-in-Ok : goal.returns-in-Ok
+returns-in-Ok g c =
     let s = c.in-Ok.ensures in
     let e = plain_event c.in-Some.event in
     let steps : Steps g.D.SectorDisk.medium c.args.store.now c.step.new.self e = record {
@@ -51,7 +50,7 @@ returns-in-Ok-clause-comes g c =
       outcomes = s.outcomes;
       passed = s.passed;
       sound = s.was_sound;
-      pends = record { confirmed = s.confirmed; waiting = s.waiting; takes = s.takes.0 };
+      pends = record { disk = s.disk; stopped = s.running; checkpoint = s.checkpoint; confirmed = s.confirmed; waiting = s.waiting; takes = s.takes.0 };
       less = λ n. ready-less c.args.store.now c.step.new.self e n c.in-Some.ensures.record s.records s.waiting s.confirmed s.running;
     } in
-    (e, (asks g (goal.at.returns-in-Ok-clause-comes g c).After-event_of c.in-Some.is, steps))
+    (e, (asks g (goal.at.returns-in-Ok g c).After-event_of c.in-Some.is, steps))

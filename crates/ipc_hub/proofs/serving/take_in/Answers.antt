@@ -3,10 +3,10 @@ use Rattle.std.proofs.Math.Seq.{take-add}
 use Rattle.std.proofs.lemmas.List.{take_all, length-drop}
 use Rattle.ipc_store.specs.View.{StoreView, IsReadyFor}
 use Rattle.ipc_hub.specs.Relations.Matches.{TakesIn}
-use Rattle.ipc_hub.specs.Relations.Rows.{table_of, hub_view, stored_view}
+use Rattle.ipc_hub.specs.Relations.Rows.{hub_view, stored_view}
 use Rattle.ipc_hub.proofs.Committing.{adds-both}
 use Rattle.ipc_hub.proofs.Receiving.{goes-further}
-use Rattle.ipc_hub.proofs.Taking.{over-takes, nothing-takes, takes-then}
+use Rattle.ipc_hub.proofs.Taking.{over-takes, nothing-takes, same-adds, takes-then}
 use Rattle.ipc_hub.specs.Relations.Delivery.{unanswered_at}
 use Rattle.ipc_hub.proofs.Keeping.{empty-space}
 use Rattle.ipc_hub.proofs.serving.take_in.Goals as goal
@@ -17,12 +17,12 @@ returns-then-not-is_open-clause-bytes g c = search (rules, over-takes)
 pub loop-taken-init : goal.loop-taken-init
 loop-taken-init g c = record {
   within = omega arith;
-  continues = record { limits = refl; numbers = refl; invariant = c.requires.hub };
-  bytes = nothing-takes g.D.SectorDisk.medium g.met.D.SectorDisk.only_now (stored_view c.args.store.now (table_of c.args.connections.now)) c.args.conn
-      c.args.moment.0 c.requires.hub;
+  continues = record { limits = refl; numbers = refl; invariant = c.requires.invariant };
+  bytes = nothing-takes g.D.SectorDisk.medium g.met.D.SectorDisk.only_now (stored_view c.args.store.now c.args.connections.now) c.args.conn
+      c.args.moment.0 c.requires.invariant;
   first = λ _. (refl, refl);
-  adds = record { disk = refl; stopped = refl; checkpoint = refl; confirmed = refl; waiting = omega arith };
-  ready = λ _. inl c.requires.ready;
+  adds = same-adds c.args.store.now c.args.store.now refl;
+  ready = λ _. inl c.requires.events;
 }
 
 -- while no frame is kept an event has room
@@ -33,7 +33,7 @@ has-ready store (inr one) = one.1
 pub returns-then-not-has_room-clause-whole : goal.returns-then-not-has_room-clause-whole
 returns-then-not-has_room-clause-whole g c none =
     let held = c.loop-taken.invariant in
-    let space = empty-space (hub_view c.loop-taken.store.machine (table_of c.loop-taken.connections)) c.args.conn c.has_room.ensures.sound
+    let space = empty-space (hub_view c.loop-taken.store.machine c.loop-taken.connections) c.args.conn c.has_room.ensures.sound
     held.continues.invariant none in
     let never : true ≡ false = sym (c.has_room.ensures.room.1 (has-ready c.loop-taken.store (held.ready none), space)) ∙ c.if-not-has_room.true in cc
 
@@ -53,9 +53,9 @@ loop-taken-preserved g c =
     let n = c.take-taken.result in
     let conn = c.args.conn in
     let held = c.loop-taken.invariant in
-    let old = stored_view c.args.store.now (table_of c.args.connections.now) in
-    let mid = stored_view c.loop-taken.store (table_of c.loop-taken.connections) in
-    let new = stored_view c.take-taken.new.store (table_of c.take-taken.new.connections) in
+    let old = stored_view c.args.store.now c.args.connections.now in
+    let mid = stored_view c.loop-taken.store c.loop-taken.connections in
+    let new = stored_view c.take-taken.new.store c.take-taken.new.connections in
     let med = g.D.SectorDisk.medium in
     let rest : List ℕ = take (length piece - i) (drop i piece) in
     let whole : rest ≡ drop i piece = take_all (length piece - i) (drop i piece) (omega (arith, length-drop i piece)) in
@@ -68,7 +68,7 @@ loop-taken-preserved g c =
           (sym (take-add i n piece ∙ ap (λ (r : List ℕ). take i piece ++ take n r) (sym whole)))
           (takes-then med g.met.D.SectorDisk.only_now old mid new conn c.args.moment.0 (take i piece) (take n rest) held.bytes took.bytes);
       first = λ none. absurd (omega (arith, none, some));
-      adds = adds-both (i + n) held.adds c.take-taken.ensures.adds (omega (arith, some));
+      adds = adds-both (i + n) held.adds took.adds (omega (arith, some));
       ready = λ none.
           let waits = took.answers none in
           still-ready mid.store new.store (unanswered_at mid.hub conn) (unanswered_at new.hub conn) waits.event (held.ready waits.empty);

@@ -2,7 +2,7 @@ use Rattle.std.proofs.Common.{◌≡◌, ◌⊎◌, ◌-◌, ◌<◌, ◌≤◌,
 use Rattle.ipc_store.specs.View.{IsReadyFor}
 use Rattle.ipc_hub.specs.View.{HasNoFrame}
 use Rattle.ipc_hub.specs.Relations.Delivery.{unanswered_at}
-use Rattle.ipc_hub.specs.Relations.Rows.{table_of, hub_view, stored_view}
+use Rattle.ipc_hub.specs.Relations.Rows.{hub_view, stored_view}
 use Rattle.ipc_hub.specs.Relations.Invariant.{Continues}
 use Rattle.ipc_hub.specs.Relations.Matches.{Adds, TakesIn}
 use Rattle.ipc_hub.proofs.serving.take_in.Given as goal
@@ -12,13 +12,13 @@ use Rattle.ipc_hub.proofs.serving.take_in.Given as goal
 abbrev pub invariant-loop-taken : goal.invariant-loop-taken
 invariant-loop-taken g l = record {
   within : l.taken ≤ length l.piece;
-  continues : Continues (hub_view l.fn.store.machine (table_of l.fn.connections)) (hub_view l.store.machine (table_of l.connections));
-  bytes : TakesIn g.D.SectorDisk.medium (stored_view l.fn.store (table_of l.fn.connections)) (stored_view l.store (table_of l.connections)) l.conn
+  continues : Continues (hub_view l.fn.store.machine l.fn.connections) (hub_view l.store.machine l.connections);
+  bytes : TakesIn g.D.SectorDisk.medium (stored_view l.fn.store l.fn.connections) (stored_view l.store l.connections) l.conn
       (take l.taken l.piece) l.moment.0;
   first : l.taken ≡ 0 → (l.connections ≡ l.fn.connections) × (l.store ≡ l.fn.store);
   adds : Adds l.taken l.fn.store l.store;
-  ready : HasNoFrame (hub_view l.store.machine (table_of l.connections)) l.conn
-      → (IsReadyFor l.store 2) ⊎ ((0 < unanswered_at (hub_view l.store.machine (table_of l.connections)) l.conn) × IsReadyFor l.store 1);
+  ready : HasNoFrame (hub_view l.store.machine l.connections) l.conn
+      → (IsReadyFor l.store 2) ⊎ ((0 < unanswered_at (hub_view l.store.machine l.connections) l.conn) × IsReadyFor l.store 1);
 }
 
 -- the bytes that are left

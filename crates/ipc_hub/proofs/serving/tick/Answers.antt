@@ -1,7 +1,7 @@
-use Rattle.std.proofs.Common.{refl}
+use Rattle.std.proofs.Common.{refl, rules}
 use Rattle.ipc_engine.specs.Event.{Tick}
 use Rattle.ipc_engine.proofs.CallerLemmas.{tick-stays}
-use Rattle.ipc_hub.specs.Relations.Rows.{table_of, hub_view}
+use Rattle.ipc_hub.specs.Relations.Rows.{hub_view}
 use Rattle.ipc_hub.specs.Relations.Requests.{Happened}
 use Rattle.ipc_hub.proofs.Deliveries.{happened-matches}
 use Rattle.ipc_hub.proofs.Keeping.{quiet-goes-on, quiet-happens, quiet-passes}
@@ -9,26 +9,28 @@ use Rattle.ipc_hub.proofs.serving.tick.Given.{Over}
 use Rattle.ipc_hub.proofs.serving.tick.Goals.{After-accept}
 use Rattle.ipc_hub.proofs.serving.tick.Goals as goal
 
-happened : (g : Over) (c : After-accept g) → Happened (hub_view c.args.store.now.machine (table_of c.args.connections.now))
-    (hub_view c.accept.new.store.machine (table_of c.accept.new.connections)) (Tick c.args.moment.0)
+happened : (g : Over) (c : After-accept g) → Happened (hub_view c.args.store.now.machine c.args.connections.now)
+    (hub_view c.accept.new.store.machine c.accept.new.connections) (Tick c.args.moment.0)
 happened g c =
     quiet-happens g.D.SectorDisk.medium c.args.store.now c.accept.new.store _ _ (Tick c.args.moment.0) c.accept.ensures.steps c.accept.ensures.replies
 
-pub returns-clause-continues : goal.returns-clause-continues
-returns-clause-continues g c =
+pub returns-clause-accepts : goal.returns-clause-accepts
+returns-clause-accepts g c =
     let machine = c.args.store.now.machine in
-    quiet-goes-on _ (Tick c.args.moment.0) c.accept.ensures.steps.sound c.requires.hub (λ pid. refl) _
-    (happened g (goal.at.returns-clause-continues g c).After-accept)
-    (λ conn pid mine. tick-stays machine.limits machine.state c.args.moment.0 pid (c.requires.hub.own.connected conn pid mine))
+    record {
+      continues = quiet-goes-on _ (Tick c.args.moment.0) c.accept.ensures.steps.sound c.requires.invariant (λ pid. refl) _
+          (happened g (goal.at.returns-clause-accepts g c).After-accept)
+          (λ conn pid mine. tick-stays machine.limits machine.state c.args.moment.0 pid (c.requires.invariant.own.connected conn pid mine));
+      pends = c.accept.ensures.steps.pends;
+    }
 
 pub returns-clause-passed : goal.returns-clause-passed
 returns-clause-passed g c =
-    quiet-passes _ (Tick c.args.moment.0) c.accept.ensures.steps.sound c.requires.hub (λ pid. refl) _
+    quiet-passes _ (Tick c.args.moment.0) c.accept.ensures.steps.sound c.requires.invariant (λ pid. refl) _
     (happened g (goal.at.returns-clause-passed g c).After-accept)
 
 pub returns-clause-ticks : goal.returns-clause-ticks
-returns-clause-ticks g c limits confirmed h m =
-    happened-matches limits confirmed _ _ (Tick c.args.moment.0) (happened g (goal.at.returns-clause-ticks g c).After-accept) h m
+returns-clause-ticks g c limits confirmed h m = search (rules, happened, happened-matches)
 
 pub returns-clause-ready : goal.returns-clause-ready
-returns-clause-ready g c = c.accept.ensures.steps.less 2 c.requires.ready
+returns-clause-ready g c = c.accept.ensures.steps.less 2 c.requires.events

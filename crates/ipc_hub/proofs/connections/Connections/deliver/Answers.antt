@@ -1,15 +1,10 @@
-use Rattle.std.proofs.Common.{◌≡◌, ℕ, ◌+◌, ◌<◌, List, ◌∷◌, map, drop, length, get_or, sym, ap, subst, ◌∙◌, arith, rules}
-use Rattle.std.specs.Vec.{with_items}
-use Rattle.ipc_base.specs.Table.{keys_of, seen_as, EachValue}
-use Rattle.ipc_base.proofs.CallerLemmas.{keys-map}
-use Rattle.std.proofs.lemmas.List.{drop_all, drop_more, with_items_is}
+use Rattle.std.proofs.Common.{◌≡◌, ℕ, ◌+◌, ◌<◌, List, ◌∷◌, map, drop, length, get_or, sym, ap, subst, ◌∙◌}
+use Rattle.std.proofs.lemmas.List.{drop_all, drop_more}
 use Rattle.ipc_engine.specs.declared.event.Outcome.{Outcome}
 use Rattle.ipc_engine.specs.Event.{PlainOutcome}
 use Rattle.ipc_engine.specs.View.{plain_outcome}
-use Rattle.ipc_hub.specs.declared.connection.Connection.{Connection}
-use Rattle.ipc_hub.specs.Relations.Rows.{Table, rows, table_of}
-use Rattle.ipc_hub.specs.Relations.Delivery.{HasSpaceIn, HaveSpace, put_all, put_for}
-use Rattle.ipc_hub.specs.Relations.Invariant.{AreApart}
+use Rattle.ipc_hub.specs.Relations.Rows.{Table}
+use Rattle.ipc_hub.specs.Relations.Delivery.{HaveSpace, put_all}
 use Rattle.ipc_hub.proofs.Keeping.{put-apart, put-next, seen-same}
 use Rattle.ipc_hub.proofs.connections.Connections.deliver.Goals as goal
 
@@ -27,37 +22,26 @@ has os i o table within is space = subst (λ (ps : List PlainOutcome). HaveSpace
 
 pub put-requires-clause-space : goal.put-requires-clause-space
 put-requires-clause-space c =
-    let os = c.args.outcomes.now in
-    let i = c.loop-outcome.outcome-index in
-    let o = c.outcome-item.result in
-    let table = table_of c.loop-outcome.self in
-    let here : c.deref_mut.result.now ≡ c.loop-outcome.self.items.items = search rules in
-    subst (λ (cs : List Connection). EachValue (HasSpaceIn (plain_outcome o)) (rows cs)) (sym here)
-    (has os i o table c.loop-outcome-test.true c.outcome-item.is c.loop-outcome.invariant.space).1
+    (has c.args.outcomes.now c.loop-outcome.outcome-index c.outcome-item.result c.loop-outcome.self c.loop-outcome-test.true c.outcome-item.is
+    c.loop-outcome.invariant.space).1
 
 pub loop-outcome-preserved : goal.loop-outcome-preserved
 loop-outcome-preserved c =
     let os = c.args.outcomes.now in
     let i = c.loop-outcome.outcome-index in
     let o = c.outcome-item.result in
-    let table = table_of c.loop-outcome.self in
+    let table = c.loop-outcome.self in
     let rest = map plain_outcome (drop (i + 1) os) in
-    let here : c.deref_mut.result.now ≡ c.loop-outcome.self.items.items = search rules in
-    let now = table_of (record { items = with_items c.loop-outcome.self.items c.put.new.connections }) in
-    let put : now ≡ seen_as (put_for (plain_outcome o)) table =
-    ap rows (with_items_is c.loop-outcome.self.items c.put.new.connections (omega arith)) ∙ c.put.ensures
-    ∙ ap (λ (cs : List Connection). seen_as (put_for (plain_outcome o)) (rows cs)) here in
-    record {
-      rising = rw (ap keys_of put ∙ keys-map (put_for (plain_outcome o)) table) c.loop-outcome.invariant.rising;
-      apart = subst AreApart (sym put) (put-apart (plain_outcome o) table c.loop-outcome.invariant.apart);
-      space = subst (HaveSpace rest) (sym put) (has os i o table c.loop-outcome-test.true c.outcome-item.is c.loop-outcome.invariant.space).2;
-      all = ap (put_all rest) put ∙ put-next (plain_outcome o) rest table
+    rw c.put.ensures (record {
+      apart = put-apart (plain_outcome o) table c.loop-outcome.invariant.apart;
+      space = (has os i o table c.loop-outcome-test.true c.outcome-item.is c.loop-outcome.invariant.space).2;
+      all = put-next (plain_outcome o) rest table
           ∙ ap (λ (ps : List PlainOutcome). put_all ps table) (sym (left os i o c.loop-outcome-test.true c.outcome-item.is)) ∙ c.loop-outcome.invariant.all;
-    }
+    })
 
 pub returns : goal.returns
 returns c =
-    let now = table_of c.loop-outcome.self in
+    let now = c.loop-outcome.self in
     sym (seen-same now)
     ∙ ap (λ (os : List Outcome). put_all (map plain_outcome os) now) (sym (drop_all c.loop-outcome.outcome-index c.args.outcomes.now c.loop-outcome-test.false))
     ∙ c.loop-outcome.invariant.all

@@ -4,10 +4,11 @@ use Rattle.ipc_hub.proofs.connections.Connections.get.Goals as goal
 
 pub returns-in_err-place : goal.returns-in_err-place
 returns-in_err-place c =
-    rw c.from_residual.ensures
-    (sym (missing-at c.args.self.now.items.items c.deref.result.now c.args.conn c.deref.ensures.value (sym c.place_of.ensures ∙ c.in_err-place.was)))
+    rw (c.from_residual.ensures, ← c.self.view_is)
+    (sym (missing-at c.self.inside.items.items c.deref.result.now c.args.conn c.deref.ensures.value (sym c.place_of.ensures ∙ c.in_err-place.was)))
 
 pub returns : goal.returns
 returns c =
-    sym (found-at c.args.self.now.items.items c.deref.result.now c.args.conn c.deref.ensures.value c.in_ok-place.place c.index.result.now
-    (sym c.place_of.ensures ∙ c.in_ok-place.was) c.index.ensures).0
+    rw (← c.self.view_is)
+    (sym (found-at c.self.inside.items.items c.deref.result.now c.args.conn c.deref.ensures.value c.in_ok-place.place c.index.result.now
+    (sym c.place_of.ensures ∙ c.in_ok-place.was) c.index.ensures))

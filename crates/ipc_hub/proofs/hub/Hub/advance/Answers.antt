@@ -1,21 +1,25 @@
 use Rattle.std.proofs.Common.{[], ◌∷◌, refl, rules}
 use Rattle.ipc_engine.specs.Event.{Tick}
 use Rattle.ipc_hub.specs.Clients.{tick}
-use Rattle.ipc_hub.specs.Relations.Matches.{StoredMatches}
-use Rattle.ipc_hub.specs.Relations.Rows.{table_of, stored_view}
+use Rattle.ipc_hub.specs.Relations.Matches.{Serves, StoredMatches}
+use Rattle.ipc_hub.specs.Relations.Rows.{stored_view}
 use Rattle.ipc_hub.proofs.Coming.{comes-further, comes-same, passes-then}
+use Rattle.ipc_hub.proofs.hub.Hub.advance.Given.{Over}
+use Rattle.ipc_hub.proofs.hub.Hub.advance.Goals.{After-tick}
 use Rattle.ipc_hub.proofs.hub.Hub.advance.Goals as goal
 
-pub returns-clause-ok : goal.returns-clause-ok
-returns-clause-ok g c limits h m =
+-- it serves the hubs that matched before the space was made
+serves : (g : Over) (c : After-tick g) → Serves g.D.SectorDisk.medium c.args.self.now (stored_view c.tick.new.store c.tick.new.connections)
+    (λ limits h. tick limits h c.args.moment.0)
+serves g c limits h m =
     let medium = g.D.SectorDisk.medium in
-    let mid = stored_view c.self.inside.store (table_of c.self.inside.connections) in
+    let mid = stored_view c.self.inside.store c.self.inside.connections in
     let kept = c.in_default.ensures.settles.ok limits h m in
     let here : StoredMatches limits mid h = rw c.self.view_is kept in
     comes-further medium limits c.args.self.now mid _ h h (tick limits h c.args.moment.0)
     (rw c.self.view_is (comes-same medium limits c.args.self.now c.make_space.new.self h kept c.in_default.ensures.settles.takes))
     (c.tick.ensures.ticks limits _ h here.hub)
-    (record { events = Tick c.args.moment.0 ∷ []; adds = refl; pends = c.tick.ensures.accepts })
+    (record { events = Tick c.args.moment.0 ∷ []; adds = refl; pends = c.tick.ensures.accepts.pends })
 
-pub returns-clause-passed : goal.returns-clause-passed
-returns-clause-passed g c = search (rules, passes-then)
+pub returns : goal.returns
+returns g c = search (rules, passes-then, serves g (goal.at.returns g c).After-tick)

@@ -1,6 +1,5 @@
 use Rattle.std.proofs.Common.{◌≡◌, inl, inr, ⊎_elim, ap, subst, rules}
-use Rattle.ipc_hub.specs.declared.connections.Connections.{Connections}
-use Rattle.ipc_hub.specs.Relations.Rows.{Table, table_of}
+use Rattle.ipc_hub.specs.Relations.Rows.{Table}
 use Rattle.ipc_hub.proofs.Committing.{Told, Wrote, told-settles, told-spare, told-stands}
 use Rattle.ipc_hub.proofs.hub.Hub.make_last.Given.{Over}
 use Rattle.ipc_hub.proofs.hub.Hub.make_last.Goals.{Joined-whole, then-whole, else-whole}
@@ -38,9 +37,9 @@ wrote g c =
 same : (g : Over) (c : Joined-whole g) → c.if-whole.self-inside.connections ≡ c.self.inside.connections
 same g c = elim c.if-whole.branch [ then-whole w ↦ ap (λ h. h.connections) w.self-inside-is | else-whole w ↦ ap (λ h. h.connections) w.self-inside-is ]
 
-told : (g : Over) (c : Joined-whole g) (after : Table) → Told (table_of c.if-whole.self-inside.connections) after c.if-whole.done
-    → Told (table_of c.self.inside.connections) after c.if-whole.done
-told g c after is = subst (λ (cs : Connections). Told (table_of cs) after c.if-whole.done) (same g c) is
+told : (g : Over) (c : Joined-whole g) (after : Table) → Told c.if-whole.self-inside.connections after c.if-whole.done
+    → Told c.self.inside.connections after c.if-whole.done
+told g c after is = subst (λ (cs : Table). Told cs after c.if-whole.done) (same g c) is
 
 pub after_commit-requires : goal.after_commit-requires
 after_commit-requires g c =
