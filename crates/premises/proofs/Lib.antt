@@ -1,1 +1,3 @@
 pub mod Living
+pub mod Sectors
+pub mod Visiting

@@ -1,8 +1,8 @@
 -- A life of one tick that is made to last, from the clauses of its calls.
-use Rattle.std.proofs.Common.{◌≡◌, ◌∙◌, List, [], ◌∷◌, ℕ, refl, sym, ap, subst, append-nil, arith}
+use Rattle.std.proofs.Common.{◌≡◌, [], ◌∷◌, ℕ, refl, sym, subst, append-nil, arith}
 use Rattle.ipc_base.specs.declared.limits.Limits.{Limits}
-use Rattle.ipc_disk.specs.Medium.{Image, Medium, IsHonest}
-use Rattle.ipc_engine.specs.Event.{PlainEvent, Restart}
+use Rattle.ipc_disk.specs.Medium.{Medium, IsHonest}
+use Rattle.ipc_engine.specs.Event.{Restart}
 use Rattle.ipc_store.specs.Histories.{OpensOn, Takes}
 use Rattle.ipc_store.specs.Lives.{IsLeft}
 use Rattle.ipc_store.specs.View.{StoreView}

@@ -1,1 +1,3 @@
 pub mod Remembered
+pub mod Remembering
+pub mod Visits

@@ -1,56 +1,85 @@
--- A disk that keeps every image since its making, and on which each write is durable at once.
-use Rattle.std.specs.Prelude.{◌≡◌, ◌⊎◌, ℕ, zero, suc, ◌≤◌, List, [], ◌∷◌, ◌++◌, length}
+-- A disk that keeps what it had before each write and sync since its making: of each sector the value at the last sync
+-- and the last that was written. A crash leaves of each sector, by itself, one of the two.
+use Rattle.std.specs.Prelude.{◌≡◌, ◌⊎◌, ℕ, zero, suc, ◌≤◌, List, [], ◌∷◌, ◌++◌, length, map}
 use Rattle.std.specs.Prelude.{All, Some, slice_get, refl}
-use Rattle.std.proofs.Common.{inl, inr, ⊎_elim, sym, ◌∙◌, ap, subst, arith, length-append}
+use Rattle.std.proofs.Common.{inl, inr, ⊎_elim, sym, subst, arith, length-append}
 use Rattle.std.proofs.lemmas.Option.{same_Some, slice_get_within}
-use Rattle.ipc_disk.specs.Medium.{Image, Medium, IsSector, IsShaped, IsHonest, Elapses}
+use Rattle.std.proofs.lemmas.List.{length-map}
+use Rattle.ipc_disk.specs.declared.memory.Slot.{Slot as MemorySlot}
+use Rattle.ipc_disk.specs.Medium.{Image, Medium, IsShaped, IsHonest, Elapses}
+use Rattle.ipc_disk.specs.Slots.{MayLeave, last_values}
+use Rattle.ipc_disk.specs.Relations.Slots.{IsWhole, MayLeave-last_values, IsShaped-MayLeave, synced_slot}
+use Rattle.premises.specs.declared.remembering.Slot.{Slot}
 
--- A crash now leaves what is read. The moment is how many images came before; the images since a moment are those
--- from then on, and no other.
-abbrev pub remembered_medium : List Image → Image → Medium
+-- a sector, sectors and what sectors were, in the words of a disk in memory
+abbrev pub slot_of : Slot → MemorySlot
+slot_of slot = record { synced = slot.synced; last = slot.last }
+
+abbrev pub slots_of : List Slot → List MemorySlot
+slots_of slots = map slot_of slots
+
+abbrev pub past_of : List (List Slot) → List (List MemorySlot)
+past_of past = map slots_of past
+
+-- so many sectors, each of which has both values
+pub record IsFull (size : ℕ) (slots : List MemorySlot) : Type 0 where
+  pub count : length slots ≡ size
+  pub whole : All IsWhole slots
+
+-- one image that sectors may leave, synced
+pub record IsLeftOf (slots left : List MemorySlot) : Type 0 where
+  pub image : Image
+  pub may : MayLeave slots image
+  pub is : left ≡ map synced_slot image
+
+-- The moment is how many writes and syncs came before. The images since a moment are those that a crash could leave
+-- then, or after any of the later writes and syncs, and no other.
+abbrev pub remembered_medium : List (List MemorySlot) → List MemorySlot → Medium
 remembered_medium past now = record {
-  contents = now;
-  images_now = λ image. image ≡ now;
+  contents = last_values now;
+  images_now = MayLeave now;
   moment = length past;
-  images_since = λ t image. (k : ℕ) × (t ≤ k) × (slice_get (past ++ now ∷ []) k ≡ Some image);
+  images_since = λ t image. (k : ℕ) × (t ≤ k)
+      × ((slots : List MemorySlot) × (slice_get (past ++ now ∷ []) k ≡ Some slots) × MayLeave slots image);
 }
 
-last_is : (past : List Image) (now : Image) → slice_get (past ++ now ∷ []) (length past) ≡ Some now
+last_is : (past : List (List MemorySlot)) (now : List MemorySlot)
+    → slice_get (past ++ now ∷ []) (length past) ≡ Some now
 last_is [] now = refl
 last_is (x ∷ xs) now = last_is xs now
 
--- an image is one of before, or the last
-last_or_before : (past : List Image) (now image : Image) (k : ℕ) → slice_get (past ++ now ∷ []) k ≡ Some image
-    → (slice_get past k ≡ Some image) ⊎ (image ≡ now)
-last_or_before [] now image zero is = inr (sym (same_Some _ _ is))
-last_or_before [] now image (suc k) is = cc
-last_or_before (x ∷ xs) now image zero is = inl is
-last_or_before (x ∷ xs) now image (suc k) is = last_or_before xs now image k is
+-- the sectors are those of before some call, or the last
+last_or_before : (past : List (List MemorySlot)) (now slots : List MemorySlot) (k : ℕ)
+    → slice_get (past ++ now ∷ []) k ≡ Some slots → (slice_get past k ≡ Some slots) ⊎ (slots ≡ now)
+last_or_before [] now slots zero is = inr (sym (same_Some _ _ is))
+last_or_before [] now slots (suc k) is = cc
+last_or_before (x ∷ xs) now slots zero is = inl is
+last_or_before (x ∷ xs) now slots (suc k) is = last_or_before xs now slots k is
 
 -- such a disk is honest
-pub IsHonest-remembered : (past : List Image) (now : Image) → IsHonest (remembered_medium past now)
+pub IsHonest-remembered : (past : List (List MemorySlot)) (now : List MemorySlot)
+    → IsHonest (remembered_medium past now)
 IsHonest-remembered past now = record {
-  reads = refl;
-  since = λ t image le here. (length past, le, last_is past now ∙ ap (λ (i : Image). Some i) (sym here));
+  reads = MayLeave-last_values now;
+  since = λ t image le here. (length past, le, (now, last_is past now, here));
 }
 
--- its image has all the sectors
-pub IsShaped-remembered : (now image : Image) → All IsSector now → image ≡ now → IsShaped (length now) image
-IsShaped-remembered now image whole here = record {
-  count = ap length here;
-  sectors = subst (All IsSector) (sym here) whole;
-}
+-- each image has all the sectors
+pub IsShaped-remembering : (slots : List Slot) (image : Image) → All IsWhole (slots_of slots)
+    → MayLeave (slots_of slots) image → IsShaped (length slots) image
+IsShaped-remembering slots image whole left =
+    subst (λ (n : ℕ). IsShaped n image) (length-map slots slot_of) (IsShaped-MayLeave (slots_of slots) image whole left)
 
--- since this moment there is one image
-pub only_now-remembered : (past : List Image) (now image : Image)
-    → (remembered_medium past now).images_since (length past) image → image ≡ now
-only_now-remembered past now image (k, le, is) = ⊎_elim
-    (λ before. absurd (omega (arith, le, slice_get_within past k image before)))
-    (λ here. here)
-    (last_or_before past now image k is)
+-- since this moment there are the images of now
+pub only_now-remembered : (past : List (List MemorySlot)) (now : List MemorySlot) (image : Image)
+    → (remembered_medium past now).images_since (length past) image → MayLeave now image
+only_now-remembered past now image (k, le, (slots, is, left)) = ⊎_elim
+    (λ before. absurd (omega (arith, le, slice_get_within past k slots before)))
+    (λ here. subst (λ (l : List MemorySlot). MayLeave l image) here left)
+    (last_or_before past now slots k is)
 
 -- a call that changes nothing
-pub Elapses-same : (past : List Image) (now : Image)
+pub Elapses-same : (past : List (List MemorySlot)) (now : List MemorySlot)
     → Elapses (remembered_medium past now) (remembered_medium past now)
 Elapses-same past now = record {
   later = omega arith;
@@ -58,14 +87,14 @@ Elapses-same past now = record {
   honest = (λ h. h, λ h. h);
 }
 
--- a call that makes another image
-pub Elapses-next : (past : List Image) (now next : Image)
+-- a call before which the disk kept what it had
+pub Elapses-next : (past : List (List MemorySlot)) (now next : List MemorySlot)
     → Elapses (remembered_medium past now) (remembered_medium (past ++ now ∷ []) next)
 Elapses-next past now next = record {
   later = omega (arith, length-append past (now ∷ []));
-  nothing_else = λ t image le left. ⊎_elim
-      (λ before. inl (left.0, left.1, before))
-      (λ here. inr here)
-      (last_or_before (past ++ now ∷ []) next image left.0 left.2);
+  nothing_else = λ t image le (k, later, (slots, is, left)). ⊎_elim
+      (λ before. inl (k, later, (slots, before, left)))
+      (λ here. inr (subst (λ (l : List MemorySlot). MayLeave l image) here left))
+      (last_or_before (past ++ now ∷ []) next slots k is);
   honest = (λ _. IsHonest-remembered (past ++ now ∷ []) next, λ _. IsHonest-remembered past now);
 }

@@ -8,13 +8,17 @@ ghost use Rattle.ipc_disk.specs.declared.memory.MemoryDisk.{MemoryDisk};
 ghost use Rattle.ipc_store.specs.Histories.{Past, new_past, state_after};
 ghost use Rattle.ipc_store.specs.Image.{StandsFor};
 ghost use Rattle.ipc_store.specs.View.{StoreView};
+ghost use Rattle.ipc_hub.specs.Clients.{Clients, Frame};
 ghost use Rattle.ipc_hub.specs.Lives.{HasHistory, Life, Lives};
+ghost use Rattle.premises.specs.Remembering.{remembering_medium};
+ghost use Rattle.premises.specs.Visits.{AreSeen, Saw, Goes, Ends};
 
+use crate::remembering::RememberingDisk;
 use ipc_base::{Limits, Moment};
 use ipc_disk::{MemoryDisk, disks_in_memory_are_honest};
 use ipc_hub::{Hub, no_answer_is_taken_back};
-use ipc_store::Store;
-use std::alloc::Global;
+use ipc_store::{CommitError, Store, an_open_finds_what_stands_there};
+use std::alloc::{AllocError, Global};
 
 /// A disk in memory is honest, whatever calls led to it. So of lives on one that was made a device
 /// the law asks nothing more.
@@ -61,5 +65,91 @@ pub fn one_life(
     match Store::open(alloc, hub.close().close()) {
         Ok(store) => Some(store),
         Err(_) => None,
+    }
+}
+
+/// One life on a disk that forgets nothing, which is made a device first. A client says HELLO, that is made to last,
+/// and the client sees what it is answered. More of its bytes come, and are released. If the disk keeps so few calls
+/// that it fails in that release, this is the moment at which the machine stops; else that is at its end. The unsynced
+/// sectors at the places that are true in `keep` have their last values then. It answers what the client saw, and the
+/// store that is opened on what is left: its history has the event of each frame that was seen.
+pub fn one_life_with_a_crash(
+    alloc: Global,
+    limits: &Limits,
+    disk: RememberingDisk,
+    hello: &[u8],
+    requests: &[u8],
+    moment: Moment,
+    keep: &[bool],
+) -> Option<(Vec<u8>, Store<RememberingDisk>)>
+    ensures { IfSome result (λ found. (life : Life) × Saw found.0.items life
+        × HasHistory (remembering_medium found.1.disk) (new_past limits.now) (life ∷ []) found.1) }
+{
+    no_answer_is_taken_back::<RememberingDisk>();
+    an_open_finds_what_stands_there::<RememberingDisk>();
+    let mut disk = disk;
+    let Ok(()) = Store::format(&mut disk, limits) else {
+        return None;
+    };
+    let Ok(store) = Store::open(alloc, disk) else {
+        return None;
+    };
+    let mut hub = Hub::new(alloc, store);
+    let Some(seen) = greet(alloc, &mut hub, hello, moment) else {
+        return None;
+    };
+    let Some(()) = ask(&mut hub, requests, moment) else {
+        return None;
+    };
+    let disk = hub.close().close();
+    let at = disk.moment();
+    let Some(left) = disk.crashed(at, keep) else {
+        return None;
+    };
+    match Store::open(alloc, left) {
+        Ok(store) => Some((seen, store)),
+        Err(_) => None,
+    }
+}
+
+// A connection comes and sends bytes, what they do is made to last, and its output is looked at.
+fn greet(
+    alloc: Global,
+    hub: &mut Hub<RememberingDisk>,
+    hello: &[u8],
+    moment: Moment,
+) -> Option<Vec<u8>>
+    ensures { IfSome result (λ seen. (limits : Limits) (opened : StoreView RememberingDisk) (h : Clients)
+        → Goes remembering_medium limits opened hub.old h [] → (then : Clients) × ((frames : List Frame)
+        × AreSeen seen.items frames × Goes remembering_medium limits opened hub.new then frames)) }
+{
+    let Ok(()) = hub.connect(1) else {
+        return None;
+    };
+    let Ok(_) = hub.feed(1, hello, moment) else {
+        return None;
+    };
+    let Ok(()) = hub.release() else {
+        return None;
+    };
+    match Vec::from_slice(alloc, hub.output(1)) {
+        Ok(seen) => Some(seen),
+        Err(AllocError) => None,
+    }
+}
+
+// It sends more bytes, and what they do is released, in which the disk may fail.
+fn ask(hub: &mut Hub<RememberingDisk>, requests: &[u8], moment: Moment) -> Option<()>
+    ensures { IfSome result (λ _. (limits : Limits) (opened : StoreView RememberingDisk) (h : Clients)
+        (seen : List Frame) → Goes remembering_medium limits opened hub.old h seen
+        → Ends remembering_medium limits opened hub.new seen) }
+{
+    let Ok(_) = hub.feed(1, requests, moment) else {
+        return None;
+    };
+    match hub.release() {
+        Ok(()) => Some(()),
+        Err(CommitError::Device) => Some(()),
+        Err(CommitError::Stopped) => None,
     }
 }

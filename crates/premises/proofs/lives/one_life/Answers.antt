@@ -1,7 +1,6 @@
 use Rattle.std.proofs.Common.{◌≡◌, ◌+◌, ◌<◌, ◌^◌, ◌∙◌, ℕ, [], ◌∷◌, length, ap, subst, arith}
 use Rattle.std.proofs.lemmas.List.{length-map}
 use Rattle.ipc_base.specs.declared.limits.Limits.{Limits}
-use Rattle.ipc_disk.specs.Medium.{IsHonest}
 use Rattle.ipc_disk.specs.Memory.{memory_medium, memory_size}
 use Rattle.ipc_disk.specs.declared.memory.MemoryDisk.{MemoryDisk}
 use Rattle.ipc_disk.specs.declared.memory.Slot.{Slot}
