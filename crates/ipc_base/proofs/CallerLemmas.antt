@@ -86,25 +86,6 @@ module _ {A K X : Type 0} (row : A → K × X) (same : K → K → Bool) (k : K)
       let other : is_at x ≡ false = before 0 (omega arith) in
       rw other (first_find_set xs i d b (omega arith) here (λ j h. before (suc j) (omega arith)))
 
-  -- what stands at the place that a search found
-  pub find_at_place : (xs : List A) (i : ℕ) (a : A) → position is_at xs ≡ Some i → a ≡ get_or xs i a → find is_at xs ≡ Some a
-  find_at_place xs i a found is =
-      let first = position-Some is_at xs i a found in
-      first_find xs i a first.0 first.1 first.2 ∙ ap (λ (b : A). Some b) (sym is)
-
-  -- nothing where a search found no place
-  pub find_nowhere : (xs : List A) → position is_at xs ≡ None → find is_at xs ≡ None
-  find_nowhere xs none =
-      let late : length xs ≤ position_or_len is_at xs = ltb-false _ _ (not_some _ _ none) in
-      no_find xs (λ j d h. fails_before_first is_at xs j d (omega arith))
-
-  -- what stands there after a write of an entry of the same key
-  pub find_set_at_place : (xs : List A) (i : ℕ) (a b : A) → position is_at xs ≡ Some i → a ≡ get_or xs i a → (row b).0 ≡ (row a).0
-      → find is_at (set xs i b) ≡ Some b
-  find_set_at_place xs i a b found is key =
-      let first = position-Some is_at xs i a found in
-      first_find_set xs i a b first.0 (ap (λ (j : K). same j k) (key ∙ ap (λ (c : A). (row c).0) is) ∙ first.1) first.2
-
   -- the value at the place that a search found
   pub value_at_place : (xs : List A) (i : ℕ) (a : A) → position is_at xs ≡ Some i → a ≡ get_or xs i a
       → value_at same (map row xs) k ≡ Some (row a).1
@@ -150,16 +131,6 @@ module _ {A K X : Type 0} (row : A → K × X) (same : K → K → Bool) (k : K)
   without_nowhere xs none =
       let late : length xs ≤ position_or_len is_at xs = ltb-false _ _ (not_some _ _ none) in
       no_without xs (λ j d h. fails_before_first is_at xs j d (omega arith))
-
-  is_some_found : (xs : List A) (r : Option ℕ) → position is_at xs ≡ r → is_some (value_at same (map row xs) k) ≡ is_some r
-  is_some_found xs None e = ap is_some (value_nowhere xs e)
-  is_some_found [] (Some i) e = cc
-  is_some_found (x ∷ xs) (Some i) e = ap is_some (value_at_place (x ∷ xs) i (get_or (x ∷ xs) i x) e
-      (get_or_self (x ∷ xs) i x (position-Some is_at (x ∷ xs) i x e).0))
-
-  -- whether there is a value is whether a search finds a place
-  pub is_some_value : (xs : List A) → is_some (value_at same (map row xs) k) ≡ is_some (position is_at xs)
-  is_some_value xs = is_some_found xs (position is_at xs) refl
 
 -- ---- entries that come, change or go
 

@@ -1,6 +1,6 @@
 //! The root: the one sector that tells where the live objects stand.
 
-ghost use Rattle.std.specs.Prelude.{◌≡◌, ◌<◌, ◌++◌, ◌+◌, ◌≤◌, length, take, drop};
+ghost use Rattle.std.specs.Prelude.{◌≡◌, ◌<◌, length, take};
 ghost use Rattle.std.specs.Prelude.{MatchOption};
 ghost use Rattle.ipc_checkpoint.specs.Checkpoint.{epoch_in, area_in, length_in, root_bytes};
 ghost use Rattle.ipc_checkpoint.specs.Relations.Root.{IsRead, IsNoRoot};

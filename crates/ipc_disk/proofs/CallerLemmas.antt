@@ -1,17 +1,21 @@
 -- What the crates above cite of runs of calls: how what holds of each image since goes on over the next call, and from
 -- one run of calls to the next; and of bytes that stand on a disk.
 use Rattle.std.specs.Prelude.{◌≡◌, ◌≢◌, ◌⊎◌, ◌↔◌, ℕ, zero, suc, ◌+◌, ◌-◌, ◌*◌, ◌<◌, ◌≤◌, List, [], ◌∷◌, ◌++◌, length, take, drop, replicate}
-use Rattle.std.specs.Prelude.{slice_get, slice_set, refl, Result}
+use Rattle.std.specs.Prelude.{slice_get, slice_set, slice_index_or, map, All, refl, Result}
 use Rattle.std.specs.Option.{unwrap_or}
 use Rattle.std.proofs.Common.{inl, inr, ⊎_elim, sym, ◌∙◌, ap, subst, arith, take-append-drop}
 use Rattle.std.proofs.lemmas.List.{get_or-set_same, get_or-set_other, length-set, take_at, take_all, take-take, drop-take, length-take, length-drop}
+use Rattle.std.proofs.lemmas.List.Elements.{All-map}
 use Rattle.std.proofs.lemmas.Option.{unwrap_or-slice_get}
+use Rattle.ipc_disk.specs.declared.memory.Slot.{Slot}
 use Rattle.ipc_disk.specs.declared.range.Range.{Range}
 use Rattle.ipc_disk.specs.Calls.{IsSameDisk, IsOneCall, OnlyReads}
 use Rattle.ipc_disk.specs.Counts.{Counts, counted, with_calls, with_failure}
 use Rattle.ipc_disk.specs.Medium.{Image, Medium, IsHonest, Elapses, SetOrNot, Stays, Writes}
 use Rattle.ipc_disk.specs.Range.{IsOutside}
 use Rattle.ipc_disk.specs.Since.{EachImageSince, SameAt, LeavesAlone}
+use Rattle.ipc_disk.specs.Slots.{MayLeave, last_values}
+use Rattle.ipc_disk.specs.Relations.Slots.{IsWhole, flushed}
 use Rattle.ipc_disk.specs.Standing.{sectors_for, sector_at, piece, StandsAt, IsWrittenAt}
 
 -- no call yet
@@ -363,3 +367,50 @@ pub counts-calls : (new old : Counts) (writes syncs : ℕ) → new.failures ≡ 
 counts-calls new old writes syncs f w s =
     ap (λ (n : ℕ). record new { failures = n }) f ∙ ap (λ (n : ℕ). record new { failures = old.failures; writes = n }) w
     ∙ ap (λ (n : ℕ). record (with_calls writes 0 old) { syncs = n }) s
+
+-- a slot after a write
+abbrev pub written : Slot → List ℕ → Slot
+written slot bytes = record { synced = slot.synced; last = bytes }
+
+-- an image after a write is one from before it, or one in which the sector is written
+pub MayLeave-written : (slots : List Slot) (at : ℕ) (slot : Slot) (bytes : List ℕ) (image : Image) → at < length slots → slot ≡ slice_index_or slots at slot
+    → MayLeave (slice_set slots at (written slot bytes)) image
+    → (before : Image) × MayLeave slots before × ((image ≡ before) ⊎ (image ≡ slice_set before at bytes))
+MayLeave-written [] at slot bytes image lt is left = absurd (omega arith)
+MayLeave-written (s ∷ ss) zero slot bytes [] lt is left = absurd left
+MayLeave-written (s ∷ ss) zero slot bytes (x ∷ xs) lt is left = ⊎_elim
+    (λ kept. (x ∷ xs, (inl (kept ∙ ap (λ (a : Slot). a.synced) is), left.1), inl refl))
+    (λ new. (s.synced ∷ xs, (inl refl, left.1), inr (ap (λ (a : List ℕ). a ∷ xs) new)))
+    left.0
+MayLeave-written (s ∷ ss) (suc at) slot bytes [] lt is left = absurd left
+MayLeave-written (s ∷ ss) (suc at) slot bytes (x ∷ xs) lt is left =
+    let rest = MayLeave-written ss at slot bytes xs (omega arith) is left.1 in
+    (x ∷ rest.0, (left.0, rest.1), ⊎_elim (λ same. inl (ap (λ (l : Image). x ∷ l) same)) (λ set. inr (ap (λ (l : Image). x ∷ l) set)) rest.2)
+
+-- after a sync there is one image
+pub MayLeave-flushed : (slots : List Slot) (image : Image) → MayLeave (map flushed slots) image → image ≡ last_values slots
+MayLeave-flushed [] [] left = refl
+MayLeave-flushed [] (x ∷ xs) left = absurd left
+MayLeave-flushed (s ∷ ss) [] left = absurd left
+MayLeave-flushed (s ∷ ss) (x ∷ xs) left =
+    let first : x ≡ s.last = ⊎_elim (λ is. is) (λ is. is) left.0 in
+    ap (λ (a : List ℕ). a ∷ xs) first ∙ ap (λ (l : Image). s.last ∷ l) (MayLeave-flushed ss xs left.1)
+
+pub last_values-flushed : (slots : List Slot) → last_values (map flushed slots) ≡ last_values slots
+last_values-flushed [] = refl
+last_values-flushed (s ∷ ss) = ap (λ (l : Image). s.last ∷ l) (last_values-flushed ss)
+
+-- A sync leaves these slots: each is whole, and a crash leaves what is read, which is as it was.
+module _ (old new : List Slot) (is : new ≡ map flushed old) where
+  pub whole-flushed : All IsWhole old → All IsWhole new
+  whole-flushed whole = subst (All IsWhole) (sym is)
+      (All-map IsWhole flushed old (λ k d lt. record { saved = (whole k d lt).newest; newest = (whole k d lt).newest }))
+
+  pub contents-flushed : last_values new ≡ last_values old
+  contents-flushed = ap last_values is ∙ last_values-flushed old
+
+  pub only_contents : (image : Image) → MayLeave new image → image ≡ last_values old
+  only_contents image left = MayLeave-flushed old image (subst (λ (l : List Slot). MayLeave l image) is left)
+
+  pub durable-flushed : (image : Image) → MayLeave new image → image ≡ last_values new
+  durable-flushed image left = only_contents image left ∙ sym contents-flushed

@@ -9,7 +9,7 @@ use Rattle.ipc_disk.specs.Crash.{is_unsynced, survives, survivor, passed, surviv
 use Rattle.ipc_disk.specs.Medium.{Image}
 use Rattle.ipc_disk.specs.Slots.{MayLeave, last_values, synced_values}
 use Rattle.ipc_disk.specs.Relations.Slots.{IsWhole, synced_slot, flushed, IsShaped-MayLeave}
-use Rattle.ipc_disk.proofs.SlotsLemmas.{durable-flushed}
+use Rattle.ipc_disk.proofs.CallerLemmas.{durable-flushed}
 
 -- the slots when this many have been chosen
 abbrev pub chosen : ℕ → ℕ → ℕ → List Slot → List Slot

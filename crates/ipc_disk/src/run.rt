@@ -1,8 +1,8 @@
 //! A run: neighbouring sectors that were written and wait to be put into a disk.
 
-ghost use Rattle.std.specs.Prelude.{◌≡◌, ◌⊎◌, ◌-◌, ◌+◌, ◌≤◌, ◌<◌, ◌*◌, ◌++◌, ◌↔◌, [], ◌∷◌};
+ghost use Rattle.std.specs.Prelude.{◌≡◌, ◌-◌, ◌+◌, ◌≤◌, ◌<◌, ◌++◌, ◌↔◌, [], ◌∷◌};
 ghost use Rattle.std.specs.Prelude.{All, IsTrue, length, slice_get, slice_set};
-ghost use Rattle.std.specs.Prelude.{IfNone, IfSome, Some, IsSome};
+ghost use Rattle.std.specs.Prelude.{IfSome, Some, IsSome};
 ghost use Rattle.ipc_disk.specs.Medium.{IsSector};
 ghost use Rattle.ipc_disk.specs.Range.{IsInside};
 ghost use Rattle.ipc_disk.specs.declared.run.TheConstants.{LONGEST};

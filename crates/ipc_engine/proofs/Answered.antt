@@ -76,7 +76,8 @@ is_waiting-push [] w q = by_test (w.pid.0 == q)
     by_test false = refl
 is_waiting-push (v ∷ ws) w q = by_test (v.pid.0 == q) (is_waiting-push ws w q)
   where
-    by_test : (b : Bool) → is_some (waiting_call_of (record { 0 = q }) (ws ++ w ∷ [])) ≡ (if is_some (waiting_call_of (record { 0 = q }) ws) then true else w.pid.0 == q)
+    by_test : (b : Bool) → is_some (waiting_call_of (record { 0 = q }) (ws ++ w ∷ []))
+        ≡ (if is_some (waiting_call_of (record { 0 = q }) ws) then true else w.pid.0 == q)
         → is_some (if b then Some v else waiting_call_of (record { 0 = q }) (ws ++ w ∷ [])) ≡ (if is_some (if b then Some v else waiting_call_of
         (record { 0 = q }) ws) then true else w.pid.0 == q)
     by_test true rest = refl

@@ -26,7 +26,8 @@ module _ {new : Held} {before last : Vec Outcome} where
       record { state = there.state; outcomes = there.outcomes; capacity = there.capacity }
 
   -- replies that went before it
-  pub does-after : (own : List PlainOutcome) {step : Step} {old : Held} {between : Vec Outcome} → map plain_outcome between.items ≡ map plain_outcome before.items ++ own
+  pub does-after : (own : List PlainOutcome) {step : Step} {old : Held} {between : Vec Outcome} → map plain_outcome between.items
+      ≡ map plain_outcome before.items ++ own
       → vec_capacity before ≤ vec_capacity between → Does step old new between last
       → Does (record { state = step.state; outcomes = own ++ step.outcomes }) old new before last
   does-after own {step} pushed places does = record {

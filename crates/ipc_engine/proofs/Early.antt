@@ -65,7 +65,8 @@ module _ (limits : Limits) where
       choice (λ (t : Step). NoneIsDue t.state) (is_due (record { 0 = s.clock }) (waiting_on s pid request on)) _ _ (λ _. h)
       (λ early. All-push (IsEarly (with_waiting s (waiting_on s pid request on))) s.wait (waiting_on s pid request on) h early)
 
-  replied_or_joined-early : (s : State) (pid : ℕ) (request : PlainRequest) (t : Tried) → NoneIsDue s → IfFinishes (HasEnded limits s pid (touched_by s pid request.kind)) t
+  replied_or_joined-early : (s : State) (pid : ℕ) (request : PlainRequest) (t : Tried) → NoneIsDue s
+      → IfFinishes (HasEnded limits s pid (touched_by s pid request.kind)) t
       → NoneIsDue (replied_or_joined limits pid request s t).state
   replied_or_joined-early s pid request (Finishes f) h ended = settle-early f.state (same-early s f.state ended.good.wait ended.good.clock h)
   replied_or_joined-early s pid request Waits h ended = joins-early s pid request (awaited_by request.kind) h

@@ -13,22 +13,18 @@ use Rattle.ipc_wait.proofs.CallerLemmas.{IsIn, found-in, waiting_call_of-without
 use Rattle.sem_undo.specs.Undo.{Key, adjustment}
 use Rattle.sysv_msg.specs.Queue.{Queue}
 use Rattle.sysv_sem.specs.Set.{Set}
-use Rattle.ipc_keys.specs.declared.check.NameKind.{NameKind}
-use Rattle.ipc_keys.specs.declared.check.NameKind.TheVariants as names
 use Rattle.ipc_state.specs.declared.parked.Awaited.{Awaited}
 use Rattle.ipc_state.specs.declared.parked.Awaited.TheVariants as awaited
 use Rattle.ipc_state.specs.declared.processes.Process.{Process}
 use Rattle.ipc_state.specs.Keyed.{Keyed}
-use Rattle.ipc_state.specs.Named.{Named, NamedEntry}
 use Rattle.ipc_state.specs.Numbered.{entry_of}
 use Rattle.ipc_state.specs.Finish.{Finish, Tried, Finishes, Waits, IfFinishes}
 use Rattle.ipc_state.specs.Sound.{HasSoundParts, FitsBody}
 use Rattle.ipc_state.specs.State.{State, is_process, is_waiting, undo_of, without_waiting}
-use Rattle.ipc_state.specs.Touching.{is_awaited, is_there, named_object, object_of, IsAsBefore}
+use Rattle.ipc_state.specs.Touching.{is_there, object_of, IsAsBefore}
 use Rattle.ipc_state.specs.Waiting.{PlainWaiting, IsSoundWaiting}
-use Rattle.ipc_state.proofs.CallerLemmas.{HasSameProcesses, same-connected, same-processes, without_waiting-sound, same-objects}
+use Rattle.ipc_state.proofs.CallerLemmas.{HasSameProcesses, same-connected, same-processes, without_waiting-sound, same-awaited, same-objects}
 use Rattle.posix_mq.specs.declared.queue.Registration.{Registration}
-use Rattle.posix_mq.specs.Queue.{Queue as Mq}
 use Rattle.ipc_engine.specs.Event.{PlainOutcome}
 use Rattle.ipc_engine.specs.Settling.{touched_by}
 use Rattle.ipc_engine.specs.Step.{Step, silent, after, answered, notices, replied, tried, can_resume, resumed, resumed_first, settle_within, settle}
@@ -58,13 +54,8 @@ as-before pid (awaited.MsgQueue n) s t queues sets mqs sems undo process = ap (�
 as-before pid (awaited.Semset n) s t queues sets mqs sems undo process = (ap (λ (m : Keyed Set). entry_of m n.0) sets, λ pid num. undo pid (n.0, num))
 as-before pid (awaited.Descriptor fd) s t queues sets mqs sems undo process = (
   ap (λ (p : Option Process). value_at nat_eq (unwrap_or (option_map (λ (q : Process). q.descriptors) p) []) fd) process,
-  λ kind n waits is. by_kind kind n waits,
+  λ kind n waits is. same-awaited s t mqs sems kind n waits,
 )
-  where
-    by_kind : (kind : NameKind) (n : ℕ) → is_awaited kind ≡ true → named_object t kind n ≡ named_object s kind n
-    by_kind names.Mq n waits = ap (λ (m : Named Mq). option_map (λ (e : NamedEntry Mq). e.object) (entry_of m n)) mqs
-    by_kind names.Psem n waits = ap (λ (m : Named ℕ). option_map (λ (e : NamedEntry ℕ). e.object) (entry_of m n)) sems
-    by_kind names.Pshm n waits = cc
 
 pub same-then : (s t u : State) → HasSameProcesses s t → HasSameProcesses t u → HasSameProcesses s u
 same-then s t u first later =

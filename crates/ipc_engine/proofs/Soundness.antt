@@ -185,7 +185,8 @@ module _ (limits : Limits) where
   left-waits s pid h =
       record {
         parts = without_waiting-sound limits s pid h.parts;
-        waits = all-wait s (without_waiting s pid) (without (record { 0 = pid }) s.wait) (sound-besides s pid h) refl refl refl refl (λ p k. refl) (λ k d i. refl)
+        waits = all-wait s (without_waiting s pid) (without (record { 0 = pid }) s.wait) (sound-besides s pid h) refl refl refl refl (λ p k. refl)
+            (λ k d i. refl)
             (early-besides s pid h) (waits-besides s pid h);
       }
 
@@ -246,7 +247,8 @@ module _ (limits : Limits) where
       → IsSound limits (called limits pid request s).state
   called-sound s pid request h process frame =
       choice (λ (t : Step). IsSound limits t.state) (is_waiting s pid) _ _ (λ _. h)
-      (λ free. replied_or_joined-sound s pid request (tried limits s pid false request.kind) h process free frame refl (tried-ended limits s pid false request.kind free))
+      (λ free. replied_or_joined-sound s pid request (tried limits s pid false request.kind) h process free frame refl
+      (tried-ended limits s pid false request.kind free))
 
   asked-sound : (s : State) (pid : ℕ) (request : PlainRequest) (kind : PlainKind) → IsSound limits s → is_process s pid ≡ true → HasFrame request
       → IsSound limits (asked limits pid request kind s).state

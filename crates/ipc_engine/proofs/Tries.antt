@@ -17,7 +17,7 @@ use Rattle.ipc_state.specs.Finish.{Finish, Tried, Finishes, Waits, IfFinishes, h
 use Rattle.ipc_state.specs.Named.{Named, NamedEntry}
 use Rattle.ipc_state.specs.Opening.{descriptor_at}
 use Rattle.ipc_state.specs.State.{State, cred_of, is_waiting}
-use Rattle.ipc_state.specs.Touching.{object_of, object_on, is_there, IsAsBefore}
+use Rattle.ipc_state.specs.Touching.{object_of, is_there, IsAsBefore}
 use Rattle.ipc_state.specs.Waiting.{awaited_by}
 use Rattle.ipc_state.proofs.CallerLemmas.{IsGood, refused-good, same-objects}
 use Rattle.posix_calls.specs.Calls as posix
@@ -37,7 +37,7 @@ there-object s pid (awaited.MsgQueue id) there = λ no. cc
 there-object s pid (awaited.Semset id) there = λ no. cc
 there-object s pid (awaited.Descriptor fd) there = by_found (descriptor_at s.processes.entries pid fd) there
   where
-    by_found : (r : Option Descriptor) → is_some r ≡ true → None ≢ option_map (λ (d : Descriptor). object_on d.on) r
+    by_found : (r : Option Descriptor) → is_some r ≡ true → None ≢ option_map (λ (d : Descriptor). d.on) r
     by_found None there = cc
     by_found (Some d) there = λ no. cc
 

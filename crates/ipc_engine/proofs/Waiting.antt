@@ -203,7 +203,8 @@ module _ (limits : Limits) where
         (tried-alike limits s (without_waiting s w.pid.0) w.pid.0 true true w.call.kind w.on in_list.on refl
         (as-before w.pid.0 w.on s (without_waiting s w.pid.0) refl refl refl refl (λ p k. refl) refl) ∙ opposite _ goes)
       where
-        by_tried : (t : Tried) → IfFinishes (HasEnded limits (without_waiting s w.pid.0) w.pid.0 (touched_by (without_waiting s w.pid.0) w.pid.0 w.call.kind)) t → has_to_wait t ≡ false
+        by_tried : (t : Tried) → IfFinishes
+            (HasEnded limits (without_waiting s w.pid.0) w.pid.0 (touched_by (without_waiting s w.pid.0) w.pid.0 w.call.kind)) t → has_to_wait t ≡ false
             → IsAnswered w (answered w (without_waiting s w.pid.0) t)
         by_tried (Finishes f) ended never =
             let o : PlainOutcome = record { pid = w.pid.0; serial = w.call.serial; errno = f.errno; body = f.body } in
@@ -242,10 +243,12 @@ module _ (limits : Limits) where
         (asked-called here pid request request.kind is ∙ same)
 
     by-waiting : (b : Bool) → is_waiting here pid ≡ b → called limits pid request here
-        ≡ (if b then replied pid request.serial (refused here EALREADY) else replied_or_joined limits pid request here (tried limits here pid false request.kind))
+        ≡ (if b then replied pid request.serial (refused here EALREADY)
+        else replied_or_joined limits pid request here (tried limits here pid false request.kind))
     by-waiting b same =
         ap (λ (w : Bool).
-        if w then replied pid request.serial (refused here EALREADY) else replied_or_joined limits pid request here (tried limits here pid false request.kind)) same
+        if w then replied pid request.serial (refused here EALREADY)
+        else replied_or_joined limits pid request here (tried limits here pid false request.kind)) same
 
     pub refused-same : (e : Errno) → IsSound limits s → is_call request.kind ≡ true
         → tried limits here pid false request.kind ≡ Finishes (refused here e) → (step limits s (Call pid request moment)).state ≡ here

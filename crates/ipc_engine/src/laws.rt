@@ -2,7 +2,7 @@
 
 ghost use Rattle.std.specs.Prelude.{◌≡◌, ◌≢◌, ◌+◌, ◌<◌, ◌≤◌, ℕ, true, false};
 ghost use Rattle.std.specs.Prelude.{List, [], ◌∷◌, ◌++◌, length, map, max};
-ghost use Rattle.std.specs.Prelude.{Option, None, Some, All, is_some, nat_eq};
+ghost use Rattle.std.specs.Prelude.{None, Some, All, is_some, nat_eq};
 ghost use Rattle.std.specs.List.{fold};
 ghost use Rattle.ipc_base.specs.Table.{keys_of, value_at};
 ghost use Rattle.ipc_base.specs.declared.errno.Errno.{Errno};
@@ -13,9 +13,8 @@ ghost use Rattle.ipc_wire.specs.Request.{PlainRequest, Interrupt as Interrupts};
 ghost use Rattle.ipc_state.specs.declared.parked.Awaited.{Awaited};
 ghost use Rattle.ipc_state.specs.Finish.{Finishes, Waits, refused};
 ghost use Rattle.ipc_state.specs.Bound.{kept_if, holding};
-ghost use Rattle.ipc_state.specs.Named.{NamedEntry};
+ghost use Rattle.ipc_state.specs.Named.{NamedEntry, has_name};
 ghost use Rattle.ipc_state.specs.Numbered.{entry_of};
-ghost use Rattle.ipc_state.specs.Opening.{has_name};
 ghost use Rattle.posix_mq.specs.Queue.{Queue as Mq, deregistered};
 ghost use Rattle.ipc_state.specs.State.{State, start, cred_of, is_process, is_waiting, restart, undone, with_waiting};
 ghost use Rattle.ipc_state.specs.Waiting.{PlainWaiting, awaited_by, expiry};

@@ -8,7 +8,7 @@ use Rattle.ipc_wire.specs.Request.{PlainRequest}
 use Rattle.ipc_wire.specs.Stream.{first, Ending, Stream, stream_of, continued}
 use Rattle.ipc_wire.specs.Stream.PlainFrame.{More}
 use Rattle.ipc_wire.specs.Stream.Ending.{Rest, Broken}
-use Rattle.ipc_wire.proofs.CallerLemmas.{stream_begun, stream_pieces as pieces}
+use Rattle.ipc_wire.proofs.CallerLemmas.{stream_begun}
 use Rattle.ipc_base.specs.Table.{value_at, with_value}
 use Rattle.ipc_engine.specs.Event.{PlainEvent, PlainOutcome, Exit}
 use Rattle.ipc_engine.specs.Step.{step}
@@ -19,6 +19,10 @@ use Rattle.ipc_hub.specs.Hub.{welcomed, serve, on_event, on_request, unless_ende
 use Rattle.ipc_hub.specs.Clients.{Client, Clients, client_endpoint as kind, with_frame, over, take_in, arriving}
 use Rattle.ipc_hub.proofs.Kept.{heard-none}
 use Rattle.ipc_base.proofs.CallerLemmas.{choice, test_cases, at-with, twice, own, at-map}
+
+-- the requests of a stream, and of it in two pieces
+abbrev pub InPieces : Type 0
+InPieces = (bytes more : List ℕ) → stream_of (bytes ++ more) ≡ continued (stream_of bytes).requests (stream_of bytes).ending more
 
 -- ---- a connection that has ended, and one that has not
 
@@ -226,10 +230,10 @@ module _ (limits : Limits) where
       ∙ requests-append h conn moment rs [] xs ys same))
 
   -- bytes taken in in two pieces are taken in at once
-  pub take_in-pieces : (h : Clients) (conn moment : ℕ) (bytes more : List ℕ) (xs ys : List Bool)
+  pub take_in-pieces : InPieces → (h : Clients) (conn moment : ℕ) (bytes more : List ℕ) (xs ys : List Bool)
       → take_in limits (take_in limits h conn bytes moment xs) conn more moment ys
       ≡ take_in limits h conn (bytes ++ more) moment (fitted (length (arriving (client_at h conn) bytes)) xs ++ ys)
-  take_in-pieces h conn moment bytes more xs ys =
+  take_in-pieces pieces h conn moment bytes more xs ys =
       elim (over_or_live h conn) [
         | inl done ↦ ap (λ (t : Clients). take_in limits t conn more moment ys) (done _) ∙ done _ ∙ sym (done _)
         | inr l ↦

@@ -12,7 +12,7 @@ ghost use Rattle.ipc_wait.specs.Waits.{next_deadline};
 ghost use Rattle.ipc_hub.specs.Clients.{Clients, no_clients, connect, hangup, tick, consume, shown_at, ended_at};
 ghost use Rattle.ipc_hub.specs.View.{HasFewFrames, HasNoFrame, HasStopped, ended_of, is_connected, numbers_of};
 ghost use Rattle.ipc_hub.specs.View.{output_of};
-ghost use Rattle.ipc_hub.specs.View.{most_events, of_commit_error};
+ghost use Rattle.ipc_hub.specs.View.{most_events};
 ghost use Rattle.ipc_hub.specs.Relations.Matches.{HubMatches, StoredMatches, Simulates, Serves, ServesFeed};
 ghost use Rattle.ipc_hub.specs.Relations.Faults.{Advances, Halts, Joins, Lasts, Refuses, Settles};
 ghost use Rattle.ipc_hub.specs.Relations.Invariant.{SameButSeen};

@@ -17,6 +17,7 @@ use ipc_store::{
     a_stop_leaves_what_was_acknowledged, an_open_finds_what_stands_there,
     an_open_finds_what_was_acknowledged,
 };
+use ipc_wire::stream_in_pieces;
 
 /// Bytes of a connection that are taken in in two pieces are taken in at once, with the same requests refused
 /// for memory.
@@ -25,7 +26,9 @@ pub fn bytes_come_in_any_pieces()
         → take_in limits (take_in limits h conn bytes moment refused) conn more moment later
         ≡ take_in limits h conn (bytes ++ more) moment
         (fitted (length (arriving (client_at h conn) bytes)) refused ++ later) }
-{}
+{
+    stream_in_pieces();
+}
 
 /// Bytes that are fed in two pieces at one moment do what they do at once, with the same requests refused for memory.
 /// Only the second tick is counted, too, so that the marks of later frames are greater by one.
@@ -38,6 +41,7 @@ pub fn feeds_come_in_any_pieces()
     event_sets_clock();
     late_tick_does_nothing();
     nobody_waits_who_could_go_on();
+    stream_in_pieces();
 }
 
 /// When all events are confirmed, as after a release, a client may see all its frames.

@@ -1,6 +1,6 @@
 //! The frames of a connection that the client has not consumed.
 
-ghost use Rattle.std.specs.Prelude.{◌≡◌, ◌+◌, ◌<◌, ◌≤◌, ◌^◌, [], ◌++◌, length, drop, IfOk};
+ghost use Rattle.std.specs.Prelude.{◌≡◌, ◌+◌, ◌<◌, ◌≤◌, ◌^◌, [], length, drop, IfOk};
 ghost use Rattle.ipc_wire.specs.Reply.{plain_reply, reply_bytes, body_bytes};
 ghost use Rattle.ipc_hub.specs.View.{kept};
 ghost use Rattle.ipc_hub.specs.Relations.Delivery.{with_bytes, retracted};

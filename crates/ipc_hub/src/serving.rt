@@ -1,6 +1,6 @@
 //! Requests become events of the machine, and the replies of every event go to the connections of their processes.
 
-ghost use Rattle.std.specs.Prelude.{◌≡◌, ◌+◌, ◌<◌, ◌≤◌, ◌^◌, true, false, [], ◌∷◌, length, map, take};
+ghost use Rattle.std.specs.Prelude.{◌≡◌, ◌+◌, ◌<◌, ◌≤◌, true, false, [], ◌∷◌, length, map, take};
 ghost use Rattle.std.specs.Prelude.{◌↔◌, Some, nat_eq, option_map, IfSome, IsTrue};
 ghost use Rattle.ipc_base.specs.Limits.{longest_reply, ArePassed};
 ghost use Rattle.ipc_base.specs.Table.{value_at};
@@ -30,7 +30,7 @@ use ipc_base::{Errno, Moment, Pid};
 use ipc_disk::SectorDisk;
 use ipc_engine::{Event, Outcome};
 use ipc_store::{StepError, Store};
-use ipc_wire::{Frame, Request, RequestKind, read_frame};
+use ipc_wire::{Frame, Request, RequestKind, read_frame, stream_in_pieces};
 
 /// What came of what stands at the front of a connection.
 #[derive(Clone, Copy)]
@@ -300,6 +300,8 @@ pub(crate) fn take_in<D: SectorDisk>(
     ensures dropped { is_open_in connections.old conn ≡ false → result ≡ length piece.now }
     ensures adds { Adds result store.old store.new }
 {
+    // So bytes may be taken one frame at a time.
+    stream_in_pieces();
     if !connections.is_open(conn) {
         return piece.len();
     }

@@ -23,7 +23,7 @@ use Rattle.posix_mq.specs.Queue.{PlainMessage as MqMessage}
 use Rattle.posix_mq.specs.declared.queue.Registration.{Registration}
 use Rattle.ipc_state.specs.Named.{NamedEntry, is_own}
 use Rattle.posix_mq.specs.Queue.{Queue as Mq}
-use Rattle.ipc_state.specs.Opening.{is_named_so}
+use Rattle.ipc_state.specs.Named.{is_named_so}
 use Rattle.ipc_state.specs.Sound.{IsSoundMq, IsSoundMqMessage}
 use Rattle.ipc_image.specs.Saved.{registration_numbers, mq_sizes, mq_numbers, mq_message_bytes, mq_bytes, FitsMqMessage, FitsMq}
 use Rattle.ipc_image.specs.SavedParts.{own_perm, IsSmallMq}

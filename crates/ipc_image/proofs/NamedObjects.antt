@@ -4,7 +4,7 @@ use Rattle.ipc_base.specs.Objects.{PlainObjects}
 use Rattle.posix_mq.specs.Queue.{Queue as Mq}
 use Rattle.shm_segment.specs.Segment.{Segment}
 use Rattle.ipc_state.specs.Named.{NamedEntry}
-use Rattle.ipc_state.specs.Opening.{NamedObjects}
+use Rattle.ipc_state.specs.Kinds.{NamedObjects}
 use Rattle.ipc_image.specs.Kind.{IsOther}
 use Rattle.ipc_image.specs.Relations.Mqs.{mq_one}
 use Rattle.ipc_image.specs.Relations.Named.{psem_one, segment_one}

@@ -15,13 +15,13 @@ use Rattle.ipc_keys.specs.declared.check.NameKind.TheVariants as names
 use Rattle.ipc_keys.specs.Names.{most_bytes}
 use Rattle.posix_mq.specs.Queue.{Queue as Mq}
 use Rattle.shm_segment.specs.Segment.{Segment}
-use Rattle.ipc_state.specs.Named.{NamedEntry}
 use Rattle.ipc_state.specs.declared.processes.Process.{Process}
-use Rattle.ipc_state.specs.Named.{Named}
+use Rattle.ipc_state.specs.declared.parked.ObjectKind.TheVariants as kinds
+use Rattle.ipc_state.specs.Kinds.{Content, EntryOf, NamedObjects, Those}
+use Rattle.ipc_state.specs.Named.{NamedEntry, is_named_so}
 use Rattle.ipc_state.specs.Numbered.{AreNumbered}
-use Rattle.ipc_state.specs.Opening.{Content, NamedObjects, is_named_so}
-use Rattle.ipc_state.specs.Sound.{AreHeld, IsSoundContent, IsSoundMq, most_of}
-use Rattle.ipc_state.specs.State.{State, named_in, named_of}
+use Rattle.ipc_state.specs.Sound.{AreSound, IsSoundContent, most_of}
+use Rattle.ipc_state.specs.State.{State, objects_in, named_of}
 use Rattle.ipc_engine.specs.Sound.{IsSound}
 use Rattle.ipc_image.specs.Saved.{mq_bytes, mq_object, psem_bytes, psem_object, segment_bytes, pshm_object, named_objects}
 use Rattle.ipc_image.specs.SavedParts.{IsSmallNamed}
@@ -49,16 +49,20 @@ named-counted o =
 -- ---- how long
 
 -- what holds of what is sound and has such a name holds of each object of a kind
-each-held : {X : Type 0} (most : ℕ) (IsSoundOne : X → Type 0) (kind : NameKind) (processes : List (ℕ × Process)) (o : Named X)
-    (P : ℕ × NamedEntry X → Type 0) → ((e : ℕ × NamedEntry X) → IsSoundOne e.1.object → is_named_so kind e ≡ true → P e)
-    → AreHeld most IsSoundOne kind processes o → All P o.entries
-each-held {X} most IsSoundOne kind processes o P from held = both o.entries held.named.each held.forms
+each-held : (limits : Limits) (kind : NameKind) (processes : List (ℕ × Process)) (o : Those (kinds.Named kind)) (P : ℕ × EntryOf (kinds.Named kind) → Type 0)
+    → ((e : ℕ × EntryOf (kinds.Named kind)) → IsSoundContent limits (kinds.Named kind) e.1.object → is_named_so kind e ≡ true → P e)
+    → AreSound limits processes (kinds.Named kind) o → All P o.entries
+each-held limits kind processes o P from sound = both o.entries sound.held.bound.each sound.held.forms
   where
-    both : (es : List (ℕ × NamedEntry X)) → All (λ e. IsSoundOne e.1.object) es → All (λ e. is_named_so kind e ≡ true) es → All P es
+    Good : ℕ × EntryOf (kinds.Named kind) → Type 0
+    Good f = IsSoundContent limits (kinds.Named kind) f.1.object
+
+    Formed : ℕ × EntryOf (kinds.Named kind) → Type 0
+    Formed f = is_named_so kind f ≡ true
+
+    both : (es : List (ℕ × EntryOf (kinds.Named kind))) → All Good es → All Formed es → All P es
     both [] each formed = All-nil P
     both (e ∷ es) each formed =
-        let Good : ℕ × NamedEntry X → Type 0 = λ f. IsSoundOne f.1.object in
-        let Formed : ℕ × NamedEntry X → Type 0 = λ f. is_named_so kind f ≡ true in
         All-cons P e es (from e (All-head Good e es each) (All-head Formed e es formed)) (both es (All-tail Good e es each) (All-tail Formed e es formed))
 
 -- no name is longer than this
@@ -134,12 +138,12 @@ pub record AreBytes (objects : PlainObjects) : Type 0 where
 
 module _ (limits : Limits) (s : State) where
   abbrev o : NamedObjects
-  o = named_in s
+  o = (objects_in s).named
 
   module _ (sound : IsSound limits s) where
     -- the numbers of those of a kind
-    numbered : (kind : NameKind) → AreNumbered (most_of limits kind) (named_of s kind)
-    numbered kind = (sound.parts.named kind).held.named.numbered
+    numbered : (kind : NameKind) → AreNumbered (most_of limits (kinds.Named kind)) (named_of s kind)
+    numbered kind = (sound.parts.named kind).held.bound.numbered
 
     pub named-few : named_count o ≤ limits.queues + limits.named_semaphores + limits.segments
     named-few =
@@ -166,13 +170,13 @@ module _ (limits : Limits) (s : State) where
 
     names-short : (kind : NameKind) → All (HasName (most_bytes kind)) (named_of s kind).entries
     names-short kind =
-        All-weaker (λ (e : ℕ × NamedEntry (Content kind)). is_named_so kind e ≡ true) (HasName (most_bytes kind))
+        All-weaker (λ (e : ℕ × EntryOf (kinds.Named kind)). is_named_so kind e ≡ true) (HasName (most_bytes kind))
         (λ e formed. name-short kind e formed) (named_of s kind).entries (sound.parts.named kind).held.forms
 
     mqs-short : All (λ e. length (mq_bytes e.1) ≤ most_mq limits) o.mq.entries
     mqs-short =
-        each-held limits.queues (IsSoundMq limits) names.Mq s.processes.entries s.mq (λ e. length (mq_bytes e.1) ≤ most_mq limits)
-        (λ e good formed. mq-short limits e.0 e.1 good formed) (sound.parts.named names.Mq).held
+        each-held limits names.Mq s.processes.entries s.mq (λ e. length (mq_bytes e.1) ≤ most_mq limits)
+        (λ e good formed. mq-short limits e.0 e.1 good formed) (sound.parts.named names.Mq)
 
     -- they have some bytes, and not too many to be counted
     pub named-are : ArePassed limits → AreBytes (named_objects o)
@@ -221,12 +225,13 @@ module _ (limits : Limits) (s : State) where
         )
 
     -- the sizes of those of a kind
-    pub named-small : (kind : NameKind) (IsSmallObject : Content kind → Type 0) → ((x : Content kind) → IsSoundContent limits kind x → IsSmallObject x)
+    pub named-small : (kind : NameKind) (IsSmallObject : Content (kinds.Named kind) → Type 0)
+        → ((x : Content (kinds.Named kind)) → IsSoundContent limits (kinds.Named kind) x → IsSmallObject x)
         → All (λ e. IsSmallNamed IsSmallObject e.1) (named_of s kind).entries
     named-small kind IsSmallObject small =
-        each-held (most_of limits kind) (IsSoundContent limits kind) kind s.processes.entries (named_of s kind) (λ e. IsSmallNamed IsSmallObject e.1)
+        each-held limits kind s.processes.entries (named_of s kind) (λ e. IsSmallNamed IsSmallObject e.1)
         (λ e good formed. record {
           own = (formed-parts kind e formed).1;
           name = omega (arith, name-short kind e formed, few-bytes kind);
           object = small e.1.object good;
-        }) (sound.parts.named kind).held
+        }) (sound.parts.named kind)

@@ -27,8 +27,9 @@ use Rattle.sysv_sem.specs.Set.{Set, stat_of as set_stat}
 use Rattle.sysv_sem.specs.declared.set.SemStat.{SemStat}
 use Rattle.ipc_state.proofs.CallerLemmas.{All-seen, queue-numbers, few-adjustments}
 use Rattle.ipc_engine.specs.Sound.{IsSound}
-use Rattle.ipc_state.specs.Opening.{Content, NamedObjects}
-use Rattle.ipc_state.specs.State.{State, named_in, named_of, start}
+use Rattle.ipc_state.specs.declared.parked.ObjectKind.TheVariants as kinds
+use Rattle.ipc_state.specs.Kinds.{Content, NamedObjects}
+use Rattle.ipc_state.specs.State.{State, objects_in, named_of, start}
 use Rattle.ipc_state.specs.Waiting.{PlainWaiting}
 use Rattle.ipc_state.specs.Tables.{item_row}
 use Rattle.ipc_base.specs.Numbers.{fields_bytes}
@@ -90,19 +91,19 @@ set-long e = omega (arith, length-each semaphore_bytes 6 (λ x. refl) e.object.s
 
 -- the things that have objects of their own
 abbrev pub things : State → PlainObjects
-things s = map queue_object s.msg.entries ++ (map set_object s.semset.entries ++ named_objects (named_in s))
+things s = map queue_object s.msg.entries ++ (map set_object s.semset.entries ++ named_objects (objects_in s).named)
 
 module _ (s : State) where
-  pub saved-count : length (saved s) ≡ 4 + (length s.msg.entries + (length s.semset.entries + named_count (named_in s)))
+  pub saved-count : length (saved s) ≡ 4 + (length s.msg.entries + (length s.semset.entries + named_count (objects_in s).named))
   unfolding saved
   saved-count =
       omega (
         arith,
-        length-append (map queue_object s.msg.entries) (map set_object s.semset.entries ++ named_objects (named_in s)),
-        length-append (map set_object s.semset.entries) (named_objects (named_in s)),
+        length-append (map queue_object s.msg.entries) (map set_object s.semset.entries ++ named_objects (objects_in s).named),
+        length-append (map set_object s.semset.entries) (named_objects (objects_in s).named),
         length-map s.msg.entries queue_object,
         length-map s.semset.entries set_object,
-        named-counted (named_in s),
+        named-counted (objects_in s).named,
       )
 
   pub saved-clock : slice_get (saved s) 0 ≡ Some (0, fields_bytes clock_sizes (clock_numbers s))
@@ -142,7 +143,7 @@ module _ (s : State) where
   -- what holds of the four, and of each thing that has an object of its own, holds of all
   each-saved : (P : ℕ × List ℕ → Type 0) → P (0, fields_bytes clock_sizes (clock_numbers s)) → P (1, processes_bytes s.processes.entries)
       → P (2, waits_bytes s.wait) → P (3, adjustments_bytes s.undo) → All (λ e. P (queue_object e)) s.msg.entries
-      → All (λ e. P (set_object e)) s.semset.entries → All P (named_objects (named_in s)) → All P (saved s)
+      → All (λ e. P (set_object e)) s.semset.entries → All P (named_objects (objects_in s).named) → All P (saved s)
   unfolding saved
   each-saved P clock processes waiting adjustments queues sets named =
       let two : List (ℕ × List ℕ) = (2, waits_bytes s.wait) ∷ (3, adjustments_bytes s.undo) ∷ things s in
@@ -150,16 +151,16 @@ module _ (s : State) where
       (All-cons P _ two processes
       (All-cons P _ ((3, adjustments_bytes s.undo) ∷ things s) waiting
       (All-cons P _ (things s) adjustments
-      (All-append P (map queue_object s.msg.entries) (map set_object s.semset.entries ++ named_objects (named_in s))
+      (All-append P (map queue_object s.msg.entries) (map set_object s.semset.entries ++ named_objects (objects_in s).named)
       (All-map P queue_object s.msg.entries queues)
-      (All-append P (map set_object s.semset.entries) (named_objects (named_in s)) (All-map P set_object s.semset.entries sets) named)))))
+      (All-append P (map set_object s.semset.entries) (named_objects (objects_in s).named) (All-map P set_object s.semset.entries sets) named)))))
 
 -- the state that tables are, and how many objects it has
 module _ (n : Numbers) (ps : List (Item Process)) (ws : List PlainWaiting) (us : List (Item Undo)) (qs : List (Item (KeyedEntry Queue)))
     (xs : List (Item (KeyedEntry Set))) (o : NamedObjects) where
   pub seen-is : (s : State) → n.clock.0 ≡ s.clock → n.next_pid ≡ s.processes.next → n.next_msg_queue ≡ s.msg.next → n.next_semset ≡ s.semset.next
       → map item_row ps ≡ s.processes.entries → ws ≡ s.wait → map item_row us ≡ s.undo → map item_row qs ≡ s.msg.entries
-      → map item_row xs ≡ s.semset.entries → o ≡ named_in s → seen_state n ps ws us qs xs o ≡ s
+      → map item_row xs ≡ s.semset.entries → o ≡ (objects_in s).named → seen_state n ps ws us qs xs o ≡ s
   seen-is s clock pid queue set processes waits undo queues sets named =
       λ i. record {
         clock = clock i;
@@ -223,7 +224,7 @@ module _ (limits : Limits) (s : State) (passed : ArePassed limits) (sound : IsSo
   rows-numbers rows are =
       rows-have (λ e. HasNumbers e.object) rows s.msg.entries are
       (All-weaker (λ (e : ℕ × KeyedEntry Queue). IsSoundMsgQueue limits e.1.object) (λ e. HasNumbers e.1.object)
-      (λ e good. queue-numbers limits e.1.object passed good) s.msg.entries sound.parts.msg.each)
+      (λ e good. queue-numbers limits e.1.object passed good) s.msg.entries sound.parts.msg.held.bound.each)
 
   -- and the count of the semaphores of a set
   pub sets-numbers : (rows : List (Item (KeyedEntry Set))) → map item_row rows ≡ s.semset.entries → All (λ e. length e.value.object.semaphores < 2 ^ 32) rows
@@ -231,12 +232,12 @@ module _ (limits : Limits) (s : State) (passed : ArePassed limits) (sound : IsSo
       let b = passed-bounds limits passed in
       rows-have (λ e. length e.object.semaphores < 2 ^ 32) rows s.semset.entries are
       (All-weaker (λ (e : ℕ × KeyedEntry Set). IsSoundSemset limits e.1.object) (λ e. length e.1.object.semaphores < 2 ^ 32)
-      (λ e good. omega (arith, good.few, b.semmsl)) s.semset.entries sound.parts.semset.keyed.each)
+      (λ e good. omega (arith, good.few, b.semmsl)) s.semset.entries sound.parts.semset.held.bound.each)
 
   -- the count of the descriptors of a process
   pub descriptors-few : All (λ p. length p.1.descriptors ≤ limits.descriptors) s.processes.entries
   descriptors-few =
-      let P : ℕ × Process → Type 0 = λ p. AreSoundDescriptors limits (named_in s) p.1.descriptors in
+      let P : ℕ × Process → Type 0 = λ p. AreSoundDescriptors limits (objects_in s) p.1.descriptors in
       All-weaker P (λ p. length p.1.descriptors ≤ limits.descriptors)
       (λ p good. omega (arith, length-map p.1.descriptors (λ d. d.0), rising-few 0 (keys_of p.1.descriptors) limits.descriptors good.numbers))
       s.processes.entries sound.parts.processes.descriptors
@@ -250,8 +251,10 @@ module _ (limits : Limits) (s : State) (passed : ArePassed limits) (sound : IsSo
       (λ p few. omega (arith, few, b.descriptors)) s.processes.entries descriptors-few)
 
   -- the sizes of those with a name
-  pub named-numbers : (kind : NameKind) (IsSmallObject : Content kind → Type 0) → ((x : Content kind) → IsSoundContent limits kind x → IsSmallObject x)
-      → (rows : List (Item (NamedEntry (Content kind)))) → map item_row rows ≡ (named_of s kind).entries → All (λ e. IsSmallNamed IsSmallObject e.value) rows
+  pub named-numbers : (kind : NameKind) (IsSmallObject : Content (kinds.Named kind) → Type 0)
+      → ((x : Content (kinds.Named kind)) → IsSoundContent limits (kinds.Named kind) x → IsSmallObject x)
+      → (rows : List (Item (NamedEntry (Content (kinds.Named kind))))) → map item_row rows ≡ (named_of s kind).entries
+      → All (λ e. IsSmallNamed IsSmallObject e.value) rows
   named-numbers kind IsSmallObject small rows are =
       rows-have (IsSmallNamed IsSmallObject) rows (named_of s kind).entries are (named-small limits s sound kind IsSmallObject small)
 
@@ -271,12 +274,12 @@ module _ (limits : Limits) (s : State) (passed : ArePassed limits) (sound : IsSo
   queues-short : All (λ e. length (queue_bytes e.1) ≤ 64 + 13 * limits.msgmnb) s.msg.entries
   queues-short =
       All-weaker (λ (e : ℕ × KeyedEntry Queue). IsSoundMsgQueue limits e.1.object) (λ e. length (queue_bytes e.1) ≤ 64 + 13 * limits.msgmnb)
-      (λ e good. omega (arith, queue-long e.1, good.count, good.bytes)) s.msg.entries sound.parts.msg.each
+      (λ e good. omega (arith, queue-long e.1, good.count, good.bytes)) s.msg.entries sound.parts.msg.held.bound.each
 
   sets-short : All (λ e. length (set_bytes e.1) ≤ 44 + 6 * limits.semmsl) s.semset.entries
   sets-short =
       All-weaker (λ (e : ℕ × KeyedEntry Set). IsSoundSemset limits e.1.object) (λ e. length (set_bytes e.1) ≤ 44 + 6 * limits.semmsl)
-      (λ e good. omega (arith, set-long e.1, good.few)) s.semset.entries sound.parts.semset.keyed.each
+      (λ e good. omega (arith, set-long e.1, good.few)) s.semset.entries sound.parts.semset.held.bound.each
 
   waits-short : length (waits_bytes s.wait) ≤ 4 + limits.processes * 8464
   waits-short = omega (arith, waits-long s.wait, length-waits s.wait sound.parts.wait.each, sound.parts.wait.few)
@@ -301,14 +304,15 @@ module _ (limits : Limits) (s : State) (passed : ArePassed limits) (sound : IsSo
   numbers-rise : IsRising 0 (keys_of (saved s)) (2 ^ 64)
   unfolding saved
   numbers-rise =
-      let named : PlainObjects = named_objects (named_in s) in
+      let named : PlainObjects = named_objects (objects_in s).named in
       let third : IsRising (3 * 2 ^ 32 + 1) (keys_of named) (2 ^ 64) = named-rise limits s sound in
       let sets : PlainObjects = map set_object s.semset.entries ++ named in
       let second : IsRising (2 * 2 ^ 32 + 1) (keys_of sets) (2 ^ 64) =
-      objects-rise (2 * 2 ^ 32) set_bytes 1 s.semset.next (2 ^ 64) s.semset.entries named sound.parts.semset.keyed.numbered.numbers
-      (rising-lower (2 * 2 ^ 32 + s.semset.next) (3 * 2 ^ 32 + 1) (keys_of named) (2 ^ 64) (omega (arith, sound.parts.semset.keyed.numbered.next)) third) in
-      let all = objects-rise (2 ^ 32) queue_bytes 1 s.msg.next (2 ^ 64) s.msg.entries sets sound.parts.msg.numbered.numbers
-      (rising-lower (2 ^ 32 + s.msg.next) (2 * 2 ^ 32 + 1) (keys_of sets) (2 ^ 64) (omega (arith, sound.parts.msg.numbered.next)) second) in
+      objects-rise (2 * 2 ^ 32) set_bytes 1 s.semset.next (2 ^ 64) s.semset.entries named sound.parts.semset.held.bound.numbered.numbers
+      (rising-lower (2 * 2 ^ 32 + s.semset.next) (3 * 2 ^ 32 + 1) (keys_of named) (2 ^ 64)
+      (omega (arith, sound.parts.semset.held.bound.numbered.next)) third) in
+      let all = objects-rise (2 ^ 32) queue_bytes 1 s.msg.next (2 ^ 64) s.msg.entries sets sound.parts.msg.held.bound.numbered.numbers
+      (rising-lower (2 ^ 32 + s.msg.next) (2 * 2 ^ 32 + 1) (keys_of sets) (2 ^ 64) (omega (arith, sound.parts.msg.held.bound.numbered.next)) second) in
       (omega arith, (omega arith, (omega arith, (omega arith, rising-lower 4 (2 ^ 32 + 1) (keys_of (things s)) (2 ^ 64) (omega arith) all))))
 
   pub saved-are : AreObjects (saved s)
@@ -336,9 +340,9 @@ module _ (limits : Limits) (s : State) (passed : ArePassed limits) (sound : IsSo
         count = omega (
           arith,
           saved-count s,
-          sound.parts.msg.numbered.count,
+          sound.parts.msg.held.bound.numbered.count,
           b.msgmni,
-          sound.parts.semset.keyed.numbered.count,
+          sound.parts.semset.held.bound.numbered.count,
           b.semmni,
           named-few limits s sound,
           b.queues,
@@ -355,9 +359,10 @@ module _ (limits : Limits) (s : State) (passed : ArePassed limits) (sound : IsSo
   unfolding saved
   object-sectors =
       let of : ℕ × List ℕ → ℕ = λ o. sectors (length o.1) in
-      let queues = kind-sectors (2 ^ 32) limits.msgmni (64 + 13 * limits.msgmnb) queue_bytes s.msg.entries queues-short sound.parts.msg.numbered.count in
+      let queues = kind-sectors (2 ^ 32) limits.msgmni (64 + 13 * limits.msgmnb) queue_bytes s.msg.entries queues-short
+      sound.parts.msg.held.bound.numbered.count in
       let sets = kind-sectors (2 * 2 ^ 32) limits.semmni (44 + 6 * limits.semmsl) set_bytes s.semset.entries sets-short
-      sound.parts.semset.keyed.numbered.count in
+      sound.parts.semset.held.bound.numbered.count in
       let first : ℕ = sectors 32 + sectors (length (processes_bytes s.processes.entries)) + sectors (length (waits_bytes s.wait))
       + sectors (length (adjustments_bytes s.undo)) in
       let undo : 12 * length (adjustments_in s.undo) ≤ 12 * limits.processes * limits.semmns =
@@ -365,8 +370,8 @@ module _ (limits : Limits) (s : State) (passed : ArePassed limits) (sound : IsSo
       omega (
         arith,
         sum_by_from of first (things s),
-        sum_by-append of (map queue_object s.msg.entries) (map set_object s.semset.entries ++ named_objects (named_in s)),
-        sum_by-append of (map set_object s.semset.entries) (named_objects (named_in s)),
+        sum_by-append of (map queue_object s.msg.entries) (map set_object s.semset.entries ++ named_objects (objects_in s).named),
+        sum_by-append of (map set_object s.semset.entries) (named_objects (objects_in s).named),
         named-sectors limits s sound,
         processes-short,
         waits-short,
@@ -380,8 +385,8 @@ module _ (limits : Limits) (s : State) (passed : ArePassed limits) (sound : IsSo
         arith,
         object-sectors,
         saved-count s,
-        sound.parts.msg.numbered.count,
-        sound.parts.semset.keyed.numbered.count,
+        sound.parts.msg.held.bound.numbered.count,
+        sound.parts.semset.held.bound.numbered.count,
         named-few limits s sound,
       )
 

@@ -13,8 +13,8 @@ use Rattle.ipc_state.specs.Keyed.{KeyedEntry}
 use Rattle.ipc_state.specs.declared.processes.Process.{Process}
 use Rattle.ipc_state.specs.declared.state.Numbers.{Numbers}
 use Rattle.ipc_state.specs.Restored.{with_numbers, with_waits}
-use Rattle.ipc_state.specs.Opening.{NamedObjects}
-use Rattle.ipc_state.specs.State.{State, named_in, start}
+use Rattle.ipc_state.specs.Kinds.{NamedObjects}
+use Rattle.ipc_state.specs.State.{State, objects_in, start}
 use Rattle.ipc_state.specs.Waiting.{PlainWaiting}
 use Rattle.ipc_wait.specs.Waits.{HaveDistinctPids}
 use Rattle.ipc_image.specs.Kind.{FitsIn, IsOther}
@@ -188,15 +188,15 @@ set_one =
 
 -- what follows the queues, and what follows the semaphore sets, is of other kinds
 abbrev pub sets_and_named : State → PlainObjects
-sets_and_named s = map set_object s.semset.entries ++ named_objects (named_in s)
+sets_and_named s = map set_object s.semset.entries ++ named_objects (objects_in s).named
 
 pub after-queues : (s : State) → IsOther (2 ^ 32) (sets_and_named s)
 after-queues s =
-    later-both (2 ^ 32) (2 * 2 ^ 32) set_bytes s.semset.entries (named_objects (named_in s)) (omega arith)
-    (later-named (2 ^ 32) (named_in s) (omega arith))
+    later-both (2 ^ 32) (2 * 2 ^ 32) set_bytes s.semset.entries (named_objects (objects_in s).named) (omega arith)
+    (later-named (2 ^ 32) (objects_in s).named (omega arith))
 
-pub after-sets : (s : State) → IsOther (2 * 2 ^ 32) (named_objects (named_in s))
-after-sets s = later-named (2 * 2 ^ 32) (named_in s) (omega arith)
+pub after-sets : (s : State) → IsOther (2 * 2 ^ 32) (named_objects (objects_in s).named)
+after-sets s = later-named (2 * 2 ^ 32) (objects_in s).named (omega arith)
 
 -- two states
 pub saved_once : (s t : State) → HasAllPlaces s → HasAllPlaces t → saved s ≡ saved t → s ≡ t
@@ -216,16 +216,16 @@ saved_once s t at also same =
     (at.undo_pids ∙ ap (λ (l : List (ℕ × Process)). keys_of l) processes ∙ sym also.undo_pids) adjustments in
     let queues = objects_one (2 ^ 32) queue_bytes FitsQueue queue_one s.msg.entries t.msg.entries (sets_and_named s)
     (sets_and_named t) at.queues also.queues (after-queues s) (after-queues t) (sym mine.things ∙ its.things) in
-    let sets = objects_one (2 * 2 ^ 32) set_bytes FitsSet set_one s.semset.entries t.semset.entries (named_objects (named_in s)) (named_objects (named_in t))
-    at.sets also.sets (after-sets s) (after-sets t) queues.1 in
-    let named = named_one (named_in s) (named_in t) at.named also.named sets.1 in
-    ap (λ (u : State). with_parts u ps s.wait s.undo s.msg.entries s.semset.entries (named_in s)) clock
-    ∙ ap (λ (l : List (ℕ × Process)). with_parts t l s.wait s.undo s.msg.entries s.semset.entries (named_in s)) processes
-    ∙ ap (λ (ws : List PlainWaiting). with_parts t qs ws s.undo s.msg.entries s.semset.entries (named_in s)) waits
-    ∙ ap (λ (us : List (ℕ × Undo)). with_parts t qs t.wait us s.msg.entries s.semset.entries (named_in s)) undo
-    ∙ ap (λ (es : List (ℕ × KeyedEntry Queue)). with_parts t qs t.wait t.undo es s.semset.entries (named_in s)) queues.0
-    ∙ ap (λ (fs : List (ℕ × KeyedEntry Set)). with_parts t qs t.wait t.undo t.msg.entries fs (named_in s)) sets.0
-    ∙ ap (λ (o : NamedLists). with_parts t qs t.wait t.undo t.msg.entries t.semset.entries (listed (named_in t) o)) named
+    let sets = objects_one (2 * 2 ^ 32) set_bytes FitsSet set_one s.semset.entries t.semset.entries (named_objects (objects_in s).named)
+    (named_objects (objects_in t).named) at.sets also.sets (after-sets s) (after-sets t) queues.1 in
+    let named = named_one (objects_in s).named (objects_in t).named at.named also.named sets.1 in
+    ap (λ (u : State). with_parts u ps s.wait s.undo s.msg.entries s.semset.entries (objects_in s).named) clock
+    ∙ ap (λ (l : List (ℕ × Process)). with_parts t l s.wait s.undo s.msg.entries s.semset.entries (objects_in s).named) processes
+    ∙ ap (λ (ws : List PlainWaiting). with_parts t qs ws s.undo s.msg.entries s.semset.entries (objects_in s).named) waits
+    ∙ ap (λ (us : List (ℕ × Undo)). with_parts t qs t.wait us s.msg.entries s.semset.entries (objects_in s).named) undo
+    ∙ ap (λ (es : List (ℕ × KeyedEntry Queue)). with_parts t qs t.wait t.undo es s.semset.entries (objects_in s).named) queues.0
+    ∙ ap (λ (fs : List (ℕ × KeyedEntry Set)). with_parts t qs t.wait t.undo t.msg.entries fs (objects_in s).named) sets.0
+    ∙ ap (λ (o : NamedLists). with_parts t qs t.wait t.undo t.msg.entries t.semset.entries (listed (objects_in t).named o)) named
 
 -- what was read is the state, if one has these objects
 pub restored_once : (s t : State) (objects : PlainObjects) (ps : List (ℕ × Process)) (processes : List ℕ) → HasAllPlaces s → objects ≡ saved s

@@ -23,15 +23,16 @@ use Rattle.sysv_sem.specs.Operation.{most_value}
 use Rattle.sysv_sem.specs.declared.set.Semaphore.{Semaphore}
 use Rattle.sysv_sem.specs.Set.{Set}
 use Rattle.ipc_perm.specs.declared.perm.Perm.{Perm}
-use Rattle.ipc_keys.specs.declared.check.NameKind.{NameKind}
 use Rattle.ipc_keys.specs.declared.check.NameKind.TheVariants as names
+use Rattle.ipc_state.specs.declared.parked.ObjectKind.{ObjectKind}
+use Rattle.ipc_state.specs.declared.parked.ObjectKind.TheVariants as kinds
 use Rattle.ipc_state.specs.declared.descriptors.Descriptor.{Descriptor}
 use Rattle.ipc_state.specs.Keyed.{KeyedEntry}
 use Rattle.ipc_state.specs.Named.{NamedEntry, is_own}
 use Rattle.ipc_state.specs.declared.processes.Process.{Process}
 use Rattle.ipc_engine.specs.Sound.{IsSound}
-use Rattle.ipc_state.specs.Opening.{NamedObjects}
-use Rattle.ipc_state.specs.State.{State, named_in}
+use Rattle.ipc_state.specs.Kinds.{NamedObjects}
+use Rattle.ipc_state.specs.State.{State, objects_in}
 use Rattle.ipc_state.specs.Waiting.{PlainWaiting, awaited_by}
 use Rattle.ipc_base.specs.declared.field.Size.{Size}
 use Rattle.ipc_base.specs.declared.field.Size.TheVariants.{Two, Four, Eight}
@@ -57,11 +58,13 @@ count_bytes n = fields_bytes (Four ∷ []) (n ∷ [])
 abbrev pub counted_bytes : {X : Type 0} → (X → List ℕ) → List X → List ℕ
 counted_bytes bytes_of xs = count_bytes (length xs) ++ flat_map bytes_of xs
 
--- the number of a kind of objects with a name
-abbrev pub kind_number : NameKind → ℕ
-kind_number names.Mq = 3
-kind_number names.Psem = 4
-kind_number names.Pshm = 5
+-- the number of a kind of objects
+abbrev pub kind_number : ObjectKind → ℕ
+kind_number kinds.MsgQueue = 1
+kind_number kinds.Semset = 2
+kind_number (kinds.Named names.Mq) = 3
+kind_number (kinds.Named names.Psem) = 4
+kind_number (kinds.Named names.Pshm) = 5
 
 -- a descriptor: its number, the kind and the number of what it is open on, and its flags
 abbrev pub descriptor_sizes : List Size
@@ -339,7 +342,7 @@ unfoldable pub saved : State → PlainObjects
 saved s =
     (0, fields_bytes clock_sizes (clock_numbers s)) ∷ (1, processes_bytes s.processes.entries)
     ∷ (2, waits_bytes s.wait) ∷ (3, adjustments_bytes s.undo)
-    ∷ map queue_object s.msg.entries ++ (map set_object s.semset.entries ++ named_objects (named_in s))
+    ∷ map queue_object s.msg.entries ++ (map set_object s.semset.entries ++ named_objects (objects_in s).named)
 
 -- ---- each number has its place
 
@@ -422,7 +425,7 @@ pub record HasAllPlaces (s : State) : Type 0 where
   pub distinct : IsDistinct nat_eq (keys_of s.undo)
   pub queues : All (FitsIn FitsQueue) s.msg.entries
   pub sets : All (FitsIn FitsSet) s.semset.entries
-  pub named : FitNamed (named_in s)
+  pub named : FitNamed (objects_in s).named
 
 -- the objects stand for a sound state
 pub record StandForState (limits : Limits) (s : State) (objects : PlainObjects) : Type 0 where

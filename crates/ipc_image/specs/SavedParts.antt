@@ -22,8 +22,9 @@ use Rattle.sysv_msg.specs.Queue.{Queue, PlainMessage}
 use Rattle.sysv_sem.specs.declared.set.Semaphore.{Semaphore}
 use Rattle.sysv_sem.specs.Set.{Set}
 use Rattle.ipc_perm.specs.declared.perm.Perm.{Perm}
-use Rattle.ipc_keys.specs.declared.check.NameKind.{NameKind}
 use Rattle.ipc_keys.specs.declared.check.NameKind.TheVariants as names
+use Rattle.ipc_state.specs.declared.parked.ObjectKind.{ObjectKind}
+use Rattle.ipc_state.specs.declared.parked.ObjectKind.TheVariants as kinds
 use Rattle.ipc_state.specs.declared.parked.Awaited.{Awaited}
 use Rattle.ipc_state.specs.declared.parked.Awaited.TheVariants as awaited
 use Rattle.ipc_state.specs.declared.descriptors.Descriptor.{Descriptor}
@@ -33,8 +34,9 @@ use Rattle.ipc_state.specs.Named.{NamedEntry, is_own}
 use Rattle.ipc_state.specs.Descriptors.{Table}
 use Rattle.ipc_state.specs.declared.numbered.Item.{Item}
 use Rattle.ipc_state.specs.declared.state.Numbers.{Numbers}
-use Rattle.ipc_state.specs.Opening.{NamedObjects, opened_as}
-use Rattle.ipc_state.specs.State.{State, named_in}
+use Rattle.ipc_state.specs.Kinds.{NamedObjects}
+use Rattle.ipc_state.specs.Opening.{object_as}
+use Rattle.ipc_state.specs.State.{State, objects_in}
 use Rattle.ipc_state.specs.Tables.{item_row}
 use Rattle.ipc_state.specs.Waiting.{PlainWaiting, awaited_by}
 use Rattle.ipc_image.specs.declared.state_objects.Thing.{Thing}
@@ -128,7 +130,8 @@ IsMarkOfNamed o =
 
 -- of the one at a place after the four objects that every state has
 abbrev pub IsMarkAfter : State → ℕ → Mark → Type 0
-IsMarkAfter s = MarkAt IsMarkOfQueue (MarkAt IsMarkOfSet (IsMarkOfNamed (named_in s)) s.semset.entries) s.msg.entries
+IsMarkAfter s =
+    MarkAt IsMarkOfQueue (MarkAt IsMarkOfSet (IsMarkOfNamed (objects_in s).named) s.semset.entries) s.msg.entries
 
 -- it is a mark of the i-th object; those of objects without a list are never looked at
 pub record IsMarkOf (s : State) (i : ℕ) (m : Mark) : Type 0 where
@@ -186,13 +189,18 @@ process_from ns descriptors = (
 )
 
 -- the kind of this number; a number that is none of a kind is taken for that of the last
-abbrev pub kind_from : ℕ → NameKind
-kind_from number = if number == 3 then names.Mq else if number == 4 then names.Psem else names.Pshm
+abbrev pub kind_from : ℕ → ObjectKind
+kind_from number =
+    if number == 1
+    then kinds.MsgQueue
+    else if number == 2
+    then kinds.Semset
+    else kinds.Named (if number == 3 then names.Mq else if number == 4 then names.Psem else names.Pshm)
 
 abbrev pub descriptor_of : List ℕ → ℕ × Descriptor
 descriptor_of ns = (
   slice_index ns 0,
-  record { on = opened_as (kind_from (slice_index ns 1)) (slice_index ns 2); flags = slice_index ns 3 },
+  record { on = object_as (kind_from (slice_index ns 1)) (slice_index ns 2); flags = slice_index ns 3 },
 )
 
 -- the adjustment of a process that a row is

@@ -1,6 +1,6 @@
 //! A POSIX queue's object: its numbers and its name, and its messages.
 
-ghost use Rattle.std.specs.Prelude.{◌≡◌, ◌≢◌, ◌<◌, ◌^◌, ◌*◌, ◌∷◌, [], ℕ, List, Option, refl, slice_index};
+ghost use Rattle.std.specs.Prelude.{◌≡◌, ◌≢◌, ◌<◌, ◌^◌, ◌*◌, ◌∷◌, [], Option, refl, slice_index};
 ghost use Rattle.std.specs.Prelude.{IfSome, IfNone};
 ghost use Rattle.ipc_base.specs.Numbers.{FitFields};
 ghost use Rattle.posix_mq.specs.Queue.{plain, Queue, PlainMessage};

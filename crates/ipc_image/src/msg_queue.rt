@@ -1,14 +1,12 @@
 //! A message queue's object: its numbers, and its messages.
 
-ghost use Rattle.std.specs.Prelude.{◌≡◌, ◌≢◌, ◌++◌, Err, IfOk, OnOk, ◌∷◌, ◌<◌, ◌*◌, ◌^◌, [], ℕ, List, All, length};
+ghost use Rattle.std.specs.Prelude.{◌≡◌, ◌≢◌, ◌++◌, Err, IfOk, OnOk, ◌∷◌, ◌<◌, ◌*◌, ◌^◌, [], ℕ, List, All};
 ghost use Rattle.std.proofs.Common.{sym, refl};
 ghost use Rattle.ipc_base.proofs.CallerLemmas.{numbers_are};
-ghost use Rattle.ipc_base.specs.declared.limits.Limits.{Limits};
 ghost use Rattle.ipc_base.specs.Numbers.{fields_bytes, FitFields};
 ghost use Rattle.sysv_msg.specs.Queue.{plain, Queue, PlainMessage, empty_queue};
 ghost use Rattle.ipc_engine.specs.declared.fault.StateFault.{StateFault};
 ghost use Rattle.ipc_state.specs.Sound.{HasNumbers};
-ghost use Rattle.ipc_state.specs.State.{State as PlainState};
 ghost use Rattle.ipc_image.specs.Saved.{message_shape, message_tree, message_bytes, FitsMessage, messages_of};
 ghost use Rattle.ipc_image.specs.Saved.{queue_sizes, queue_numbers};
 ghost use Rattle.ipc_image.specs.SavedParts.{with_messages, queue_from, put_queues, with_more};

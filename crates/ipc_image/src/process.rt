@@ -1,9 +1,9 @@
 //! A process in the object of processes, with its descriptors.
 
-ghost use Rattle.std.specs.Prelude.{◌≡◌, ◌≢◌, ◌<◌, ◌^◌, ℕ, refl, IfSome, IfNone};
+ghost use Rattle.std.specs.Prelude.{◌≡◌, ◌≢◌, ◌<◌, ℕ, refl, IfSome, IfNone};
 ghost use Rattle.ipc_base.specs.declared.limits.Limits.{Limits};
 ghost use Rattle.ipc_state.specs.declared.descriptors.Descriptor.{Descriptor as PlainDescriptor};
-ghost use Rattle.ipc_keys.specs.declared.check.NameKind.{NameKind as PlainKind};
+ghost use Rattle.ipc_state.specs.declared.parked.ObjectKind.{ObjectKind as PlainKind};
 ghost use Rattle.ipc_state.specs.declared.processes.Process.{Process as PlainProcess};
 ghost use Rattle.ipc_state.specs.Descriptors.{Table, descriptor_row};
 ghost use Rattle.ipc_state.specs.State.{State as PlainState};
@@ -20,9 +20,13 @@ use crate::window::Window;
 use ipc_base::{Cred, Field, Pid, take_fields};
 use ipc_engine::StateFault;
 use ipc_keys::NameKind;
-use ipc_state::{Descriptor, DescriptorRow, Descriptors, Item, Opened, Process, State};
+use ipc_state::{Descriptor, DescriptorRow, Descriptors, Item, Object, ObjectKind, Process, State};
 
-/// The kinds of objects with a name: a POSIX queue, a named semaphore, a segment.
+/// The kinds of objects: a message queue and a semaphore set of System V, a POSIX queue, a named semaphore, a segment.
+const MSG_QUEUE: u32 = 1;
+
+const SEMSET: u32 = 2;
+
 const QUEUE: u32 = 3;
 
 const SEMAPHORE: u32 = 4;
@@ -82,7 +86,7 @@ impl Saved for DescriptorRow {
         };
         let number = numbers[2] as u32;
         let descriptor = Descriptor {
-            on: Opened { kind, number },
+            on: Object { kind, number },
             flags: numbers[3] as u32,
         };
         into.restore(numbers[0] as u32, descriptor)?;
@@ -90,26 +94,30 @@ impl Saved for DescriptorRow {
     }
 }
 
-/// The number of a kind of objects with a name.
-pub(crate) fn kind_number(kind: NameKind) -> u32
+/// The number of a kind of objects.
+pub(crate) fn kind_number(kind: ObjectKind) -> u32
     ensures { result ≡ kind_number kind }
 {
     match kind {
-        NameKind::Mq => QUEUE,
-        NameKind::Psem => SEMAPHORE,
-        NameKind::Pshm => SEGMENT,
+        ObjectKind::MsgQueue => MSG_QUEUE,
+        ObjectKind::Semset => SEMSET,
+        ObjectKind::Named(NameKind::Mq) => QUEUE,
+        ObjectKind::Named(NameKind::Psem) => SEMAPHORE,
+        ObjectKind::Named(NameKind::Pshm) => SEGMENT,
     }
 }
 
 // The kind of a number, if it is one of a kind.
-fn kind_of(number: u32) -> Option<NameKind>
+fn kind_of(number: u32) -> Option<ObjectKind>
     ensures some { IfSome result (λ kind. number ≡ kind_number kind) }
     ensures none { IfNone result ((kind : PlainKind) → number ≢ kind_number kind) }
 {
     match number {
-        QUEUE => Some(NameKind::Mq),
-        SEMAPHORE => Some(NameKind::Psem),
-        SEGMENT => Some(NameKind::Pshm),
+        MSG_QUEUE => Some(ObjectKind::MsgQueue),
+        SEMSET => Some(ObjectKind::Semset),
+        QUEUE => Some(ObjectKind::Named(NameKind::Mq)),
+        SEMAPHORE => Some(ObjectKind::Named(NameKind::Psem)),
+        SEGMENT => Some(ObjectKind::Named(NameKind::Pshm)),
         _ => None,
     }
 }

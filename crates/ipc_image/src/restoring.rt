@@ -6,7 +6,7 @@ ghost use Rattle.std.specs.List.{IsDistinct};
 ghost use Rattle.ipc_base.specs.Limits.{ArePassed};
 ghost use Rattle.ipc_base.specs.Table.{keys_of};
 ghost use Rattle.ipc_state.specs.State.{State as PlainState, start};
-ghost use Rattle.ipc_state.specs.Opening.{NamedObjects};
+ghost use Rattle.ipc_state.specs.Kinds.{NamedObjects};
 ghost use Rattle.ipc_image.specs.Saved.{named_objects, saved, FitNamed, HasAllPlaces, StandForState};
 ghost use Rattle.ipc_image.specs.SavedParts.{with_more_named};
 

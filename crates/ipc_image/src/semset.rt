@@ -5,12 +5,10 @@ ghost use Rattle.std.specs.Prelude.{◌≤◌, ◌*◌, ◌^◌, [], ℕ, List, 
 ghost use Rattle.std.proofs.Common.{sym, refl};
 ghost use Rattle.ipc_base.proofs.CallerLemmas.{numbers_are};
 ghost use Rattle.ipc_base.specs.Numbers.{fields_bytes, FitFields};
-ghost use Rattle.ipc_base.specs.declared.limits.Limits.{Limits};
 ghost use Rattle.sysv_sem.specs.declared.set.Semaphore.{Semaphore as PlainSemaphore};
 ghost use Rattle.sysv_sem.specs.Operation.{most_value};
 ghost use Rattle.sysv_sem.specs.Set.{Set};
 ghost use Rattle.ipc_engine.specs.declared.fault.StateFault.{StateFault};
-ghost use Rattle.ipc_state.specs.State.{State as PlainState};
 ghost use Rattle.ipc_image.specs.Saved.{semaphore_shape, semaphore_numbers, semaphore_bytes, FitsSemaphore};
 ghost use Rattle.ipc_image.specs.Saved.{set_sizes, set_numbers, semaphores_of};
 ghost use Rattle.ipc_image.specs.SavedParts.{with_semaphores, set_from, put_sets, with_more};

@@ -4,7 +4,7 @@ ghost use Rattle.std.specs.Prelude.{◌≡◌, ◌≤◌, ◌<◌, ◌-◌, ◌^
 ghost use Rattle.ipc_base.specs.declared.limits.Limits.{Limits};
 ghost use Rattle.ipc_base.specs.Limits.{ArePassed};
 ghost use Rattle.ipc_base.specs.Objects.{Fit};
-ghost use Rattle.ipc_state.specs.State.{named_in, start};
+ghost use Rattle.ipc_state.specs.State.{objects_in, start};
 ghost use Rattle.ipc_image.specs.Saved.{named_objects, saved, StandForState};
 ghost use Rattle.ipc_image.specs.SavedParts.{IsFound, IsMarkOf, IsMarkOfNamed, IsMarkOfThing, FitsThing};
 ghost use Rattle.ipc_image.specs.SavedParts.{Stands, object_of};
@@ -209,9 +209,9 @@ fn thing_at<'a, 'b>(objects: &'b StateObjects<'a>, i: u32) -> Thing<'a>
 
 // What has an object among those with a name, by its place among them.
 fn named_at<'a, 'b>(objects: &'b StateObjects<'a>, at: usize) -> Thing<'a>
-    requires { at < length (named_objects (named_in objects.now)) }
-    ensures stands { Stands (named_objects (named_in objects.now)) (IsMarkOfNamed (named_in objects.now)) at
-        (object_of result) (IsMarkOfThing result) }
+    requires { at < length (named_objects (objects_in objects.now).named) }
+    ensures stands { Stands (named_objects (objects_in objects.now).named)
+        (IsMarkOfNamed (objects_in objects.now).named) at (object_of result) (IsMarkOfThing result) }
     ensures fits { FitsThing result }
 {
     if at < objects.mqs.len() {

@@ -1,6 +1,6 @@
 //! What has an object of its own, whatever it is: read one after another, those of one kind numbered in a row.
 
-ghost use Rattle.std.specs.Prelude.{◌≡◌, ◌≢◌, ◌<◌, ◌+◌, ◌*◌, ◌^◌, ◌++◌, ◌∷◌, [], ℕ, List, All};
+ghost use Rattle.std.specs.Prelude.{◌≡◌, ◌≢◌, ◌<◌, ◌+◌, ◌^◌, ◌++◌, ◌∷◌, [], ℕ, List, All};
 ghost use Rattle.std.specs.Prelude.{length, map, drop, Err, IfOk, OnOk, IfSome, IfNone};
 ghost use Rattle.ipc_base.specs.declared.limits.Limits.{Limits};
 ghost use Rattle.ipc_base.specs.declared.objects.Mark.{Mark as PlainMark};

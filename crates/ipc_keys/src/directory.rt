@@ -4,7 +4,7 @@
 //! hash. A look-up then compares the key with each entry, and there are no more entries than there may be
 //! objects of the kind and vacant keys, some dozens.
 
-ghost use Rattle.std.specs.Prelude.{◌≡◌, ◌<◌, Bool, Some, None, true, is_some, option_map, IsOk, IfOk, OnOk, OnErr};
+ghost use Rattle.std.specs.Prelude.{◌≡◌, ◌<◌, Bool, Some, None, true, is_some, IsOk, IfOk, OnOk, OnErr};
 ghost use Rattle.std.specs.Prelude.{IfSome, slice_get};
 ghost use Rattle.indexmap.specs.IndexMap.{IsEmpty, IsUnchanged, IsUnique, get_by, index_of_by, values, index_map_len};
 ghost use Rattle.ipc_keys.specs.Directory.{shown, Puts};

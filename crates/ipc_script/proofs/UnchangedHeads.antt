@@ -72,7 +72,8 @@ module _ (limits : Limits) (conn moment : ℕ) where
     heads_serve e =
         let reply = last_reply (step limits h.state e).outcomes in
         let d : Client = welcomed kind (length (h.events ++ e ∷ [])) reply c in
-        heads_accept limits (with_client h conn d) e ∙ put_like h.clients h.clients conn c d refl at (told_consumed (length (h.events ++ e ∷ [])) c.process reply c)
+        heads_accept limits (with_client h conn d) e
+        ∙ put_like h.clients h.clients conn c d refl at (told_consumed (length (h.events ++ e ∷ [])) c.process reply c)
 
     heads_break_off : (serial : ℕ) → heads (break_off kind limits h conn c serial moment).clients ≡ heads h.clients
     heads_break_off serial =
@@ -107,7 +108,8 @@ module _ (limits : Limits) (conn moment : ℕ) where
     heads_unless : heads (unless_ended kind h conn act).clients ≡ heads h.clients
     heads_unless = tried (client_at h conn) refl
 
-  heads_requests : (h : Clients) (rs : List PlainRequest) (refused : List Bool) → heads (on_requests kind limits h conn moment rs refused).clients ≡ heads h.clients
+  heads_requests : (h : Clients) (rs : List PlainRequest) (refused : List Bool) → heads (on_requests kind limits h conn moment rs refused).clients
+      ≡ heads h.clients
   heads_requests h [] refused = refl
   heads_requests h (r ∷ rs) refused =
       let act : Client → Clients = λ c. on_request kind limits h conn c moment r (first_of refused) in

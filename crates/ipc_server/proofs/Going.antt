@@ -11,7 +11,8 @@ use Rattle.ipc_store.proofs.CallerLemmas.{Takes-none, Takes-both}
 use Rattle.ipc_hub.specs.declared.fault.ConnectError.{ConnectError}
 use Rattle.ipc_hub.specs.Clients.{Client, Clients, client_at, consume, tick}
 use Rattle.ipc_hub.specs.Lives.{ClientCall, HubCall}
-use Rattle.ipc_hub.specs.Lives.ClientCall.{Connects as to_connect, Consumes as to_consume, Ticks as to_tick, Feeds as to_feed, HangsUp as to_hang_up, Stays as to_stay}
+use Rattle.ipc_hub.specs.Lives.ClientCall.{Connects as to_connect, Consumes as to_consume, Ticks as to_tick}
+use Rattle.ipc_hub.specs.Lives.ClientCall.{Feeds as to_feed, HangsUp as to_hang_up, Stays as to_stay}
 use Rattle.ipc_hub.specs.Lives.HubCall.{Serves as call_serves}
 use Rattle.ipc_hub.specs.View.{StoredHub, output_of}
 use Rattle.ipc_hub.specs.Relations.Faults.{Halts}

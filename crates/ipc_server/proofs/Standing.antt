@@ -168,7 +168,8 @@ module _ {S : Type 0} where
   pub failed-joined : (old : List (Option ClientView)) (room new : Slab (Client S)) (key : ℕ) (client : Client S) → clients_of room ≡ old
       → get room key ≡ None → Updates room new key (Some client) → KeepsFailed old (clients_of new)
   failed-joined old room new key client same vacant updates =
-      rw (sym same) (failed-kept room new key (Some client) updates (λ bad. let never : false ≡ true = sym (ap (λ r. failing (option_map view_of r)) vacant) ∙ bad in cc))
+      rw (sym same) (failed-kept room new key (Some client) updates
+      (λ bad. let never : false ≡ true = sym (ap (λ r. failing (option_map view_of r)) vacant) ∙ bad in cc))
 
   -- a client was changed, its connection is the same, and a socket that had failed has failed still
   pub keeps-value : (slab : Slab (Client S)) (key : ℕ) (was now : Client S) → get slab key ≡ Some was → now.conn ≡ was.conn

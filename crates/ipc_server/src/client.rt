@@ -1,11 +1,11 @@
 //! The client of a connection: its socket, and what was read of it.
 
 ghost use Rattle.std.specs.Prelude.{◌≡◌, ◌≢◌, ◌<◌, ◌+◌, ◌==◌, ◌&&◌, ◌||◌, ℕ, not, true, false};
-ghost use Rattle.std.specs.Prelude.{length, []};
+ghost use Rattle.std.specs.Prelude.{[]};
 ghost use Rattle.std.specs.Prelude.{IfErr, IfOk, OnOk};
 ghost use Rattle.std.specs.Io.KnownBytes.{Keeps, prepend_known};
-ghost use Rattle.ipc_hub.specs.View.{numbers_of, output_of, ended_of};
-ghost use Rattle.ipc_server.specs.Runs.{RunsCalls, FeedsInput, Sends, WritesOutput, StopsAt};
+ghost use Rattle.ipc_hub.specs.View.{numbers_of, output_of};
+ghost use Rattle.ipc_server.specs.Runs.{FeedsInput, Sends, WritesOutput, StopsAt};
 ghost use Rattle.ipc_server.specs.Rest.{has_work};
 ghost use Rattle.ipc_server.specs.Rows.{view_of};
 ghost use Rattle.ipc_server.specs.View.{WasRead, WasWritten, is_gone, most_reads};

@@ -133,7 +133,8 @@ cleared-apart set u k is = apart (nat_eq k.0 set) refl (ap is_some (sym (retaine
     apart true eq is = λ _. cc
     apart false eq is = λ same. grind (arith, nat_tests)
 
-pub each-cleared : (o : Keyed Set) (set : ℕ) (num : Option ℕ) (undo : List (ℕ × Undo)) → EachValue (AreAt o) undo → EachValue (AreAt o) (seen_as (cleared set num) undo)
+pub each-cleared : (o : Keyed Set) (set : ℕ) (num : Option ℕ) (undo : List (ℕ × Undo)) → EachValue (AreAt o) undo
+    → EachValue (AreAt o) (seen_as (cleared set num) undo)
 each-cleared o set num [] h = tt
 each-cleared o set num (p ∷ ps) h = (λ k there. h.0 k (cleared-there set num p.1 k there), each-cleared o set num ps h.1)
 

@@ -10,12 +10,11 @@ use Rattle.ipc_base.specs.Table.{keys_of, without, IsRising}
 use Rattle.ipc_base.proofs.CallerLemmas.{All-with_value, All-value_at, rising-lower}
 use Rattle.ipc_state.specs.declared.numbered.Item.{Item}
 use Rattle.ipc_state.specs.declared.objects.Entry.{Entry}
-use Rattle.ipc_state.specs.Bound.{AreBound, AreFound, NameThem, ObjectsOf, bound_row, holding, kept_if, number_of}
-use Rattle.ipc_state.specs.Named.{Named, NamedEntry, named, nameless, without_name, unnamed}
+use Rattle.ipc_state.specs.Bound.{AreBound, AreFound, NameThem, ObjectsOf, bound_row, kept_if, number_of, rebound, unbound, without_bound}
 use Rattle.ipc_state.specs.Numbered.{none_yet, entry_of, is_full, with_entry, with_new, without_entry, AreNumbered}
 use Rattle.ipc_state.specs.Tables.{item_row}
 use Rattle.ipc_state.specs.Tests.{is_named}
-use Rattle.ipc_state.proofs.EntryKeys.{Bounds, by_bound, of_names, IsNamed, named-push, same_keys, named_without, named-unkeyed, named-kept}
+use Rattle.ipc_state.proofs.EntryKeys.{Bounds, by_bound, IsNamed, named-push, same_keys, named_without, named-unkeyed, named-kept}
 use Rattle.ipc_state.proofs.EntryKeys.{names-unkeyed, all_without, keys-decide, modes-decide}
 use Rattle.ipc_state.proofs.Numbering.{none_yet-numbered, with_new-numbered, with_entry-numbered, without_entry-numbered}
 
@@ -78,10 +77,6 @@ module _ {B X : Type 0} (b : Bounds B) (most : ℕ) (P : X → Type 0) where
   pub entry-mode : (o : ObjectsOf B X) (n : ℕ) (e : Entry B X) → entry_of o n ≡ Some e → Sound o → e.perm.mode < 512
   entry-mode o n e is h = All-value_at nat_eq (λ (g : Entry B X). g.perm.mode < 512) o.entries n e h.modes is
 
-  -- another object
-  pub holding-bound : (o : ObjectsOf B X) (n : ℕ) (e : Entry B X) (x : X) → entry_of o n ≡ Some e → P x → Sound o → Sound (with_entry o n (holding e x))
-  holding-bound o n e x is good h = with_entry-bound o n e (holding e x) is (inl refl) (entry-mode o n e is h) good h
-
   -- one is taken out
   pub without_entry-bound : (o : ObjectsOf B X) (n : ℕ) → Sound o → Sound (without_entry o n)
   without_entry-bound o n h =
@@ -113,21 +108,22 @@ module _ {B X : Type 0} (b : Bounds B) (most : ℕ) (P : X → Type 0) where
   pub are-found : (o : ObjectsOf B X) → Sound o → AreFound b.same b.none o
   are-found o h = record { numbers = h.numbered.numbers; bounds = h.bounds }
 
--- one loses its name
-pub unnamed-named : {X : Type 0} (most : ℕ) (P : X → Type 0) (o : Named X) (n : ℕ) → AreBound of_names.same of_names.none most P o
-    → AreBound of_names.same of_names.none most P (unnamed o n)
-unnamed-named {X} most P o n h = by_entry (entry_of o n) refl
+-- one is bound to none any more
+pub unbound-bound : {B X : Type 0} (b : Bounds B) (most : ℕ) (P : X → Type 0) (f : X → X) (o : ObjectsOf B X) (n : ℕ) → ((x : X) → P x → P (f x))
+    → AreBound b.same b.none most P o → AreBound b.same b.none most P (unbound f b.none o n)
+unbound-bound {B} {X} b most P f o n keeps h = by_entry (entry_of o n) refl
   where
-    by_entry : (r : Option (NamedEntry X)) → entry_of o n ≡ r → AreBound of_names.same of_names.none most P (without_name o n r)
+    by_entry : (r : Option (Entry B X)) → entry_of o n ≡ r → AreBound b.same b.none most P (without_bound f b.none o n r)
     by_entry None is = h
     by_entry (Some e) is =
-        with_entry-bound of_names most P o n e (nameless e) is (inr refl) (entry-mode of_names most P o n e is h) (entry-sound of_names most P o n e is h) h
+        with_entry-bound b most P o n e (rebound f e b.none) is (inr refl) (entry-mode b most P o n e is h)
+        (keeps e.object (entry-sound b most P o n e is h)) h
 
--- what names name after one lost its name: as without its entry
-pub unnamed-names : {X : Type 0} (o : Named X) (n : ℕ) (e : NamedEntry X) (name : List ℕ) → entry_of o n ≡ Some e
-    → named (unnamed o n) name ≡ named (without_entry o n) name
-unnamed-names o n e name is =
-    ap (λ r. named (without_name o n r) name) is ∙ names-unkeyed (by_bound of_names) o.entries n (nameless e) name refl
+-- what is named after one is bound to none: as without its entry
+pub unbound-names : {B X : Type 0} (b : Bounds B) (f : X → X) (o : ObjectsOf B X) (n : ℕ) (e : Entry B X) (k : B) → entry_of o n ≡ Some e
+    → number_of b.same b.none (unbound f b.none o n) k ≡ number_of b.same b.none (without_entry o n) k
+unbound-names b f o n e k is =
+    ap (λ r. number_of b.same b.none (without_bound f b.none o n r) k) is ∙ names-unkeyed (by_bound b) o.entries n (rebound f e b.none) k refl
 
 -- ---- how it is told
 

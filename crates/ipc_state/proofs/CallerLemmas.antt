@@ -1,16 +1,15 @@
 -- What the crates above cite: each change of the state leads from a sound state to a sound state, and so does a call
 -- whose steps do.
 use Rattle.std.proofs.Common.{◌≡◌, ℕ, ℤ, ◌+◌, ◌<◌, ◌≤◌, Bool, true, false, Option, Some, None, refl, arith, rules, sym, ap, subst, ◌∙◌, List}
-use Rattle.std.proofs.Common.{inl, [], ◌∷◌, ◌++◌, not, suc, drop, take, length, length-append}
+use Rattle.std.proofs.Common.{[], ◌∷◌, ◌++◌, not, suc, drop, take, length, length-append}
 use Rattle.std.proofs.lemmas.Nat.{and_le_r}
-use Rattle.std.specs.Prelude.{⊤, option_map, unwrap_or, All, nat_eq, nat_lt, IfSome, if◌then◌else◌, ◌^◌, ◌-◌}
+use Rattle.std.specs.Prelude.{option_map, unwrap_or, All, nat_eq, nat_lt, IfSome, if◌then◌else◌, ◌^◌, ◌-◌}
 use Rattle.std.proofs.lemmas.Bool.Decides.{nat_tests}
 use Rattle.std.proofs.lemmas.List.Elements.{All-nil, All-append, All-drop, All-filter, All-push, All-take}
-use Rattle.std.proofs.lemmas.List.{length-drop, length-replicate, length-take}
+use Rattle.std.proofs.lemmas.List.{length-drop, length-take}
 use Rattle.std.proofs.lemmas.List.Filters.{length-filter_both}
-use Rattle.sysv_sem.specs.declared.set.Semaphore.{Semaphore}
 use Rattle.std.specs.Option.{option_map_or}
-use Rattle.ipc_base.specs.Table.{keys_of, value_at, without as without_value, EachValue}
+use Rattle.ipc_base.specs.Table.{keys_of, seen_as, value_at, without as without_value, EachValue}
 use Rattle.std.specs.FinMap as fin
 use Rattle.sem_undo.specs.Undo.{Key, Undo, cleared}
 use Rattle.ipc_base.proofs.CallerLemmas.{nobody, each-at, each-with, each-without, keys_of-with_value}
@@ -25,51 +24,50 @@ use Rattle.ipc_wait.specs.Waits.{is_of, is_due, waiting_call_of, without}
 use Rattle.ipc_wait.proofs.CallerLemmas.{without-distinct, left-distinct, due-or-left, HaveDistinctPids-enter}
 use Rattle.posix_mq.specs.Queue.{Queue as Mq, PlainMessage as MqMessage, empty_queue, is_full as is_full_mq, next_to_receive, received, with_message}
 use Rattle.std.specs.List.{remove}
-use Rattle.std.specs.Result.{is_ok}
-use Rattle.ipc_keys.specs.Names.{check_name}
-use Rattle.ipc_keys.specs.declared.check.NameKind.{NameKind}
 use Rattle.ipc_keys.specs.declared.check.NameKind.TheVariants as names
-use Rattle.sysv_msg.specs.Queue.{Queue, new_queue}
-use Rattle.sysv_sem.specs.Set.{Set, new_set, after_exit}
+use Rattle.sysv_sem.specs.Set.{Set, after_exit}
 use Rattle.ipc_wire.specs.Posix as posix
 use Rattle.ipc_wire.specs.Request.{PlainKind, PlainRequest, Interrupt, Sysv, Posix}
 use Rattle.ipc_wire.specs.Request as requests
-use Rattle.ipc_state.specs.Keyed.{KeyedEntry, Keyed, keyed, AreKeyed, HaveKeys}
+use Rattle.ipc_state.specs.declared.parked.ObjectKind.{ObjectKind}
+use Rattle.ipc_state.specs.declared.parked.ObjectKind.TheVariants as kinds
+use Rattle.ipc_state.specs.Keyed.{Keyed, AreKeyed, HaveKeys}
+use Rattle.ipc_state.specs.Kinds.{BoundOf, Content, EntryOf, Objects, Those, has_access, is_bound_so, keeps, may_open, no_bound, parted, same_bound, with_kind}
 use Rattle.ipc_perm.specs.declared.perm.Perm.{Perm}
-use Rattle.ipc_perm.specs.Perm.{owned_by}
+use Rattle.ipc_perm.specs.Perm.{owned_by, perm_of}
 use Rattle.ipc_state.specs.declared.processes.Process.{Process}
-use Rattle.ipc_state.specs.Numbered.{Numbered, entry_of, with_entry, without_entry, is_full}
+use Rattle.ipc_state.specs.Numbered.{Numbered, entry_of, with_entry, with_new, is_full}
 use Rattle.ipc_state.specs.declared.descriptors.Descriptor.{Descriptor}
-use Rattle.ipc_state.specs.Named.{NamedEntry, Named, HaveNames, named}
+use Rattle.ipc_state.specs.Named.{NamedEntry}
 use Rattle.ipc_state.specs.Descriptors.{opened, with_flags}
-use Rattle.ipc_state.specs.Bound.{holding, permitting}
-use Rattle.ipc_state.specs.Opening.{Content, NamedObjects, descriptors_of, descriptor_at, has_access, is_by_descriptor, is_registered}
-use Rattle.ipc_state.specs.Opening.{is_sound_descriptor, stays, with_kind}
+use Rattle.ipc_state.specs.Bound.{AreFound, holding, number_of, permitting, unbound}
+use Rattle.ipc_state.specs.Opening.{descriptors_of, descriptor_at, is_by_descriptor, is_registered}
+use Rattle.ipc_state.specs.Opening.{is_sound_descriptor, stays}
 use Rattle.ipc_state.specs.State.{State, start, at_moment, has_all_processes, is_process, with_process, exit, restart}
-use Rattle.ipc_state.specs.State.{is_waiting, with_waiting, without_due, without_waiting, msg_queue_of, with_msg_queue, with_new_msg_queue}
-use Rattle.ipc_state.specs.State.{semset_of, with_semset, with_new_semset, adjusted, undone, undo_of, without_adjustments, with_undo}
-use Rattle.ipc_state.specs.State.{has_all_descriptors, with_descriptor, with_descriptor_flags, closed, named_in, named_of, unlinked}
-use Rattle.ipc_state.specs.State.{with_named_of, with_new_of, with_object_of}
-use Rattle.ipc_state.specs.Sound.{AreSoundNamed, IsSoundContent, IsSoundMq, IsSoundMqMessage, most_of}
-use Rattle.posix_sem.specs.Semaphore.{sem_value_max}
-use Rattle.ipc_state.specs.Sound.{HasSoundParts, IsSoundMsgQueue, IsSoundSemset, AreSoundSemsets, AreAt, AreAdjustments, semaphore_count}
+use Rattle.ipc_state.specs.State.{is_waiting, with_waiting, without_due, without_waiting}
+use Rattle.ipc_state.specs.State.{adjusted, undone, undo_of, without_adjustments, with_undo}
+use Rattle.ipc_state.specs.State.{has_all_descriptors, with_descriptor, with_descriptor_flags, closed, objects_in, objects_of, removed, unlinked}
+use Rattle.ipc_state.specs.State.{with_entry_of, with_new_of, with_object_of, with_objects, with_objects_of}
+use Rattle.ipc_state.specs.Sound.{AreSound, IsSoundContent, IsSoundMq, IsSoundMqMessage, most_of}
+use Rattle.ipc_state.specs.Sound.{HasSoundParts, AreAt, AreAdjustments, semaphore_count}
 use Rattle.ipc_state.specs.Waiting.{PlainWaiting, AreSoundWaits, IsSoundWaiting, deadline_after, deadline_of, has_deadline}
 use Rattle.ipc_state.specs.declared.parked.Awaited.TheVariants as awaited
 use Rattle.ipc_state.proofs.Numbering.{none_yet-numbered}
 use Rattle.ipc_state.proofs.Counting.{few-waiting}
 use Rattle.ipc_state.proofs.Few.{few-each, each-fewer}
 use Rattle.ipc_state.proofs.Binding as binding
-use Rattle.ipc_state.proofs.EntryKeys.{of_keys, of_names}
-use Rattle.ipc_state.proofs.SoundQueues as queues
+use Rattle.ipc_state.proofs.Elsewhere as elsewhere
 use Rattle.ipc_state.proofs.SoundSets as sets
 use Rattle.ipc_state.proofs.SoundMqs as mqs
 use Rattle.ipc_state.proofs.SoundOpening as opening
-pub use Rattle.ipc_state.proofs.SoundOpening.{MayStandFor, MayJoin, perm_of-mode}
+pub use Rattle.ipc_state.proofs.SoundOpening.{MayBind, MayJoin, MayStandFor, perm_of-mode}
+pub use Rattle.ipc_state.proofs.SoundQueues.{new_queue-sound}
+pub use Rattle.ipc_state.proofs.SoundSets.{new_set-sound}
 use Rattle.ipc_state.proofs.Adjusting.{HasAll, moved, has-new, has-with, has-adjusted, adjusted-by, exit-length, undone-keeps, all-undone-keeps}
 use Rattle.ipc_state.proofs.Adjusting.{each-moved, each-cleared, each-dropped, none-at, without-same, push-same, each-pushed, seen-keys}
 pub use Rattle.ipc_state.proofs.EntryKeys.{All-seen}
 pub use Rattle.ipc_state.proofs.Ending.{HasSameProcesses, IsGood, as_before, by-finish, refused-good, same-processes, same-but-table, same-connected}
-pub use Rattle.ipc_state.proofs.Ending.{same-objects}
+pub use Rattle.ipc_state.proofs.Ending.{same-awaited, same-objects}
 pub use Rattle.ipc_state.proofs.Elsewhere.{before-then, elsewhere-closed, elsewhere-new, elsewhere-object, elsewhere-table, elsewhere-unlinked}
 pub use Rattle.ipc_state.proofs.Numbering.{neither}
 pub use Rattle.ipc_state.proofs.Steps.{AtEnd, after, after-orelse, after-orstop, after-refuse, after-stop, after-then, at-all, at-failure, at-halt, at-some}
@@ -109,22 +107,6 @@ module _ (limits : Limits) where
       → HasSoundParts limits (record s { wait = calls })
   set-wait s calls h good = record { processes = h.processes; wait = good; undo = h.undo; msg = h.msg; semset = h.semset; named = h.named }
 
-  pub set-msg : (s : State) (msg : Keyed Queue) → HasSoundParts limits s → AreKeyed limits.msgmni (IsSoundMsgQueue limits) msg
-      → HasSoundParts limits (record s { msg = msg })
-  set-msg s msg h good = record { processes = h.processes; wait = h.wait; undo = h.undo; msg = good; semset = h.semset; named = h.named }
-
-  pub set-sem : (s : State) (sem : Keyed Set) → HasSoundParts limits s → HasAll s.semset sem → AreSoundSemsets limits sem
-      → HasSoundParts limits (record s { semset = sem })
-  set-sem s sem h all good =
-      record {
-        processes = h.processes;
-        wait = h.wait;
-        undo = moved (keys_of s.processes.entries) s.semset sem s.undo all h.undo;
-        msg = h.msg;
-        semset = good;
-        named = h.named;
-      }
-
   none-waits : AreSoundWaits limits []
   none-waits = record { pids = tt; few = omega arith; each = All-nil IsSoundWaiting }
 
@@ -162,22 +144,22 @@ module _ (limits : Limits) where
       let all = All-push (λ (v : PlainWaiting). is_process s v.pid.0 ≡ true) s.wait w connected process in
       omega (arith, few-waiting s.processes.entries (s.wait ++ w ∷ []) distinct all, h.processes.numbered.count, length-append s.wait (w ∷ []))
 
-  -- the objects with a name, and the descriptors
-  all-held : (s : State) → HasSoundParts limits s → mqs.AreAllHeld limits s.processes (named_in s)
-  all-held s h = record { processes = h.processes; named = h.named }
+  -- the objects, and the descriptors
+  all-held : (s : State) → HasSoundParts limits s → mqs.AreAllHeld limits s.processes (objects_in s)
+  all-held s h = record { processes = h.processes; objects = mqs.sound-of limits s h }
 
   pub start-sound : HasSoundParts limits start
   start-sound =
+      let none : (kind : ObjectKind) → AreSound limits [] kind (objects_of start kind) =
+      mqs.on-kinds (AreSound limits []) (objects_in start) (mqs.none-sound limits kinds.MsgQueue) (mqs.none-sound limits kinds.Semset)
+      (mqs.none-sound limits (kinds.Named names.Mq)) (mqs.none-sound limits (kinds.Named names.Psem)) (mqs.none-sound limits (kinds.Named names.Pshm)) in
       record {
         processes = record { numbered = none_yet-numbered limits.processes; descriptors = All-nil _ };
         wait = none-waits;
         undo = record { pids = refl; each = tt };
-        msg = binding.none_yet-bound of_keys limits.msgmni (IsSoundMsgQueue limits);
-        semset = record { keyed = binding.none_yet-bound of_keys limits.semmni (IsSoundSemset limits); count = omega arith };
-        named = mqs.on-kinds (AreSoundNamed limits []) (named_in start)
-            (record { held = mqs.none-held names.Mq limits.queues (IsSoundMq limits) []; together = All-nil _ })
-            (record { held = mqs.none-held names.Psem limits.named_semaphores (λ value. value ≤ sem_value_max) []; together = tt })
-            (record { held = mqs.none-held names.Pshm limits.segments (λ x. ⊤) []; together = omega arith });
+        msg = none kinds.MsgQueue;
+        semset = none kinds.Semset;
+        named = λ kind. none (kinds.Named kind);
       }
 
   pub set_moment-sound : (s : State) (moment : ℕ) → HasSoundParts limits s → HasSoundParts limits (at_moment s moment)
@@ -193,26 +175,31 @@ module _ (limits : Limits) where
       })
 
   -- one adjustment keeps the sets sound
-  adjusted-sound : (pid : ℕ) (o : Keyed Set) (a : Key × ℤ) → AreSoundSemsets limits o → AreSoundSemsets limits (adjusted pid o a)
-  adjusted-sound pid o a h =
-      adjusted-by (AreSoundSemsets limits) pid o a
-      (λ e is. let x : Set = after_exit e.object a.0.1 a.1 (record { 0 = pid }) in
-      let good = sets.after_exit-sound limits e.object a.0.1 a.1 (record { 0 = pid }) (binding.entry-sound of_keys limits.semmni
-      (IsSoundSemset limits) o a.0.0 e is h.keyed) in
-      let mode = binding.entry-mode of_keys limits.semmni (IsSoundSemset limits) o a.0.0 e is h.keyed in
-      record {
-        keyed = binding.with_entry-bound of_keys limits.semmni (IsSoundSemset limits) o a.0.0 e (holding e x) is (inl refl) mode good h.keyed;
-        count = omega (arith, sets.count-with o a.0.0 e (holding e x) is (exit-length e.object a.0.1 a.1 (record { 0 = pid })), h.count);
-      }) h
+  abbrev AreSets : Keyed Set → Type 0
+  AreSets o = AreSound limits [] kinds.Semset o
 
-  pub undone-sound : (o : Keyed Set) (p : ℕ × Undo) → AreSoundSemsets limits o → AreSoundSemsets limits (undone o p)
-  undone-sound o p h = undone-keeps (AreSoundSemsets limits) adjusted-sound o p h
+  adjusted-sound : (pid : ℕ) (o : Keyed Set) (a : Key × ℤ) → AreSets o → AreSets (adjusted pid o a)
+  adjusted-sound pid o a h =
+      adjusted-by AreSets pid o a
+      (λ e is. opening.hold-sound limits [] kinds.Semset o h a.0.0 e (after_exit e.object a.0.1 a.1 (record { 0 = pid })) is
+      (sets.after_exit-sound limits e.object a.0.1 a.1 (record { 0 = pid }) (opening.content-of limits [] kinds.Semset o h a.0.0 e is))
+      (exit-length e.object a.0.1 a.1 (record { 0 = pid }))) h
+
+  -- of whatever processes
+  sets-of : (ps qs : List (ℕ × Process)) (o : Keyed Set) → AreSound limits ps kinds.Semset o → AreSound limits qs kinds.Semset o
+  sets-of ps qs o h = mqs.never-open-sound limits kinds.Semset qs o refl h.held.bound h.together
+
+  -- with other sets
+  with-sets : (ps : Numbered Process) (o : Objects) (m : Keyed Set) → mqs.AreAllHeld limits ps o → AreSets m
+      → mqs.AreAllHeld limits ps (with_kind o kinds.Semset m)
+  with-sets ps o m h good = opening.others-held limits ps o h kinds.Semset m (λ may n there. cc) (sets-of [] ps.entries m good)
 
   pub exit-sound : (s : State) (pid : ℕ) → HasSoundParts limits s → HasSoundParts limits (exit s pid)
   exit-sound s pid h =
       let p : ℕ × Undo = (pid, undo_of s pid) in
       let all : HasAll s.semset (undone s.semset p) = undone-keeps (HasAll s.semset) (has-adjusted s.semset) s.semset p (λ k is. is) in
-      let left = mqs.exit-held limits s.processes pid (named_in s) (all-held s h) in
+      let good = undone-keeps AreSets adjusted-sound s.semset p (sets-of s.processes.entries [] s.semset h.semset) in
+      let left = with-sets _ _ (undone s.semset p) (mqs.exit-held limits s.processes pid (objects_in s) (all-held s h)) good in
       record {
         processes = left.processes;
         wait = without-waits (record { 0 = pid }) s.wait h.wait;
@@ -220,26 +207,27 @@ module _ (limits : Limits) where
           pids = without-same s.undo s.processes.entries pid h.undo.pids;
           each = each-moved s.semset (undone s.semset p) all _ (each-without (AreAt s.semset) s.undo pid h.undo.each);
         };
-        msg = h.msg;
-        semset = undone-sound s.semset p h.semset;
-        named = left.named;
+        msg = left.objects kinds.MsgQueue;
+        semset = left.objects kinds.Semset;
+        named = λ kind. left.objects (kinds.Named kind);
       }
 
   pub restart-sound : (s : State) → HasSoundParts limits s → HasSoundParts limits (restart s)
   restart-sound s h =
-      let left = mqs.restart-held limits s.processes (named_in s) (all-held s h) in
+      let good = all-undone-keeps AreSets adjusted-sound s.semset s.undo (sets-of s.processes.entries [] s.semset h.semset) in
+      let left = with-sets _ _ _ (mqs.restart-held limits s.processes (objects_in s) (all-held s h)) good in
       record {
         processes = left.processes;
         wait = none-waits;
         undo = record { pids = refl; each = tt };
-        msg = h.msg;
-        semset = all-undone-keeps (AreSoundSemsets limits) adjusted-sound s.semset s.undo h.semset;
-        named = left.named;
+        msg = left.objects kinds.MsgQueue;
+        semset = left.objects kinds.Semset;
+        named = λ kind. left.objects (kinds.Named kind);
       }
 
   pub with_process-sound : (s : State) (cred : Cred) → has_all_processes limits s ≡ false → HasSoundParts limits s → HasSoundParts limits (with_process s cred)
   with_process-sound s cred room h =
-      let come = mqs.with_process-held limits s.processes cred (named_in s) room (all-held s h) in
+      let come = mqs.with_process-held limits s.processes cred (objects_in s) room (all-held s h) in
       record {
         processes = come.processes;
         wait = h.wait;
@@ -247,9 +235,9 @@ module _ (limits : Limits) where
           pids = push-same s.undo s.processes.entries s.processes.next fin.empty (record { cred = cred; descriptors = [] }) h.undo.pids;
           each = each-pushed (AreAt s.semset) s.undo s.processes.next fin.empty h.undo.each (none-at s.semset);
         };
-        msg = h.msg;
-        semset = h.semset;
-        named = come.named;
+        msg = come.objects kinds.MsgQueue;
+        semset = come.objects kinds.Semset;
+        named = λ kind. come.objects (kinds.Named kind);
       }
 
   -- the identifiers of the sets stay, and the next one
@@ -262,7 +250,7 @@ module _ (limits : Limits) where
 
   -- no process has more adjustments than there may be semaphores
   pub few-adjustments : (s : State) → HasSoundParts limits s → EachValue (λ (u : Undo). fin.len u ≤ limits.semmns) s.undo
-  few-adjustments s h = each-fewer limits.semmns (semaphore_count s.semset) h.semset.count s.undo (few-each s.semset s.undo h.undo.each)
+  few-adjustments s h = each-fewer limits.semmns (semaphore_count s.semset) h.semset.together s.undo (few-each s.semset s.undo h.undo.each)
 
   -- no process has an adjustment any more at a semaphore, or at a set
   pub without_adjustments-sound : (s : State) (set : ℕ) (num : Option ℕ) → HasSoundParts limits s → HasSoundParts limits (without_adjustments set num s)
@@ -272,157 +260,141 @@ module _ (limits : Limits) where
         each = each-cleared s.semset set num s.undo h.undo.each;
       })
 
-  pub with_new_msg_queue-sound : (s : State) (key : ℤ) (perm : Perm) → keyed s.msg key ≡ None → is_full limits.msgmni s.msg ≡ false
-      → perm.mode < 512 → HasSoundParts limits s → HasSoundParts limits (with_new_msg_queue limits s key perm)
-  with_new_msg_queue-sound s key perm unused room mode h =
-      let e : KeyedEntry Queue = record { bound = key; perm = perm; object = new_queue limits.msgmnb s.clock } in
-      set-msg s _ h
-      (binding.with_new-bound of_keys limits.msgmni (IsSoundMsgQueue limits) s.msg e unused room mode (queues.new_queue-sound limits s.clock) h.msg)
+  -- ---- objects, and descriptors
 
-  -- another queue in the place of one that is there, under the same key
-  pub with_msg_queue-sound : (s : State) (id : ℕ) (e : KeyedEntry Queue) (q : Queue) → msg_queue_of s id ≡ Some e → IsSoundMsgQueue limits q
-      → HasSoundParts limits s → HasSoundParts limits (with_msg_queue s id (holding e q))
-  with_msg_queue-sound s id e q is good h =
-      let mode = binding.entry-mode of_keys limits.msgmni (IsSoundMsgQueue limits) s.msg id e is h.msg in
-      set-msg s _ h (binding.with_entry-bound of_keys limits.msgmni (IsSoundMsgQueue limits) s.msg id e (holding e q) is (inl refl) mode good h.msg)
-
-  -- another queue, used by others, under the same key
-  pub permitted-sound : (s : State) (id : ℕ) (e : KeyedEntry Queue) (perm : Perm) (q : Queue) → msg_queue_of s id ≡ Some e → perm.mode < 512
-      → IsSoundMsgQueue limits q
-      → HasSoundParts limits s → HasSoundParts limits (with_msg_queue s id (holding (permitting e perm) q))
-  permitted-sound s id e perm q is mode good h =
-      set-msg s _ h
-      (binding.with_entry-bound of_keys limits.msgmni (IsSoundMsgQueue limits) s.msg id e (holding (permitting e perm) q) is (inl refl) mode good h.msg)
-
-  pub without_msg_queue-sound : (s : State) (id : ℕ) → HasSoundParts limits s → HasSoundParts limits (record s { msg = without_entry s.msg id })
-  without_msg_queue-sound s id h = set-msg s _ h (binding.without_entry-bound of_keys limits.msgmni (IsSoundMsgQueue limits) s.msg id h.msg)
-
-  pub queue-sound : (s : State) (id : ℕ) (e : KeyedEntry Queue) → msg_queue_of s id ≡ Some e → HasSoundParts limits s → IsSoundMsgQueue limits e.object
-  queue-sound s id e is h = binding.entry-sound of_keys limits.msgmni (IsSoundMsgQueue limits) s.msg id e is h.msg
-
-  pub with_new_semset-sound : (s : State) (key : ℤ) (perm : Perm) (nsems : ℕ) → keyed s.semset key ≡ None → is_full limits.semmni s.semset ≡ false
-      → perm.mode < 512 → 0 < nsems → nsems ≤ limits.semmsl → semaphore_count s.semset + nsems ≤ limits.semmns
-      → HasSoundParts limits s → HasSoundParts limits (with_new_semset s key perm nsems)
-  with_new_semset-sound s key perm nsems unused room mode some few all h =
-      let e : KeyedEntry Set = record { bound = key; perm = perm; object = new_set nsems s.clock } in
-      let len = length-replicate nsems (let x : Semaphore = record { value = 0; pid = record { 0 = 0 } } in x) in
-      set-sem s _ h (has-new s.semset e) (record {
-        keyed = binding.with_new-bound of_keys limits.semmni (IsSoundSemset limits) s.semset e unused room mode
-            (sets.new_set-sound limits nsems s.clock some few) h.semset.keyed;
-        count = omega (arith, sets.count-new s.semset e, len, all);
-      })
-
-  -- another set of as many semaphores in the place of one that is there, used by others
-  pub permitted_set-sound : (s : State) (id : ℕ) (e : KeyedEntry Set) (perm : Perm) (x : Set) → semset_of s id ≡ Some e → perm.mode < 512
-      → IsSoundSemset limits x
-      → length x.semaphores ≡ length e.object.semaphores → HasSoundParts limits s → HasSoundParts limits (with_semset s id (holding (permitting e perm) x))
-  permitted_set-sound s id e perm x is mode good same h =
-      let f : KeyedEntry Set = holding (permitting e perm) x in
-      set-sem s _ h (λ k was. has-with s.semset id e f is same k ∙ was) (record {
-        keyed = binding.with_entry-bound of_keys limits.semmni (IsSoundSemset limits) s.semset id e f is (inl refl) mode good h.semset.keyed;
-        count = omega (arith, sets.count-with s.semset id e f is same, h.semset.count);
-      })
-
-  pub with_semset-sound : (s : State) (id : ℕ) (e : KeyedEntry Set) (x : Set) → semset_of s id ≡ Some e → IsSoundSemset limits x
-      → length x.semaphores ≡ length e.object.semaphores → HasSoundParts limits s → HasSoundParts limits (with_semset s id (holding e x))
-  with_semset-sound s id e x is good same h =
-      permitted_set-sound s id e e.perm x is (binding.entry-mode of_keys limits.semmni (IsSoundSemset limits) s.semset id e is h.semset.keyed) good same h
-
-  -- a set goes, and the adjustments at it
-  pub without_semset-sound : (s : State) (id : ℕ) → HasSoundParts limits s
-      → HasSoundParts limits (without_adjustments id None (record s { semset = without_entry s.semset id }))
-  without_semset-sound s id h =
-      record {
-        processes = h.processes;
-        wait = h.wait;
-        undo = record { pids = seen-keys (cleared id None) s.undo ∙ h.undo.pids; each = each-dropped s.semset id s.undo h.undo.each };
-        msg = h.msg;
-        semset = record {
-          keyed = binding.without_entry-bound of_keys limits.semmni (IsSoundSemset limits) s.semset id h.semset.keyed;
-          count = omega (arith, sets.count-without s.semset id, h.semset.count);
-        };
-        named = h.named;
-      }
-
-  pub set-sound : (s : State) (id : ℕ) (e : KeyedEntry Set) → semset_of s id ≡ Some e → HasSoundParts limits s → IsSoundSemset limits e.object
-  set-sound s id e is h = binding.entry-sound of_keys limits.semmni (IsSoundSemset limits) s.semset id e is h.semset.keyed
-
-  -- ---- objects with a name, and descriptors
-
-  set-opened : (s : State) (ps : Numbered Process) (o : NamedObjects) → HasSoundParts limits s → keys_of ps.entries ≡ keys_of s.processes.entries
-      → mqs.AreAllHeld limits ps o → HasSoundParts limits (record s { processes = ps; mq = o.mq; psem = o.psem; pshm = o.pshm })
-  set-opened s ps o h same parts =
+  set-opened : (s : State) (ps : Numbered Process) (o : Objects) → HasSoundParts limits s → keys_of ps.entries ≡ keys_of s.processes.entries
+      → AreAdjustments (keys_of s.processes.entries) o.semset s.undo → mqs.AreAllHeld limits ps o
+      → HasSoundParts limits (with_objects (record s { processes = ps }) o)
+  set-opened s ps o h same at parts =
       record {
         processes = parts.processes;
         wait = h.wait;
-        undo = record { pids = h.undo.pids ∙ sym same; each = h.undo.each };
-        msg = h.msg;
-        semset = h.semset;
-        named = parts.named;
+        undo = record { pids = at.pids ∙ sym same; each = at.each };
+        msg = parts.objects kinds.MsgQueue;
+        semset = parts.objects kinds.Semset;
+        named = λ kind. parts.objects (kinds.Named kind);
       }
+
+  -- adjustments are at semaphores that are there, also as other sets stand for those that were there, or come
+  at-put : (s : State) (kind : ObjectKind) (n : ℕ) (e f : EntryOf kind) → entry_of (objects_of s kind) n ≡ Some e
+      → MayStandFor limits s.processes.entries kind (objects_of s kind) n e f.object → HasSoundParts limits s
+      → AreAdjustments (keys_of s.processes.entries) (with_kind (objects_in s) kind (with_entry (objects_of s kind) n f)).semset s.undo
+  at-put s kinds.Semset n e f is may h =
+      moved (keys_of s.processes.entries) s.semset (with_entry s.semset n f) s.undo (λ k was. has-with s.semset n e f is may k ∙ was) h.undo
+  at-put s kinds.MsgQueue n e f is may h = h.undo
+  at-put s (kinds.Named kind) n e f is may h = h.undo
+
+  at-new : (s : State) (kind : ObjectKind) (e : EntryOf kind) → HasSoundParts limits s
+      → AreAdjustments (keys_of s.processes.entries) (with_kind (objects_in s) kind (with_new (objects_of s kind) e)).semset s.undo
+  at-new s kinds.Semset e h = moved (keys_of s.processes.entries) s.semset (with_new s.semset e) s.undo (has-new s.semset e) h.undo
+  at-new s kinds.MsgQueue e h = h.undo
+  at-new s (kinds.Named kind) e h = h.undo
+
+  -- another object in the place of one that is there, used by others
+  pub permitted-sound : (s : State) (kind : ObjectKind) (n : ℕ) (e : EntryOf kind) (perm : Perm) (x : Content kind) → entry_of (objects_of s kind) n ≡ Some e
+      → perm.mode < 512 → is_bound_so kind e.bound perm ≡ true → IsSoundContent limits kind x
+      → MayStandFor limits s.processes.entries kind (objects_of s kind) n e x → HasSoundParts limits s
+      → HasSoundParts limits (with_objects_of s kind (with_entry (objects_of s kind) n (holding (permitting e perm) x)))
+  permitted-sound s kind n e perm x is mode so good may h =
+      let f : EntryOf kind = holding (permitting e perm) x in
+      set-opened s s.processes _ h refl (at-put s kind n e f is may h) (opening.put-all limits s.processes (objects_in s) (all-held s h) kind n f
+      (opening.put-sound limits s.processes.entries kind (objects_of s kind) (mqs.sound-of limits s h kind) n e perm x is mode so good may))
+
+  -- used by the same
+  pub with_held-sound : (s : State) (kind : ObjectKind) (n : ℕ) (e : EntryOf kind) (x : Content kind) → entry_of (objects_of s kind) n ≡ Some e
+      → IsSoundContent limits kind x → MayStandFor limits s.processes.entries kind (objects_of s kind) n e x → HasSoundParts limits s
+      → HasSoundParts limits (with_objects_of s kind (with_entry (objects_of s kind) n (holding e x)))
+  with_held-sound s kind n e x is good may h =
+      set-opened s s.processes _ h refl (at-put s kind n e (holding e x) is may h) (opening.put-all limits s.processes (objects_in s) (all-held s h) kind n
+      (holding e x) (opening.hold-sound limits s.processes.entries kind (objects_of s kind) (mqs.sound-of limits s h kind) n e x is good may))
+
+  pub with_object-sound : (s : State) (kind : ObjectKind) (n : ℕ) (e : EntryOf kind) (x : Content kind) → entry_of (objects_of s kind) n ≡ Some e
+      → IsSoundContent limits kind x → MayStandFor limits s.processes.entries kind (objects_of s kind) n e x
+      → HasSoundParts limits s → HasSoundParts limits (with_object_of s kind n x)
+  with_object-sound s kind n e x is good may h =
+      let those : Those kind = objects_of s kind in
+      subst (λ (o : Those kind). HasSoundParts limits (with_objects_of s kind o))
+      (sym (ap (λ (r : Option (EntryOf kind)). unwrap_or (option_map (λ f. with_entry those n (holding f x)) r) those) is))
+      (with_held-sound s kind n e x is good may h)
+
+  -- a new object, bound to what names nothing
+  pub with_entry-sound : (s : State) (kind : ObjectKind) (e : EntryOf kind) → number_of (same_bound kind) (no_bound kind) (objects_of s kind) e.bound ≡ None
+      → is_full (most_of limits kind) (objects_of s kind) ≡ false → e.perm.mode < 512 → is_bound_so kind e.bound e.perm ≡ true
+      → keeps kind e.bound e.object ≡ true → IsSoundContent limits kind e.object → MayJoin limits kind (objects_of s kind) e.object
+      → HasSoundParts limits s → HasSoundParts limits (with_entry_of s kind e)
+  with_entry-sound s kind e unused room mode so stays-so good may h =
+      set-opened s s.processes _ h refl (at-new s kind e h) (opening.new-all limits s.processes (objects_in s) (all-held s h) kind e
+      (opening.new-sound limits s.processes.entries kind (objects_of s kind) (mqs.sound-of limits s h kind) e unused room mode so stays-so good may))
+
+  -- of this owner and mode
+  pub with_new-sound : (s : State) (kind : ObjectKind) (b : BoundOf kind) (cred : Cred) (mode : ℕ) (x : Content kind)
+      → number_of (same_bound kind) (no_bound kind) (objects_of s kind) b ≡ None → is_full (most_of limits kind) (objects_of s kind) ≡ false
+      → MayBind kind b → IsSoundContent limits kind x → MayJoin limits kind (objects_of s kind) x → HasSoundParts limits s
+      → HasSoundParts limits (with_new_of s kind b cred mode x)
+  with_new-sound s kind b cred mode x unused room proper good may h =
+      with_entry-sound s kind (record { bound = b; perm = perm_of cred mode; object = x }) unused room (perm_of-mode cred mode)
+      (opening.bound-new kind b cred mode proper) (opening.keeps-new kind b x proper) good may h
+
+  -- one that is bound to none any more, and goes if it is not open
+  pub unlinked-sound : (s : State) (kind : ObjectKind) (n : ℕ) → may_open kind ≡ true → HasSoundParts limits s → HasSoundParts limits (unlinked s kind n)
+  unlinked-sound s kind n may h =
+      set-opened s s.processes _ h refl
+      (subst (λ (o : Keyed Set). AreAdjustments (keys_of s.processes.entries) o s.undo)
+      (sym (elsewhere.open-semset (objects_in s) kind (unbound (parted kind) (no_bound kind) (objects_of s kind) n) may)) h.undo)
+      (opening.unlinked-all limits s.processes (objects_in s) (all-held s h) kind n)
+
+  -- a message queue goes
+  pub without_msg_queue-sound : (s : State) (id : ℕ) → HasSoundParts limits s → HasSoundParts limits (removed s kinds.MsgQueue id)
+  without_msg_queue-sound s id h =
+      set-opened s s.processes _ h refl h.undo (opening.without-all limits s.processes (objects_in s) (all-held s h) kinds.MsgQueue id refl)
+
+  -- a set goes, and the adjustments at it
+  pub without_semset-sound : (s : State) (id : ℕ) → HasSoundParts limits s → HasSoundParts limits (without_adjustments id None (removed s kinds.Semset id))
+  without_semset-sound s id h =
+      set-opened (record s { undo = seen_as (cleared id None) s.undo }) s.processes _ (without_adjustments-sound s id None h) refl
+      (record { pids = seen-keys (cleared id None) s.undo ∙ h.undo.pids; each = each-dropped s.semset id s.undo h.undo.each })
+      (opening.without-all limits s.processes (objects_in s) (all-held s h) kinds.Semset id refl)
+
+  -- what holds of an object that is there
+  pub content-sound : (s : State) (kind : ObjectKind) (n : ℕ) (e : EntryOf kind) → entry_of (objects_of s kind) n ≡ Some e
+      → HasSoundParts limits s → IsSoundContent limits kind e.object
+  content-sound s kind n e is h = opening.content-of limits s.processes.entries kind (objects_of s kind) (mqs.sound-of limits s h kind) n e is
+
+  -- numbers are above 0, so that a directory tells them; and each key or name names the object that is bound to it
+  pub kind-positive : (s : State) (kind : ObjectKind) → HasSoundParts limits s → ArePositive (objects_of s kind).entries
+  kind-positive s kind h =
+      named-positive (objects_of s kind).entries (objects_of s kind).next (mqs.sound-of limits s h kind).held.bound.numbered.numbers
+
+  pub kind-bounds : (s : State) (kind : ObjectKind) → HasSoundParts limits s → AreFound (same_bound kind) (no_bound kind) (objects_of s kind)
+  kind-bounds s kind h =
+      binding.are-found (mqs.bounds_of kind) (most_of limits kind) (IsSoundContent limits kind) (objects_of s kind) (mqs.sound-of limits s h kind).held.bound
 
   -- a descriptor more of a process, open on what is there
   pub with_descriptor-sound : (s : State) (pid : ℕ) (d : Descriptor) → has_all_descriptors limits s pid ≡ false
-      → is_sound_descriptor (named_in s) d ≡ true → HasSoundParts limits s → HasSoundParts limits (with_descriptor s pid d)
+      → is_sound_descriptor (objects_in s) d ≡ true → HasSoundParts limits s → HasSoundParts limits (with_descriptor s pid d)
   with_descriptor-sound s pid d room right h =
       let table = descriptors_of s.processes.entries pid in
       let fewer : length table < limits.descriptors = grind (arith, nat_tests) in
-      set-opened s _ (named_in s) h (opening.table-keys s.processes pid (opened table d))
-      (opening.opened-held limits s.processes pid (named_in s) (all-held s h) d fewer right)
+      set-opened s _ (objects_in s) h (opening.table-keys s.processes pid (opened table d)) h.undo
+      (opening.opened-held limits s.processes pid (objects_in s) (all-held s h) d fewer right)
 
   -- other flags of one, with a way in which it is open
   pub with_descriptor_flags-sound : (s : State) (pid fd flags : ℕ)
       → ((d : Descriptor) → descriptor_at s.processes.entries pid fd ≡ Some d → has_access d.on.kind flags ≡ true)
       → HasSoundParts limits s → HasSoundParts limits (with_descriptor_flags s pid fd flags)
   with_descriptor_flags-sound s pid fd flags right h =
-      set-opened s _ (named_in s) h (opening.table-keys s.processes pid (with_flags (descriptors_of s.processes.entries pid) fd flags))
-      (opening.flags-held limits s.processes pid (named_in s) (all-held s h) fd flags right)
+      set-opened s _ (objects_in s) h (opening.table-keys s.processes pid (with_flags (descriptors_of s.processes.entries pid) fd flags)) h.undo
+      (opening.flags-held limits s.processes pid (objects_in s) (all-held s h) fd flags right)
 
   pub closed-sound : (s : State) (pid fd : ℕ) → HasSoundParts limits s → HasSoundParts limits (closed s pid fd)
   closed-sound s pid fd h =
-      set-opened s _ _ h (opening.table-keys s.processes pid (without_value nat_eq (descriptors_of s.processes.entries pid) fd))
-      (opening.closed-held limits s.processes pid (named_in s) (all-held s h) fd)
+      set-opened s _ _ h (opening.table-keys s.processes pid (without_value nat_eq (descriptors_of s.processes.entries pid) fd)) h.undo
+      (opening.closed-held limits s.processes pid (objects_in s) (all-held s h) fd)
 
   -- what a descriptor of a process is, is sound
   pub descriptor-sound : (s : State) (pid fd : ℕ) (d : Descriptor) → descriptor_at s.processes.entries pid fd ≡ Some d → HasSoundParts limits s
-      → is_sound_descriptor (named_in s) d ≡ true
-  descriptor-sound s pid fd d is h = opening.descriptor-sound limits (named_in s) s.processes.entries pid fd d h.processes.descriptors is
-
-  -- another object of a kind at a number that is there
-  pub with_object-sound : (s : State) (kind : NameKind) (n : ℕ) (e : NamedEntry (Content kind)) (x : Content kind) → entry_of (named_of s kind) n ≡ Some e
-      → IsSoundContent limits kind x → MayStandFor limits s.processes.entries kind (named_of s kind) n e x
-      → HasSoundParts limits s → HasSoundParts limits (with_object_of s kind n x)
-  with_object-sound s kind n e x is good may h =
-      let those : Named (Content kind) = named_of s kind in
-      subst (λ (o : Named (Content kind)). HasSoundParts limits (with_named_of s kind o))
-      (sym (ap (λ (r : Option (NamedEntry (Content kind))). unwrap_or (option_map (λ f. with_entry those n (holding f x)) r) those) is))
-      (set-opened s s.processes (with_kind (named_in s) kind (with_entry those n (holding e x))) h refl
-      (opening.put-all limits s.processes (named_in s) (all-held s h) kind n e x is good may))
-
-  -- a new object of a kind, of a name that names none
-  pub with_new-sound : (s : State) (kind : NameKind) (name : List ℕ) (cred : Cred) (mode : ℕ) (x : Content kind) → named (named_of s kind) name ≡ None
-      → is_full (most_of limits kind) (named_of s kind) ≡ false → is_ok (check_name kind name) ≡ true → IsSoundContent limits kind x
-      → MayJoin limits kind (named_of s kind) x → HasSoundParts limits s → HasSoundParts limits (with_new_of s kind name cred mode x)
-  with_new-sound s kind name cred mode x unused room proper good may h =
-      set-opened s s.processes _ h refl
-      (opening.new-all limits s.processes (named_in s) (all-held s h) kind name cred mode x unused room proper good may)
-
-  -- one that loses its name, and goes if it is not open
-  pub unlinked-sound : (s : State) (kind : NameKind) (n : ℕ) → HasSoundParts limits s → HasSoundParts limits (unlinked s kind n)
-  unlinked-sound s kind n h = set-opened s s.processes _ h refl (opening.unlinked-all limits s.processes (named_in s) (all-held s h) kind n)
-
-  -- what holds of an object that is there
-  pub content-sound : (s : State) (kind : NameKind) (n : ℕ) (e : NamedEntry (Content kind)) → entry_of (named_of s kind) n ≡ Some e
-      → HasSoundParts limits s → IsSoundContent limits kind e.object
-  content-sound s kind n e is h =
-      binding.entry-sound of_names (most_of limits kind) (IsSoundContent limits kind) (named_of s kind) n e is (h.named kind).held.named
-
-  -- numbers are above 0, so that a directory of names tells them; and each name names the object that has it
-  pub kind-positive : (s : State) (kind : NameKind) → HasSoundParts limits s → ArePositive (named_of s kind).entries
-  kind-positive s kind h = named-positive (named_of s kind).entries (named_of s kind).next (h.named kind).held.named.numbered.numbers
-
-  pub kind-names : (s : State) (kind : NameKind) → HasSoundParts limits s → HaveNames (named_of s kind)
-  kind-names s kind h = binding.are-found of_names (most_of limits kind) (IsSoundContent limits kind) (named_of s kind) (h.named kind).held.named
+      → is_sound_descriptor (objects_in s) d ≡ true
+  descriptor-sound s pid fd d is h = opening.descriptor-sound limits (objects_in s) s.processes.entries pid fd d h.processes.descriptors is
 
   -- whoever is registered with a queue has it open
   pub mq-registered : (s : State) (n : ℕ) (e : NamedEntry Mq) → entry_of s.mq n ≡ Some e → HasSoundParts limits s
@@ -466,11 +438,10 @@ module _ (limits : Limits) where
 -- a restart of what a restart has left leaves it
 pub restart-twice : (s : State) → restart (restart s) ≡ restart s
 restart-twice s =
-    ap (λ (o : NamedObjects). let t : State = record (restart s) { mq = o.mq; psem = o.psem; pshm = o.pshm } in t)
-    (λ i. record {
+    (λ i. record (restart s) {
       mq = mqs.restarted-again s.mq i;
-      psem = mqs.kept-again (stays names.Psem []) s.psem i;
-      pshm = mqs.kept-again (stays names.Pshm []) s.pshm i;
+      psem = mqs.kept-again (stays (kinds.Named names.Psem) []) s.psem i;
+      pshm = mqs.kept-again (stays (kinds.Named names.Pshm) []) s.pshm i;
     })
 
 -- ---- deadlines

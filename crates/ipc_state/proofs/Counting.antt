@@ -21,7 +21,8 @@ module _ {O C : Type 0} where
       ] refl
     where
       nobody_of : is_of pid w ≡ true → waiting_call_of pid calls ≡ None
-      nobody_of is = subst (λ (p : Pid). waiting_call_of p calls ≡ None) (ap (λ (n : ℕ). let p : Pid = record { 0 = n } in p) (eqb-true w.pid.0 pid.0 is)) distinct.0
+      nobody_of is = subst (λ (p : Pid). waiting_call_of p calls ≡ None)
+          (ap (λ (n : ℕ). let p : Pid = record { 0 = n } in p) (eqb-true w.pid.0 pid.0 is)) distinct.0
 
   module _ {X : Type 0} where
     abbrev IsAt : List (ℕ × X) → Waiting O C → Type 0

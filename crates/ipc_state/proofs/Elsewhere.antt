@@ -3,38 +3,40 @@
 use Rattle.std.proofs.Common.{◌≡◌, ◌≢◌, ℕ, Bool, true, false, cond, List, [], ◌∷◌, Option, Some, None, refl, sym, ap, subst, ◌∙◌, arith}
 use Rattle.std.specs.Prelude.{nat_eq, option_map, unwrap_or, if◌then◌else◌}
 use Rattle.std.proofs.lemmas.Bool.Decides.{nat_tests}
-use Rattle.ipc_base.specs.declared.identity.Cred.{Cred}
 use Rattle.ipc_base.specs.declared.limits.Limits.{Limits}
 use Rattle.ipc_base.specs.Table.{value_at, without}
 use Rattle.ipc_base.proofs.CallerLemmas.{at-map, at-with, other-push, other-with, rising-found}
 use Rattle.posix_mq.specs.Queue.{Queue as Mq}
 use Rattle.posix_mq.specs.declared.queue.Registration.{Registration}
 use Rattle.ipc_state.specs.declared.descriptors.Descriptor.{Descriptor}
-use Rattle.ipc_state.specs.declared.descriptors.Opened.{Opened}
-use Rattle.ipc_perm.specs.Perm.{perm_of}
-use Rattle.ipc_keys.specs.declared.check.NameKind.{NameKind}
+use Rattle.ipc_state.specs.declared.objects.Entry.{Entry}
 use Rattle.ipc_keys.specs.declared.check.NameKind.TheVariants as names
-use Rattle.ipc_state.specs.Named.{NamedEntry, Named, nameless, unnamed, without_name}
+use Rattle.sysv_msg.specs.Queue.{Queue}
+use Rattle.sysv_sem.specs.Set.{Set}
 use Rattle.ipc_state.specs.declared.parked.Awaited.{Awaited}
 use Rattle.ipc_state.specs.declared.parked.Awaited.TheVariants as awaited
 use Rattle.ipc_state.specs.declared.parked.Object.{Object}
+use Rattle.ipc_state.specs.declared.parked.ObjectKind.{ObjectKind}
 use Rattle.ipc_state.specs.declared.parked.ObjectKind.TheVariants as kinds
 use Rattle.ipc_state.specs.declared.processes.Process.{Process}
 use Rattle.ipc_state.specs.Descriptors.{Table}
-use Rattle.ipc_state.specs.Bound.{holding, putting}
+use Rattle.ipc_state.specs.Bound.{ObjectsOf, holding, putting, rebound, unbound, without_bound}
+use Rattle.ipc_state.specs.Keyed.{Keyed}
+use Rattle.ipc_state.specs.Kinds.{Content, EntryOf, Objects, Those, each_open, has_access, may_open, no_bound, of_kind, parted, with_kind}
+use Rattle.ipc_state.specs.Named.{NamedEntry}
 use Rattle.ipc_state.specs.Numbered.{entry_of, with_entry, with_new}
-use Rattle.ipc_state.specs.Opening.{Content, NamedObjects, deregistered, descriptors_of, descriptor_at, each_kind, has_access, is_by, is_by_descriptor}
-use Rattle.ipc_state.specs.Opening.{is_on, is_open, is_registered, is_there_for, of_kind, opened_as, same_kind, still_open, unless_so, with_kind}
+use Rattle.ipc_state.specs.Opening.{deregistered, descriptors_of, descriptor_at, is_by, is_by_descriptor}
+use Rattle.ipc_state.specs.Opening.{is_on, is_open, is_registered, is_there_for, object_as, opened_as, same_kind, still_open, unless_so}
 use Rattle.ipc_state.specs.Opening.{with_table, without_registrations}
 use Rattle.ipc_state.specs.Sound.{HasSoundParts}
-use Rattle.ipc_state.specs.State.{State, closed, named_in, named_of, unlinked, with_descriptors, with_new_of, with_object_of}
-use Rattle.ipc_state.specs.Touching.{object_on, object_of, named_object, is_awaited, IsAsBefore}
-use Rattle.ipc_state.proofs.SoundMqs.{both_true, each-holds, either, first, is_on-same, kept-open, put-holds}
+use Rattle.ipc_state.specs.State.{State, closed, objects_in, objects_of, unlinked, with_descriptors, with_entry_of, with_object_of}
+use Rattle.ipc_state.specs.Touching.{object_of, object_at, is_awaited, IsAsBefore}
+use Rattle.ipc_state.proofs.SoundMqs.{both_true, each-holds, either, first, is_on-same, kept-open, put-holds, sound-of, without_goers}
 use Rattle.ipc_state.proofs.SoundOpening as opening
 use Rattle.ipc_state.proofs.SoundOpening.{All-found, opens}
 
 -- the object of an entry, and the descriptors of a process
-abbrev object_in : {X : Type 0} → Option (NamedEntry X) → Option X
+abbrev object_in : {B X : Type 0} → Option (Entry B X) → Option X
 object_in r = option_map (λ e. e.object) r
 
 abbrev table_in : Option Process → Table
@@ -42,7 +44,7 @@ table_in r = unwrap_or (option_map (λ (q : Process). q.descriptors) r) []
 
 -- what a descriptor of a process is open on
 abbrev on_of : Option Descriptor → Option Object
-on_of r = option_map (λ (d : Descriptor). object_on d.on) r
+on_of r = option_map (λ (d : Descriptor). d.on) r
 
 -- as before at one change and at the next, as before at both
 pub before-then : (pid : ℕ) (on : Awaited) (s t u : State) → IsAsBefore pid on s t → IsAsBefore pid on t u → IsAsBefore pid on s u
@@ -53,76 +55,89 @@ before-then pid (awaited.Descriptor fd) s t u first second = (
   λ kind n may is. second.1 kind n may (ap on_of first.0 ∙ is) ∙ first.1 kind n may is,
 )
 
--- what an object is, a descriptor is open on
-same-on : (this on : Opened) → object_on on ≡ object_on this → on ≡ this
-same-on this on is =
-    let named : kinds.Named on.kind ≡ kinds.Named this.kind = ap (λ (o : Object). o.kind) is in
-    let kind : on.kind ≡ this.kind = cc in
-    λ i. record { kind = kind i; number = ap (λ (o : Object). o.number) is i }
+on_it : (this on : Object) → on ≡ this → is_on this on ≡ true
+on_it this on is = subst (λ (k : Object). is_on this k ≡ true) (sym is) (is_on-same this)
 
-on_it : (this on : Opened) → object_on on ≡ object_on this → is_on this on ≡ true
-on_it this on is = subst (λ (k : Opened). is_on this k ≡ true) (sym (same-on this on is)) (is_on-same this)
-
-module _ (this : Opened) where
-  opens-it : (table : Table) (k : ℕ) → on_of (value_at nat_eq table k) ≡ Some (object_on this) → opens this table ≡ true
+module _ (this : Object) where
+  opens-it : (table : Table) (k : ℕ) → on_of (value_at nat_eq table k) ≡ Some this → opens this table ≡ true
   opens-it [] k is = cc
   opens-it (d ∷ ds) k is = by_test (nat_eq d.0 k) is (opens-it ds k)
     where
-      by_test : (b : Bool) → on_of (cond b (Some d.1) (value_at nat_eq ds k)) ≡ Some (object_on this)
-          → (on_of (value_at nat_eq ds k) ≡ Some (object_on this) → opens this ds ≡ true) → opens this (d ∷ ds) ≡ true
-      by_test true is rest = let one : object_on d.1.on ≡ object_on this = cc in first (is_on this d.1.on) (opens this ds) (on_it this d.1.on one)
+      by_test : (b : Bool) → on_of (cond b (Some d.1) (value_at nat_eq ds k)) ≡ Some this
+          → (on_of (value_at nat_eq ds k) ≡ Some this → opens this ds ≡ true) → opens this (d ∷ ds) ≡ true
+      by_test true is rest = let one : d.1.on ≡ this = cc in first (is_on this d.1.on) (opens this ds) (on_it this d.1.on one)
       by_test false is rest = either (is_on this d.1.on) (opens this ds) (rest is)
 
   -- an object on which a descriptor is open, is open
-  open-by : (ps : List (ℕ × Process)) (p k : ℕ) → on_of (descriptor_at ps p k) ≡ Some (object_on this) → is_open ps this ≡ true
+  open-by : (ps : List (ℕ × Process)) (p k : ℕ) → on_of (descriptor_at ps p k) ≡ Some this → is_open ps this ≡ true
   open-by [] p k is = cc
   open-by (e ∷ es) p k is = by_test (nat_eq e.0 p) is (open-by es p k)
     where
-      by_test : (b : Bool) → on_of (value_at nat_eq (table_in (cond b (Some e.1) (value_at nat_eq es p))) k) ≡ Some (object_on this)
-          → (on_of (descriptor_at es p k) ≡ Some (object_on this) → is_open es this ≡ true) → is_open (e ∷ es) this ≡ true
+      by_test : (b : Bool) → on_of (value_at nat_eq (table_in (cond b (Some e.1) (value_at nat_eq es p))) k) ≡ Some this
+          → (on_of (descriptor_at es p k) ≡ Some this → is_open es this ≡ true) → is_open (e ∷ es) this ≡ true
       by_test true is rest = first (opens this e.1.descriptors) (is_open es this) (opens-it e.1.descriptors k is)
       by_test false is rest = either (opens this e.1.descriptors) (is_open es this) (rest is)
 
--- without its name it is the same
-same-unnamed : {X : Type 0} (o : Named X) (n m : ℕ) → object_in (entry_of (unnamed o n) m) ≡ object_in (entry_of o m)
-same-unnamed {X} o n m = same (entry_of o n) refl
+-- bound to none any more it is the same, if it becomes nothing else
+same-unbound : {B X : Type 0} (f : X → X) (none : B) → ((x : X) → f x ≡ x) → (o : ObjectsOf B X) (n m : ℕ)
+    → object_in (entry_of (unbound f none o n) m) ≡ object_in (entry_of o m)
+same-unbound {B} {X} f none kept o n m = same (entry_of o n) refl
   where
-    same : (r : Option (NamedEntry X)) → entry_of o n ≡ r → object_in (entry_of (without_name o n r) m) ≡ object_in (entry_of o m)
+    same : (r : Option (Entry B X)) → entry_of o n ≡ r → object_in (entry_of (without_bound f none o n r) m) ≡ object_in (entry_of o m)
     same None is = refl
     same (Some e) is = by_number (nat_eq m n) refl
       where
-        by_number : (b : Bool) → nat_eq m n ≡ b → object_in (entry_of (with_entry o n (nameless e)) m) ≡ object_in (entry_of o m)
+        by_number : (b : Bool) → nat_eq m n ≡ b → object_in (entry_of (with_entry o n (rebound f e none)) m) ≡ object_in (entry_of o m)
         by_number true at =
             let one : m ≡ n = grind (arith, nat_tests) in
-            subst (λ (k : ℕ). object_in (entry_of (with_entry o n (nameless e)) k) ≡ object_in (entry_of o k)) (sym one)
-            (ap object_in (at-with o.entries n (nameless e) e is) ∙ sym (ap object_in is))
+            subst (λ (k : ℕ). object_in (entry_of (with_entry o n (rebound f e none)) k) ≡ object_in (entry_of o k)) (sym one)
+            (ap object_in (at-with o.entries n (rebound f e none) e is) ∙ (ap (λ (x : X). Some x) (kept e.object) ∙ sym (ap object_in is)))
         by_number false at =
             let other : m ≢ n = λ one. grind (arith, nat_tests) in
-            ap object_in (other-with o.entries n m (nameless e) other)
+            ap object_in (other-with o.entries n m (rebound f e none) other)
+
+-- an object on which calls may wait becomes nothing else
+parted-same : (kind : ObjectKind) → is_awaited kind ≡ true → (x : Content kind) → parted kind x ≡ x
+parted-same kinds.MsgQueue may x = refl
+parted-same kinds.Semset may x = refl
+parted-same (kinds.Named kind) may x = refl
+
+-- others of a kind that may be open leave the queues and the sets of System V
+pub open-msg : (o : Objects) (kind : ObjectKind) (m : Those kind) → may_open kind ≡ true → (with_kind o kind m).msg ≡ o.msg
+open-msg o kinds.MsgQueue m may = cc
+open-msg o kinds.Semset m may = cc
+open-msg o (kinds.Named kind) m may = refl
+
+pub open-semset : (o : Objects) (kind : ObjectKind) (m : Those kind) → may_open kind ≡ true → (with_kind o kind m).semset ≡ o.semset
+open-semset o kinds.MsgQueue m may = cc
+open-semset o kinds.Semset m may = cc
+open-semset o (kinds.Named kind) m may = refl
 
 -- what a call may wait on is what it was
-abbrev Same : State → ℕ → ℕ → (kind : NameKind) → Named (Content kind) → Type 0
+abbrev Same : State → ℕ → ℕ → (kind : ObjectKind) → Those kind → Type 0
 Same s p fd kind o =
-    (m : ℕ) → is_awaited kind ≡ true → object_of s p (awaited.Descriptor fd) ≡ Some (object_on (opened_as kind m))
-    → object_in (entry_of o m) ≡ named_object s kind m
+    (m : ℕ) → is_awaited kind ≡ true → object_of s p (awaited.Descriptor fd) ≡ Some (object_as kind m) → object_in (entry_of o m) ≡ object_at s kind m
 
--- another object of a kind in the place of one
-pub elsewhere-object : (s : State) (kind : NameKind) (n : ℕ) (x : Content kind) (p : ℕ) (on : Awaited)
-    → (is_awaited kind ≡ true → Some (object_on (opened_as kind n)) ≢ object_of s p on) → IsAsBefore p on s (with_object_of s kind n x)
-elsewhere-object s kind n x p (awaited.MsgQueue id) apart = refl
-elsewhere-object s kind n x p (awaited.Semset id) apart = (refl, λ pid num. refl)
-elsewhere-object s kind n x p (awaited.Descriptor fd) apart = (
+-- another object of a kind that may be open in the place of one
+pub elsewhere-object : (s : State) (kind : ObjectKind) (n : ℕ) (x : Content kind) (p : ℕ) (on : Awaited) → may_open kind ≡ true
+    → (is_awaited kind ≡ true → Some (object_as kind n) ≢ object_of s p on) → IsAsBefore p on s (with_object_of s kind n x)
+elsewhere-object s kind n x p (awaited.MsgQueue id) may apart =
+    ap (λ (t : Keyed Queue). entry_of t id.0) (open-msg (objects_in s) kind (putting (objects_of s kind) n x) may)
+elsewhere-object s kind n x p (awaited.Semset id) may apart = (
+  ap (λ (t : Keyed Set). entry_of t id.0) (open-semset (objects_in s) kind (putting (objects_of s kind) n x) may),
+  λ pid num. refl,
+)
+elsewhere-object s kind n x p (awaited.Descriptor fd) may apart = (
   refl,
-  put-holds (Same s p fd) (named_in s) kind (putting those n x) (λ other m may is. refl)
-      (λ m may is. by_entry m (λ same. apart may (ap (λ (k : ℕ). Some (object_on (opened_as kind k))) (sym same) ∙ sym is)) (entry_of those n)),
+  put-holds (Same s p fd) (objects_in s) kind (putting those n x) (λ other m may is. refl)
+      (λ m may is. by_entry m (λ same. apart may (ap (λ (k : ℕ). Some (object_as kind k)) (sym same) ∙ sym is)) (entry_of those n)),
 )
   where
-    those : Named (Content kind)
-    those = named_of s kind
+    those : Those kind
+    those = objects_of s kind
 
-    by_entry : (m : ℕ) → m ≢ n → (r : Option (NamedEntry (Content kind)))
-        → object_in
-        (entry_of (unwrap_or (option_map (λ (e : NamedEntry (Content kind)). with_entry those n (holding e x)) r) those) m) ≡ named_object s kind m
+    by_entry : (m : ℕ) → m ≢ n → (r : Option (EntryOf kind))
+        → object_in (entry_of (unwrap_or (option_map (λ (e : EntryOf kind). with_entry those n (holding e x)) r) those) m) ≡ object_at s kind m
     by_entry m other None = refl
     by_entry m other (Some e) = ap object_in (other-with those.entries n m (holding e x) other)
 
@@ -137,51 +152,59 @@ elsewhere-table s pid table p (awaited.Descriptor fd) other = (
 
 module _ (limits : Limits) (s : State) (h : HasSoundParts limits s) where
   -- what a descriptor is open on is there
-  there-for : (p fd : ℕ) (this : Opened) → object_of s p (awaited.Descriptor fd) ≡ Some (object_on this) → is_there_for (named_in s) this ≡ true
+  there-for : (p fd : ℕ) (this : Object) → object_of s p (awaited.Descriptor fd) ≡ Some this → is_there_for (objects_in s) this ≡ true
   there-for p fd this is = by_value (descriptor_at s.processes.entries p fd) refl is
     where
-      by_value : (r : Option Descriptor) → descriptor_at s.processes.entries p fd ≡ r → on_of r ≡ Some (object_on this)
-          → is_there_for (named_in s) this ≡ true
+      by_value : (r : Option Descriptor) → descriptor_at s.processes.entries p fd ≡ r → on_of r ≡ Some this
+          → is_there_for (objects_in s) this ≡ true
       by_value None found is = cc
       by_value (Some d) found is =
-          let on : object_on d.on ≡ object_on this = cc in
-          subst (λ (k : Opened). is_there_for (named_in s) k ≡ true) (same-on this d.on on)
-          (both_true (is_there_for (named_in s) d.on) (has_access d.on.kind d.flags)
-          (opening.descriptor-sound limits (named_in s) s.processes.entries p fd d h.processes.descriptors found)).0
+          let on : d.on ≡ this = cc in
+          subst (λ (k : Object). is_there_for (objects_in s) k ≡ true) on
+          (both_true (is_there_for (objects_in s) d.on) (has_access d.on.kind d.flags)
+          (opening.descriptor-sound limits (objects_in s) s.processes.entries p fd d h.processes.descriptors found)).0
 
-  -- a new object of a kind
-  pub elsewhere-new : (kind : NameKind) (name : List ℕ) (cred : Cred) (mode : ℕ) (x : Content kind) (p : ℕ) (on : Awaited)
-      → IsAsBefore p on s (with_new_of s kind name cred mode x)
-  elsewhere-new kind name cred mode x p (awaited.MsgQueue id) = refl
-  elsewhere-new kind name cred mode x p (awaited.Semset id) = (refl, λ pid num. refl)
-  elsewhere-new kind name cred mode x p (awaited.Descriptor fd) = (
+  -- a new object of a kind that may be open
+  pub elsewhere-new : (kind : ObjectKind) (e : EntryOf kind) (p : ℕ) (on : Awaited) → may_open kind ≡ true → IsAsBefore p on s (with_entry_of s kind e)
+  elsewhere-new kind e p (awaited.MsgQueue id) may =
+      ap (λ (t : Keyed Queue). entry_of t id.0) (open-msg (objects_in s) kind (with_new (objects_of s kind) e) may)
+  elsewhere-new kind e p (awaited.Semset id) may = (
+    ap (λ (t : Keyed Set). entry_of t id.0) (open-semset (objects_in s) kind (with_new (objects_of s kind) e) may),
+    λ pid num. refl,
+  )
+  elsewhere-new kind e p (awaited.Descriptor fd) may = (
     refl,
-    put-holds (Same s p fd) (named_in s) kind (with_new those (record { bound = name; perm = perm_of cred mode; object = x }))
-        (λ other m may is. refl) (λ m may is.
-        let below = (rising-found 1 those.entries those.next m (h.named kind).held.named.numbered.numbers (there-for p fd (opened_as kind m) is)).1 in
-        ap object_in (other-push those.entries those.next m _ (λ same. absurd (omega (arith, same, below))))),
+    put-holds (Same s p fd) (objects_in s) kind (with_new those e) (λ other m may is. refl) (λ m may is.
+        let numbers = (sound-of limits s h kind).held.bound.numbered.numbers in
+        let below = (rising-found 1 those.entries those.next m numbers (there-for p fd (object_as kind m) is)).1 in
+        ap object_in (other-push those.entries those.next m e (λ same. absurd (omega (arith, same, below))))),
   )
     where
-      those : Named (Content kind)
-      those = named_of s kind
+      those : Those kind
+      those = objects_of s kind
 
   -- it stays so if objects go that are not open
-  swept-same : (left : List (ℕ × Process)) (o : NamedObjects) (p fd : ℕ)
-      → descriptor_at left p fd ≡ descriptor_at s.processes.entries p fd → ((kind : NameKind) → Same s p fd kind (of_kind o kind))
-      → (kind : NameKind) → Same s p fd kind (of_kind (each_kind (λ other. still_open other left) o) kind)
+  swept-same : (left : List (ℕ × Process)) (o : Objects) (p fd : ℕ)
+      → descriptor_at left p fd ≡ descriptor_at s.processes.entries p fd → ((kind : ObjectKind) → Same s p fd kind (of_kind o kind))
+      → (kind : ObjectKind) → Same s p fd kind (of_kind (each_open (λ other. still_open other left) o) kind)
   swept-same left o p fd same all =
-      each-holds (Same s p fd) o (λ other. still_open other left) (λ kind m may is.
-      ap object_in (kept-open kind left (of_kind o kind) m (open-by (opened_as kind m) left p fd (ap on_of same ∙ is))) ∙ all kind m may is)
+      each-holds (Same s p fd) o (λ other. still_open other left) (λ kind _ m may is.
+      ap object_in (kept-open limits kind left (of_kind o kind) m (open-by (object_as kind m) left p fd (ap on_of same ∙ is))) ∙ all kind m may is)
+      (λ kind _. all kind)
 
-  -- a name that goes, and the object with it, if it is not open
-  pub elsewhere-unlinked : (kind : NameKind) (n p : ℕ) (on : Awaited) → IsAsBefore p on s (unlinked s kind n)
-  elsewhere-unlinked kind n p (awaited.MsgQueue id) = refl
-  elsewhere-unlinked kind n p (awaited.Semset id) = (refl, λ pid num. refl)
-  elsewhere-unlinked kind n p (awaited.Descriptor fd) = (
+  -- what an object of a kind that may be open is bound to goes, and it, if it is not open
+  pub elsewhere-unlinked : (kind : ObjectKind) (n p : ℕ) (on : Awaited) → may_open kind ≡ true → IsAsBefore p on s (unlinked s kind n)
+  elsewhere-unlinked kind n p (awaited.MsgQueue id) may =
+      ap (λ (t : Keyed Queue). entry_of t id.0) (open-msg (objects_in s) kind (unbound (parted kind) (no_bound kind) (objects_of s kind) n) may)
+  elsewhere-unlinked kind n p (awaited.Semset id) may = (
+    ap (λ (t : Keyed Set). entry_of t id.0) (open-semset (objects_in s) kind (unbound (parted kind) (no_bound kind) (objects_of s kind) n) may),
+    λ pid num. refl,
+  )
+  elsewhere-unlinked kind n p (awaited.Descriptor fd) may = (
     refl,
-    swept-same s.processes.entries (with_kind (named_in s) kind (unnamed (named_of s kind) n)) p fd refl
-        (put-holds (Same s p fd) (named_in s) kind (unnamed (named_of s kind) n) (λ other m may is. refl)
-        (λ m may is. same-unnamed (named_of s kind) n m)),
+    swept-same s.processes.entries (with_kind (objects_in s) kind (unbound (parted kind) (no_bound kind) (objects_of s kind) n)) p fd refl
+        (put-holds (Same s p fd) (objects_in s) kind (unbound (parted kind) (no_bound kind) (objects_of s kind) n) (λ other m may is. refl)
+        (λ m awaits is. same-unbound (parted kind) (no_bound kind) (parted-same kind awaits) (objects_of s kind) n m)),
   )
 
   -- a descriptor that is closed by another process, with the registration by it
@@ -191,8 +214,8 @@ module _ (limits : Limits) (s : State) (h : HasSoundParts limits s) where
   elsewhere-closed pid fd p (awaited.Semset id) other apart = (refl, λ q num. refl)
   elsewhere-closed pid fd p (awaited.Descriptor k) other apart = (
     same,
-    swept-same left (record (named_in s) { mq = without_registrations goes s.mq }) p k same
-        (put-holds (Same s p k) (named_in s) names.Mq (without_registrations goes s.mq) (λ kind m may is. refl)
+    swept-same left (without_goers goes (objects_in s)) p k same
+        (put-holds (Same s p k) (objects_in s) (kinds.Named names.Mq) (without_registrations goes s.mq) (λ kind m may is. refl)
         (λ m may is. ap object_in (at-map (deregistered goes) s.mq.entries m) ∙ by_entry m is (entry_of s.mq m) refl)),
   )
     where
@@ -200,7 +223,7 @@ module _ (limits : Limits) (s : State) (h : HasSoundParts limits s) where
       goes = is_by (Some pid) (Some fd)
 
       queue : ℕ → Object
-      queue m = object_on (opened_as names.Mq m)
+      queue m = opened_as names.Mq m
 
       left : List (ℕ × Process)
       left = (with_table s.processes pid (without nat_eq (descriptors_of s.processes.entries pid) fd)).entries
@@ -216,18 +239,20 @@ module _ (limits : Limits) (s : State) (h : HasSoundParts limits s) where
       stays-so m None registered elsewhere = refl
       stays-so m (Some r) registered elsewhere = by_test (goes r) refl
         where
-          by_kind : (kind : NameKind) → same_kind kind names.Mq ≡ true → kind ≡ names.Mq
-          by_kind names.Mq is = refl
-          by_kind names.Psem is = cc
-          by_kind names.Pshm is = cc
+          by_kind : (kind : ObjectKind) → same_kind kind (kinds.Named names.Mq) ≡ true → kind ≡ kinds.Named names.Mq
+          by_kind kinds.MsgQueue is = cc
+          by_kind kinds.Semset is = cc
+          by_kind (kinds.Named names.Mq) is = refl
+          by_kind (kinds.Named names.Psem) is = cc
+          by_kind (kinds.Named names.Pshm) is = cc
 
           by_value : (v : Option Descriptor) → unwrap_or (option_map (λ (d : Descriptor). is_on (opened_as names.Mq m) d.on) v) false ≡ true
               → on_of v ≡ Some (queue m)
           by_value None is = cc
           by_value (Some d) is =
-              let both = both_true (same_kind d.on.kind names.Mq) (nat_eq d.on.number m) is in
+              let both = both_true (same_kind d.on.kind (kinds.Named names.Mq)) (nat_eq d.on.number m) is in
               let number : d.on.number ≡ m = grind (arith, nat_tests, both.1) in
-              λ i. Some (object_on (record { kind = by_kind d.on.kind both.0 i; number = number i }))
+              λ i. Some (record { kind = by_kind d.on.kind both.0 i; number = number i })
 
           by_test : (b : Bool) → goes r ≡ b → (if b then None else Some r) ≡ Some r
           by_test false is = refl

@@ -7,24 +7,36 @@ use Rattle.ipc_base.specs.declared.errno.Errno.{Errno}
 use Rattle.ipc_base.specs.declared.identity.Cred.{Cred}
 use Rattle.ipc_base.specs.declared.limits.Limits.{Limits}
 use Rattle.ipc_base.specs.Table.{keys_of, value_at}
+use Rattle.ipc_keys.specs.declared.check.NameKind.TheVariants as names
+use Rattle.posix_mq.specs.Queue.{Queue as Mq}
 use Rattle.ipc_state.specs.declared.descriptors.Descriptor.{Descriptor}
 use Rattle.ipc_state.specs.declared.parked.Awaited.{Awaited}
 use Rattle.ipc_state.specs.declared.parked.Awaited.TheVariants as awaited
 use Rattle.ipc_state.specs.declared.parked.Object.{Object}
+use Rattle.ipc_state.specs.declared.parked.ObjectKind.{ObjectKind}
+use Rattle.ipc_state.specs.declared.parked.ObjectKind.TheVariants as kinds
 use Rattle.ipc_state.specs.declared.processes.Process.{Process}
 use Rattle.ipc_state.specs.Descriptors.{Table}
 use Rattle.ipc_state.specs.Finish.{Finish, IfFinishes, Attempt, Fails, Blocks, Done, ended, done_firing, refused}
+use Rattle.ipc_state.specs.Named.{Named, NamedEntry}
 use Rattle.ipc_state.specs.Numbered.{Numbered, entry_of}
 use Rattle.ipc_state.specs.Opening.{descriptor_at, with_table}
 use Rattle.ipc_state.specs.Sound.{HasSoundParts, FitsBody}
 use Rattle.ipc_state.specs.State.{State, cred_of, is_process, is_waiting}
-use Rattle.ipc_state.specs.Touching.{object_of, object_on, is_there, IsAsBefore}
+use Rattle.ipc_state.specs.Touching.{is_awaited, object_at, object_of, is_there, IsAsBefore}
 use Rattle.ipc_state.proofs.SoundOpening as opening
 
 pub as_before : (pid : ℕ) (on : Awaited) (s : State) → IsAsBefore pid on s s
 as_before pid (awaited.MsgQueue id) s = refl
 as_before pid (awaited.Semset id) s = (refl, λ pid num. refl)
 as_before pid (awaited.Descriptor fd) s = (refl, λ kind n may is. refl)
+
+-- what a call that names a descriptor may wait on is the same, if the POSIX queues and the named semaphores are
+pub same-awaited : (s t : State) → t.mq ≡ s.mq → t.psem ≡ s.psem → (kind : ObjectKind) (n : ℕ) → is_awaited kind ≡ true
+    → object_at t kind n ≡ object_at s kind n
+same-awaited s t mqs sems (kinds.Named names.Mq) n may = ap (λ (o : Named Mq). option_map (λ (e : NamedEntry Mq). e.object) (entry_of o n)) mqs
+same-awaited s t mqs sems (kinds.Named names.Psem) n may = ap (λ (o : Named ℕ). option_map (λ (e : NamedEntry ℕ). e.object) (entry_of o n)) sems
+same-awaited s t mqs sems kind n may = cc
 
 -- the same keys have values
 same_keys : {X : Type 0} (es fs : List (ℕ × X)) (k : ℕ) → keys_of fs ≡ keys_of es → is_some (value_at nat_eq fs k) ≡ is_some (value_at nat_eq es k)
@@ -89,7 +101,7 @@ pub same-objects : (s t : State) (pid : ℕ) (on : Awaited) → t.processes ≡ 
 same-objects s t pid (awaited.MsgQueue id) same = refl
 same-objects s t pid (awaited.Semset id) same = refl
 same-objects s t pid (awaited.Descriptor fd) same =
-    ap (λ (ps : Numbered Process). option_map (λ (d : Descriptor). object_on d.on) (descriptor_at ps.entries pid fd)) same
+    ap (λ (ps : Numbered Process). option_map (λ (d : Descriptor). d.on) (descriptor_at ps.entries pid fd)) same
 
 -- What is to be shown of what a call that began in a state leaves and answers, if it may change this object alone: the
 -- state stays sound, the body of the answer fits, and all else that others wait for is as it was.

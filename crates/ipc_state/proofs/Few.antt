@@ -105,6 +105,7 @@ pub few-each : (o : Keyed Set) (undo : List (ℕ × Undo)) → EachValue (AreAt 
 few-each o [] h = tt
 few-each o (p ∷ ps) h = (covered o.entries p.1 h.0, few-each o ps h.1)
 
-pub each-fewer : (most n : ℕ) → n ≤ most → (undo : List (ℕ × Undo)) → EachValue (λ (u : Undo). fin.len u ≤ n) undo → EachValue (λ (u : Undo). fin.len u ≤ most) undo
+pub each-fewer : (most n : ℕ) → n ≤ most → (undo : List (ℕ × Undo)) → EachValue (λ (u : Undo). fin.len u ≤ n) undo
+    → EachValue (λ (u : Undo). fin.len u ≤ most) undo
 each-fewer most n few [] h = tt
 each-fewer most n few (p ∷ ps) h = (omega (arith, few, h.0), each-fewer most n few ps h.1)

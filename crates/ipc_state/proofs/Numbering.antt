@@ -10,7 +10,8 @@ use Rattle.std.proofs.lemmas.Bool.{leb-true, le-leb}
 use Rattle.std.proofs.lemmas.List.{map-append, length-append, length-map, take_more, take-append-drop}
 use Rattle.std.proofs.lemmas.List.Sums.{sum_by-cons}
 use Rattle.ipc_base.specs.Table.{keys_of, seen_as, value_at, with_value, IsRising}
-use Rattle.ipc_base.proofs.CallerLemmas.{rising-push, rising-weaker, rising-bounds, rising-without, length-without, length-with_value, keys_of-with_value, keys-map}
+use Rattle.ipc_base.proofs.CallerLemmas.{rising-push, rising-weaker, rising-bounds, rising-without}
+use Rattle.ipc_base.proofs.CallerLemmas.{length-without, length-with_value, keys_of-with_value, keys-map}
 use Rattle.ipc_state.specs.declared.numbered.Item.{Item}
 use Rattle.ipc_state.specs.Tables.{item_row}
 use Rattle.ipc_state.specs.Numbered.{Numbered, none_yet, is_full, with_entry, with_new, without_entry, last_number, AreNumbered}

@@ -1,15 +1,18 @@
 -- What is reserved, and what stands ready for it in the parts of the state.
-use Rattle.std.proofs.Common.{◌≡◌, ◌<◌, ◌≤◌, ◌^◌, ℕ, ℤ, Bool, true, false, List, Option, Some, None, length, refl, sym, ap, ◌∙◌, arith}
-use Rattle.std.specs.Prelude.{option_map, unwrap_or, nat_le, nat_lt, IfSome}
+use Rattle.std.proofs.Common.{◌≡◌, ◌<◌, ◌≤◌, ◌^◌, ℕ, ℤ, Bool, true, false, List, Option, Some, None, length, refl, ap, ◌∙◌, arith}
+use Rattle.std.specs.Prelude.{option_map, is_some, nat_le, nat_lt, IfSome}
 use Rattle.std.proofs.lemmas.Bool.Decides.{nat_tests}
 use Rattle.ipc_base.specs.Table.{keys_of, IsRising}
 use Rattle.ipc_base.proofs.CallerLemmas.{rising-bounds}
 use Rattle.shm_segment.specs.Segment.{Segment}
 use Rattle.sysv_sem.specs.Set.{Set}
 use Rattle.ipc_state.specs.Held.{Ready, ready_of}
+use Rattle.ipc_state.specs.Bound.{ObjectsOf, number_of}
 use Rattle.ipc_state.specs.Directory.{ArePositive}
-use Rattle.ipc_state.specs.Numbered.{Numbered, is_full, last_number}
+use Rattle.ipc_state.specs.Numbered.{is_full, last_number}
+use Rattle.ipc_state.specs.Tables.{HeldObjects}
 use Rattle.ipc_state.proofs.Directories.{named-positive}
+use Rattle.ipc_state.proofs.EntryKeys.{Bounds}
 use Rattle.ipc_state.proofs.Numbering.{neither}
 use Rattle.ipc_state.specs.Held.Ready.{Nothing, Process, MsgQueue, Semset, Mq, Psem, Pshm, Zeros}
 
@@ -45,30 +48,49 @@ ready-there false None None None None None (Some _) = refl
 ready-there false None None None None None None =
     record { process = refl; msg_queue = refl; semset = refl; mq = refl; psem = refl; pshm = refl; zeros = refl }
 
--- the object that is ready is another, under the same key or name
-pub made-ready : {K X T : Type 0} (with_ready : Option (K × X) → T) (ready : Option (K × X)) (x : X) (new : T) (key : K)
-    → option_map (λ r. r.0) ready ≡ Some key → IfSome ready (λ r. new ≡ with_ready (Some (r.0, x))) → new ≡ with_ready (Some (key, x))
-made-ready with_ready None x new key mine put = cc
-made-ready with_ready (Some r) x new key mine put = let same : r.0 ≡ key = cc in put ∙ ap (λ (k : _). with_ready (Some (k, x))) same
+-- under this key nothing stands, the numbers are in order, and one more may come
+abbrev pub MayCome : {B X : Type 0} → Bounds B → ℕ → ObjectsOf B X → B → Type 0
+MayCome b most o key = (number_of b.same b.none o key ≡ None) × ((IsRising 1 (keys_of o.entries) o.next) × (is_full most o ≡ false))
 
--- the set that is ready has the key, and so many semaphores
-pub ready-set : (ready : Option (ℤ × Set)) (key : ℤ) (nsems : ℕ) (x : Set)
-    → option_map {U = ℤ × ℕ} (λ r. (r.0, length r.1.semaphores)) ready ≡ Some (key, nsems)
-    → option_map (λ r. r.1) ready ≡ Some x → (option_map (λ r. r.0) ready ≡ Some key) × (length x.semaphores ≡ nsems)
-ready-set None key nsems x is here = cc
-ready-set (Some r) key nsems x is here =
-    let both = ap (λ (o : Option (ℤ × ℕ)). unwrap_or o (key, nsems)) is in
-    let same : r.1 ≡ x = cc in
-    (ap (λ (a : ℤ × ℕ). Some a.0) both, sym (ap (λ (y : Set). length y.semaphores) same) ∙ ap (λ (a : ℤ × ℕ). a.1) both)
+-- so what is ready under this key may be added
+pub record Comes {B X : Type 0} (b : Bounds B) (h : HeldObjects B X) : Type 0 where
+  pub ready : is_some h.ready ≡ true
+  pub unused : IfSome h.ready (λ r. number_of b.same b.none h.objects r.0 ≡ None)
+  pub positive : ArePositive h.objects.entries
+  pub number : (0 < h.objects.next) × (h.objects.next < 2 ^ 31)
 
--- one more may come: the numbers are above 0, and one is left
-pub record MayCome {X : Type 0} (o : Numbered X) : Type 0 where
-  pub positive : ArePositive o.entries
-  pub number : (0 < o.next) × (o.next < 2 ^ 31)
-
-pub may-come : {X : Type 0} (most : ℕ) (o : Numbered X) → IsRising 1 (keys_of o.entries) o.next → is_full most o ≡ false → MayCome o
-may-come most o rising more =
-    let both = neither (nat_le most (length o.entries)) (nat_lt last_number o.next) more in
-    let least = rising-bounds 1 (keys_of o.entries) o.next rising in
+pub comes : {B X : Type 0} (b : Bounds B) (h : HeldObjects B X) (key : B) (most : ℕ) → option_map (λ r. r.0) h.ready ≡ Some key
+    → MayCome b most h.objects key → Comes b h
+comes {B} {X} b h key most mine may =
+    let o = h.objects in
+    let both = neither (nat_le most (length o.entries)) (nat_lt last_number o.next) may.1.1 in
+    let least = rising-bounds 1 (keys_of o.entries) o.next may.1.0 in
     let left : o.next ≤ last_number = grind (arith, nat_tests) in
-    record { positive = named-positive o.entries o.next rising; number = (omega arith, omega arith) }
+    record {
+      ready = (by_ready h.ready mine).0;
+      unused = (by_ready h.ready mine).1;
+      positive = named-positive o.entries o.next may.1.0;
+      number = (omega arith, omega arith);
+    }
+  where
+    by_ready : (r : Option (B × X)) → option_map (λ (s : B × X). s.0) r ≡ Some key
+        → (is_some r ≡ true) × IfSome r (λ s. number_of b.same b.none h.objects s.0 ≡ None)
+    by_ready None is = cc
+    by_ready (Some s) is = let same : s.0 ≡ key = cc in (refl, rw same may.0)
+
+-- what is made of the one that is ready, of this key
+pub come : {B X Y : Type 0} (ready : Option (B × X)) (key : B) (made : B × X → Y) (new want : Y) → option_map (λ r. r.0) ready ≡ Some key
+    → ((x : X) → ready ≡ Some (key, x) → made (key, x) ≡ want) → IfSome ready (λ r. new ≡ made r) → new ≡ want
+come {B} {X} ready key made new want mine is put = by_ready ready refl mine put
+  where
+    by_ready : (r : Option (B × X)) → ready ≡ r → option_map (λ (s : B × X). s.0) r ≡ Some key → IfSome r (λ s. new ≡ made s) → new ≡ want
+    by_ready None at mine put = cc
+    by_ready (Some s) at mine put =
+        let same : s.0 ≡ key = cc in
+        put ∙ (ap (λ (k : B). made (k, s.1)) same ∙ is s.1 (at ∙ ap (λ (k : B). Some (k, s.1)) same))
+
+-- a set that is ready has a key, and so many semaphores
+pub set-key : (ready : Option (ℤ × Set)) (key : ℤ) (nsems : ℕ) → option_map {U = ℤ × ℕ} (λ r. (r.0, length r.1.semaphores)) ready ≡ Some (key, nsems)
+    → option_map (λ r. r.0) ready ≡ Some key
+set-key None key nsems is = cc
+set-key (Some r) key nsems is = ap (option_map {U = ℤ} (λ (a : ℤ × ℕ). a.0)) is

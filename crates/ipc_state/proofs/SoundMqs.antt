@@ -1,11 +1,12 @@
 -- Objects with a name, and the descriptors that are open on them, stay sound as processes come and go.
 use Rattle.std.proofs.Common.{◌≡◌, ◌≢◌, ℕ, ◌<◌, ◌≤◌, Bool, true, false, cond, List, [], ◌∷◌, ◌++◌, Option, Some, None, refl, sym, ap, subst, ◌∙◌, arith}
-use Rattle.std.specs.Prelude.{All, is_some, not, ◌||◌, ◌&&◌, nat_eq, nat_lt, nat_le, length, map, option_map, unwrap_or, if◌then◌else◌}
+use Rattle.std.proofs.Common.{get_or, length}
+use Rattle.std.specs.Prelude.{All, is_some, not, ◌||◌, ◌&&◌, nat_eq, nat_lt, nat_le, map, option_map, sum_by, unwrap_or, if◌then◌else◌}
 use Rattle.std.specs.Str.{bytes_eq}
 use Rattle.std.specs.Bool.{Decides}
 use Rattle.std.specs.List.{filter, list_all, list_any}
 use Rattle.std.proofs.lemmas.Bool.{leb-true, le-leb}
-use Rattle.std.proofs.lemmas.Bool.Decides.{nat_tests, Decides-by_and, Decides-and, Decides-ltb}
+use Rattle.std.proofs.lemmas.Bool.Decides.{nat_tests, Decides-by_and, Decides-and, Decides-int_eq, Decides-ltb}
 use Rattle.std.proofs.lemmas.List.Elements.{All-nil, All-cons, All-head, All-tail, All-filter, All-push, All-weaker}
 use Rattle.std.proofs.lemmas.List.Filters.{sum_by-filter_both}
 use Rattle.std.proofs.lemmas.List.Folds.{list_any-append}
@@ -14,27 +15,36 @@ use Rattle.ipc_base.specs.declared.identity.Cred.{Cred}
 use Rattle.ipc_base.specs.declared.limits.Limits.{Limits}
 use Rattle.ipc_base.specs.Table.{value_at, without, seen_as}
 use Rattle.ipc_base.proofs.CallerLemmas.{at-map, value_at-without}
+use Rattle.ipc_perm.specs.declared.perm.Perm.{Perm}
 use Rattle.ipc_keys.specs.Names.{is_none}
 use Rattle.ipc_keys.specs.declared.check.NameKind.{NameKind}
 use Rattle.ipc_keys.specs.declared.check.NameKind.TheVariants as names
 use Rattle.posix_mq.specs.Queue.{Queue as Mq, PlainMessage}
 use Rattle.posix_mq.specs.declared.queue.Registration.{Registration}
 use Rattle.shm_segment.specs.Segment.{Segment}
+use Rattle.sysv_sem.specs.Set.{Set}
 use Rattle.ipc_state.specs.declared.descriptors.Descriptor.{Descriptor}
-use Rattle.ipc_state.specs.declared.descriptors.Opened.{Opened}
-use Rattle.ipc_state.specs.Named.{NamedEntry, Named, named, AreNamedObjects}
+use Rattle.ipc_state.specs.declared.parked.Object.{Object}
+use Rattle.ipc_state.specs.declared.parked.ObjectKind.{ObjectKind}
+use Rattle.ipc_state.specs.declared.parked.ObjectKind.TheVariants as kinds
+use Rattle.ipc_state.specs.Keyed.{KeyedEntry}
+use Rattle.ipc_state.specs.Named.{NamedEntry, Named, named, is_named_so, AreNamedObjects}
 use Rattle.ipc_state.specs.declared.processes.Process.{Process}
 use Rattle.ipc_state.specs.Descriptors.{Table}
 use Rattle.ipc_state.specs.Directory.{Agrees}
-use Rattle.ipc_state.specs.Bound.{bound_row, kept_if}
+use Rattle.ipc_state.specs.declared.objects.Entry.{Entry}
+use Rattle.ipc_state.specs.Bound.{AreBound, ObjectsOf, bound_row, kept_if, number_of}
+use Rattle.ipc_state.specs.Kinds.{BoundOf, Content, EntryOf, Objects, Those, each_open, has_access, is_bound_so, keeps, keeps_by, leaves, may_open, no_bound}
+use Rattle.ipc_state.specs.Kinds.{of_kind, same_bound, with_kind}
 use Rattle.ipc_state.specs.Numbered.{AreNumbered, Numbered, none_yet, entry_of, is_full, with_new, without_entry}
-use Rattle.ipc_state.specs.Opening.{Content, NamedObjects, each_kind, is_on, is_open, of_kind, opened_as, same_kind, stays, still_open, with_kind}
+use Rattle.ipc_state.specs.Opening.{is_on, is_open, object_as, opened_as, same_kind, stays, still_open}
 use Rattle.ipc_state.specs.Opening.{deregistered, is_by, unless_so, without_registrations}
-use Rattle.ipc_state.specs.Opening.{has_name, is_named_so, is_there_for, is_sound_descriptor, is_by_descriptor, is_registered}
-use Rattle.ipc_state.specs.Sound.{AreHeld, AreSoundDescriptors, AreSoundNamed, AreSoundProcesses, AreSoundTogether, IsSoundContent, IsSoundMq}
-use Rattle.ipc_state.specs.Sound.{IsSoundMqMessage, most_of, segment_bytes}
+use Rattle.ipc_state.specs.Opening.{is_there_for, is_sound_descriptor, is_by_descriptor, is_registered}
+use Rattle.ipc_state.specs.Sound.{AreSound, AreSoundDescriptors, AreSoundProcesses, AreSoundTogether, HasSoundParts, IsSoundContent, IsSoundMq}
+use Rattle.ipc_state.specs.Sound.{IsSoundMqMessage, most_of}
+use Rattle.ipc_state.specs.State.{State, objects_of}
 use Rattle.ipc_state.specs.Tests.{is_sound_mq, is_sound_mq_message}
-use Rattle.ipc_state.proofs.EntryKeys.{all_without, by_bound, each-decides, kept-at, names-same, of_names}
+use Rattle.ipc_state.proofs.EntryKeys.{Bounds, all_without, by_bound, each-decides, kept-at, names-same}
 use Rattle.ipc_state.proofs.Binding.{none_yet-bound, kept_if-bound}
 use Rattle.ipc_state.proofs.Numbering.{seen-numbered, with_new-numbered, without_entry-numbered, cleared-numbered}
 
@@ -62,7 +72,8 @@ pub All-passed : {X : Type 0} (test : X → Bool) (xs : List X) → All (λ x. t
 All-passed test [] = All-nil _
 All-passed {X} test (x ∷ xs) = by_test (test x) refl (All-passed test xs)
   where
-    by_test : (b : Bool) → test x ≡ b → All (λ (y : X). test y ≡ true) (filter test xs) → All (λ (y : X). test y ≡ true) (cond b (x ∷ filter test xs) (filter test xs))
+    by_test : (b : Bool) → test x ≡ b → All (λ (y : X). test y ≡ true) (filter test xs)
+        → All (λ (y : X). test y ≡ true) (cond b (x ∷ filter test xs) (filter test xs))
     by_test true stands rest = All-cons (λ (y : X). test y ≡ true) x _ stands rest
     by_test false fails rest = rest
 
@@ -82,10 +93,9 @@ either false b h = h
 pub first : (a b : Bool) → a ≡ true → (a || b) ≡ true
 first a b h = rw h refl
 
-or-more : (a b c : Bool) → (a || b) ≡ true → (a || (b || c)) ≡ true
-or-more true b c h = refl
-or-more false true c h = refl
-or-more false false c h = cc
+pub or-second : (a b b' : Bool) → (b ≡ true → b' ≡ true) → (a || b) ≡ true → (a || b') ≡ true
+or-second true b b' step h = refl
+or-second false b b' step h = step h
 
 pub both_true : (a b : Bool) → (a && b) ≡ true → (a ≡ true) × (b ≡ true)
 both_true true b h = (refl, h)
@@ -96,32 +106,45 @@ is_some-map f None = refl
 is_some-map f (Some x) = refl
 
 -- what is open on an object is on it
-pub is_on-same : (on : Opened) → is_on on on ≡ true
+pub is_on-same : (on : Object) → is_on on on ≡ true
 is_on-same on = rw (kind-itself on.kind) (grind (arith, nat_tests))
   where
-    kind-itself : (kind : NameKind) → same_kind kind kind ≡ true
-    kind-itself names.Mq = refl
-    kind-itself names.Psem = refl
-    kind-itself names.Pshm = refl
+    kind-itself : (kind : ObjectKind) → same_kind kind kind ≡ true
+    kind-itself kinds.MsgQueue = refl
+    kind-itself kinds.Semset = refl
+    kind-itself (kinds.Named names.Mq) = refl
+    kind-itself (kinds.Named names.Psem) = refl
+    kind-itself (kinds.Named names.Pshm) = refl
 
--- the objects on which descriptors of these processes are open are there among others too
-abbrev pub AllThere : NamedObjects → NamedObjects → List (ℕ × Process) → Type 0
-AllThere old new processes = (on : Opened) → is_open processes on ≡ true → is_there_for old on ≡ true → is_there_for new on ≡ true
+-- what is open so, is of a kind that may be open
+access-opens : (kind : ObjectKind) (flags : ℕ) → has_access kind flags ≡ true → may_open kind ≡ true
+access-opens kinds.MsgQueue flags is = cc
+access-opens kinds.Semset flags is = cc
+access-opens (kinds.Named kind) flags is = refl
+
+-- an object of a kind that may be open is there among others too
+abbrev pub IsThereToo : Objects → Objects → Object → Type 0
+IsThereToo old new on = may_open on.kind ≡ true → is_there_for old on ≡ true → is_there_for new on ≡ true
+
+-- each is on which a descriptor of these processes is open
+abbrev pub AllThere : Objects → Objects → List (ℕ × Process) → Type 0
+AllThere old new processes = (on : Object) → is_open processes on ≡ true → IsThereToo old new on
 
 -- its descriptors are sound
-abbrev pub Has : Limits → NamedObjects → ℕ × Process → Type 0
+abbrev pub Has : Limits → Objects → ℕ × Process → Type 0
 Has limits o p = AreSoundDescriptors limits o p.1.descriptors
 
-module _ (limits : Limits) (old new : NamedObjects) where
-  abbrev Good : NamedObjects → ℕ × Descriptor → Type 0
+module _ (limits : Limits) (old new : Objects) where
+  abbrev pub Good : Objects → ℕ × Descriptor → Type 0
   Good o d = is_sound_descriptor o d.1 ≡ true
 
-  one-there : (d : Descriptor) → ((on : Opened) → is_on on d.on ≡ true → is_there_for old on ≡ true → is_there_for new on ≡ true)
-      → is_sound_descriptor old d ≡ true → is_sound_descriptor new d ≡ true
-  one-there d all good = let h = both_true (is_there_for old d.on) _ good in rw (all d.on (is_on-same d.on) h.0) h.1
+  one-there : (d : Descriptor) → ((on : Object) → is_on on d.on ≡ true → IsThereToo old new on) → is_sound_descriptor old d ≡ true
+      → is_sound_descriptor new d ≡ true
+  one-there d all good =
+      let h = both_true (is_there_for old d.on) _ good in rw (all d.on (is_on-same d.on) (access-opens d.on.kind d.flags h.1) h.0) h.1
 
-  table-there : (table : Table) → ((on : Opened) → list_any (λ (d : ℕ × Descriptor). is_on on d.1.on) table ≡ true → is_there_for old on ≡ true
-      → is_there_for new on ≡ true) → All (Good old) table → All (Good new) table
+  table-there : (table : Table) → ((on : Object) → list_any (λ (d : ℕ × Descriptor). is_on on d.1.on) table ≡ true → IsThereToo old new on)
+      → All (Good old) table → All (Good new) table
   table-there [] all each = All-nil (Good new)
   table-there (d ∷ ds) all each =
       All-cons (Good new) d ds (one-there d.1 (λ on is. all on (first _ _ is)) (All-head (Good old) d ds each))
@@ -134,57 +157,83 @@ module _ (limits : Limits) (old new : NamedObjects) where
       All-cons (Has limits new) p ps (record { numbers = h.numbers; each = table-there p.1.descriptors (λ on is. all on (first _ _ is)) h.each })
       (each-there ps (λ on is. all on (either _ _ is)) (All-tail (Has limits old) p ps each))
 
--- ---- objects that stay
+-- ---- kinds
 
-module _ {X : Type 0} (kind : NameKind) where
-  -- each object with a name stays
-  pub named-stay : (ps : List (ℕ × Process)) (e : ℕ × NamedEntry X) → e.1.bound ≢ [] → stays kind ps e ≡ true
-  named-stay ps e some = first _ _ (by_name (is_none e.1.bound) refl)
-    where
-      by_name : (b : Bool) → is_none e.1.bound ≡ b → not b ≡ true
-      by_name true none = absurd (some ((bytes_eq-Decides e.1.bound []).0 none))
-      by_name false has = refl
+-- what the objects of a kind are bound to
+pub decides_of : (kind : ObjectKind) (a b : BoundOf kind) → Decides (same_bound kind a b) (a ≡ b)
+decides_of kinds.MsgQueue = Decides-int_eq
+decides_of kinds.Semset = Decides-int_eq
+decides_of (kinds.Named kind) = bytes_eq-Decides
 
-  -- what is open is left as it is, and stays there
-  pub kept-open : (ps : List (ℕ × Process)) (o : Named X) (n : ℕ) → is_open ps (opened_as kind n) ≡ true
-      → entry_of (still_open kind ps o) n ≡ entry_of o n
-  kept-open ps o n used = at-kept (stays kind ps) o.entries n (λ e. either (has_name e) _ used)
+abbrev pub bounds_of : (kind : ObjectKind) → Bounds (BoundOf kind)
+bounds_of kind = record { same = same_bound kind; decides = decides_of kind; none = no_bound kind }
 
-  pub open-stay : (ps : List (ℕ × Process)) (o : Named X) (n : ℕ) → is_open ps (opened_as kind n) ≡ true → is_some (entry_of o n) ≡ true
-      → is_some (entry_of (still_open kind ps o) n) ≡ true
-  open-stay ps o n used there = ap is_some (kept-open ps o n used) ∙ there
+-- an object that is bound to something stays, and each of a kind that is never open
+pub bound-keeps : {B : Type 0} (b : Bounds B) (k : B) (leaves : Bool) → k ≢ b.none → keeps_by b.same b.none k leaves ≡ true
+bound-keeps b k leaves some = first _ _ (by_test (b.same k b.none) refl)
+  where
+    by_test : (t : Bool) → b.same k b.none ≡ t → not t ≡ true
+    by_test true is = absurd (some ((b.decides k b.none).0 is))
+    by_test false is = refl
 
-  module _ (most : ℕ) (P : X → Type 0) where
-    -- those that stay are held
-    pub kept-held : (left : List (ℕ × Process)) (o : Named X) → AreNamedObjects most P o → All (λ (e : ℕ × NamedEntry X). is_named_so kind e ≡ true) o.entries
-        → AreHeld most P kind left (still_open kind left o)
-    kept-held left o named forms =
-        record {
-          named = kept_if-bound of_names most P (stays kind left) (named-stay left) o named;
-          forms = All-filter (stays kind left) (λ (e : ℕ × NamedEntry X). is_named_so kind e ≡ true) o.entries forms;
-          stay = All-passed (stays kind left) o.entries;
-        }
+keeps-closed : (kind : ObjectKind) (b : BoundOf kind) (x : Content kind) → may_open kind ≡ false → keeps kind b x ≡ true
+keeps-closed kinds.MsgQueue b x closed = either _ _ refl
+keeps-closed kinds.Semset b x closed = either _ _ refl
+keeps-closed (kinds.Named kind) b x closed = cc
 
-    -- and those that there are, where more processes are
-    pub held-more : (ps more : List (ℕ × Process)) (o : Named X) → AreHeld most P kind ps o → AreHeld most P kind (ps ++ more) o
-    held-more ps more o h =
-        record {
-          named = h.named;
-          forms = h.forms;
-          stay = All-weaker (λ (e : ℕ × NamedEntry X). stays kind ps e ≡ true) (λ (e : ℕ × NamedEntry X). stays kind (ps ++ more) e ≡ true)
-              (λ e is. rw (open-more (opened_as kind e.0)) (or-more (has_name e.1) (is_open ps (opened_as kind e.0)) (is_open more (opened_as kind e.0)) is)) o.entries h.stay;
-        }
-      where
-        open-more : (on : Opened) → is_open (ps ++ more) on ≡ (is_open ps on || is_open more on)
-        open-more on = list_any-append (λ (p : ℕ × Process). list_any (λ (d : ℕ × Descriptor). is_on on d.1.on) p.1.descriptors) ps more
+bound-closed : (kind : ObjectKind) (b : BoundOf kind) (perm : Perm) → may_open kind ≡ false → is_bound_so kind b perm ≡ true
+bound-closed kinds.MsgQueue b perm closed = refl
+bound-closed kinds.Semset b perm closed = refl
+bound-closed (kinds.Named kind) b perm closed = cc
 
-    pub none-held : (ps : List (ℕ × Process)) → AreHeld most P kind ps none_yet
-    none-held ps = record { named = none_yet-bound of_names most P; forms = All-nil _; stay = All-nil _ }
+-- what holds of each kind with a name
+pub on-names : (P : NameKind → Type 0) → P names.Mq → P names.Psem → P names.Pshm → (kind : NameKind) → P kind
+on-names P mq psem pshm names.Mq = mq
+on-names P mq psem pshm names.Psem = psem
+on-names P mq psem pshm names.Pshm = pshm
 
--- what is left has no more bytes
-pub fewer-bytes : (test : ℕ × NamedEntry Segment → Bool) (o : Named Segment) → segment_bytes (kept_if test o) ≤ segment_bytes o
-fewer-bytes test o =
-    omega (arith, sum_by-filter_both test (λ e. not (test e)) (λ e. refl) (λ (e : ℕ × NamedEntry Segment). length e.1.object.bytes) o.entries)
+-- what holds of those of each kind
+pub on-kinds : (P : (kind : ObjectKind) → Those kind → Type 0) (o : Objects) → P kinds.MsgQueue o.msg → P kinds.Semset o.semset
+    → P (kinds.Named names.Mq) o.named.mq → P (kinds.Named names.Psem) o.named.psem → P (kinds.Named names.Pshm) o.named.pshm
+    → (kind : ObjectKind) → P kind (of_kind o kind)
+on-kinds P o msg semset mq psem pshm kinds.MsgQueue = msg
+on-kinds P o msg semset mq psem pshm kinds.Semset = semset
+on-kinds P o msg semset mq psem pshm (kinds.Named names.Mq) = mq
+on-kinds P o msg semset mq psem pshm (kinds.Named names.Psem) = psem
+on-kinds P o msg semset mq psem pshm (kinds.Named names.Pshm) = pshm
+
+module _ (P : (kind : ObjectKind) → Those kind → Type 0) (o : Objects) where
+  abbrev Each : Type 0
+  Each = (kind : ObjectKind) → P kind (of_kind o kind)
+
+  -- and holds of others of a kind
+  pub put-holds : (kind : ObjectKind) (m : Those kind) → Each → P kind m → (other : ObjectKind) → P other (of_kind (with_kind o kind m) other)
+  put-holds kinds.MsgQueue m all one =
+      on-kinds P (with_kind o kinds.MsgQueue m) one (all kinds.Semset) (all (kinds.Named names.Mq)) (all (kinds.Named names.Psem))
+      (all (kinds.Named names.Pshm))
+  put-holds kinds.Semset m all one =
+      on-kinds P (with_kind o kinds.Semset m) (all kinds.MsgQueue) one (all (kinds.Named names.Mq)) (all (kinds.Named names.Psem))
+      (all (kinds.Named names.Pshm))
+  put-holds (kinds.Named names.Mq) m all one =
+      on-kinds P (with_kind o (kinds.Named names.Mq) m) (all kinds.MsgQueue) (all kinds.Semset) one (all (kinds.Named names.Psem))
+      (all (kinds.Named names.Pshm))
+  put-holds (kinds.Named names.Psem) m all one =
+      on-kinds P (with_kind o (kinds.Named names.Psem) m) (all kinds.MsgQueue) (all kinds.Semset) (all (kinds.Named names.Mq)) one
+      (all (kinds.Named names.Pshm))
+  put-holds (kinds.Named names.Pshm) m all one =
+      on-kinds P (with_kind o (kinds.Named names.Pshm) m) (all kinds.MsgQueue) (all kinds.Semset) (all (kinds.Named names.Mq)) (all (kinds.Named names.Psem))
+      one
+
+  -- and of what is made of those of each that may be open
+  pub each-holds : (f : (kind : ObjectKind) → Those kind → Those kind) → ((kind : ObjectKind) → may_open kind ≡ true → P kind (f kind (of_kind o kind)))
+      → ((kind : ObjectKind) → may_open kind ≡ false → P kind (of_kind o kind)) → (kind : ObjectKind) → P kind (of_kind (each_open f o) kind)
+  each-holds f may never =
+      on-kinds P (each_open f o) (never kinds.MsgQueue refl) (never kinds.Semset refl) (may (kinds.Named names.Mq) refl) (may (kinds.Named names.Psem) refl)
+      (may (kinds.Named names.Pshm) refl)
+
+-- what is left of some has together no more than all of them
+pub fewer-sum : {X : Type 0} (size : X → ℕ) (test : ℕ × X → Bool) (es : List (ℕ × X)) → sum_by (λ e. size e.1) (filter test es) ≤ sum_by (λ e. size e.1) es
+fewer-sum size test es = omega (arith, sum_by-filter_both test (λ e. not (test e)) (λ e. refl) (λ e. size e.1) es)
 
 -- ---- registrations
 
@@ -251,11 +300,11 @@ seen-names goes (e ∷ es) = ap (λ (ks : List (List ℕ × ℕ)). bound_row e �
 pub named-deregistered : (goes : Registration → Bool) (o : Named Mq) (name : List ℕ) → named (without_registrations goes o) name ≡ named o name
 named-deregistered goes o name = ap (λ (ks : List (List ℕ × ℕ)). if is_none name then None else value_at bytes_eq ks name) (seen-names goes o.entries)
 
--- a name is named by what is left as before, if only those go that have no name
-pub named-left : {X : Type 0} (test : ℕ × NamedEntry X → Bool) → ((e : ℕ × NamedEntry X) → e.1.bound ≢ [] → test e ≡ true)
-    → (o : Named X) (name : List ℕ) → named (kept_if test o) name ≡ named o name
-named-left {X} test stands o name =
-    names-same (by_bound {X = X} of_names) o.entries (filter test o.entries) name (kept-at (by_bound {X = X} of_names) test stands o.entries name)
+-- what is left names as before, if only those go that are bound to none
+pub named-left : {B X : Type 0} (b : Bounds B) (test : ℕ × Entry B X → Bool) → ((e : ℕ × Entry B X) → e.1.bound ≢ b.none → test e ≡ true)
+    → (o : ObjectsOf B X) (k : B) → number_of b.same b.none (kept_if test o) k ≡ number_of b.same b.none o k
+named-left {B} {X} b test stands o k =
+    names-same (by_bound {X = X} b) o.entries (filter test o.entries) k (kept-at (by_bound {X = X} b) test stands o.entries k)
 
 -- registrations are no matter of names
 pub deregistered-sound : (limits : Limits) (goes : Registration → Bool) (most : ℕ) (o : Named Mq)
@@ -271,7 +320,7 @@ deregistered-sound limits goes most o h =
     }
 
 -- the directory that named them names them still
-pub agrees-again : (found new old : List ℕ → Option ℕ) → ((name : List ℕ) → new name ≡ old name) → Agrees found old → Agrees found new
+pub agrees-again : {K : Type 0} (found new old : K → Option ℕ) → ((name : K) → new name ≡ old name) → Agrees found old → Agrees found new
 agrees-again found new old same agree = λ positive name. agree (λ key n is. positive key n (same key ∙ is)) name ∙ sym (same name)
 
 -- some of a list, by what its elements are
@@ -280,128 +329,190 @@ filter-seen test row [] = refl
 filter-seen {X} {Y} test row (x ∷ xs) = by_test (test (row x)) (filter-seen test row xs)
   where
     by_test : (b : Bool) → map row (filter (λ x. test (row x)) xs) ≡ filter test (map row xs)
-        → map row (cond b (x ∷ filter (λ x. test (row x)) xs) (filter (λ x. test (row x)) xs)) ≡ cond b (row x ∷ filter test (map row xs)) (filter test (map row xs))
+        → map row (cond b (x ∷ filter (λ x. test (row x)) xs) (filter (λ x. test (row x)) xs))
+        ≡ cond b (row x ∷ filter test (map row xs)) (filter test (map row xs))
     by_test true rest = ap (λ (ys : List Y). row x ∷ ys) rest
     by_test false rest = rest
 
--- ---- kinds
+-- ---- objects that stay
 
--- what holds of those of each kind
-pub on-kinds : (P : (kind : NameKind) → Named (Content kind) → Type 0) (o : NamedObjects) → P names.Mq o.mq → P names.Psem o.psem → P names.Pshm o.pshm
-    → (kind : NameKind) → P kind (of_kind o kind)
-on-kinds P o mq psem pshm names.Mq = mq
-on-kinds P o mq psem pshm names.Psem = psem
-on-kinds P o mq psem pshm names.Pshm = pshm
-
-module _ (P : (kind : NameKind) → Named (Content kind) → Type 0) (o : NamedObjects) where
-  -- and holds of others of a kind
-  pub put-holds : (kind : NameKind) (m : Named (Content kind)) → ((other : NameKind) → P other (of_kind o other)) → P kind m
-      → (other : NameKind) → P other (of_kind (with_kind o kind m) other)
-  put-holds names.Mq m all one = on-kinds P (record o { mq = m }) one (all names.Psem) (all names.Pshm)
-  put-holds names.Psem m all one = on-kinds P (record o { psem = m }) (all names.Mq) one (all names.Pshm)
-  put-holds names.Pshm m all one = on-kinds P (record o { pshm = m }) (all names.Mq) (all names.Psem) one
-
-  -- and of what is made of those of each
-  pub each-holds : (f : (kind : NameKind) → Named (Content kind) → Named (Content kind)) → ((kind : NameKind) → P kind (f kind (of_kind o kind)))
-      → (kind : NameKind) → P kind (of_kind (each_kind f o) kind)
-  each-holds f all = on-kinds P (each_kind f o) (all names.Mq) (all names.Psem) (all names.Pshm)
-
-module _ (limits : Limits) where
-  -- those of a kind are sound together if registrations stay, if some go, and if one loses its name
-  pub together-by : (ps qs : List (ℕ × Process)) → ((e : ℕ × NamedEntry Mq) → IsRegistered ps e → IsRegistered qs e) → (kind : NameKind)
-      (o : Named (Content kind)) → AreSoundTogether limits ps kind o → AreSoundTogether limits qs kind o
-  together-by ps qs step names.Mq o h = All-weaker (IsRegistered ps) (IsRegistered qs) step o.entries h
-  together-by ps qs step names.Psem o h = h
-  together-by ps qs step names.Pshm o h = h
-
-  together-left : (ps : List (ℕ × Process)) (kind : NameKind) (test : ℕ × NamedEntry (Content kind) → Bool) (o : Named (Content kind))
-      → AreSoundTogether limits ps kind o → AreSoundTogether limits ps kind (kept_if test o)
-  together-left ps names.Mq test o h = All-filter test (IsRegistered ps) o.entries h
-  together-left ps names.Psem test o h = h
-  together-left ps names.Pshm test o h = omega (arith, fewer-bytes test o, h)
-
--- the objects with a name, and the descriptors that are open on them
-pub record AreAllHeld (limits : Limits) (ps : Numbered Process) (o : NamedObjects) : Type 0 where
-  pub processes : AreSoundProcesses limits o ps
-  pub named : (kind : NameKind) → AreSoundNamed limits ps.entries kind (of_kind o kind)
-
--- objects of a kind of which some may have to go: all holds, but that each has a name or is open
-pub record MayGo (limits : Limits) (ps : List (ℕ × Process)) (kind : NameKind) (o : Named (Content kind)) : Type 0 where
-  pub named : AreNamedObjects (most_of limits kind) (IsSoundContent limits kind) o
-  pub forms : All (λ e. is_named_so kind e ≡ true) o.entries
+-- objects of a kind of which some may have to go: all holds, but that each stays
+pub record MayGo (limits : Limits) (ps : List (ℕ × Process)) (kind : ObjectKind) (o : Those kind) : Type 0 where
+  pub bound : AreBound (same_bound kind) (no_bound kind) (most_of limits kind) (IsSoundContent limits kind) o
+  pub forms : All (λ e. is_bound_so kind e.1.bound e.1.perm ≡ true) o.entries
   pub together : AreSoundTogether limits ps kind o
 
--- each number that is in use there is in use here
-abbrev pub HasThose : NamedObjects → (kind : NameKind) → Named (Content kind) → Type 0
-HasThose old kind o = (n : ℕ) → is_some (entry_of (of_kind old kind) n) ≡ true → is_some (entry_of o n) ≡ true
+module _ (limits : Limits) (kind : ObjectKind) where
+  -- what is open is left as it is
+  pub kept-open : (ps : List (ℕ × Process)) (o : Those kind) (n : ℕ) → is_open ps (object_as kind n) ≡ true
+      → entry_of (still_open kind ps o) n ≡ entry_of o n
+  kept-open ps o n used = at-kept (stays kind ps) o.entries n (λ e. either (keeps kind e.bound e.object) _ used)
+
+  pub may-go : (ps qs : List (ℕ × Process)) (o : Those kind) → AreSound limits ps kind o → AreSoundTogether limits qs kind o → MayGo limits qs kind o
+  may-go ps qs o h together = record { bound = h.held.bound; forms = h.held.forms; together = together }
+
+  together-left : (ps : List (ℕ × Process)) (test : ℕ × EntryOf kind → Bool) (o : Those kind) → AreSoundTogether limits ps kind o
+      → AreSoundTogether limits ps kind (kept_if test o)
+  together-left ps test o = by_kind kind test o
+    where
+      by_kind : (k : ObjectKind) (test : ℕ × EntryOf k → Bool) (o : Those k) → AreSoundTogether limits ps k o → AreSoundTogether limits ps k (kept_if test o)
+      by_kind kinds.MsgQueue test o h = tt
+      by_kind kinds.Semset test o h = omega (arith, fewer-sum (λ (e : KeyedEntry Set). length e.object.semaphores) test o.entries, h)
+      by_kind (kinds.Named names.Mq) test o h = All-filter test (IsRegistered ps) o.entries h
+      by_kind (kinds.Named names.Psem) test o h = tt
+      by_kind (kinds.Named names.Pshm) test o h = omega (arith, fewer-sum (λ (e : NamedEntry Segment). length e.object.bytes) test o.entries, h)
+
+  -- those that stay are sound, and all of a kind that is never open
+  left-sound : (ps : List (ℕ × Process)) (o : Those kind) → MayGo limits ps kind o → AreSound limits ps kind (still_open kind ps o)
+  left-sound ps o h =
+      record {
+        held = record {
+          bound = kept_if-bound (bounds_of kind) (most_of limits kind) (IsSoundContent limits kind) (stays kind ps)
+              (λ e some. first _ _ (bound-keeps (bounds_of kind) e.1.bound (leaves kind e.1.object) some)) o h.bound;
+          forms = All-filter (stays kind ps) (λ (e : ℕ × EntryOf kind). is_bound_so kind e.1.bound e.1.perm ≡ true) o.entries h.forms;
+          stay = All-passed (stays kind ps) o.entries;
+        };
+        together = together-left ps (stays kind ps) o h.together;
+      }
+
+  pub never-open-sound : (ps : List (ℕ × Process)) (o : Those kind) → may_open kind ≡ false
+      → AreBound (same_bound kind) (no_bound kind) (most_of limits kind) (IsSoundContent limits kind) o → AreSoundTogether limits ps kind o
+      → AreSound limits ps kind o
+  never-open-sound ps o never bound together =
+      record {
+        held = record {
+          bound = bound;
+          forms = λ k d within. bound-closed kind (get_or o.entries k d).1.bound (get_or o.entries k d).1.perm never;
+          stay = λ k d within. first _ _ (keeps-closed kind (get_or o.entries k d).1.bound (get_or o.entries k d).1.object never);
+        };
+        together = together;
+      }
+
+  -- so are those that there are, where what was open is, and whoever is registered has it open
+  pub sound-by : (ps qs : List (ℕ × Process)) → ((n : ℕ) → is_open ps (object_as kind n) ≡ true → is_open qs (object_as kind n) ≡ true)
+      → ((e : ℕ × NamedEntry Mq) → IsRegistered ps e → IsRegistered qs e) → (o : Those kind) → AreSound limits ps kind o → AreSound limits qs kind o
+  sound-by ps qs still step o h =
+      record {
+        held = record {
+          bound = h.held.bound;
+          forms = h.held.forms;
+          stay = All-weaker (λ (e : ℕ × EntryOf kind). stays kind ps e ≡ true) (λ (e : ℕ × EntryOf kind). stays kind qs e ≡ true)
+              (λ e. or-second (keeps kind e.1.bound e.1.object) _ _ (still e.0)) o.entries h.held.stay;
+        };
+        together = by_kind kind o h.together;
+      }
+    where
+      by_kind : (k : ObjectKind) (o : Those k) → AreSoundTogether limits ps k o → AreSoundTogether limits qs k o
+      by_kind kinds.MsgQueue o h = h
+      by_kind kinds.Semset o h = h
+      by_kind (kinds.Named names.Mq) o h = All-weaker (IsRegistered ps) (IsRegistered qs) step o.entries h
+      by_kind (kinds.Named names.Psem) o h = h
+      by_kind (kinds.Named names.Pshm) o h = h
+
+-- none of any kind
+pub none-sound : (limits : Limits) (kind : ObjectKind) → AreSound limits [] kind none_yet
+none-sound limits kind =
+    record {
+      held = record {
+        bound = none_yet-bound (bounds_of kind) (most_of limits kind) (IsSoundContent limits kind);
+        forms = All-nil _;
+        stay = All-nil _;
+      };
+      together = by_kind kind;
+    }
+  where
+    by_kind : (k : ObjectKind) → AreSoundTogether limits [] k none_yet
+    by_kind kinds.MsgQueue = tt
+    by_kind kinds.Semset = omega arith
+    by_kind (kinds.Named names.Mq) = All-nil _
+    by_kind (kinds.Named names.Psem) = tt
+    by_kind (kinds.Named names.Pshm) = omega arith
+
+-- the objects, and the descriptors that are open on them
+pub record AreAllHeld (limits : Limits) (ps : Numbered Process) (o : Objects) : Type 0 where
+  pub processes : AreSoundProcesses limits o ps
+  pub objects : (kind : ObjectKind) → AreSound limits ps.entries kind (of_kind o kind)
+
+-- those of a state
+pub sound-of : (limits : Limits) (s : State) → HasSoundParts limits s → (kind : ObjectKind) → AreSound limits s.processes.entries kind (objects_of s kind)
+sound-of limits s h kinds.MsgQueue = h.msg
+sound-of limits s h kinds.Semset = h.semset
+sound-of limits s h (kinds.Named kind) = h.named kind
+
+-- each number that is in use there is in use here, if the kind may be open
+abbrev pub HasThose : Objects → (kind : ObjectKind) → Those kind → Type 0
+HasThose old kind o = may_open kind ≡ true → (n : ℕ) → is_some (entry_of (of_kind old kind) n) ≡ true → is_some (entry_of o n) ≡ true
+
+-- with the queues without these registrations
+abbrev pub without_goers : (Registration → Bool) → Objects → Objects
+without_goers goes o = with_kind o (kinds.Named names.Mq) (without_registrations goes o.named.mq)
 
 -- what processes leave, with these registrations
-abbrev pub left_by : List (ℕ × Process) → (Registration → Bool) → NamedObjects → NamedObjects
-left_by left goes o = each_kind (λ kind. still_open kind left) (record o { mq = without_registrations goes o.mq })
+abbrev pub left_by : List (ℕ × Process) → (Registration → Bool) → Objects → Objects
+left_by left goes o = each_open (λ kind. still_open kind left) (without_goers goes o)
 
 module _ (limits : Limits) where
   -- those go that have to
-  pub swept-held : (left : Numbered Process) (old o : NamedObjects) → AreNumbered limits.processes left → All (Has limits old) left.entries
-      → ((kind : NameKind) → HasThose old kind (of_kind o kind)) → ((kind : NameKind) → MayGo limits left.entries kind (of_kind o kind))
-      → AreAllHeld limits left (each_kind (λ kind. still_open kind left.entries) o)
+  pub swept-held : (left : Numbered Process) (old o : Objects) → AreNumbered limits.processes left → All (Has limits old) left.entries
+      → ((kind : ObjectKind) → HasThose old kind (of_kind o kind)) → ((kind : ObjectKind) → MayGo limits left.entries kind (of_kind o kind))
+      → AreAllHeld limits left (each_open (λ kind. still_open kind left.entries) o)
   swept-held left old o numbered each those all =
       let ps = left.entries in
-      let stay : (kind : NameKind) → Named (Content kind) → Named (Content kind) = λ kind. still_open kind ps in
+      let stay : (kind : ObjectKind) → Those kind → Those kind = λ kind. still_open kind ps in
       record {
         processes = record {
           numbered = numbered;
-          descriptors = each-there limits old (each_kind stay o) ps
-              (λ on used there. each-holds (λ kind m. (n : ℕ) → is_open ps (opened_as kind n) ≡ true → is_some (entry_of (of_kind old kind) n) ≡ true
-              → is_some (entry_of m n) ≡ true) o stay
-              (λ kind n used there. open-stay kind ps (of_kind o kind) n used (those kind n there)) on.kind on.number used there) each;
+          descriptors = each-there limits old (each_open stay o) ps
+              (λ on used may there. each-holds (λ kind m. (n : ℕ) → is_open ps (object_as kind n) ≡ true → may_open kind ≡ true
+              → is_some (entry_of (of_kind old kind) n) ≡ true → is_some (entry_of m n) ≡ true) o stay
+              (λ kind _ n used may there. ap is_some (kept-open limits kind ps (of_kind o kind) n used) ∙ those kind may n there)
+              (λ kind never n used may there. those kind may n there) on.kind on.number used may there) each;
         };
-        named = each-holds (AreSoundNamed limits ps) o stay (λ kind. record {
-          held = kept-held kind (most_of limits kind) (IsSoundContent limits kind) ps (of_kind o kind) (all kind).named (all kind).forms;
-          together = together-left limits ps kind (stays kind ps) (of_kind o kind) (all kind).together;
-        });
+        objects = each-holds (AreSound limits ps) o stay (λ kind _. left-sound limits kind ps (of_kind o kind) (all kind))
+            (λ kind never. never-open-sound limits kind ps (of_kind o kind) never (all kind).bound (all kind).together);
       }
 
-  pub may-go : (ps qs : List (ℕ × Process)) (kind : NameKind) (o : Named (Content kind)) → AreSoundNamed limits ps kind o
-      → AreSoundTogether limits qs kind o → MayGo limits qs kind o
-  may-go ps qs kind o h together = record { named = h.held.named; forms = h.held.forms; together = together }
-
   -- if some processes are left, with what is open
-  pub all-left : (ps left : Numbered Process) (goes : Registration → Bool) (o : NamedObjects) → AreAllHeld limits ps o → AreNumbered limits.processes left
+  pub all-left : (ps left : Numbered Process) (goes : Registration → Bool) (o : Objects) → AreAllHeld limits ps o → AreNumbered limits.processes left
       → All (Has limits o) left.entries
       → ((e : ℕ × NamedEntry Mq) → IsRegistered ps.entries e → IsRegistered left.entries (e.0, deregistered goes e.1))
       → AreAllHeld limits left (left_by left.entries goes o)
   all-left ps left goes o h numbered each registered =
-      let mq : Named Mq = without_registrations goes o.mq in
-      let old = h.named names.Mq in
-      swept-held left o (record o { mq = mq }) numbered each
-      (put-holds (HasThose o) o names.Mq mq (λ kind n there. there)
-      (λ n there. ap is_some (at-map (deregistered goes) o.mq.entries n) ∙ (is_some-map (deregistered goes) (entry_of o.mq n) ∙ there)))
-      (on-kinds (MayGo limits left.entries) (record o { mq = mq })
+      let mq : Named Mq = without_registrations goes o.named.mq in
+      let old = h.objects (kinds.Named names.Mq) in
+      let same : (kind : ObjectKind) → AreSoundTogether limits left.entries kind (of_kind o kind) → MayGo limits left.entries kind (of_kind o kind) =
+      (λ kind together. may-go limits kind ps.entries left.entries (of_kind o kind) (h.objects kind) together) in
+      swept-held left o (without_goers goes o) numbered each
+      (put-holds (HasThose o) o (kinds.Named names.Mq) mq (λ kind may n there. there)
+      (λ may n there. ap is_some (at-map (deregistered goes) o.named.mq.entries n) ∙ (is_some-map (deregistered goes) (entry_of o.named.mq n) ∙ there)))
+      (on-kinds (MayGo limits left.entries) (without_goers goes o)
+      (same kinds.MsgQueue tt)
+      (same kinds.Semset (h.objects kinds.Semset).together)
       (record {
-        named = deregistered-sound limits goes limits.queues o.mq old.held.named;
+        bound = deregistered-sound limits goes limits.queues o.named.mq old.held.bound;
         forms = All-seen_as (λ (e : ℕ × NamedEntry Mq). is_named_so names.Mq e ≡ true) (λ (e : ℕ × NamedEntry Mq). is_named_so names.Mq e ≡ true)
-            (deregistered goes) (λ e f. f) o.mq.entries old.held.forms;
-        together = All-seen_as (IsRegistered ps.entries) (IsRegistered left.entries) (deregistered goes) registered o.mq.entries old.together;
+            (deregistered goes) (λ e f. f) o.named.mq.entries old.held.forms;
+        together = All-seen_as (IsRegistered ps.entries) (IsRegistered left.entries) (deregistered goes) registered o.named.mq.entries old.together;
       })
-      (may-go ps.entries left.entries names.Psem o.psem (h.named names.Psem) tt)
-      (may-go ps.entries left.entries names.Pshm o.pshm (h.named names.Pshm) (h.named names.Pshm).together))
+      (same (kinds.Named names.Psem) tt)
+      (same (kinds.Named names.Pshm) (h.objects (kinds.Named names.Pshm)).together))
 
   -- a process leaves
-  pub exit-held : (ps : Numbered Process) (pid : ℕ) (o : NamedObjects) → AreAllHeld limits ps o
+  pub exit-held : (ps : Numbered Process) (pid : ℕ) (o : Objects) → AreAllHeld limits ps o
       → AreAllHeld limits (without_entry ps pid) (left_by (without nat_eq ps.entries pid) (is_by (Some pid) None) o)
   exit-held ps pid o h =
       all-left ps (without_entry ps pid) (is_by (Some pid) None) o h (without_entry-numbered limits.processes ps pid h.processes.numbered)
       (all_without (Has limits o) ps.entries pid h.processes.descriptors) (registered-exit ps.entries pid)
 
   -- all leave
-  pub restart-held : (ps : Numbered Process) (o : NamedObjects) → AreAllHeld limits ps o
+  pub restart-held : (ps : Numbered Process) (o : Objects) → AreAllHeld limits ps o
       → AreAllHeld limits (record { next = ps.next; entries = [] }) (left_by [] (is_by None None) o)
   restart-held ps o h =
       all-left ps (record { next = ps.next; entries = [] }) (is_by None None) o h (cleared-numbered limits.processes ps h.processes.numbered) (All-nil _)
       (λ e _. none-registered [] e.0 e.1.object.registration)
 
   -- one comes
-  pub with_process-held : (ps : Numbered Process) (cred : Cred) (o : NamedObjects) → is_full limits.processes ps ≡ false → AreAllHeld limits ps o
+  pub with_process-held : (ps : Numbered Process) (cred : Cred) (o : Objects) → is_full limits.processes ps ≡ false → AreAllHeld limits ps o
       → AreAllHeld limits (with_new ps (record { cred = cred; descriptors = [] })) o
   with_process-held ps cred o room h =
       let p : Process = record { cred = cred; descriptors = [] } in
@@ -411,10 +522,9 @@ module _ (limits : Limits) where
           numbered = with_new-numbered limits.processes ps p room h.processes.numbered;
           descriptors = All-push (Has limits o) ps.entries (ps.next, p) h.processes.descriptors (record { numbers = omega arith; each = All-nil _ });
         };
-        named = λ kind. record {
-          held = held-more kind (most_of limits kind) (IsSoundContent limits kind) ps.entries more (of_kind o kind) (h.named kind).held;
-          together = together-by limits ps.entries (ps.entries ++ more) (registered-more ps.entries more) kind (of_kind o kind) (h.named kind).together;
-        };
+        objects = λ kind. sound-by limits kind ps.entries (ps.entries ++ more) (λ n used. list_any-append (λ (q : ℕ × Process). list_any
+            (λ (d : ℕ × Descriptor). is_on (object_as kind n) d.1.on) q.1.descriptors) ps.entries more ∙ first _ _ used)
+            (registered-more ps.entries more) (of_kind o kind) (h.objects kind);
       }
 
 -- ---- how it is told
@@ -473,26 +583,28 @@ none-again e = by_registration e.object.registration
     with_it : Option Registration → NamedEntry Mq
     with_it r = record e { object = record e.object { registration = r } }
 
-    by_registration : (r : Option Registration) → with_it (unless_so (is_by None None) (unless_so (is_by None None) r)) ≡ with_it (unless_so (is_by None None) r)
+    by_registration : (r : Option Registration)
+        → with_it (unless_so (is_by None None) (unless_so (is_by None None) r)) ≡ with_it (unless_so (is_by None None) r)
     by_registration None = refl
     by_registration (Some r) = refl
 
 pub restarted-again : (o : Named Mq)
-    → still_open names.Mq [] (without_registrations (is_by None None) (still_open names.Mq [] (without_registrations (is_by None None) o)))
-    ≡ still_open names.Mq [] (without_registrations (is_by None None) o)
+    → still_open (kinds.Named names.Mq) []
+    (without_registrations (is_by None None) (still_open (kinds.Named names.Mq) [] (without_registrations (is_by None None) o)))
+    ≡ still_open (kinds.Named names.Mq) [] (without_registrations (is_by None None) o)
 restarted-again o =
     ap (λ (es : List (ℕ × NamedEntry Mq)). let p : Named Mq = record { next = o.next; entries = es } in p)
-    (left-again (deregistered (is_by None None)) none-again (stays names.Mq []) (λ n e. refl) o.entries)
+    (left-again (deregistered (is_by None None)) none-again (stays (kinds.Named names.Mq) []) (λ n e. refl) o.entries)
 
 -- what is left when a test was made is left when it is made again
-pub kept-again : {X : Type 0} (test : ℕ × NamedEntry X → Bool) (o : Named X) → kept_if test (kept_if test o) ≡ kept_if test o
-kept-again {X} test o = ap (λ (es : List (ℕ × NamedEntry X)). let p : Named X = record { next = o.next; entries = es } in p) (filter-again o.entries)
+pub kept-again : {B X : Type 0} (test : ℕ × Entry B X → Bool) (o : ObjectsOf B X) → kept_if test (kept_if test o) ≡ kept_if test o
+kept-again {B} {X} test o = ap (λ (es : List (ℕ × Entry B X)). let p : ObjectsOf B X = record { next = o.next; entries = es } in p) (filter-again o.entries)
   where
-    filter-again : (es : List (ℕ × NamedEntry X)) → filter test (filter test es) ≡ filter test es
+    filter-again : (es : List (ℕ × Entry B X)) → filter test (filter test es) ≡ filter test es
     filter-again [] = refl
     filter-again (e ∷ es) = by_test (test e) refl (filter-again es)
       where
         by_test : (b : Bool) → test e ≡ b → filter test (filter test es) ≡ filter test es
             → filter test (cond b (e ∷ filter test es) (filter test es)) ≡ cond b (e ∷ filter test es) (filter test es)
-        by_test true stands rest = rw stands (ap (λ (fs : List (ℕ × NamedEntry X)). e ∷ fs) rest)
+        by_test true stands rest = rw stands (ap (λ (fs : List (ℕ × Entry B X)). e ∷ fs) rest)
         by_test false goes rest = rest

@@ -1,42 +1,53 @@
 -- POSIX queues, and the descriptors that are open on them, stay sound as queues come and change and lose their names, and
 -- as descriptors are opened, changed and closed.
-use Rattle.std.proofs.Common.{◌≡◌, ◌≢◌, ℕ, ◌<◌, Bool, true, false, cond, List, [], ◌∷◌, length, Option, Some, None, refl, sym, ap, subst, ◌∙◌, arith}
-use Rattle.std.specs.Prelude.{⊤, ◌+◌, ◌-◌, ◌≤◌, All, is_some, not, ◌||◌, ◌&&◌, nat_eq, nat_lt, option_map, unwrap_or, if◌then◌else◌}
+use Rattle.std.proofs.Common.{◌≡◌, ◌≢◌, ℕ, ◌<◌, pos, Bool, true, false, cond, List, [], ◌∷◌, length, Option, Some, None, inl, refl, sym, ap, subst, ◌∙◌, arith}
+use Rattle.std.specs.Prelude.{⊤, ◌+◌, ◌-◌, ◌≤◌, All, is_some, ◌||◌, ◌&&◌, nat_eq, nat_lt, option_map, sum_by, unwrap_or, if◌then◌else◌}
 use Rattle.std.specs.List.{list_any}
 use Rattle.std.specs.Result.{is_ok}
 use Rattle.std.proofs.lemmas.Bool.Decides.{nat_tests}
-use Rattle.std.proofs.lemmas.List.Sums.{sum_by-append}
-use Rattle.std.proofs.lemmas.List.Elements.{All-nil, All-cons, All-head, All-tail, All-push, All-weaker}
+use Rattle.std.proofs.lemmas.List.Sums.{sum_by-append, sum_by-cons}
+use Rattle.std.proofs.lemmas.List.Elements.{All-nil, All-cons, All-head, All-tail, All-push}
 use Rattle.ipc_base.specs.declared.identity.Cred.{Cred}
 use Rattle.ipc_base.specs.declared.limits.Limits.{Limits}
 use Rattle.ipc_base.specs.Table.{keys_of, value_at, with_value, with_entry as with_row, without}
 use Rattle.ipc_base.proofs.CallerLemmas.{All-value_at, All-with_value, at-with, entry-other, is_some-append, is_some-with_value, keys_of-with_value}
 use Rattle.ipc_base.proofs.CallerLemmas.{other-with, rising-entry, rising-without, value_at-without}
 use Rattle.std.proofs.lemmas.Nat.{and_le_r}
+use Rattle.ipc_perm.specs.declared.perm.Perm.{Perm}
 use Rattle.ipc_perm.specs.Perm.{perm_of}
 use Rattle.ipc_keys.specs.Names.{check_name, is_none}
-use Rattle.ipc_keys.specs.declared.check.NameKind.{NameKind}
 use Rattle.ipc_keys.specs.declared.check.NameKind.TheVariants as names
 use Rattle.posix_mq.specs.Queue.{Queue as Mq}
 use Rattle.posix_mq.specs.declared.queue.Registration.{Registration}
 use Rattle.shm_segment.specs.Segment.{Segment}
+use Rattle.sysv_sem.specs.Set.{Set}
 use Rattle.ipc_state.specs.declared.descriptors.Descriptor.{Descriptor}
-use Rattle.ipc_state.specs.declared.descriptors.Opened.{Opened}
-use Rattle.ipc_state.specs.Named.{NamedEntry, Named, named, is_own, nameless, without_name, unnamed}
+use Rattle.ipc_state.specs.declared.objects.Entry.{Entry}
+use Rattle.ipc_state.specs.declared.parked.Object.{Object}
+use Rattle.ipc_state.specs.declared.parked.ObjectKind.{ObjectKind}
+use Rattle.ipc_state.specs.declared.parked.ObjectKind.TheVariants as kinds
+use Rattle.ipc_state.specs.Keyed.{KeyedEntry}
+use Rattle.ipc_state.specs.Named.{NamedEntry, is_own}
 use Rattle.ipc_state.specs.declared.processes.Process.{Process}
 use Rattle.ipc_state.specs.Descriptors.{Table, lowest_unused, opened, with_flags}
-use Rattle.ipc_state.specs.Bound.{holding}
-use Rattle.ipc_state.specs.Numbered.{Numbered, entry_of, is_full, with_entry, with_new, AreNumbered}
-use Rattle.ipc_state.specs.Opening.{Content, NamedObjects, descriptors_of, descriptor_at, each_kind, has_access, has_name, is_by, is_by_descriptor}
-use Rattle.ipc_state.specs.Opening.{is_named_so, is_on, is_open, is_sound_descriptor, is_there_for, of_kind, opened_as, stays, still_open, unless_so}
-use Rattle.ipc_state.specs.Opening.{deregistered, with_kind, with_table}
-use Rattle.ipc_state.specs.Sound.{AreHeld, AreSoundDescriptors, AreSoundNamed, AreSoundTogether, IsSoundContent, most_of, segment_bytes}
-use Rattle.ipc_state.proofs.Binding.{holding-bound, unnamed-named, with_new-bound}
+use Rattle.ipc_state.specs.Bound.{ObjectsOf, holding, number_of, permitting, rebound, unbound, without_bound}
+use Rattle.ipc_state.specs.Kinds.{BoundOf, Content, EntryOf, Objects, Those, each_open, has_access, is_bound_so, keeps, may_open, no_bound, of_kind, parted}
+use Rattle.ipc_state.specs.Kinds.{same_bound, with_kind}
+use Rattle.ipc_state.specs.Numbered.{Numbered, entry_of, is_full, with_entry, with_new, without_entry, AreNumbered}
+use Rattle.ipc_state.specs.Opening.{descriptors_of, descriptor_at, is_by, is_by_descriptor}
+use Rattle.ipc_state.specs.Opening.{is_on, is_open, is_sound_descriptor, is_there_for, object_as, opened_as, stays, still_open, unless_so}
+use Rattle.ipc_state.specs.Opening.{deregistered, with_table}
+use Rattle.ipc_state.specs.Sound.{AreSound, AreSoundDescriptors, AreSoundTogether, IsSoundContent, most_of, segment_bytes, semaphore_count}
+use Rattle.ipc_state.proofs.Binding.{entry-mode, entry-sound, unbound-bound, with_entry-bound, with_new-bound, without_entry-bound}
 use Rattle.ipc_state.proofs.Numbering.{sum-with, with_entry-numbered}
-use Rattle.ipc_state.proofs.EntryKeys.{all_without, of_names}
+use Rattle.ipc_state.proofs.EntryKeys.{all_without}
 use Rattle.ipc_state.proofs.Opening.{few, unused}
-use Rattle.ipc_state.proofs.SoundMqs.{AreAllHeld, Has, HasThose, IsRegistered, MayGo, all-left, both_true, each-there, either, first}
-use Rattle.ipc_state.proofs.SoundMqs.{left_by, may-go, put-holds, swept-held, together-by, told}
+use Rattle.ipc_state.proofs.SoundMqs.{AreAllHeld, Has, HasThose, IsRegistered, MayGo, all-left, both_true, bounds_of, each-there, either, first}
+use Rattle.ipc_state.proofs.SoundMqs.{left_by, may-go, or-second, put-holds, sound-by, swept-held, told}
+
+or-first : (a a' b : Bool) → (a ≡ true → a' ≡ true) → (a || b) ≡ true → (a' || b) ≡ true
+or-first true a' b step h = first a' b (step refl)
+or-first false a' b step h = either a' b h
 
 -- what holds of each entry holds with another in the place of one
 All-put : {X : Type 0} (P : ℕ × X → Type 0) (es : List (ℕ × X)) (n : ℕ) (x : X) → All P es → P (n, x) → All P (with_value nat_eq es n x)
@@ -80,159 +91,262 @@ own-new cred mode = let same : (n : ℕ) → nat_eq n n ≡ true = (λ n. grind 
 pub perm_of-mode : (cred : Cred) (flags : ℕ) → (perm_of cred flags).mode < 512
 perm_of-mode cred flags = omega (arith, and_le_r flags 511)
 
-some_name : (kind : NameKind) (name : List ℕ) → is_ok (check_name kind name) ≡ true → not (is_none name) ≡ true
-some_name names.Mq [] proper = cc
-some_name names.Psem [] proper = cc
-some_name names.Pshm [] proper = cc
-some_name kind (b ∷ name) proper = refl
+-- a new object of a kind may be bound so
+abbrev pub MayBind : (kind : ObjectKind) → BoundOf kind → Type 0
+MayBind kinds.MsgQueue key = ⊤
+MayBind kinds.Semset key = ⊤
+MayBind (kinds.Named kind) name = is_ok (check_name kind name) ≡ true
 
-module _ {X : Type 0} (kind : NameKind) (most : ℕ) (P : X → Type 0) (ps : List (ℕ × Process)) (o : Named X) (h : AreHeld most P kind ps o) where
-  abbrev Stays : ℕ × NamedEntry X → Type 0
-  Stays d = stays kind ps d ≡ true
+pub bound-new : (kind : ObjectKind) (b : BoundOf kind) (cred : Cred) (mode : ℕ) → MayBind kind b → is_bound_so kind b (perm_of cred mode) ≡ true
+bound-new kinds.MsgQueue b cred mode may = refl
+bound-new kinds.Semset b cred mode may = refl
+bound-new (kinds.Named kind) b cred mode may = rw (either (is_none b) _ may) (own-new cred mode)
 
-  abbrev Formed : ℕ × NamedEntry X → Type 0
-  Formed d = is_named_so kind d ≡ true
+-- what is bound to none any more is bound so too
+bound-none : (kind : ObjectKind) (b : BoundOf kind) (perm : Perm) → is_bound_so kind b perm ≡ true → is_bound_so kind (no_bound kind) perm ≡ true
+bound-none kinds.MsgQueue b perm so = refl
+bound-none kinds.Semset b perm so = refl
+bound-none (kinds.Named kind) b perm so = (both_true _ _ so).1
 
-  -- another object at a number that is there
-  pub put-held : (n : ℕ) (e : NamedEntry X) (x : X) → entry_of o n ≡ Some e → P x → AreHeld most P kind ps (with_entry o n (holding e x))
-  put-held n e x is good =
-      let f : NamedEntry X = holding e x in
-      let Named' : NamedEntry X → Type 0 = λ (d : NamedEntry X). is_named_so kind (n, d) ≡ true in
-      record {
-        named = holding-bound of_names most P o n e x is good h.named;
-        forms = All-with_value nat_eq Named' o.entries n f h.forms (All-value_at nat_eq Named' o.entries n e h.forms is);
-        stay = All-put Stays o.entries n f h.stay (All-found Stays o.entries n e h.stay is);
-      }
-
-  -- a new one of a name that names none
-  pub new-held : (name : List ℕ) (cred : Cred) (mode : ℕ) (x : X) → named o name ≡ None → is_full most o ≡ false → is_ok (check_name kind name) ≡ true → P x
-      → AreHeld most P kind ps (with_new o (record { bound = name; perm = perm_of cred mode; object = x }))
-  new-held name cred mode x unnamed room proper good =
-      let e : NamedEntry X = record { bound = name; perm = perm_of cred mode; object = x } in
-      record {
-        named = with_new-bound of_names most P o e unnamed room (perm_of-mode cred mode) good h.named;
-        forms = All-push Formed o.entries (o.next, e) h.forms (rw (either (is_none name) _ proper) (own-new cred mode));
-        stay = All-push Stays o.entries (o.next, e) h.stay (first _ _ (some_name kind name proper));
-      }
-
--- what does not tell of names holds without one
-unnamed-all : {X : Type 0} (o : Named X) (n : ℕ) (Q : ℕ × NamedEntry X → Type 0) → ((e : ℕ × NamedEntry X) → Q e → Q (e.0, nameless e.1)) → All Q o.entries
-    → All Q (unnamed o n).entries
-unnamed-all {X} o n Q step all = by_entry (entry_of o n) refl
+-- what holds of what an entry becomes holds when it is bound to none
+unbound-all : {B X : Type 0} (f : X → X) (none : B) (o : ObjectsOf B X) (n : ℕ) (Q : ℕ × Entry B X → Type 0)
+    → ((e : ℕ × Entry B X) → Q e → Q (e.0, rebound f e.1 none)) → All Q o.entries → All Q (unbound f none o n).entries
+unbound-all {B} {X} f none o n Q step all = by_entry (entry_of o n) refl
   where
-    by_entry : (r : Option (NamedEntry X)) → entry_of o n ≡ r → All Q (without_name o n r).entries
+    by_entry : (r : Option (Entry B X)) → entry_of o n ≡ r → All Q (without_bound f none o n r).entries
     by_entry None is = all
-    by_entry (Some e) is = All-put Q o.entries n (nameless e) all (step (n, e) (All-found Q o.entries n e all is))
+    by_entry (Some e) is = All-put Q o.entries n (rebound f e none) all (step (n, e) (All-found Q o.entries n e all is))
 
--- each number that is in use is in use after one lost its name
-unnamed-there : {X : Type 0} (o : Named X) (n m : ℕ) → is_some (entry_of o m) ≡ true → is_some (entry_of (unnamed o n) m) ≡ true
-unnamed-there {X} o n m there = by_there (entry_of o n)
+-- each number that is in use is in use after one is bound to none
+unbound-there : {B X : Type 0} (f : X → X) (none : B) (o : ObjectsOf B X) (n m : ℕ) → is_some (entry_of o m) ≡ true
+    → is_some (entry_of (unbound f none o n) m) ≡ true
+unbound-there {B} {X} f none o n m there = by_there (entry_of o n)
   where
-    by_there : (r : Option (NamedEntry X)) → is_some (entry_of (without_name o n r) m) ≡ true
+    by_there : (r : Option (Entry B X)) → is_some (entry_of (without_bound f none o n r) m) ≡ true
     by_there None = there
-    by_there (Some e) = is_some-with_value nat_eq o.entries n m (nameless e) ∙ there
+    by_there (Some e) = is_some-with_value nat_eq o.entries n m (rebound f e none) ∙ there
 
--- how many bytes a segment has
-abbrev bytes : NamedEntry Segment → ℕ
-bytes e = length e.object.bytes
-
--- without its name it has as many
-unnamed-bytes : (o : Named Segment) (n : ℕ) → segment_bytes (unnamed o n) ≡ segment_bytes o
-unnamed-bytes o n = by_entry (entry_of o n) refl
+-- and all together have as much
+unbound-sum : {B X : Type 0} (f : X → X) (none : B) (size : X → ℕ) → ((x : X) → size (f x) ≡ size x) → (o : ObjectsOf B X) (n : ℕ)
+    → sum_by (λ e. size e.1.object) (unbound f none o n).entries ≡ sum_by (λ e. size e.1.object) o.entries
+unbound-sum {B} {X} f none size same o n = by_entry (entry_of o n) refl
   where
-    by_entry : (r : Option (NamedEntry Segment)) → entry_of o n ≡ r → segment_bytes (without_name o n r) ≡ segment_bytes o
+    by_entry : (r : Option (Entry B X)) → entry_of o n ≡ r
+        → sum_by (λ e. size e.1.object) (without_bound f none o n r).entries ≡ sum_by (λ e. size e.1.object) o.entries
     by_entry None is = refl
-    by_entry (Some e) is = omega (arith, sum-with bytes o.entries n e (nameless e) is)
+    by_entry (Some e) is = omega (arith, same e.object, sum-with (λ (d : Entry B X). size d.object) o.entries n e (rebound f e none) is)
+
+-- without one they have no more
+without-sum : {X : Type 0} (size : X → ℕ) (es : List (ℕ × X)) (n : ℕ) → sum_by (λ e. size e.1) (without nat_eq es n) ≤ sum_by (λ e. size e.1) es
+without-sum size [] n = omega arith
+without-sum {X} size (e ∷ es) n = by_test (nat_eq e.0 n) (without-sum size es n)
+  where
+    all : ℕ × X → ℕ
+    all d = size d.1
+
+    by_test : (b : Bool) → sum_by all (without nat_eq es n) ≤ sum_by all es → sum_by all (cond b es (e ∷ without nat_eq es n)) ≤ sum_by all (e ∷ es)
+    by_test true rest = omega (arith, sum_by-cons all e es)
+    by_test false rest = omega (arith, sum_by-cons all e es, sum_by-cons all e (without nat_eq es n), rest)
 
 -- ---- objects of a kind
 
--- An object may stand in the place of one, and a new one may come, as far as those of the kind are sound together: whoever
--- is registered with a queue has it open, and segments have no more bytes than the limit says.
-abbrev pub MayStandFor : Limits → List (ℕ × Process) → (kind : NameKind) → Named (Content kind) → ℕ → NamedEntry (Content kind) → Content kind → Type 0
-MayStandFor limits ps names.Mq o n e q = is_by_descriptor ps n q.registration ≡ true
-MayStandFor limits ps names.Psem o n e value = ⊤
-MayStandFor limits ps names.Pshm o n e x = segment_bytes o - length e.object.bytes + length x.bytes ≤ limits.segment_bytes
+abbrev semaphores : Set → ℕ
+semaphores x = length x.semaphores
 
-abbrev pub MayJoin : Limits → (kind : NameKind) → Named (Content kind) → Content kind → Type 0
-MayJoin limits names.Mq o q = q.registration ≡ None
-MayJoin limits names.Psem o value = ⊤
-MayJoin limits names.Pshm o x = segment_bytes o + length x.bytes ≤ limits.segment_bytes
+abbrev bytes : Segment → ℕ
+bytes x = length x.bytes
+
+-- An object may stand in the place of one, and a new one may come, as far as those of the kind are sound together: sets
+-- have no more semaphores, and segments no more bytes, than the limits say, and whoever is registered with a queue has it open.
+abbrev pub MayStandFor : Limits → List (ℕ × Process) → (kind : ObjectKind) → Those kind → ℕ → EntryOf kind → Content kind → Type 0
+MayStandFor limits ps kinds.MsgQueue o n e q = ⊤
+MayStandFor limits ps kinds.Semset o n e x = length x.semaphores ≡ length e.object.semaphores
+MayStandFor limits ps (kinds.Named names.Mq) o n e q = is_by_descriptor ps n q.registration ≡ true
+MayStandFor limits ps (kinds.Named names.Psem) o n e value = ⊤
+MayStandFor limits ps (kinds.Named names.Pshm) o n e x = segment_bytes o - length e.object.bytes + length x.bytes ≤ limits.segment_bytes
+
+abbrev pub MayJoin : Limits → (kind : ObjectKind) → Those kind → Content kind → Type 0
+MayJoin limits kinds.MsgQueue o q = ⊤
+MayJoin limits kinds.Semset o x = semaphore_count o + length x.semaphores ≤ limits.semmns
+MayJoin limits (kinds.Named names.Mq) o q = q.registration ≡ None
+MayJoin limits (kinds.Named names.Psem) o value = ⊤
+MayJoin limits (kinds.Named names.Pshm) o x = segment_bytes o + length x.bytes ≤ limits.segment_bytes
+
+pub keeps-new : (kind : ObjectKind) (b : BoundOf kind) (x : Content kind) → MayBind kind b → keeps kind b x ≡ true
+keeps-new kinds.MsgQueue b x may = either _ _ refl
+keeps-new kinds.Semset b x may = either _ _ refl
+keeps-new (kinds.Named names.Mq) [] x may = cc
+keeps-new (kinds.Named names.Psem) [] x may = cc
+keeps-new (kinds.Named names.Pshm) [] x may = cc
+keeps-new (kinds.Named kind) (c ∷ name) x may = refl
+
+-- what an object becomes is sound
+parted-sound : (limits : Limits) (kind : ObjectKind) (x : Content kind) → IsSoundContent limits kind x → IsSoundContent limits kind (parted kind x)
+parted-sound limits kinds.MsgQueue x h = h
+parted-sound limits kinds.Semset x h = h
+parted-sound limits (kinds.Named kind) x h = h
 
 module _ (limits : Limits) (ps : List (ℕ × Process)) where
-  together-put : (kind : NameKind) (o : Named (Content kind)) (n : ℕ) (e : NamedEntry (Content kind)) (x : Content kind) → entry_of o n ≡ Some e
-      → MayStandFor limits ps kind o n e x → AreSoundTogether limits ps kind o → AreSoundTogether limits ps kind (with_entry o n (holding e x))
-  together-put names.Mq o n e q is may h = All-put (IsRegistered ps) o.entries n (holding e q) h may
-  together-put names.Psem o n e value is may h = tt
-  together-put names.Pshm o n e x is may h = omega (arith, sum-with bytes o.entries n e (holding e x) is, may)
+  keeps-put : (kind : ObjectKind) (o : Those kind) (n : ℕ) (e : EntryOf kind) (x : Content kind) → MayStandFor limits ps kind o n e x
+      → keeps kind e.bound e.object ≡ true → keeps kind e.bound x ≡ true
+  keeps-put kinds.MsgQueue o n e x may h = h
+  keeps-put kinds.Semset o n e x may h = h
+  keeps-put (kinds.Named kind) o n e x may h = h
 
-  together-new : (kind : NameKind) (o : Named (Content kind)) (e : NamedEntry (Content kind)) → MayJoin limits kind o e.object
+  together-put : (kind : ObjectKind) (o : Those kind) (n : ℕ) (e f : EntryOf kind) → entry_of o n ≡ Some e
+      → MayStandFor limits ps kind o n e f.object → AreSoundTogether limits ps kind o → AreSoundTogether limits ps kind (with_entry o n f)
+  together-put kinds.MsgQueue o n e f is may h = tt
+  together-put kinds.Semset o n e f is may h = omega (arith, sum-with (λ (d : KeyedEntry Set). semaphores d.object) o.entries n e f is, may, h)
+  together-put (kinds.Named names.Mq) o n e f is may h = All-put (IsRegistered ps) o.entries n f h may
+  together-put (kinds.Named names.Psem) o n e f is may h = tt
+  together-put (kinds.Named names.Pshm) o n e f is may h = omega (arith, sum-with (λ (d : NamedEntry Segment). bytes d.object) o.entries n e f is, may)
+
+  together-new : (kind : ObjectKind) (o : Those kind) (e : EntryOf kind) → MayJoin limits kind o e.object
       → AreSoundTogether limits ps kind o → AreSoundTogether limits ps kind (with_new o e)
-  together-new names.Mq o e may h =
+  together-new kinds.MsgQueue o e may h = tt
+  together-new kinds.Semset o e may h =
+      omega (arith, sum_by-append (λ (d : ℕ × KeyedEntry Set). semaphores d.1.object) o.entries ((o.next, e) ∷ []), may)
+  together-new (kinds.Named names.Mq) o e may h =
       All-push (IsRegistered ps) o.entries (o.next, e) h (ap (λ (r : Option Registration). is_by_descriptor ps o.next r) may)
-  together-new names.Psem o e may h = tt
-  together-new names.Pshm o e may h =
-      omega (arith, sum_by-append (λ (d : ℕ × NamedEntry Segment). bytes d.1) o.entries ((o.next, e) ∷ []), may)
+  together-new (kinds.Named names.Psem) o e may h = tt
+  together-new (kinds.Named names.Pshm) o e may h =
+      omega (arith, sum_by-append (λ (d : ℕ × NamedEntry Segment). bytes d.1.object) o.entries ((o.next, e) ∷ []), may)
 
-  together-unnamed : (kind : NameKind) (o : Named (Content kind)) (n : ℕ) → AreSoundTogether limits ps kind o → AreSoundTogether limits ps kind (unnamed o n)
-  together-unnamed names.Mq o n h = unnamed-all o n (IsRegistered ps) (λ e r. r) h
-  together-unnamed names.Psem o n h = tt
-  together-unnamed names.Pshm o n h = omega (arith, unnamed-bytes o n, h)
+  together-unbound : (kind : ObjectKind) (o : Those kind) (n : ℕ) → AreSoundTogether limits ps kind o
+      → AreSoundTogether limits ps kind (unbound (parted kind) (no_bound kind) o n)
+  together-unbound kinds.MsgQueue o n h = tt
+  together-unbound kinds.Semset o n h = omega (arith, unbound-sum (λ x. x) (pos 0) semaphores (λ x. refl) o n, h)
+  together-unbound (kinds.Named names.Mq) o n h = unbound-all (λ x. x) [] o n (IsRegistered ps) (λ e r. r) h
+  together-unbound (kinds.Named names.Psem) o n h = tt
+  together-unbound (kinds.Named names.Pshm) o n h = omega (arith, unbound-sum (λ x. x) [] bytes (λ x. refl) o n, h)
 
-module _ (limits : Limits) (ps : Numbered Process) (o : NamedObjects) (h : AreAllHeld limits ps o) (kind : NameKind) where
-  abbrev those : Named (Content kind)
+  together-without : (kind : ObjectKind) (o : Those kind) (n : ℕ) → AreSoundTogether limits ps kind o
+      → AreSoundTogether limits ps kind (without_entry o n)
+  together-without kinds.MsgQueue o n h = tt
+  together-without kinds.Semset o n h = omega (arith, without-sum (λ (d : KeyedEntry Set). semaphores d.object) o.entries n, h)
+  together-without (kinds.Named names.Mq) o n h = all_without (IsRegistered ps) o.entries n h
+  together-without (kinds.Named names.Psem) o n h = tt
+  together-without (kinds.Named names.Pshm) o n h = omega (arith, without-sum (λ (d : NamedEntry Segment). bytes d.object) o.entries n, h)
+
+module _ (limits : Limits) (ps : List (ℕ × Process)) (kind : ObjectKind) (o : Those kind) (h : AreSound limits ps kind o) where
+  abbrev Stays : ℕ × EntryOf kind → Type 0
+  Stays d = stays kind ps d ≡ true
+
+  abbrev Formed : ℕ × EntryOf kind → Type 0
+  Formed d = is_bound_so kind d.1.bound d.1.perm ≡ true
+
+  -- another object at a number that is there, used by others
+  pub put-sound : (n : ℕ) (e : EntryOf kind) (perm : Perm) (x : Content kind) → entry_of o n ≡ Some e → perm.mode < 512
+      → is_bound_so kind e.bound perm ≡ true → IsSoundContent limits kind x → MayStandFor limits ps kind o n e x
+      → AreSound limits ps kind (with_entry o n (holding (permitting e perm) x))
+  put-sound n e perm x is mode so good may =
+      let f : EntryOf kind = holding (permitting e perm) x in
+      let Bound' : EntryOf kind → Type 0 = λ (d : EntryOf kind). is_bound_so kind d.bound d.perm ≡ true in
+      record {
+        held = record {
+          bound = with_entry-bound (bounds_of kind) (most_of limits kind) (IsSoundContent limits kind) o n e f is (inl refl) mode good h.held.bound;
+          forms = All-with_value nat_eq Bound' o.entries n f h.held.forms so;
+          stay = All-put Stays o.entries n f h.held.stay (or-first (keeps kind e.bound e.object) (keeps kind e.bound x) (is_open ps (object_as kind n))
+              (keeps-put limits ps kind o n e x may) (All-found Stays o.entries n e h.held.stay is));
+        };
+        together = together-put limits ps kind o n e f is may h.together;
+      }
+
+  -- what holds of one that is there
+  pub content-of : (n : ℕ) (e : EntryOf kind) → entry_of o n ≡ Some e → IsSoundContent limits kind e.object
+  content-of n e is = entry-sound (bounds_of kind) (most_of limits kind) (IsSoundContent limits kind) o n e is h.held.bound
+
+  pub mode-of : (n : ℕ) (e : EntryOf kind) → entry_of o n ≡ Some e → e.perm.mode < 512
+  mode-of n e is = entry-mode (bounds_of kind) (most_of limits kind) (IsSoundContent limits kind) o n e is h.held.bound
+
+  -- another object, used by the same
+  pub hold-sound : (n : ℕ) (e : EntryOf kind) (x : Content kind) → entry_of o n ≡ Some e → IsSoundContent limits kind x
+      → MayStandFor limits ps kind o n e x → AreSound limits ps kind (with_entry o n (holding e x))
+  hold-sound n e x is good may =
+      put-sound n e e.perm x is (mode-of n e is)
+      (All-value_at nat_eq (λ (d : EntryOf kind). is_bound_so kind d.bound d.perm ≡ true) o.entries n e h.held.forms is) good may
+
+  -- a new one, bound to what names nothing
+  pub new-sound : (e : EntryOf kind) → number_of (same_bound kind) (no_bound kind) o e.bound ≡ None → is_full (most_of limits kind) o ≡ false
+      → e.perm.mode < 512 → is_bound_so kind e.bound e.perm ≡ true → keeps kind e.bound e.object ≡ true → IsSoundContent limits kind e.object
+      → MayJoin limits kind o e.object → AreSound limits ps kind (with_new o e)
+  new-sound e unused room mode so stays-so good may =
+      record {
+        held = record {
+          bound = with_new-bound (bounds_of kind) (most_of limits kind) (IsSoundContent limits kind) o e unused room mode good h.held.bound;
+          forms = All-push Formed o.entries (o.next, e) h.held.forms so;
+          stay = All-push Stays o.entries (o.next, e) h.held.stay (first _ _ stays-so);
+        };
+        together = together-new limits ps kind o e may h.together;
+      }
+
+  -- one is taken out
+  pub without-sound : (n : ℕ) → AreSound limits ps kind (without_entry o n)
+  without-sound n =
+      record {
+        held = record {
+          bound = without_entry-bound (bounds_of kind) (most_of limits kind) (IsSoundContent limits kind) o n h.held.bound;
+          forms = all_without Formed o.entries n h.held.forms;
+          stay = all_without Stays o.entries n h.held.stay;
+        };
+        together = together-without limits ps kind o n h.together;
+      }
+
+  -- one is bound to none any more, and may have to go
+  pub unbound-may-go : (n : ℕ) → MayGo limits ps kind (unbound (parted kind) (no_bound kind) o n)
+  unbound-may-go n =
+      record {
+        bound = unbound-bound (bounds_of kind) (most_of limits kind) (IsSoundContent limits kind) (parted kind) o n (parted-sound limits kind) h.held.bound;
+        forms = unbound-all (parted kind) (no_bound kind) o n Formed (λ e. bound-none kind e.1.bound e.1.perm) h.held.forms;
+        together = together-unbound limits ps kind o n h.together;
+      }
+
+module _ (limits : Limits) (ps : Numbered Process) (o : Objects) (h : AreAllHeld limits ps o) (kind : ObjectKind) where
+  abbrev those : Those kind
   those = of_kind o kind
 
-  -- others that are sound, each number that is in use among them
-  others-held : (m : Named (Content kind)) → HasThose o kind m → AreSoundNamed limits ps.entries kind m → AreAllHeld limits ps (with_kind o kind m)
+  -- others that are sound, each number that is in use among them, if the kind may be open
+  pub others-held : (m : Those kind) → HasThose o kind m → AreSound limits ps.entries kind m → AreAllHeld limits ps (with_kind o kind m)
   others-held m all good =
       record {
         processes = record {
           numbered = h.processes.numbered;
           descriptors = each-there limits o (with_kind o kind m) ps.entries
-              (λ on used. put-holds (HasThose o) o kind m (λ other n there. there) all on.kind on.number) h.processes.descriptors;
+              (λ on used may. put-holds (HasThose o) o kind m (λ other may n there. there) all on.kind may on.number) h.processes.descriptors;
         };
-        named = put-holds (AreSoundNamed limits ps.entries) o kind m h.named good;
+        objects = put-holds (AreSound limits ps.entries) o kind m h.objects good;
       }
 
-  -- another object at a number that is there
-  pub put-all : (n : ℕ) (e : NamedEntry (Content kind)) (x : Content kind) → entry_of those n ≡ Some e → IsSoundContent limits kind x
-      → MayStandFor limits ps.entries kind those n e x → AreAllHeld limits ps (with_kind o kind (with_entry those n (holding e x)))
-  put-all n e x is good may =
-      others-held (with_entry those n (holding e x)) (λ m there. is_some-with_value nat_eq those.entries n m (holding e x) ∙ there)
-      (record {
-        held = put-held kind (most_of limits kind) (IsSoundContent limits kind) ps.entries those (h.named kind).held n e x is good;
-        together = together-put limits ps.entries kind those n e x is may (h.named kind).together;
-      })
+  -- another entry at a number that is there
+  pub put-all : (n : ℕ) (f : EntryOf kind) → AreSound limits ps.entries kind (with_entry those n f)
+      → AreAllHeld limits ps (with_kind o kind (with_entry those n f))
+  put-all n f = others-held (with_entry those n f) (λ may m there. is_some-with_value nat_eq those.entries n m f ∙ there)
 
-  -- a new one of a name that names none
-  pub new-all : (name : List ℕ) (cred : Cred) (mode : ℕ) (x : Content kind) → named those name ≡ None → is_full (most_of limits kind) those ≡ false
-      → is_ok (check_name kind name) ≡ true → IsSoundContent limits kind x → MayJoin limits kind those x
-      → AreAllHeld limits ps (with_kind o kind (with_new those (record { bound = name; perm = perm_of cred mode; object = x })))
-  new-all name cred mode x unnamed room proper good may =
-      let e : NamedEntry (Content kind) = record { bound = name; perm = perm_of cred mode; object = x } in
-      others-held (with_new those e) (λ m there. is_some-append nat_eq those.entries ((those.next, e) ∷ []) m there)
-      (record {
-        held = new-held kind (most_of limits kind) (IsSoundContent limits kind) ps.entries those (h.named kind).held name cred mode x unnamed room proper good;
-        together = together-new limits ps.entries kind those e may (h.named kind).together;
-      })
+  -- a new one
+  pub new-all : (e : EntryOf kind) → AreSound limits ps.entries kind (with_new those e) → AreAllHeld limits ps (with_kind o kind (with_new those e))
+  new-all e = others-held (with_new those e) (λ may m there. is_some-append nat_eq those.entries ((those.next, e) ∷ []) m there)
 
-  -- one loses its name, and goes if it is not open
-  pub unlinked-all : (n : ℕ) → AreAllHeld limits ps (each_kind (λ other. still_open other ps.entries) (with_kind o kind (unnamed those n)))
+  -- one of a kind that is never open is taken out
+  pub without-all : (n : ℕ) → may_open kind ≡ false → AreAllHeld limits ps (with_kind o kind (without_entry those n))
+  without-all n never =
+      others-held (without_entry those n) (λ may m there. let both : true ≡ false = sym may ∙ never in cc)
+      (without-sound limits ps.entries kind those (h.objects kind) n)
+
+  -- one is bound to none any more, and goes if it is not open
+  pub unlinked-all : (n : ℕ)
+      → AreAllHeld limits ps (each_open (λ other. still_open other ps.entries) (with_kind o kind (unbound (parted kind) (no_bound kind) those n)))
   unlinked-all n =
-      swept-held limits ps o (with_kind o kind (unnamed those n)) h.processes.numbered h.processes.descriptors
-      (put-holds (HasThose o) o kind (unnamed those n) (λ other m there. there) (unnamed-there those n))
-      (put-holds (MayGo limits ps.entries) o kind (unnamed those n)
-      (λ other. may-go limits ps.entries ps.entries other (of_kind o other) (h.named other) (h.named other).together)
-      (record {
-        named = unnamed-named (most_of limits kind) (IsSoundContent limits kind) those n (h.named kind).held.named;
-        forms = unnamed-all those n (λ (e : ℕ × NamedEntry (Content kind)). is_named_so kind e ≡ true) (λ e d. (both_true _ _ d).1) (h.named kind).held.forms;
-        together = together-unnamed limits ps.entries kind those n (h.named kind).together;
-      }))
+      swept-held limits ps o (with_kind o kind (unbound (parted kind) (no_bound kind) those n)) h.processes.numbered h.processes.descriptors
+      (put-holds (HasThose o) o kind (unbound (parted kind) (no_bound kind) those n) (λ other may m there. there)
+      (λ may. unbound-there (parted kind) (no_bound kind) those n))
+      (put-holds (MayGo limits ps.entries) o kind (unbound (parted kind) (no_bound kind) those n)
+      (λ other. may-go limits other ps.entries ps.entries (of_kind o other) (h.objects other) (h.objects other).together)
+      (unbound-may-go limits ps.entries kind those (h.objects kind) n))
 
 -- ---- descriptors
 
 -- the descriptors of a process are sound; it has none, if it is not there
-pub table-sound : (limits : Limits) (o : NamedObjects) (ps : List (ℕ × Process)) (pid : ℕ) → All (Has limits o) ps
+pub table-sound : (limits : Limits) (o : Objects) (ps : List (ℕ × Process)) (pid : ℕ) → All (Has limits o) ps
     → AreSoundDescriptors limits o (descriptors_of ps pid)
 table-sound limits o ps pid all = by_value (value_at nat_eq ps pid) refl
   where
@@ -241,27 +355,19 @@ table-sound limits o ps pid all = by_value (value_at nat_eq ps pid) refl
     by_value (Some p) is = All-value_at nat_eq (λ (q : Process). AreSoundDescriptors limits o q.descriptors) ps pid p all is
 
 -- what a descriptor of a process is, is sound
-pub descriptor-sound : (limits : Limits) (o : NamedObjects) (ps : List (ℕ × Process)) (pid fd : ℕ) (d : Descriptor) → All (Has limits o) ps
+pub descriptor-sound : (limits : Limits) (o : Objects) (ps : List (ℕ × Process)) (pid fd : ℕ) (d : Descriptor) → All (Has limits o) ps
     → descriptor_at ps pid fd ≡ Some d → is_sound_descriptor o d ≡ true
 descriptor-sound limits o ps pid fd d all is =
     All-value_at nat_eq (λ (c : Descriptor). is_sound_descriptor o c ≡ true) (descriptors_of ps pid) fd d (table-sound limits o ps pid all).each is
 
 -- whether one of these is open on the object
-abbrev pub opens : Opened → Table → Bool
+abbrev pub opens : Object → Table → Bool
 opens this table = list_any (λ (d : ℕ × Descriptor). is_on this d.1.on) table
 
 -- each object on which one table is open, the other is; each number that is in use there, is in use here on the same
 pub record Covers (old new : Table) : Type 0 where
-  pub all : (n : Opened) → opens n old ≡ true → opens n new ≡ true
+  pub all : (n : Object) → opens n old ≡ true → opens n new ≡ true
   pub same : (fd : ℕ) (d : Descriptor) → value_at nat_eq old fd ≡ Some d → option_map (λ (c : Descriptor). c.on) (value_at nat_eq new fd) ≡ Some d.on
-
-or-first : (a a' b : Bool) → (a ≡ true → a' ≡ true) → (a || b) ≡ true → (a' || b) ≡ true
-or-first true a' b step h = first a' b (step refl)
-or-first false a' b step h = either a' b h
-
-or-second : (a b b' : Bool) → (b ≡ true → b' ≡ true) → (a || b) ≡ true → (a || b') ≡ true
-or-second true b b' step h = refl
-or-second false b b' step h = step h
 
 -- with another table of a process
 module _ (ps : Numbered Process) (pid : ℕ) (table : Table) where
@@ -305,7 +411,7 @@ module _ (ps : Numbered Process) (pid : ℕ) (table : Table) where
       by_process None = h
       by_process (Some p) = with_entry-numbered most ps pid (record p { descriptors = table }) h
 
-  pub table-each : (limits : Limits) (o : NamedObjects) → All (Has limits o) ps.entries → AreSoundDescriptors limits o table
+  pub table-each : (limits : Limits) (o : Objects) → All (Has limits o) ps.entries → AreSoundDescriptors limits o table
       → All (Has limits o) (with_table ps pid table).entries
   table-each limits o all good = by_process (entry_of ps pid)
     where
@@ -316,7 +422,7 @@ module _ (ps : Numbered Process) (pid : ℕ) (table : Table) where
 
   -- it covers that of a process
   module _ (covers : Covers (descriptors_of ps.entries pid) table) where
-    open-table : (n : Opened) → is_open ps.entries n ≡ true → is_open (with_table ps pid table).entries n ≡ true
+    open-table : (n : Object) → is_open ps.entries n ≡ true → is_open (with_table ps pid table).entries n ≡ true
     open-table n used = by_process (entry_of ps pid) refl
       where
         found : (es : List (ℕ × Process)) (p : Process) → value_at nat_eq es pid ≡ Some p → (opens n p.descriptors ≡ true → opens n table ≡ true)
@@ -353,7 +459,7 @@ module _ (ps : Numbered Process) (pid : ℕ) (table : Table) where
         on_same (Some d) (Some c) same h =
             let on : Some c.on ≡ Some d.on = same d refl in
             let one : c.on ≡ d.on = cc in
-            subst (λ (k : Opened). is_on (opened_as names.Mq n) k ≡ true) (sym one) h
+            subst (λ (k : Object). is_on (opened_as names.Mq n) k ≡ true) (sym one) h
 
         by_process : (q : Option Process) → entry_of ps pid ≡ q → told n r (entry_of ps pid) ≡ true → told n r (entry_of (with_table ps pid table) pid) ≡ true
         by_process None is h = subst (λ (t : Numbered Process). told n r (entry_of t pid) ≡ true) (sym (table-none is)) h
@@ -370,19 +476,7 @@ module _ (ps : Numbered Process) (pid : ℕ) (table : Table) where
             let other : r.pid.0 ≢ pid = λ same. grind (arith, nat_tests) in
             subst (λ (q : Option Process). told n r q ≡ true) (sym (table-other r.pid.0 other)) h
 
-    table-stay : {X : Type 0} (kind : NameKind) (most : ℕ) (P : X → Type 0) (o : Named X) → AreHeld most P kind ps.entries o
-        → AreHeld most P kind (with_table ps pid table).entries o
-    table-stay {X} kind most P o h =
-        let new = (with_table ps pid table).entries in
-        record {
-          named = h.named;
-          forms = h.forms;
-          stay = All-weaker (λ (e : ℕ × NamedEntry X). stays kind ps.entries e ≡ true) (λ (e : ℕ × NamedEntry X). stays kind new e ≡ true)
-              (λ e. or-second (has_name e.1) (is_open ps.entries (opened_as kind e.0)) (is_open new (opened_as kind e.0)) (open-table (opened_as kind e.0)))
-              o.entries h.stay;
-        }
-
-    pub table-held : (limits : Limits) (o : NamedObjects) → AreSoundDescriptors limits o table → AreAllHeld limits ps o
+    pub table-held : (limits : Limits) (o : Objects) → AreSoundDescriptors limits o table → AreAllHeld limits ps o
         → AreAllHeld limits (with_table ps pid table) o
     table-held limits o good h =
         record {
@@ -390,10 +484,8 @@ module _ (ps : Numbered Process) (pid : ℕ) (table : Table) where
             numbered = table-numbered limits.processes h.processes.numbered;
             descriptors = table-each limits o h.processes.descriptors good;
           };
-          named = λ kind. record {
-            held = table-stay kind (most_of limits kind) (IsSoundContent limits kind) (of_kind o kind) (h.named kind).held;
-            together = together-by limits ps.entries (with_table ps pid table).entries by_entry kind (of_kind o kind) (h.named kind).together;
-          };
+          objects = λ kind. sound-by limits kind ps.entries (with_table ps pid table).entries (λ n. open-table (object_as kind n)) by_entry (of_kind o kind)
+              (h.objects kind);
         }
       where
         by_entry : (e : ℕ × NamedEntry Mq) → IsRegistered ps.entries e → IsRegistered (with_table ps pid table).entries e
@@ -406,7 +498,7 @@ module _ (ps : Numbered Process) (pid : ℕ) (table : Table) where
 
 -- ---- descriptors that are opened and changed
 
-opens-row : (n : Opened) (es : Table) (fd : ℕ) (d : Descriptor) → opens n es ≡ true → opens n (with_row es fd d) ≡ true
+opens-row : (n : Object) (es : Table) (fd : ℕ) (d : Descriptor) → opens n es ≡ true → opens n (with_row es fd d) ≡ true
 opens-row n [] fd d h = cc
 opens-row n (e ∷ es) fd d h = by_test (nat_lt fd e.0) (opens-row n es fd d)
   where
@@ -414,7 +506,7 @@ opens-row n (e ∷ es) fd d h = by_test (nat_lt fd e.0) (opens-row n es fd d)
     by_test true rest = either (is_on n d.on) (opens n (e ∷ es)) h
     by_test false rest = or-second (is_on n e.1.on) (opens n es) (opens n (with_row es fd d)) rest h
 
-opens-value : (n : Opened) (es : Table) (fd : ℕ) (d c : Descriptor) → value_at nat_eq es fd ≡ Some d → c.on ≡ d.on → opens n es ≡ true
+opens-value : (n : Object) (es : Table) (fd : ℕ) (d c : Descriptor) → value_at nat_eq es fd ≡ Some d → c.on ≡ d.on → opens n es ≡ true
     → opens n (with_value nat_eq es fd c) ≡ true
 opens-value n [] fd d c is same h = cc
 opens-value n (e ∷ es) fd d c is same h = by_test (nat_eq e.0 fd) is (λ later. opens-value n es fd d c later same)
@@ -425,10 +517,10 @@ opens-value n (e ∷ es) fd d c is same h = by_test (nat_eq e.0 fd) is (λ later
     by_test true is rest =
         let one : e.1 ≡ d = cc in
         let on : c.on ≡ e.1.on = same ∙ ap (λ (k : Descriptor). k.on) (sym one) in
-        or-first (is_on n e.1.on) (is_on n c.on) (opens n es) (λ u. subst (λ (k : Opened). is_on n k ≡ true) (sym on) u) h
+        or-first (is_on n e.1.on) (is_on n c.on) (opens n es) (λ u. subst (λ (k : Object). is_on n k ≡ true) (sym on) u) h
     by_test false is rest = or-second (is_on n e.1.on) (opens n es) _ (rest is) h
 
-module _ (limits : Limits) (o : NamedObjects) (table : Table) (good : AreSoundDescriptors limits o table) where
+module _ (limits : Limits) (o : Objects) (table : Table) (good : AreSoundDescriptors limits o table) where
   abbrev Right : Descriptor → Type 0
   Right d = is_sound_descriptor o d ≡ true
 
@@ -492,7 +584,7 @@ module _ (limits : Limits) (o : NamedObjects) (table : Table) (good : AreSoundDe
               each = All-with_value nat_eq Right table fd (record d { flags = flags }) good.each (rw there (right d is));
             }
 
-module _ (limits : Limits) (ps : Numbered Process) (pid : ℕ) (o : NamedObjects) (h : AreAllHeld limits ps o) where
+module _ (limits : Limits) (ps : Numbered Process) (pid : ℕ) (o : Objects) (h : AreAllHeld limits ps o) where
   abbrev own-table : Table
   own-table = descriptors_of ps.entries pid
 

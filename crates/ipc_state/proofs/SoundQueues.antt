@@ -64,7 +64,8 @@ module _ (limits : Limits) where
 
   pub queue-decides : (q : Queue) → Decides (is_sound_msg_queue limits q) (IsSoundMsgQueue limits q)
   queue-decides q =
-      let messages = Decides-by_and (is_sound_message limits) (IsSoundMessage limits) (list_all (is_sound_message limits)) message-decides refl (λ _ _. refl) q.messages in
+      let messages = Decides-by_and (is_sound_message limits) (IsSoundMessage limits) (list_all (is_sound_message limits)) message-decides refl
+      (λ _ _. refl) q.messages in
       let most : (n : ℕ) → Decides (nat_le n limits.msgmnb) (n ≤ limits.msgmnb) = (λ n. (leb-true n limits.msgmnb, le-leb n limits.msgmnb)) in
       let all = Decides-and _ _ (most (byte_count q.messages)) (Decides-and _ _ (most (length q.messages)) (Decides-and _ _ (most q.qbytes) messages)) in (
         λ yes. let h = all.0 yes in record { bytes = h.0; count = h.1.0; qbytes = h.1.1.0; messages = h.1.1.1 },

@@ -1,11 +1,9 @@
 -- Semaphore sets stay sound as they come and change, each by itself and together.
-use Rattle.std.proofs.Common.{◌≡◌, ℕ, ℤ, ◌+◌, ◌<◌, ◌≤◌, Bool, true, false, cond, List, [], ◌∷◌, length, Some, arith}
-use Rattle.std.specs.Prelude.{All, sum_by, nat_eq, min, slice_index}
+use Rattle.std.proofs.Common.{◌≡◌, ℕ, ℤ, ◌<◌, ◌≤◌, List, length, arith}
+use Rattle.std.specs.Prelude.{All, min, slice_index}
 use Rattle.std.proofs.Math.Nat.{min-le_right}
 use Rattle.std.proofs.lemmas.List.{length-map, length-replicate, length-set}
 use Rattle.std.proofs.lemmas.List.Elements.{All-map, All-replicate, All-set}
-use Rattle.std.proofs.lemmas.List.Sums.{sum_by-cons, sum_by-append}
-use Rattle.ipc_base.specs.Table.{without}
 use Rattle.ipc_base.specs.declared.identity.Pid.{Pid}
 use Rattle.ipc_base.specs.declared.limits.Limits.{Limits}
 use Rattle.sysv_sem.specs.declared.set.Semaphore.{Semaphore}
@@ -13,10 +11,7 @@ use Rattle.sysv_sem.specs.declared.operation.Operation.{Operation}
 use Rattle.sysv_sem.specs.Operation.{Done, most_value, outcome, value_after}
 use Rattle.sysv_sem.specs.Set.{Set, new_set, with_value, with_values, carried, changed, after_exit, values_of}
 use Rattle.sysv_sem.proofs.CallerLemmas.{length-carried, range-carried}
-use Rattle.ipc_state.specs.Keyed.{KeyedEntry, Keyed}
-use Rattle.ipc_state.specs.Numbered.{entry_of, with_entry, with_new, without_entry}
-use Rattle.ipc_state.specs.Sound.{IsSoundSemset, semaphore_count}
-use Rattle.ipc_state.proofs.Numbering.{sum-with}
+use Rattle.ipc_state.specs.Sound.{IsSoundSemset}
 
 -- a value in its range
 abbrev IsValue : Semaphore → Type 0
@@ -61,27 +56,3 @@ module _ (limits : Limits) where
 
   pub changed_set-sound : (s : Set) (moment : ℕ) → IsSoundSemset limits s → IsSoundSemset limits (changed s moment)
   changed_set-sound s moment h = record { some = h.some; few = h.few; values = h.values }
-
--- ---- all together
-
-abbrev size : ℕ × KeyedEntry Set → ℕ
-size e = length e.1.object.semaphores
-
-pub count-new : (o : Keyed Set) (e : KeyedEntry Set) → semaphore_count (with_new o e) ≡ semaphore_count o + length e.object.semaphores
-count-new o e = omega (arith, sum_by-append size o.entries ((o.next, e) ∷ []), sum_by-cons size (o.next, e) [])
-
--- a set in the place of another that has as many
-pub count-with : (o : Keyed Set) (id : ℕ) (e f : KeyedEntry Set) → entry_of o id ≡ Some e → length f.object.semaphores ≡ length e.object.semaphores
-    → semaphore_count (with_entry o id f) ≡ semaphore_count o
-count-with o id e f there same = omega (arith, sum-with (λ (g : KeyedEntry Set). length g.object.semaphores) o.entries id e f there, same)
-
-no-more : (es : List (ℕ × KeyedEntry Set)) (id : ℕ) → sum_by size (without nat_eq es id) ≤ sum_by size es
-no-more [] id = omega arith
-no-more (g ∷ es) id = by_test (nat_eq g.0 id) (no-more es id)
-  where
-    by_test : (b : Bool) → sum_by size (without nat_eq es id) ≤ sum_by size es → sum_by size (cond b es (g ∷ without nat_eq es id)) ≤ sum_by size (g ∷ es)
-    by_test true rest = omega (arith, sum_by-cons size g es)
-    by_test false rest = omega (arith, sum_by-cons size g es, sum_by-cons size g (without nat_eq es id), rest)
-
-pub count-without : (o : Keyed Set) (id : ℕ) → semaphore_count (without_entry o id) ≤ semaphore_count o
-count-without o id = no-more o.entries id

@@ -36,15 +36,24 @@ holding e x = record { bound = e.bound; perm = e.perm; object = x }
 abbrev pub permitting : {B X : Type 0} → Entry B X → Perm → Entry B X
 permitting e perm = record { bound = e.bound; perm = perm; object = e.object }
 
--- an entry that is bound to another
-abbrev pub rebound : {B X : Type 0} → Entry B X → B → Entry B X
-rebound e b = record { bound = b; perm = e.perm; object = e.object }
+-- an entry that is bound to another, and what its object becomes by that
+abbrev pub rebound : {B X : Type 0} → (X → X) → Entry B X → B → Entry B X
+rebound f e b = record { bound = b; perm = e.perm; object = f e.object }
 
 -- ---- tables
 
 -- another object at a number, if it is there, bound as before
 abbrev pub putting : {B X : Type 0} → ObjectsOf B X → ℕ → X → ObjectsOf B X
 putting o n x = unwrap_or (option_map (λ e. with_entry o n (holding e x)) (entry_of o n)) o
+
+-- without what an entry of the number is bound to, if it is there
+abbrev pub without_bound : {B X : Type 0} → (X → X) → B → ObjectsOf B X → ℕ → Option (Entry B X) → ObjectsOf B X
+without_bound f none o n None = o
+without_bound f none o n (Some e) = with_entry o n (rebound f e none)
+
+-- with an object that is bound to none any more
+abbrev pub unbound : {B X : Type 0} → (X → X) → B → ObjectsOf B X → ℕ → ObjectsOf B X
+unbound f none o n = without_bound f none o n (entry_of o n)
 
 -- those for which a test stands are left
 abbrev pub kept_if : {B X : Type 0} → (ℕ × Entry B X → Bool) → ObjectsOf B X → ObjectsOf B X

@@ -1,5 +1,5 @@
 -- What tables are, once a `&mut` to something in them has ended.
-use Rattle.std.specs.Prelude.{◌≡◌, ℕ, Option, Some, IfSome}
+use Rattle.std.specs.Prelude.{◌≡◌, ℕ, Option, Some}
 use Rattle.std.specs.Borrow.{Fml, RattleType, MutBor, LendsSo}
 use Rattle.ipc_state.specs.declared.bound.Bound as bound
 use Rattle.ipc_state.specs.declared.objects.Entry.{Entry}
@@ -21,10 +21,6 @@ HasPutObject {B} {X} old number x new =
     (e : Entry B X) → entry_of old.objects number ≡ Some e
     → new ≡ record old { objects = with_entry old.objects number (holding e x) }
 
--- the object that is ready is this now, bound as before, and all else is as before
-abbrev pub HasMadeReady : {B X : Type 0} → HeldObjects B X → X → HeldObjects B X → Type 0
-HasMadeReady old x new = IfSome old.ready (λ r. new ≡ record old { ready = Some (r.0, x) })
-
 -- the number has the last value written through r, and at `None` nothing has changed
 module _ (T : RattleType) where
   abbrev pub lends_numbered : MutBor (Table T.Denot) → ℕ → Option (MutBor T.Denot) → Fml
@@ -34,6 +30,3 @@ module _ (B T D : RattleType) (b : bound.Ghosts B.Denot D.Denot) where
   abbrev pub lends_object : MutBor (HeldObjects B.Denot T.Denot) → ℕ → Option (MutBor T.Denot) → Fml
   lends_object o number r =
       LendsSo (the_row B T D b) T o r (λ n x. HasPutObject o.now number x n) (λ n. n ≡ o.now)
-
-  abbrev pub lends_ready : MutBor (HeldObjects B.Denot T.Denot) → Option (MutBor T.Denot) → Fml
-  lends_ready o r = LendsSo (the_row B T D b) T o r (λ n x. HasMadeReady o.now x n) (λ n. n ≡ o.now)

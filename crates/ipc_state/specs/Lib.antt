@@ -4,6 +4,7 @@ pub mod Keyed
 pub mod Named
 pub mod Waiting
 pub mod Descriptors
+pub mod Kinds
 pub mod Opening
 pub mod State
 pub mod Sound

@@ -1,90 +1,63 @@
 -- What keeps a named object (mq_overview(7)): it is there while it has a name, or while a descriptor of some process is
 -- open on it. Who is registered with a queue (mq_notify(3)) is so by a descriptor.
-use Rattle.std.specs.Prelude.{ℕ, Bool, true, false, not, ◌||◌, ◌&&◌, nat_eq, if◌then◌else◌, List, [], option_map}
+use Rattle.std.specs.Prelude.{ℕ, Bool, true, false, ◌||◌, ◌&&◌, nat_eq, if◌then◌else◌, List, [], option_map}
 use Rattle.std.specs.Prelude.{Option, Some, None, is_some, unwrap_or}
-use Rattle.std.specs.Int.RustNames.{bit_and}
 use Rattle.std.specs.List.{list_any}
-use Rattle.std.specs.Result.{is_ok}
 use Rattle.ipc_base.specs.Table.{value_at, seen_as}
-use Rattle.ipc_keys.specs.Names.{check_name, is_none}
 use Rattle.ipc_keys.specs.declared.check.NameKind.{NameKind}
 use Rattle.ipc_keys.specs.declared.check.NameKind.TheVariants as names
 use Rattle.posix_mq.specs.Queue.{Queue as Mq}
 use Rattle.posix_mq.specs.declared.queue.Registration.{Registration}
-use Rattle.shm_segment.specs.Segment.{Segment}
 use Rattle.ipc_state.specs.declared.descriptors.Descriptor.{Descriptor}
-use Rattle.ipc_state.specs.declared.descriptors.Opened.{Opened}
+use Rattle.ipc_state.specs.declared.objects.Entry.{Entry}
+use Rattle.ipc_state.specs.declared.parked.Object.{Object}
+use Rattle.ipc_state.specs.declared.parked.ObjectKind.{ObjectKind}
+use Rattle.ipc_state.specs.declared.parked.ObjectKind.TheVariants as kinds
 use Rattle.ipc_state.specs.declared.processes.Process.{Process}
 use Rattle.ipc_state.specs.Descriptors.{Table}
 use Rattle.ipc_state.specs.Bound.{kept_if}
-use Rattle.ipc_state.specs.Named.{Named, NamedEntry, is_own}
+use Rattle.ipc_state.specs.Kinds.{EntryOf, Objects, Those, has_access, keeps, of_kind}
+use Rattle.ipc_state.specs.Named.{Named, NamedEntry}
 use Rattle.ipc_state.specs.Numbered.{Numbered, entry_of, with_entry}
 
 -- whether two kinds are one
-abbrev pub same_kind : NameKind → NameKind → Bool
-same_kind names.Mq names.Mq = true
-same_kind names.Psem names.Psem = true
-same_kind names.Pshm names.Pshm = true
+abbrev pub same_name_kind : NameKind → NameKind → Bool
+same_name_kind names.Mq names.Mq = true
+same_name_kind names.Psem names.Psem = true
+same_name_kind names.Pshm names.Pshm = true
+same_name_kind kind this = false
+
+abbrev pub same_kind : ObjectKind → ObjectKind → Bool
+same_kind kinds.MsgQueue kinds.MsgQueue = true
+same_kind kinds.Semset kinds.Semset = true
+same_kind (kinds.Named kind) (kinds.Named this) = same_name_kind kind this
 same_kind kind this = false
 
 -- whether what it is open on is this
-abbrev pub is_on : Opened → Opened → Bool
+abbrev pub is_on : Object → Object → Bool
 is_on this on = same_kind on.kind this.kind && nat_eq on.number this.number
 
 -- whether some descriptor of these processes is open on it
-abbrev pub is_open : List (ℕ × Process) → Opened → Bool
+abbrev pub is_open : List (ℕ × Process) → Object → Bool
 is_open processes this = list_any (λ p. list_any (λ d. is_on this d.1.on) p.1.descriptors) processes
 
-abbrev pub has_name : {X : Type 0} → NamedEntry X → Bool
-has_name e = not (is_none e.bound)
-
 -- an object of a kind, as a descriptor is open on it
-abbrev pub opened_as : NameKind → ℕ → Opened
-opened_as kind n = record { kind = kind; number = n }
+abbrev pub object_as : ObjectKind → ℕ → Object
+object_as kind n = record { kind = kind; number = n }
 
--- whether an object of the kind has a name, or a descriptor is open on it
-abbrev pub stays : {X : Type 0} → NameKind → List (ℕ × Process) → ℕ × NamedEntry X → Bool
-stays kind processes e = has_name e.1 || is_open processes (opened_as kind e.0)
+abbrev pub opened_as : NameKind → ℕ → Object
+opened_as kind n = object_as (kinds.Named kind) n
+
+-- whether an object of the kind stays by itself, by this test, or a descriptor is open on it
+abbrev pub stays_by : {B X : Type 0} → (Entry B X → Bool) → ObjectKind → List (ℕ × Process) → ℕ × Entry B X → Bool
+stays_by test kind processes e = test e.1 || is_open processes (object_as kind e.0)
+
+abbrev pub stays : (kind : ObjectKind) → List (ℕ × Process) → ℕ × EntryOf kind → Bool
+stays kind processes e = stays_by (λ (d : EntryOf kind). keeps kind d.bound d.object) kind processes e
 
 -- those that stay
-abbrev pub still_open : {X : Type 0} → NameKind → List (ℕ × Process) → Named X → Named X
+abbrev pub still_open : (kind : ObjectKind) → List (ℕ × Process) → Those kind → Those kind
 still_open kind processes o = kept_if (stays kind processes) o
-
--- ---- kinds
-
--- what an object of a kind is
-abbrev pub Content : NameKind → Type 0
-Content names.Mq = Mq
-Content names.Psem = ℕ
-Content names.Pshm = Segment
-
--- the objects with a name of each kind
-pub record NamedObjects : Type 0 where
-  pub mq : Named Mq
-  pub psem : Named ℕ
-  pub pshm : Named Segment
-
--- those of a kind
-abbrev pub of_kind : NamedObjects → (kind : NameKind) → Named (Content kind)
-of_kind o names.Mq = o.mq
-of_kind o names.Psem = o.psem
-of_kind o names.Pshm = o.pshm
-
--- with others of a kind
-abbrev pub with_kind : NamedObjects → (kind : NameKind) → Named (Content kind) → NamedObjects
-with_kind o names.Mq others = record o { mq = others }
-with_kind o names.Psem others = record o { psem = others }
-with_kind o names.Pshm others = record o { pshm = others }
-
--- with those of each kind changed so
-abbrev pub each_kind : ((kind : NameKind) → Named (Content kind) → Named (Content kind)) → NamedObjects → NamedObjects
-each_kind f o = record { mq = f names.Mq o.mq; psem = f names.Psem o.psem; pshm = f names.Pshm o.pshm }
-
--- an object of the kind may be open with these flags: a queue to read, to write, or both; a segment to read, or both
-abbrev pub has_access : NameKind → ℕ → Bool
-has_access names.Mq flags = not (nat_eq (bit_and flags 3) 3)
-has_access names.Psem flags = true
-has_access names.Pshm flags = nat_eq (bit_and flags 1) 0
 
 -- ---- registrations
 
@@ -127,11 +100,11 @@ with_table processes pid table =
     processes
 
 -- what it is open on is there
-abbrev pub is_there_for : NamedObjects → Opened → Bool
+abbrev pub is_there_for : Objects → Object → Bool
 is_there_for o on = is_some (entry_of (of_kind o on.kind) on.number)
 
 -- what a descriptor is open on is there, and it may be open so
-abbrev pub is_sound_descriptor : NamedObjects → Descriptor → Bool
+abbrev pub is_sound_descriptor : Objects → Descriptor → Bool
 is_sound_descriptor o d = is_there_for o d.on && has_access d.on.kind d.flags
 
 -- a registration, if there is one, is by a descriptor that is open on the queue of this number
@@ -143,7 +116,3 @@ is_by_descriptor processes n (Some r) =
 -- whoever is registered with the queue has it open, by the descriptor of the registration
 abbrev pub is_registered : List (ℕ × Process) → ℕ × NamedEntry Mq → Bool
 is_registered processes e = is_by_descriptor processes e.0 e.1.object.registration
-
--- a name, if there is one, is one that an object of the kind may have; whoever made the object owns it
-abbrev pub is_named_so : {X : Type 0} → NameKind → ℕ × NamedEntry X → Bool
-is_named_so kind e = (is_none e.1.bound || is_ok (check_name kind e.1.bound)) && is_own e.1.perm

@@ -20,10 +20,15 @@ use Rattle.sysv_sem.specs.Set.{Set}
 use Rattle.ipc_state.specs.declared.processes.Process.{Process}
 use Rattle.ipc_state.specs.Descriptors.{Table}
 use Rattle.ipc_state.specs.Numbered.{Numbered, AreNumbered, entry_of}
-use Rattle.ipc_state.specs.Keyed.{Keyed, AreKeyed}
-use Rattle.ipc_state.specs.Named.{Named, AreNamedObjects}
-use Rattle.ipc_state.specs.Opening.{Content, NamedObjects, is_named_so, is_registered, is_sound_descriptor, stays}
-use Rattle.ipc_state.specs.State.{State, named_in, named_of}
+use Rattle.ipc_state.specs.declared.objects.Entry.{Entry}
+use Rattle.ipc_state.specs.declared.parked.ObjectKind.{ObjectKind}
+use Rattle.ipc_state.specs.declared.parked.ObjectKind.TheVariants as kinds
+use Rattle.ipc_state.specs.Bound.{AreBound, ObjectsOf}
+use Rattle.ipc_state.specs.Keyed.{Keyed}
+use Rattle.ipc_state.specs.Kinds.{Content, Objects, Those, is_bound_so, no_bound, same_bound}
+use Rattle.ipc_state.specs.Named.{Named}
+use Rattle.ipc_state.specs.Opening.{is_registered, is_sound_descriptor, stays}
+use Rattle.ipc_state.specs.State.{State, named_of, objects_in}
 use Rattle.ipc_state.specs.Waiting.{AreSoundWaits}
 
 -- a message has a type above 0 and at most msgmax bytes
@@ -54,11 +59,6 @@ pub record IsSoundSemset (limits : Limits) (s : Set) : Type 0 where
 abbrev pub semaphore_count : Keyed Set → ℕ
 semaphore_count o = sum_by (λ e. length e.1.object.semaphores) o.entries
 
--- each set is sound, and together they have at most semmns semaphores
-pub record AreSoundSemsets (limits : Limits) (o : Keyed Set) : Type 0 where
-  pub keyed : AreKeyed limits.semmni (IsSoundSemset limits) o
-  pub count : semaphore_count o ≤ limits.semmns
-
 -- a set has the semaphore
 abbrev pub has_semaphore : Keyed Set → Key → Bool
 has_semaphore sets k =
@@ -85,61 +85,67 @@ pub record IsSoundMq (limits : Limits) (q : Mq) : Type 0 where
   pub count : length q.messages ≤ q.maxmsg
   pub messages : All (IsSoundMqMessage q.msgsize) q.messages
 
--- each object with a name of a kind is sound, there are no more than the most, and each has a name that it may have, or
--- is open
-pub record AreHeld {X : Type 0} (most : ℕ) (IsSoundOne : X → Type 0) (kind : NameKind)
-    (processes : List (ℕ × Process)) (o : Named X) : Type 0 where
-  pub named : AreNamedObjects most IsSoundOne o
-  pub forms : All (λ e. is_named_so kind e ≡ true) o.entries
-  pub stay : All (λ e. stays kind processes e ≡ true) o.entries
+-- each object is sound, there are no more than the most, each is bound as it may be, by one test, and stays, by another
+pub record AreHeld {B X : Type 0} (same : B → B → Bool) (none : B) (most : ℕ) (IsSoundOne : X → Type 0)
+    (is_proper does_stay : ℕ × Entry B X → Bool) (o : ObjectsOf B X) : Type 0 where
+  pub bound : AreBound same none most IsSoundOne o
+  pub forms : All (λ e. is_proper e ≡ true) o.entries
+  pub stay : All (λ e. does_stay e ≡ true) o.entries
 
 -- how many bytes the segments have together
 abbrev pub segment_bytes : Named Segment → ℕ
 segment_bytes o = sum_by (λ e. length e.1.object.bytes) o.entries
 
 -- how many objects of a kind there may be
-abbrev pub most_of : Limits → NameKind → ℕ
-most_of limits names.Mq = limits.queues
-most_of limits names.Psem = limits.named_semaphores
-most_of limits names.Pshm = limits.segments
+abbrev pub most_of : Limits → ObjectKind → ℕ
+most_of limits kinds.MsgQueue = limits.msgmni
+most_of limits kinds.Semset = limits.semmni
+most_of limits (kinds.Named names.Mq) = limits.queues
+most_of limits (kinds.Named names.Psem) = limits.named_semaphores
+most_of limits (kinds.Named names.Pshm) = limits.segments
 
 -- an object of a kind by itself: the value of a semaphore is no greater than the greatest
-abbrev pub IsSoundContent : Limits → (kind : NameKind) → Content kind → Type 0
-IsSoundContent limits names.Mq q = IsSoundMq limits q
-IsSoundContent limits names.Psem value = value ≤ sem_value_max
-IsSoundContent limits names.Pshm x = ⊤
+abbrev pub IsSoundContent : Limits → (kind : ObjectKind) → Content kind → Type 0
+IsSoundContent limits kinds.MsgQueue q = IsSoundMsgQueue limits q
+IsSoundContent limits kinds.Semset s = IsSoundSemset limits s
+IsSoundContent limits (kinds.Named names.Mq) q = IsSoundMq limits q
+IsSoundContent limits (kinds.Named names.Psem) value = value ≤ sem_value_max
+IsSoundContent limits (kinds.Named names.Pshm) x = ⊤
 
--- those of a kind together: whoever is registered with a queue has it open; the segments have no more bytes than the
--- limit says
-abbrev pub AreSoundTogether : Limits → List (ℕ × Process) → (kind : NameKind) → Named (Content kind) → Type 0
-AreSoundTogether limits processes names.Mq o = All (λ e. is_registered processes e ≡ true) o.entries
-AreSoundTogether limits processes names.Psem o = ⊤
-AreSoundTogether limits processes names.Pshm o = segment_bytes o ≤ limits.segment_bytes
+-- those of a kind together: the sets have no more semaphores, and the segments no more bytes, than the limits say;
+-- whoever is registered with a queue has it open
+abbrev pub AreSoundTogether : Limits → List (ℕ × Process) → (kind : ObjectKind) → Those kind → Type 0
+AreSoundTogether limits processes kinds.MsgQueue o = ⊤
+AreSoundTogether limits processes kinds.Semset o = semaphore_count o ≤ limits.semmns
+AreSoundTogether limits processes (kinds.Named names.Mq) o = All (λ e. is_registered processes e ≡ true) o.entries
+AreSoundTogether limits processes (kinds.Named names.Psem) o = ⊤
+AreSoundTogether limits processes (kinds.Named names.Pshm) o = segment_bytes o ≤ limits.segment_bytes
 
 -- the objects of a kind, each by itself and all together
-pub record AreSoundNamed (limits : Limits) (processes : List (ℕ × Process)) (kind : NameKind)
-    (o : Named (Content kind)) : Type 0 where
-  pub held : AreHeld (most_of limits kind) (IsSoundContent limits kind) kind processes o
+pub record AreSound (limits : Limits) (processes : List (ℕ × Process)) (kind : ObjectKind)
+    (o : Those kind) : Type 0 where
+  pub held : AreHeld (same_bound kind) (no_bound kind) (most_of limits kind) (IsSoundContent limits kind)
+      (λ e. is_bound_so kind e.1.bound e.1.perm) (stays kind processes) o
   pub together : AreSoundTogether limits processes kind o
 
 -- the numbers of a process's descriptors rise, each below the limit; what each is open on is there
-pub record AreSoundDescriptors (limits : Limits) (o : NamedObjects) (table : Table) : Type 0 where
+pub record AreSoundDescriptors (limits : Limits) (o : Objects) (table : Table) : Type 0 where
   pub numbers : IsRising 0 (keys_of table) limits.descriptors
   pub each : All (λ d. is_sound_descriptor o d.1 ≡ true) table
 
 -- pids rise, and each process's descriptors are sound
-pub record AreSoundProcesses (limits : Limits) (o : NamedObjects) (processes : Numbered Process) : Type 0 where
+pub record AreSoundProcesses (limits : Limits) (o : Objects) (processes : Numbered Process) : Type 0 where
   pub numbered : AreNumbered limits.processes processes
   pub descriptors : All (λ p. AreSoundDescriptors limits o p.1.descriptors) processes.entries
 
 -- each part is sound
 pub record HasSoundParts (limits : Limits) (s : State) : Type 0 where
-  pub processes : AreSoundProcesses limits (named_in s) s.processes
+  pub processes : AreSoundProcesses limits (objects_in s) s.processes
   pub wait : AreSoundWaits limits s.wait
   pub undo : AreAdjustments (keys_of s.processes.entries) s.semset s.undo
-  pub msg : AreKeyed limits.msgmni (IsSoundMsgQueue limits) s.msg
-  pub semset : AreSoundSemsets limits s.semset
-  pub named : (kind : NameKind) → AreSoundNamed limits s.processes.entries kind (named_of s kind)
+  pub msg : AreSound limits s.processes.entries kinds.MsgQueue s.msg
+  pub semset : AreSound limits s.processes.entries kinds.Semset s.semset
+  pub named : (kind : NameKind) → AreSound limits s.processes.entries (kinds.Named kind) (named_of s kind)
 
 -- the body of a reply is no longer than the longest one
 abbrev pub FitsBody : Limits → PlainBody → Type 0

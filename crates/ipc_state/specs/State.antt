@@ -23,11 +23,15 @@ use Rattle.ipc_state.specs.declared.descriptors.Descriptor.{Descriptor}
 use Rattle.ipc_state.specs.declared.processes.Process.{Process}
 use Rattle.ipc_state.specs.Descriptors.{Table, opened, with_flags}
 use Rattle.ipc_state.specs.Numbered.{Numbered, none_yet, entry_of, is_full, with_entry, with_new, without_entry}
-use Rattle.ipc_state.specs.Bound.{holding, putting}
+use Rattle.ipc_state.specs.declared.parked.ObjectKind.{ObjectKind}
+use Rattle.ipc_state.specs.declared.parked.ObjectKind.TheVariants as kinds
+use Rattle.ipc_state.specs.Bound.{holding, putting, unbound}
 use Rattle.ipc_state.specs.Keyed.{Keyed, KeyedEntry}
-use Rattle.ipc_state.specs.Named.{Named, unnamed}
-use Rattle.ipc_state.specs.Opening.{Content, NamedObjects, each_kind, is_by, is_on, of_kind, opened_as, still_open}
-use Rattle.ipc_state.specs.Opening.{with_kind, without_registrations, descriptors_of, descriptor_at, with_table}
+use Rattle.ipc_state.specs.Kinds.{BoundOf, Content, EntryOf, Objects, Those, each_open, no_bound, of_kind, parted}
+use Rattle.ipc_state.specs.Kinds.{with_kind}
+use Rattle.ipc_state.specs.Named.{Named}
+use Rattle.ipc_state.specs.Opening.{is_by, is_on, opened_as, still_open}
+use Rattle.ipc_state.specs.Opening.{without_registrations, descriptors_of, descriptor_at, with_table}
 use Rattle.ipc_state.specs.Waiting.{PlainWaiting}
 
 pub record State : Type 0 where
@@ -115,44 +119,57 @@ undone sets p = fold (adjusted p.0) sets (fin.entries p.1)
 abbrev pub without_adjustments : ℕ → Option ℕ → State → State
 without_adjustments set num s = record s { undo = seen_as (cleared set num) s.undo }
 
--- ---- named objects
+-- ---- registrations
 
 -- without the registrations that this process made, or any, by this descriptor, or any
 abbrev pub deregistered_by : Option ℕ → Option ℕ → State → State
 deregistered_by pid fd s = record s { mq = without_registrations (is_by pid fd) s.mq }
 
+-- ---- objects of a kind
+
 -- those of every kind
-abbrev pub named_in : State → NamedObjects
-named_in s = record { mq = s.mq; psem = s.psem; pshm = s.pshm }
+abbrev pub objects_in : State → Objects
+objects_in s = record { msg = s.msg; semset = s.semset; named = record { mq = s.mq; psem = s.psem; pshm = s.pshm } }
 
 -- those of a kind
-abbrev pub named_of : State → (kind : NameKind) → Named (Content kind)
-named_of s kind = of_kind (named_in s) kind
+abbrev pub objects_of : State → (kind : ObjectKind) → Those kind
+objects_of s kind = of_kind (objects_in s) kind
+
+abbrev pub named_of : State → (kind : NameKind) → Those (kinds.Named kind)
+named_of s kind = objects_of s (kinds.Named kind)
 
 -- with others
-abbrev pub with_named : State → NamedObjects → State
-with_named s o = record s { mq = o.mq; psem = o.psem; pshm = o.pshm }
+abbrev pub with_objects : State → Objects → State
+with_objects s o =
+    record s { msg = o.msg; semset = o.semset; mq = o.named.mq; psem = o.named.psem; pshm = o.named.pshm }
 
--- objects go that have no name and on which no descriptor is open
+abbrev pub with_objects_of : State → (kind : ObjectKind) → Those kind → State
+with_objects_of s kind others = with_objects s (with_kind (objects_in s) kind others)
+
+-- objects go that do not stay by themselves and on which no descriptor is open
 abbrev pub swept : State → State
-swept s = with_named s (each_kind (λ kind. still_open kind s.processes.entries) (named_in s))
+swept s = with_objects s (each_open (λ kind. still_open kind s.processes.entries) (objects_in s))
 
--- with others of a kind
-abbrev pub with_named_of : State → (kind : NameKind) → Named (Content kind) → State
-with_named_of s kind others = with_named s (with_kind (named_in s) kind others)
+-- with another object of a kind at a number, if it is there, bound as before
+abbrev pub with_object_of : State → (kind : ObjectKind) → ℕ → Content kind → State
+with_object_of s kind n x = with_objects_of s kind (putting (objects_of s kind) n x)
 
--- with another object of a kind at a number, if it is there, under the same name
-abbrev pub with_object_of : State → (kind : NameKind) → ℕ → Content kind → State
-with_object_of s kind n x = with_named_of s kind (putting (named_of s kind) n x)
+-- with a new object of a kind
+abbrev pub with_entry_of : State → (kind : ObjectKind) → EntryOf kind → State
+with_entry_of s kind e = with_objects_of s kind (with_new (objects_of s kind) e)
 
--- with a new object of a kind, of this name, owner and mode
-abbrev pub with_new_of : State → (kind : NameKind) → List ℕ → Cred → ℕ → Content kind → State
-with_new_of s kind name cred mode x =
-    with_named_of s kind (with_new (named_of s kind) (record { bound = name; perm = perm_of cred mode; object = x }))
+-- with a new object of a kind, bound so, of this owner and mode
+abbrev pub with_new_of : State → (kind : ObjectKind) → BoundOf kind → Cred → ℕ → Content kind → State
+with_new_of s kind bound cred mode x =
+    with_entry_of s kind (record { bound = bound; perm = perm_of cred mode; object = x })
 
--- the name of an object of a kind is unlinked, and the object goes, if it is not open
-abbrev pub unlinked : State → NameKind → ℕ → State
-unlinked s kind n = swept (with_named_of s kind (unnamed (named_of s kind) n))
+-- an object of a kind is bound to none any more, and goes, if it is not open
+abbrev pub unlinked : State → (kind : ObjectKind) → ℕ → State
+unlinked s kind n = swept (with_objects_of s kind (unbound (parted kind) (no_bound kind) (objects_of s kind) n))
+
+-- an object of a kind is taken out
+abbrev pub removed : State → (kind : ObjectKind) → ℕ → State
+removed s kind n = with_objects_of s kind (without_entry (objects_of s kind) n)
 
 -- ---- processes
 
@@ -237,11 +254,11 @@ has_all_mqs limits s = is_full limits.queues s.mq
 
 -- with another queue at a number, if it is there, under the same name
 abbrev pub with_mq : State → ℕ → Mq → State
-with_mq s n q = with_object_of s names.Mq n q
+with_mq s n q = with_object_of s (kinds.Named names.Mq) n q
 
 -- with a new queue of this name, owner and mode
 abbrev pub with_new_mq : State → List ℕ → Cred → ℕ → Mq → State
-with_new_mq s name cred mode q = with_new_of s names.Mq name cred mode q
+with_new_mq s name cred mode q = with_new_of s (kinds.Named names.Mq) name cred mode q
 
 -- ---- named semaphores
 
@@ -251,11 +268,11 @@ has_all_psems limits s = is_full limits.named_semaphores s.psem
 
 -- another value at a number, if it is there, under the same name
 abbrev pub with_psem : State → ℕ → ℕ → State
-with_psem s n value = with_object_of s names.Psem n value
+with_psem s n value = with_object_of s (kinds.Named names.Psem) n value
 
 -- with a new semaphore of this name, owner, mode and value
 abbrev pub with_new_psem : State → List ℕ → Cred → ℕ → ℕ → State
-with_new_psem s name cred mode value = with_new_of s names.Psem name cred mode value
+with_new_psem s name cred mode value = with_new_of s (kinds.Named names.Psem) name cred mode value
 
 -- ---- segments
 
@@ -265,11 +282,11 @@ has_all_pshms limits s = is_full limits.segments s.pshm
 
 -- another segment at a number, if it is there, under the same name
 abbrev pub with_pshm : State → ℕ → Segment → State
-with_pshm s n x = with_object_of s names.Pshm n x
+with_pshm s n x = with_object_of s (kinds.Named names.Pshm) n x
 
 -- with a new segment of this name, owner and mode, which has no bytes
 abbrev pub with_new_pshm : State → List ℕ → Cred → ℕ → State
-with_new_pshm s name cred mode = with_new_of s names.Pshm name cred mode empty_segment
+with_new_pshm s name cred mode = with_new_of s (kinds.Named names.Pshm) name cred mode empty_segment
 
 -- ---- calls that wait on POSIX queues
 

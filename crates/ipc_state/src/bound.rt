@@ -74,6 +74,10 @@ pub trait Bound: Drop {
             → is_vacant directory.old other ≡ false → is_vacant directory.new other ≡ false) }
         ensures err { OnErr result (directory.new ≡ directory.old) };
 
+    /// Makes it the one that names none.
+    fn lose(&mut self)
+        ensures { self.new ≡ none };
+
     /// Takes it out.
     fn unbind(&self, directory: &mut Self::Directory)
         ensures names { (other : Self) → number_in directory.new other

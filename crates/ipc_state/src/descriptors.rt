@@ -7,21 +7,14 @@ ghost use Rattle.ipc_state.specs.Descriptors.{Table, lowest_unused, opened, with
 ghost use Rattle.ipc_state.specs.Descriptors.{most_descriptors, descriptor_row};
 
 use crate::numbered::{HasNumber, rise};
-use ipc_keys::NameKind;
+use crate::parked::Object;
 use std::alloc::{AllocError, Global};
 use std::marker::Model;
-
-/// An object on which a descriptor is open: its kind and its number.
-#[derive(Clone, Copy, Debug, PartialEq, Eq)]
-pub struct Opened {
-    pub kind: NameKind,
-    pub number: u32,
-}
 
 /// What a descriptor is open on, and the flags that still mean something after the open.
 #[derive(Clone, Copy, Debug, PartialEq, Eq)]
 pub struct Descriptor {
-    pub on: Opened,
+    pub on: Object,
     pub flags: u32,
 }
 

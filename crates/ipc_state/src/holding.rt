@@ -1,22 +1,27 @@
 //! What keeps an object with a name: the name, or a descriptor that is open on it. See mq_overview(7), sem_overview(7)
 //! and shm_overview(7).
 
-ghost use Rattle.std.specs.Prelude.{◌≡◌, ◌↔◌, ◌&&◌, ◌||◌, true, map, All, IsTrue, None, filter, is_some};
+ghost use Rattle.std.specs.Prelude.{◌≡◌, ◌↔◌, ◌&&◌, ◌||◌, not, true, map, [], All, IsTrue, None, filter, is_some};
 ghost use Rattle.std.specs.List.{list_all, list_any};
 ghost use Rattle.std.specs.Result.{is_ok};
+ghost use Rattle.std.specs.Str.{bytes_eq};
 ghost use Rattle.ipc_keys.specs.Names.{check_name, is_none};
-ghost use Rattle.ipc_state.specs.Named.{is_own};
+ghost use Rattle.ipc_state.specs.declared.parked.ObjectKind.TheVariants as kinds;
+ghost use Rattle.ipc_state.specs.Bound.{AreBound, kept_if};
 ghost use Rattle.ipc_state.specs.Held.{left};
-ghost use Rattle.ipc_state.specs.Opening.{descriptor_at, has_access, is_named_so, is_on, is_open, is_sound_descriptor};
+ghost use Rattle.ipc_state.specs.Kinds.{has_access, keeps_by};
+ghost use Rattle.ipc_state.specs.Named.{is_named_so, is_own};
 ghost use Rattle.ipc_state.specs.Numbered.{entry_of};
-ghost use Rattle.ipc_state.specs.Opening.{stays, still_open};
+ghost use Rattle.ipc_state.specs.Opening.{descriptor_at, is_on, is_open, is_sound_descriptor, stays_by};
 ghost use Rattle.ipc_state.specs.Sound.{AreHeld, AreSoundDescriptors, AreSoundProcesses};
-ghost use Rattle.ipc_state.specs.State.{named_in, named_of, swept};
+ghost use Rattle.ipc_state.specs.State.{named_of, objects_in, objects_of, swept};
 ghost use Rattle.ipc_state.specs.Tables.{item_row, numbered_of};
 
-use crate::descriptors::{Descriptor, DescriptorRow, Opened};
+use crate::bound::Bound;
+use crate::descriptors::{Descriptor, DescriptorRow};
 use crate::numbered::{Item, Numbered};
-use crate::objects::{Entry, NamedEntry, ObjectTable};
+use crate::objects::{Entry, Leaves, NamedEntry, ObjectTable};
+use crate::parked::{Object, ObjectKind};
 use crate::processes::Process;
 use crate::rows::Rows;
 use crate::sound::SoundAlone;
@@ -30,9 +35,12 @@ impl State {
     pub(crate) fn sweep(&mut self)
         ensures { self.new ≡ left self.old (swept self.old.state) }
     {
-        self.mq.sweep(self.processes.items(), NameKind::Mq);
-        self.psem.sweep(self.processes.items(), NameKind::Psem);
-        self.pshm.sweep(self.processes.items(), NameKind::Pshm);
+        self.mq
+            .sweep(self.processes.items(), ObjectKind::Named(NameKind::Mq));
+        self.psem
+            .sweep(self.processes.items(), ObjectKind::Named(NameKind::Psem));
+        self.pshm
+            .sweep(self.processes.items(), ObjectKind::Named(NameKind::Pshm));
         self.release();
     }
 
@@ -48,7 +56,8 @@ impl State {
 
     /// Whether the processes are sound, with their descriptors.
     pub(crate) fn are_processes_sound(&self) -> bool
-        ensures { IsTrue result ↔ AreSoundProcesses self.now.limits (named_in self.now.state) self.now.state.processes }
+        ensures { IsTrue result
+            ↔ AreSoundProcesses self.now.limits (objects_in self.now.state) self.now.state.processes }
     {
         self.processes.are_numbered(self.limits.processes)
             && self.have_sound_descriptors(self.processes.items())
@@ -56,7 +65,7 @@ impl State {
 
     fn have_sound_descriptors(&self, items: &[Item<Process>]) -> bool
         ensures { IsTrue result
-            ↔ All (λ p. AreSoundDescriptors self.now.limits (named_in self.now.state) p.value.descriptors) items.now }
+            ↔ All (λ p. AreSoundDescriptors self.now.limits (objects_in self.now.state) p.value.descriptors) items.now }
     {
         for item in items {
             if !self.has_sound_descriptors(item) {
@@ -68,7 +77,7 @@ impl State {
 
     fn has_sound_descriptors(&self, item: &Item<Process>) -> bool
         ensures { IsTrue result
-            ↔ AreSoundDescriptors self.now.limits (named_in self.now.state) item.now.value.descriptors }
+            ↔ AreSoundDescriptors self.now.limits (objects_in self.now.state) item.now.value.descriptors }
     {
         let descriptors = &item.value.descriptors;
         descriptors.rise(self.limits.descriptors) && self.are_open(descriptors.rows())
@@ -76,20 +85,30 @@ impl State {
 
     /// Whether each of some descriptors is open on what is there, and has a way in which it is.
     fn are_open(&self, rows: &[DescriptorRow]) -> bool
-        ensures { result ≡ list_all (λ r. is_sound_descriptor (named_in self.now.state) r.descriptor) rows.now }
+        ensures { result ≡ list_all (λ r. is_sound_descriptor (objects_in self.now.state) r.descriptor) rows.now }
     {
         rows.iter().all(|row| self.is_open(&row.descriptor))
     }
 
     fn is_open(&self, descriptor: &Descriptor) -> bool
-        ensures { result ≡ is_sound_descriptor (named_in self.now.state) descriptor.now }
+        ensures { result ≡ is_sound_descriptor (objects_in self.now.state) descriptor.now }
     {
-        let Opened { kind, number } = descriptor.on;
+        let Object { kind, number } = descriptor.on;
         self.is_there(kind, number) && has_access(kind, descriptor.flags)
     }
 
     /// Whether an object of a kind is there.
-    fn is_there(&self, kind: NameKind, number: u32) -> bool
+    fn is_there(&self, kind: ObjectKind, number: u32) -> bool
+        ensures { result ≡ is_some (entry_of (objects_of self.now.state kind) number) }
+    {
+        match kind {
+            ObjectKind::MsgQueue => self.msg.get(number).is_some(),
+            ObjectKind::Semset => self.semset.get(number).is_some(),
+            ObjectKind::Named(kind) => self.is_named_there(kind, number),
+        }
+    }
+
+    fn is_named_there(&self, kind: NameKind, number: u32) -> bool
         ensures { result ≡ is_some (entry_of (named_of self.now.state kind) number) }
     {
         match kind {
@@ -100,28 +119,51 @@ impl State {
     }
 }
 
-impl<T: Drop> ObjectTable<Name, T> {
-    /// Those go that have no name and on which no descriptor of these processes is open. Nothing is ready then.
-    pub(crate) fn sweep(&mut self, processes: &[Item<Process>], kind: NameKind)
+impl<B: Bound, T: Leaves> ObjectTable<B, T> {
+    /// Those go that do not stay by themselves and on which no descriptor of these processes is open. Nothing is ready
+    /// then.
+    pub(crate) fn sweep(&mut self, processes: &[Item<Process>], kind: ObjectKind)
         ensures { self.new
-            ≡ record { objects = still_open kind (map item_row processes.now) self.old.objects; ready = None } }
+            ≡ record {
+              objects = kept_if (stays_by (λ e. keeps_by B.same B.none e.bound (T.leaves e.object)) kind
+                  (map item_row processes.now)) self.old.objects;
+              ready = None;
+            } }
     {
         let _before = self.release();
         self.objects.items.sweep(processes, kind);
     }
 }
 
-impl<T: Drop> Rows<Entry<Name, T>> {
+impl<B: Bound, T: Leaves> Rows<Entry<B, T>> {
     /// The same.
-    fn sweep(&mut self, processes: &[Item<Process>], kind: NameKind)
+    fn sweep(&mut self, processes: &[Item<Process>], kind: ObjectKind)
         ensures rows { map item_row self.new.items
-            ≡ filter (stays kind (map item_row processes.now)) (map item_row self.old.items) }
+            ≡ filter (stays_by (λ e. keeps_by B.same B.none e.bound (T.leaves e.object)) kind
+            (map item_row processes.now)) (map item_row self.old.items) }
     {
         self.items.retain(|item| stays(processes, item, kind));
     }
 }
 
-impl<T: SoundAlone> ObjectTable<Name, T> {
+impl<B: Bound, T: SoundAlone + Leaves> ObjectTable<B, T> {
+    /// Whether they are sound, and no more than `most`, and each stays by itself, or is open.
+    pub(crate) fn are_kept(
+        &self,
+        most: u32,
+        limits: &Limits,
+        processes: &Numbered<Process>,
+        kind: ObjectKind,
+    ) -> bool
+        ensures { IsTrue result ↔ (AreBound B.same B.none most (T.IsSound limits.now) self.now.objects
+            × All (λ e. stays_by (λ d. keeps_by B.same B.none d.bound (T.leaves d.object)) kind
+            (numbered_of processes.now).entries e ≡ true) self.now.objects.entries) }
+    {
+        self.are_sound(most, limits) && all_stay(self.items(), processes.items(), kind)
+    }
+}
+
+impl<T: SoundAlone + Leaves> ObjectTable<Name, T> {
     /// Whether they are sound, and no more than `most`, and each has a name that an object of the kind may have, or is
     /// open.
     pub(crate) fn are_held(
@@ -132,22 +174,13 @@ impl<T: SoundAlone> ObjectTable<Name, T> {
         kind: NameKind,
     ) -> bool
         ensures { IsTrue result
-            ↔ AreHeld most (T.IsSound limits.now) kind (numbered_of processes.now).entries self.now.objects }
+            ↔ AreHeld bytes_eq [] most (T.IsSound limits.now) (is_named_so kind)
+            (stays_by (λ e. keeps_by bytes_eq [] e.bound (T.leaves e.object)) (kinds.Named kind)
+            (numbered_of processes.now).entries) self.now.objects }
     {
-        self.are_sound(most, limits) && have_names_or_stay(self.items(), processes.items(), kind)
+        self.are_kept(most, limits, processes, ObjectKind::Named(kind))
+            && have_forms(self.items(), kind)
     }
-}
-
-/// Whether each has a name that an object of the kind may have, or none, and a name, or is open.
-fn have_names_or_stay<T>(
-    items: &[Item<NamedEntry<T>>],
-    processes: &[Item<Process>],
-    kind: NameKind,
-) -> bool
-    ensures { result ≡ (list_all (λ e. is_named_so kind (item_row e)) items.now
-        && list_all (λ e. stays kind (map item_row processes.now) (item_row e)) items.now) }
-{
-    have_forms(items, kind) && all_stay(items, processes, kind)
 }
 
 /// Whether each name is one that an object of the kind may have, and whoever made the object owns it.
@@ -177,58 +210,76 @@ fn is_own(perm: Perm) -> bool
     perm.cuid == perm.uid && perm.cgid == perm.gid
 }
 
-/// Whether each of some objects has a name, or a descriptor of some process is open on it.
-fn all_stay<T>(items: &[Item<NamedEntry<T>>], processes: &[Item<Process>], kind: NameKind) -> bool
-    ensures { result ≡ list_all (λ e. stays kind (map item_row processes.now) (item_row e)) items.now }
+/// Whether each of some objects stays by itself, or a descriptor of some process is open on it.
+fn all_stay<B: Bound, T: Leaves>(
+    items: &[Item<Entry<B, T>>],
+    processes: &[Item<Process>],
+    kind: ObjectKind,
+) -> bool
+    ensures { result ≡ list_all (λ e. stays_by (λ d. keeps_by B.same B.none d.bound (T.leaves d.object)) kind
+        (map item_row processes.now) (item_row e)) items.now }
 {
     items.iter().all(|item| stays(processes, item, kind))
 }
 
-fn stays<T>(processes: &[Item<Process>], item: &Item<NamedEntry<T>>, kind: NameKind) -> bool
-    ensures { result ≡ stays kind (map item_row processes.now) (item_row item.now) }
+fn stays<B: Bound, T: Leaves>(
+    processes: &[Item<Process>],
+    item: &Item<Entry<B, T>>,
+    kind: ObjectKind,
+) -> bool
+    ensures { result ≡ stays_by (λ d. keeps_by B.same B.none d.bound (T.leaves d.object)) kind
+        (map item_row processes.now) (item_row item.now) }
 {
     let number = item.number;
-    !item.value.bound.is_none() || is_open(processes, Opened { kind, number })
+    keeps(&item.value) || is_open(processes, Object { kind, number })
+}
+
+/// Whether it stays by itself.
+fn keeps<B: Bound, T: Leaves>(entry: &Entry<B, T>) -> bool
+    ensures { result ≡ keeps_by B.same B.none entry.now.bound (T.leaves entry.now.object) }
+{
+    !entry.bound.names_none() || !entry.object.leaves()
 }
 
 /// Whether an object of a kind may be open with these flags.
-fn has_access(kind: NameKind, flags: u32) -> bool
+fn has_access(kind: ObjectKind, flags: u32) -> bool
     ensures { result ≡ has_access kind flags }
 {
     match kind {
-        NameKind::Mq => flags & 3 != 3,
-        NameKind::Psem => true,
-        NameKind::Pshm => flags & 1 == 0,
+        ObjectKind::Named(NameKind::Mq) => flags & 3 != 3,
+        ObjectKind::Named(NameKind::Psem) => true,
+        ObjectKind::Named(NameKind::Pshm) => flags & 1 == 0,
+        ObjectKind::MsgQueue | ObjectKind::Semset => false,
     }
 }
 
 /// Whether a descriptor of some process is open on it.
-fn is_open(processes: &[Item<Process>], this: Opened) -> bool
+fn is_open(processes: &[Item<Process>], this: Object) -> bool
     ensures { result ≡ is_open (map item_row processes.now) this }
 {
     some_opens(processes, this)
 }
 
-fn some_opens(processes: &[Item<Process>], this: Opened) -> bool
+fn some_opens(processes: &[Item<Process>], this: Object) -> bool
     ensures { result ≡ list_any (λ p. list_any (λ d. is_on this d.1.on) p.value.descriptors) processes.now }
 {
     processes.iter().any(|process| opens(process, this))
 }
 
-fn opens(process: &Item<Process>, this: Opened) -> bool
+fn opens(process: &Item<Process>, this: Object) -> bool
     ensures { result ≡ list_any (λ d. is_on this d.1.on) process.now.value.descriptors }
 {
     open_it(process.value.descriptors.rows(), this)
 }
 
-fn open_it(rows: &[DescriptorRow], this: Opened) -> bool
+fn open_it(rows: &[DescriptorRow], this: Object) -> bool
     ensures { result ≡ list_any (λ r. is_on this r.descriptor.on) rows.now }
 {
     rows.iter().any(|row| is_on(this, row.descriptor.on))
 }
 
 /// Whether what a descriptor is open on is this.
-pub(crate) fn is_on(this: Opened, on: Opened) -> bool
+pub(crate) fn is_on(this: Object, on: Object) -> bool
     ensures { result ≡ is_on this on }
 {
     on == this

@@ -134,6 +134,10 @@ impl Bound for i32 {
         restore(directory, *self, number)
     }
 
+    fn lose(&mut self) {
+        *self = IPC_PRIVATE;
+    }
+
     fn unbind(&self, directory: &mut KeyDir) {
         unbind(directory, *self);
     }

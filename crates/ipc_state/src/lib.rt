@@ -28,7 +28,7 @@ mod waits;
 pub use answers::{Answer, Halt, Tried, take_spare};
 pub use bound::Bound;
 pub use descriptors::{
-    Descriptor, DescriptorRow, Descriptors, Opened, lowest_unused_is_so, opened_is_there,
+    Descriptor, DescriptorRow, Descriptors, lowest_unused_is_so, opened_is_there,
 };
 pub use keys::IPC_PRIVATE;
 pub use numbered::{Item, LAST_NUMBER};

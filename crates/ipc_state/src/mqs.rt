@@ -1,6 +1,6 @@
 //! The POSIX message queues, and who is registered with them. See mq_overview(7).
 
-ghost use Rattle.std.specs.Prelude.{◌≡◌, ◌↔◌, ◌&&◌, ℕ, List, true, false, map, is_some};
+ghost use Rattle.std.specs.Prelude.{◌≡◌, ◌↔◌, ◌&&◌, ⊤, ℕ, List, true, false, map, is_some};
 ghost use Rattle.std.specs.Prelude.{IsTrue, OnOk, OnErr, Some, None, option_map};
 ghost use Rattle.std.specs.Borrow.{sem};
 ghost use Rattle.std.specs.List.{list_all};
@@ -8,6 +8,7 @@ ghost use Rattle.std.specs.Option.{option_copied, option_copied_mut};
 ghost use Rattle.ipc_base.specs.Limits.{ArePassed};
 ghost use Rattle.ipc_base.specs.Table.{IsRising, keys_of, seen_as};
 ghost use Rattle.ipc_keys.specs.declared.check.NameKind.TheVariants as names;
+ghost use Rattle.ipc_state.specs.declared.parked.ObjectKind.TheVariants as kinds;
 ghost use Rattle.posix_mq.specs.Queue.{empty_queue, plain};
 ghost use Rattle.ipc_state.specs.Opening.{deregistered, is_by, is_or_any, unless_so, without_registrations};
 ghost use Rattle.ipc_state.specs.Opening.{is_registered};
@@ -17,18 +18,17 @@ ghost use Rattle.ipc_state.specs.LendsMq.{lends_mq};
 ghost use Rattle.ipc_state.specs.Named.{HaveNames, named};
 ghost use Rattle.ipc_state.specs.Numbered.{entry_of};
 ghost use Rattle.ipc_state.specs.Restored.{with_last_mq};
-ghost use Rattle.ipc_state.specs.Sound.{AreSoundNamed, IsSoundMq};
+ghost use Rattle.ipc_state.specs.Sound.{AreSound, IsSoundMq};
 ghost use Rattle.ipc_state.specs.State.{deregistered_by, has_all_mqs, receives_from, receiver_waits};
 ghost use Rattle.ipc_state.specs.State.{unlinked, with_new_mq};
 ghost use Rattle.ipc_state.specs.Rows.{has_room, item_row};
 ghost use Rattle.ipc_state.specs.Tests.{is_sound_mq, is_sound_mq_message};
 ghost use Rattle.ipc_state.specs.Waiting.{parked_kind};
 
-use crate::descriptors::Opened;
 use crate::holding::is_on;
 use crate::numbered::Item;
-use crate::objects::{Entry, Named, NamedEntry, ObjectTable};
-use crate::parked::{ParkedKind, ParkedPosix};
+use crate::objects::{Entry, Leaves, Named, NamedEntry, ObjectTable, Renew};
+use crate::parked::{Object, ObjectKind, ParkedKind, ParkedPosix};
 use crate::rows::Rows;
 use crate::sound::SoundAlone;
 use crate::state::State;
@@ -116,9 +116,8 @@ impl State {
             ≡ left self.old (with_new_mq self.old.state name cred mode (empty_queue maxmsg msgsize None)) }
         ensures number { result ≡ self.old.state.mq.next }
     {
-        self.mq.ready_mut().unwrap().renew(maxmsg, msgsize);
         let perm = Perm::new(cred, mode);
-        let number = self.mq.add(perm);
+        let number = self.mq.add(perm, (maxmsg, msgsize));
         self.release();
         number
     }
@@ -127,9 +126,9 @@ impl State {
     pub fn unlink_mq(&mut self, number: u32)
         requires named { HaveNames self.old.state.mq }
         requires there { is_some (entry_of self.old.state.mq number) ≡ true }
-        ensures { self.new ≡ left self.old (unlinked self.old.state names.Mq number) }
+        ensures { self.new ≡ left self.old (unlinked self.old.state (kinds.Named names.Mq) number) }
     {
-        self.mq.unname(number);
+        self.mq.unbind(number);
         self.sweep();
     }
 
@@ -151,9 +150,9 @@ impl State {
         let ParkedKind::Posix(ParkedPosix::MqReceive { fd, .. }) = kind else {
             return false;
         };
-        let kind = NameKind::Mq;
+        let kind = ObjectKind::Named(NameKind::Mq);
         match self.descriptor(pid, *fd) {
-            Some(descriptor) => is_on(Opened { kind, number }, descriptor.on),
+            Some(descriptor) => is_on(Object { kind, number }, descriptor.on),
             None => false,
         }
     }
@@ -177,7 +176,7 @@ impl State {
     /// Whether the queues are sound.
     pub(crate) fn are_mqs_sound(&self) -> bool
         ensures { IsTrue result
-            ↔ AreSoundNamed self.now.limits self.now.state.processes.entries names.Mq self.now.state.mq }
+            ↔ AreSound self.now.limits self.now.state.processes.entries (kinds.Named names.Mq) self.now.state.mq }
     {
         let most = self.limits.queues;
         self.mq
@@ -198,8 +197,8 @@ impl State {
         let Some(registration) = item.value.object.registration() else {
             return true;
         };
-        let queue = Opened {
-            kind: NameKind::Mq,
+        let queue = Object {
+            kind: ObjectKind::Named(NameKind::Mq),
             number: item.number,
         };
         match self.descriptor(registration.pid, registration.descriptor) {
@@ -227,6 +226,30 @@ impl Rows<Entry<Name, Mq>> {
     {
         deregister_each(&mut self.items, pid, fd);
     }
+}
+
+impl Renew for Mq {
+    type Asked = (u32, u32);
+
+    ghost MayBe = { λ asked. ⊤ };
+
+    ghost renewed = { λ queue asked. empty_queue asked.0 asked.1 None };
+
+    fn make(&mut self, asked: (u32, u32)) {
+        self.renew(asked.0, asked.1);
+    }
+}
+
+impl Leaves for Mq {
+    ghost leaves = { λ x. true };
+
+    ghost parted = { λ x. x };
+
+    fn leaves(&self) -> bool {
+        true
+    }
+
+    fn part(&mut self) {}
 }
 
 impl SoundAlone for Mq {

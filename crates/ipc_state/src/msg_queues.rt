@@ -1,29 +1,30 @@
 //! The message queues.
 
-ghost use Rattle.std.specs.Prelude.{◌≡◌, ◌↔◌, ℤ, true, false, map, is_some, None, Some, option_map};
+ghost use Rattle.std.specs.Prelude.{◌≡◌, ◌↔◌, ⊤, ℤ, true, false, map, is_some, None, Some, option_map};
 ghost use Rattle.std.specs.Prelude.{IsTrue, OnOk, OnErr};
 ghost use Rattle.std.specs.Borrow.{sem};
 ghost use Rattle.std.specs.List.{list_all};
 ghost use Rattle.std.specs.Option.{option_copied_mut};
 ghost use Rattle.ipc_base.specs.Limits.{ArePassed};
 ghost use Rattle.ipc_base.specs.Table.{IsRising, keys_of};
+ghost use Rattle.ipc_state.specs.declared.parked.ObjectKind.TheVariants as kinds;
 ghost use Rattle.ipc_state.specs.Held.{Ready, left};
 ghost use Rattle.ipc_state.specs.Bound.{permitting};
-ghost use Rattle.ipc_state.specs.Keyed.{AreKeyed, HaveKeys, KeyedEntry, keyed};
+ghost use Rattle.ipc_state.specs.Keyed.{HaveKeys, KeyedEntry, keyed};
 ghost use Rattle.ipc_state.specs.LendsMsgQueue.{lends_msg_queue};
-ghost use Rattle.ipc_state.specs.Numbered.{entry_of, is_full, with_entry, without_entry};
+ghost use Rattle.ipc_state.specs.Numbered.{entry_of, is_full, with_entry};
 ghost use Rattle.ipc_state.specs.Restored.{with_last_msg_queue};
-ghost use Rattle.ipc_state.specs.Sound.{IsSoundMsgQueue};
-ghost use Rattle.ipc_state.specs.State.{with_new_msg_queue};
+ghost use Rattle.ipc_state.specs.Sound.{AreSound, IsSoundMsgQueue};
+ghost use Rattle.ipc_state.specs.State.{removed, with_new_msg_queue};
 ghost use Rattle.ipc_state.specs.Tables.{item_row};
 ghost use Rattle.ipc_state.specs.Tests.{is_sound_message, is_sound_msg_queue};
-ghost use Rattle.sysv_msg.specs.Queue.{Queue, plain};
+ghost use Rattle.sysv_msg.specs.Queue.{Queue, new_queue, plain};
 
 use crate::numbered::Item;
-use crate::objects::{Keyed, KeyedEntry};
+use crate::objects::{Keyed, KeyedEntry, Renew};
 use crate::sound::SoundAlone;
 use crate::state::State;
-use ipc_base::{Id, Limits};
+use ipc_base::{Id, Limits, Moment};
 use ipc_perm::Perm;
 use std::alloc::AllocError;
 use sysv_msg::{Message, MsgQueue};
@@ -95,11 +96,7 @@ impl State {
         ensures added { self.new ≡ left self.old (with_new_msg_queue self.old.limits self.old.state key perm) }
         ensures id { result.0 ≡ self.old.state.msg.next }
     {
-        self.msg
-            .ready_mut()
-            .unwrap()
-            .renew(self.limits.msgmnb, self.clock);
-        let number = self.msg.add(perm);
+        let number = self.msg.add(perm, (self.limits.msgmnb, self.clock));
         self.release();
         Id(number)
     }
@@ -108,7 +105,7 @@ impl State {
     pub fn remove_msg_queue(&mut self, id: Id)
         requires named { HaveKeys self.old.state.msg }
         requires there { is_some (entry_of self.old.state.msg id.0) ≡ true }
-        ensures { self.new ≡ left self.old (record self.old.state { msg = without_entry self.old.state.msg id.0 }) }
+        ensures { self.new ≡ left self.old (removed self.old.state kinds.MsgQueue id.0) }
     {
         self.msg.remove(id.0);
         self.release();
@@ -130,9 +127,21 @@ impl State {
     /// Whether the queues are sound.
     pub(crate) fn are_msg_queues_sound(&self) -> bool
         ensures { IsTrue result
-            ↔ AreKeyed self.now.limits.msgmni (IsSoundMsgQueue self.now.limits) self.now.state.msg }
+            ↔ AreSound self.now.limits self.now.state.processes.entries kinds.MsgQueue self.now.state.msg }
     {
         self.msg.are_sound(self.limits.msgmni, &self.limits)
+    }
+}
+
+impl Renew for MsgQueue {
+    type Asked = (u32, Moment);
+
+    ghost MayBe = { λ asked. ⊤ };
+
+    ghost renewed = { λ queue asked. new_queue asked.0 asked.1.0 };
+
+    fn make(&mut self, asked: (u32, Moment)) {
+        self.renew(asked.0, asked.1);
     }
 }
 

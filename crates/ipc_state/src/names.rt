@@ -138,6 +138,10 @@ impl Bound for Name {
         restore(directory, self.bytes(), number)
     }
 
+    fn lose(&mut self) {
+        self.clear();
+    }
+
     fn unbind(&self, directory: &mut NameDir) {
         unbind(directory, self.bytes());
     }

@@ -1,15 +1,15 @@
 //! The objects of one kind: each with its number, and with the key or the name that it is bound to.
 
 ghost use Rattle.std.specs.Prelude.{◌≡◌, ◌<◌, ◌^◌, ◌↔◌, ◌&&◌, ⊤, true, is_some, None, Some, IsTrue, IfSome};
-ghost use Rattle.std.specs.Prelude.{OnOk, OnErr, map, option_map, option_copied, nat_lt};
+ghost use Rattle.std.specs.Prelude.{◌≤◌, ℕ, Bool, OnOk, OnErr, map, option_map, option_copied, nat_lt, sum_by};
 ghost use Rattle.std.specs.Borrow.{sem};
 ghost use Rattle.std.specs.List.{list_all};
 ghost use Rattle.std.specs.Option.{option_copied_mut};
-ghost use Rattle.ipc_state.specs.Lends.{lends_object, lends_ready};
+ghost use Rattle.ipc_state.specs.Lends.{lends_object};
 ghost use Rattle.ipc_state.specs.declared.objects.Entry.{Entry};
-ghost use Rattle.ipc_state.specs.Bound.{AreBound, AreFound, number_of, permitting};
+ghost use Rattle.ipc_state.specs.Bound.{AreBound, AreFound, number_of, permitting, unbound};
 ghost use Rattle.ipc_state.specs.Keyed.{keyed};
-ghost use Rattle.ipc_state.specs.Named.{HaveNames, named, unnamed};
+ghost use Rattle.ipc_state.specs.Named.{named};
 ghost use Rattle.ipc_state.specs.Tests.{is_named};
 ghost use Rattle.ipc_state.specs.Numbered.{
   none_yet,
@@ -31,6 +31,45 @@ use ipc_keys::Name;
 use ipc_perm::Perm;
 use std::alloc::{AllocError, Global};
 use std::marker::Model;
+
+/// An object that is made ready before it is known what is asked of it.
+pub(crate) trait Renew: Drop {
+    /// What is asked.
+    type Asked;
+
+    ghost MayBe: { Self.Asked → Type 0 };
+
+    ghost renewed: { Self → Self.Asked → Self };
+
+    /// Makes it what is asked. It takes no memory.
+    fn make(&mut self, asked: Self::Asked)
+        requires { MayBe asked }
+        ensures { self.new ≡ renewed self.old asked };
+}
+
+/// An object that may go if it is bound to none and no descriptor is open on it.
+pub(crate) trait Leaves: Drop {
+    ghost leaves: { Self → Bool };
+
+    ghost parted: { Self → Self };
+
+    /// Whether it does.
+    fn leaves(&self) -> bool
+        ensures { result ≡ leaves self.now };
+
+    /// It is bound to none any more.
+    fn part(&mut self)
+        ensures { self.new ≡ parted self.old };
+}
+
+/// An object of which all of a kind together are limited, by the semaphores or the bytes that it has.
+pub(crate) trait Counted {
+    ghost count: { Self → ℕ };
+
+    /// How many it has.
+    fn count(&self) -> usize
+        ensures { result ≡ count self.now };
+}
 
 /// An object, what it is bound to, and who may use it.
 #[derive(Drop)]
@@ -149,36 +188,6 @@ impl<B: Bound, T> ObjectTable<B, T> {
         Some(object)
     }
 
-    /// The object that is ready, to be changed.
-    pub(crate) fn ready_mut(&mut self) -> Option<&mut T>
-        ensures* writes_back { sem 𝓛 (lends_ready B.row T.row B.Directory.row B.Bound self.entry result) }
-        ensures object { option_copied_mut result ≡ option_map (λ r. r.1) self.old.ready }
-    {
-        let ready = self.ready.as_mut()?;
-        Some(&mut ready.1)
-    }
-
-    /// Adds the one that is ready under the next number, which it gives. It takes no memory.
-    pub(crate) fn add(&mut self, perm: Perm) -> u32
-        requires ready { is_some self.old.ready ≡ true }
-        requires unused { IfSome self.old.ready (λ r. number_of B.same B.none self.old.objects r.0 ≡ None) }
-        requires positive { ArePositive self.old.objects.entries }
-        requires number { (0 < self.old.objects.next) × (self.old.objects.next < 2 ^ 31) }
-        ensures added { IfSome self.old.ready (λ r. self.new ≡ record {
-          objects = with_new self.old.objects (record { bound = r.0; perm = perm; object = r.1 });
-          ready = None;
-        }) }
-        ensures number { result ≡ self.old.objects.next }
-    {
-        let (bound, object) = self.ready.take().unwrap();
-        bound.bind(&mut self.directory, self.objects.next());
-        self.objects.add(Entry {
-            bound,
-            perm,
-            object,
-        })
-    }
-
     /// Replaces who may use the object of a number.
     pub(crate) fn set_perm(&mut self, number: u32, perm: Perm)
         requires { is_some (entry_of self.old.objects number) ≡ true }
@@ -245,6 +254,40 @@ impl<B: Bound, T: Drop> ObjectTable<B, T> {
     }
 }
 
+impl<B: Bound, T: Renew> ObjectTable<B, T> {
+    /// Adds the one that is ready, made what is asked, under the next number, which it gives. It takes no memory.
+    pub(crate) fn add(&mut self, perm: Perm, asked: T::Asked) -> u32
+        requires ready { is_some self.old.ready ≡ true }
+        requires unused { IfSome self.old.ready (λ r. number_of B.same B.none self.old.objects r.0 ≡ None) }
+        requires positive { ArePositive self.old.objects.entries }
+        requires number { (0 < self.old.objects.next) × (self.old.objects.next < 2 ^ 31) }
+        requires may { T.MayBe asked }
+        ensures added { IfSome self.old.ready (λ r. self.new ≡ record {
+          objects = with_new self.old.objects (record { bound = r.0; perm = perm; object = T.renewed r.1 asked });
+          ready = None;
+        }) }
+        ensures number { result ≡ self.old.objects.next }
+    {
+        let (bound, mut object) = self.ready.take().unwrap();
+        object.make(asked);
+        bound.bind(&mut self.directory, self.objects.next());
+        self.objects.add(Entry {
+            bound,
+            perm,
+            object,
+        })
+    }
+}
+
+impl<B: Bound, T: Counted> ObjectTable<B, T> {
+    /// Whether all of them together count no more than `most`.
+    pub(crate) fn count_at_most(&self, most: usize) -> bool
+        ensures { IsTrue result ↔ (sum_by (λ e. T.count e.1.object) self.now.objects.entries ≤ most) }
+    {
+        are_few(self.objects.items(), most)
+    }
+}
+
 impl<T> ObjectTable<i32, T> {
     /// The identifier that a key names; IPC_PRIVATE names none.
     pub fn of_key(&self, key: i32) -> Option<Id>
@@ -266,26 +309,27 @@ impl<T> ObjectTable<Name, T> {
     }
 }
 
-impl<T: Drop> ObjectTable<Name, T> {
-    /// Takes the name of an object, which names none then; nothing is ready. It takes no memory. See unlink(2).
-    pub(crate) fn unname(&mut self, number: u32)
-        requires named { HaveNames self.old.objects }
+impl<B: Bound, T: Leaves> ObjectTable<B, T> {
+    /// An object is bound to none any more; nothing is ready. It takes no memory. See unlink(2).
+    pub(crate) fn unbind(&mut self, number: u32)
+        requires found { AreFound B.same B.none self.old.objects }
         requires there { is_some (entry_of self.old.objects number) ≡ true }
-        ensures { self.new ≡ record { objects = unnamed self.old.objects number; ready = None } }
+        ensures { self.new ≡ record { objects = unbound T.parted B.none self.old.objects number; ready = None } }
     {
         let _before = self.release();
         let item = self.objects.get(number).unwrap();
         item.value.bound.unbind(&mut self.directory);
-        clear_name(&mut self.objects, number);
+        clear_bound(&mut self.objects, number);
     }
 }
 
-/// Leaves no name of an object, if it is there.
-fn clear_name<T>(objects: &mut Numbered<Entry<Name, T>>, number: u32)
-    ensures { numbered_of objects.new ≡ unnamed (numbered_of objects.old) number }
+/// Leaves what an object is bound to, if it is there.
+fn clear_bound<B: Bound, T: Leaves>(objects: &mut Numbered<Entry<B, T>>, number: u32)
+    ensures { numbered_of objects.new ≡ unbound T.parted B.none (numbered_of objects.old) number }
 {
     if let Some(entry) = objects.get_mut(number) {
-        entry.bound.clear();
+        entry.bound.lose();
+        entry.object.part();
     }
 }
 
@@ -315,6 +359,21 @@ fn are_named_with_modes<B: Bound, T>(directory: &B::Directory, items: &[Item<Ent
         && list_all (λ e. nat_lt e.value.perm.mode 512) items.now) }
 {
     are_named(directory, items) && have_modes(items)
+}
+
+/// Whether these together count no more than `most`.
+fn are_few<B, T: Counted>(items: &[Item<Entry<B, T>>], most: usize) -> bool
+    ensures { IsTrue result ↔ (sum_by (λ e. T.count e.value.object) items.now ≤ most) }
+{
+    let mut left = most;
+    for item in items {
+        let count = item.value.object.count();
+        if left < count {
+            return false;
+        }
+        left -= count;
+    }
+    true
 }
 
 /// Whether each mode has nine bits.

@@ -39,7 +39,8 @@ pub enum ObjectKind {
     Named(NameKind),
 }
 
-/// An object that a call may change, and on which calls may wait: its kind, and its identifier or number.
+/// An object that a call may change, and on which calls may wait and descriptors may be open: its kind, and its
+/// identifier or number.
 #[derive(Clone, Copy, Debug, PartialEq, Eq)]
 pub struct Object {
     pub kind: ObjectKind,

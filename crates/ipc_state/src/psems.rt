@@ -1,22 +1,23 @@
 //! The named semaphores. See sem_overview(7).
 
-ghost use Rattle.std.specs.Prelude.{◌≡◌, ◌≤◌, ◌↔◌, ℕ, List, true, false, is_some, Some, None, option_map};
+ghost use Rattle.std.specs.Prelude.{◌≡◌, ◌≤◌, ◌↔◌, ℕ, List, true, false, is_some, None, option_map};
 ghost use Rattle.std.specs.Prelude.{IsTrue, OnOk, OnErr};
 ghost use Rattle.std.specs.Borrow.{sem};
 ghost use Rattle.std.specs.Option.{option_copied_mut};
 ghost use Rattle.ipc_base.specs.Limits.{ArePassed};
 ghost use Rattle.ipc_base.specs.Table.{IsRising, keys_of};
 ghost use Rattle.ipc_keys.specs.declared.check.NameKind.TheVariants as names;
+ghost use Rattle.ipc_state.specs.declared.parked.ObjectKind.TheVariants as kinds;
 ghost use Rattle.posix_sem.specs.Semaphore.{sem_value_max};
 ghost use Rattle.ipc_state.specs.Held.{Ready, left};
 ghost use Rattle.ipc_state.specs.LendsNamed.{lends_psem};
 ghost use Rattle.ipc_state.specs.Numbered.{entry_of};
 ghost use Rattle.ipc_state.specs.Named.{HaveNames, named};
 ghost use Rattle.ipc_state.specs.Restored.{with_last_psem};
-ghost use Rattle.ipc_state.specs.Sound.{AreSoundNamed};
+ghost use Rattle.ipc_state.specs.Sound.{AreSound};
 ghost use Rattle.ipc_state.specs.State.{has_all_psems, unlinked, with_new_psem};
 
-use crate::objects::{Named, NamedEntry};
+use crate::objects::{Leaves, Named, NamedEntry, Renew};
 use crate::sound::SoundAlone;
 use crate::state::State;
 use ipc_base::{Cred, Limits};
@@ -64,9 +65,8 @@ impl State {
         ensures added { self.new ≡ left self.old (with_new_psem self.old.state name cred mode value) }
         ensures number { result ≡ self.old.state.psem.next }
     {
-        *self.psem.ready_mut().unwrap() = NamedSem::new(value);
         let perm = Perm::new(cred, mode);
-        let number = self.psem.add(perm);
+        let number = self.psem.add(perm, value);
         self.release();
         number
     }
@@ -75,9 +75,9 @@ impl State {
     pub fn unlink_psem(&mut self, number: u32)
         requires named { HaveNames self.old.state.psem }
         requires there { is_some (entry_of self.old.state.psem number) ≡ true }
-        ensures { self.new ≡ left self.old (unlinked self.old.state names.Psem number) }
+        ensures { self.new ≡ left self.old (unlinked self.old.state (kinds.Named names.Psem) number) }
     {
-        self.psem.unname(number);
+        self.psem.unbind(number);
         self.sweep();
     }
 
@@ -97,12 +97,36 @@ impl State {
     /// Whether the semaphores are sound.
     pub(crate) fn are_psems_sound(&self) -> bool
         ensures { IsTrue result
-            ↔ AreSoundNamed self.now.limits self.now.state.processes.entries names.Psem self.now.state.psem }
+            ↔ AreSound self.now.limits self.now.state.processes.entries (kinds.Named names.Psem) self.now.state.psem }
     {
         let most = self.limits.named_semaphores;
         self.psem
             .are_held(most, &self.limits, &self.processes, NameKind::Psem)
     }
+}
+
+impl Renew for NamedSem {
+    type Asked = u32;
+
+    ghost MayBe = { λ value. value ≤ sem_value_max };
+
+    ghost renewed = { λ semaphore value. value };
+
+    fn make(&mut self, value: u32) {
+        *self = NamedSem::new(value);
+    }
+}
+
+impl Leaves for NamedSem {
+    ghost leaves = { λ x. true };
+
+    ghost parted = { λ x. x };
+
+    fn leaves(&self) -> bool {
+        true
+    }
+
+    fn part(&mut self) {}
 }
 
 impl SoundAlone for NamedSem {

@@ -1,30 +1,30 @@
 //! The shared memory segments. See shm_overview(7).
 
 ghost use Rattle.std.specs.Prelude.{◌≡◌, ◌≤◌, ◌↔◌, ⊤, ℕ, List, true, false, is_some, Some, None};
-ghost use Rattle.std.specs.Prelude.{option_map, length, sum_by, IsTrue, OnOk, OnErr};
+ghost use Rattle.std.specs.Prelude.{option_map, length, IsTrue, OnOk, OnErr};
 ghost use Rattle.std.specs.Borrow.{sem};
 ghost use Rattle.std.specs.Option.{option_copied_mut};
 ghost use Rattle.ipc_base.specs.Limits.{ArePassed};
 ghost use Rattle.ipc_base.specs.Table.{IsRising, keys_of};
 ghost use Rattle.ipc_keys.specs.declared.check.NameKind.TheVariants as names;
+ghost use Rattle.ipc_state.specs.declared.parked.ObjectKind.TheVariants as kinds;
 ghost use Rattle.ipc_state.specs.Held.{Ready, left};
 ghost use Rattle.ipc_state.specs.LendsNamed.{lends_pshm};
 ghost use Rattle.ipc_state.specs.Numbered.{entry_of};
 ghost use Rattle.ipc_state.specs.Named.{HaveNames, named};
 ghost use Rattle.ipc_state.specs.Restored.{with_last_pshm};
-ghost use Rattle.ipc_state.specs.Sound.{AreSoundNamed, segment_bytes};
+ghost use Rattle.ipc_state.specs.Sound.{AreSound, segment_bytes};
 ghost use Rattle.shm_segment.specs.Segment.{Segment, empty_segment, truncated};
 ghost use Rattle.ipc_state.specs.State.{has_all_pshms, unlinked, with_new_pshm};
 
-use crate::numbered::Item;
-use crate::objects::{Named, NamedEntry};
+use crate::objects::{Counted, Leaves, Named, NamedEntry, Renew};
 use crate::sound::SoundAlone;
 use crate::state::State;
 use ipc_base::{Cred, Limits};
 use ipc_keys::{Name, NameKind};
 use ipc_perm::Perm;
 use shm_segment::Segment;
-use std::alloc::AllocError;
+use std::alloc::{AllocError, Global};
 
 impl State {
     /// The segments, under limits that passed their check.
@@ -78,7 +78,7 @@ impl State {
     pub fn have_at_most_bytes(&self, most: usize) -> bool
         ensures { IsTrue result ↔ (segment_bytes self.now.state.pshm ≤ most) }
     {
-        are_short(self.pshm.items(), most)
+        self.pshm.count_at_most(most)
     }
 
     /// Adds a segment without bytes, of the name for which there is memory, under the next number, which it gives.
@@ -91,9 +91,8 @@ impl State {
         ensures added { self.new ≡ left self.old (with_new_pshm self.old.state name cred mode) }
         ensures number { result ≡ self.old.state.pshm.next }
     {
-        *self.pshm.ready_mut().unwrap() = Segment::new(self.alloc);
         let perm = Perm::new(cred, mode);
-        let number = self.pshm.add(perm);
+        let number = self.pshm.add(perm, self.alloc);
         self.release();
         number
     }
@@ -102,9 +101,9 @@ impl State {
     pub fn unlink_pshm(&mut self, number: u32)
         requires named { HaveNames self.old.state.pshm }
         requires there { is_some (entry_of self.old.state.pshm number) ≡ true }
-        ensures { self.new ≡ left self.old (unlinked self.old.state names.Pshm number) }
+        ensures { self.new ≡ left self.old (unlinked self.old.state (kinds.Named names.Pshm) number) }
     {
-        self.pshm.unname(number);
+        self.pshm.unbind(number);
         self.sweep();
     }
 
@@ -124,13 +123,45 @@ impl State {
     /// Whether the segments are sound.
     pub(crate) fn are_pshms_sound(&self) -> bool
         ensures { IsTrue result
-            ↔ AreSoundNamed self.now.limits self.now.state.processes.entries names.Pshm self.now.state.pshm }
+            ↔ AreSound self.now.limits self.now.state.processes.entries (kinds.Named names.Pshm) self.now.state.pshm }
     {
         let most = self.limits.segments;
         self.pshm
             .are_held(most, &self.limits, &self.processes, NameKind::Pshm)
-            && self.have_at_most_bytes(self.limits.segment_bytes as usize)
+            && self.pshm.count_at_most(self.limits.segment_bytes as usize)
     }
+}
+
+impl Renew for Segment {
+    type Asked = Global;
+
+    ghost MayBe = { λ alloc. ⊤ };
+
+    ghost renewed = { λ segment alloc. empty_segment };
+
+    fn make(&mut self, alloc: Global) {
+        *self = Segment::new(alloc);
+    }
+}
+
+impl Counted for Segment {
+    ghost count = { λ segment. length segment.bytes };
+
+    fn count(&self) -> usize {
+        self.len()
+    }
+}
+
+impl Leaves for Segment {
+    ghost leaves = { λ x. true };
+
+    ghost parted = { λ x. x };
+
+    fn leaves(&self) -> bool {
+        true
+    }
+
+    fn part(&mut self) {}
 }
 
 impl SoundAlone for Segment {
@@ -139,19 +170,4 @@ impl SoundAlone for Segment {
     fn is_sound(&self, _limits: &Limits) -> bool {
         true
     }
-}
-
-/// Whether these segments have together no more bytes than `most`.
-fn are_short(segments: &[Item<NamedEntry<Segment>>], most: usize) -> bool
-    ensures { IsTrue result ↔ (sum_by (λ e. length e.value.object.bytes) segments.now ≤ most) }
-{
-    let mut left = most;
-    for item in segments {
-        let length = item.value.object.len();
-        if left < length {
-            return false;
-        }
-        left -= length;
-    }
-    true
 }

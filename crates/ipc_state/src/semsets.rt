@@ -1,27 +1,28 @@
 //! The semaphore sets.
 
-ghost use Rattle.std.specs.Prelude.{◌≡◌, ◌≤◌, ◌+◌, ◌↔◌, ℕ, ℤ, true, false, is_some, None, Some, option_map};
-ghost use Rattle.std.specs.Prelude.{map, length, All, sum_by, IsTrue, OnOk, OnErr};
+ghost use Rattle.std.specs.Prelude.{◌≡◌, ◌≤◌, ◌+◌, ◌↔◌, ⊤, ℕ, ℤ, true, false, is_some, None, Some, option_map};
+ghost use Rattle.std.specs.Prelude.{map, length, All, IsTrue, OnOk, OnErr};
 ghost use Rattle.std.specs.Borrow.{sem};
 ghost use Rattle.std.specs.Option.{option_copied_mut};
 ghost use Rattle.ipc_base.specs.Limits.{ArePassed};
 ghost use Rattle.ipc_base.specs.Table.{IsRising, keys_of};
+ghost use Rattle.ipc_state.specs.declared.parked.ObjectKind.TheVariants as kinds;
 ghost use Rattle.ipc_state.specs.Held.{Ready, left};
 ghost use Rattle.ipc_state.specs.Bound.{permitting};
 ghost use Rattle.ipc_state.specs.Keyed.{HaveKeys, KeyedEntry, keyed};
 ghost use Rattle.ipc_state.specs.LendsSemset.{lends_semset};
-ghost use Rattle.ipc_state.specs.Numbered.{entry_of, is_full, with_entry, without_entry};
+ghost use Rattle.ipc_state.specs.Numbered.{entry_of, is_full, with_entry};
 ghost use Rattle.ipc_state.specs.Restored.{with_last_semset};
-ghost use Rattle.ipc_state.specs.Sound.{AreSoundSemsets, IsSoundSemset, semaphore_count};
-ghost use Rattle.ipc_state.specs.State.{with_new_semset};
+ghost use Rattle.ipc_state.specs.Sound.{AreSound, IsSoundSemset, semaphore_count};
+ghost use Rattle.ipc_state.specs.State.{removed, with_new_semset};
 ghost use Rattle.ipc_state.specs.Tables.{item_row};
-ghost use Rattle.sysv_sem.specs.Set.{Set};
+ghost use Rattle.sysv_sem.specs.Set.{Set, new_set};
 
 use crate::numbered::Item;
-use crate::objects::{Keyed, KeyedEntry};
+use crate::objects::{Counted, Keyed, KeyedEntry, Renew};
 use crate::sound::SoundAlone;
 use crate::state::State;
-use ipc_base::{Id, Limits};
+use ipc_base::{Id, Limits, Moment};
 use ipc_perm::Perm;
 use std::alloc::AllocError;
 use sysv_sem::SemSet;
@@ -91,8 +92,7 @@ impl State {
         ensures added { self.new ≡ left self.old (with_new_semset self.old.state asked.0 perm asked.1) }
         ensures id { result.0 ≡ self.old.state.semset.next }
     {
-        self.semset.ready_mut().unwrap().renew(self.clock);
-        let number = self.semset.add(perm);
+        let number = self.semset.add(perm, self.clock);
         self.release();
         Id(number)
     }
@@ -101,9 +101,7 @@ impl State {
     pub fn remove_semset(&mut self, id: Id)
         requires named { HaveKeys self.old.state.semset }
         requires there { is_some (entry_of self.old.state.semset id.0) ≡ true }
-        ensures { self.new ≡ left self.old (record self.old.state {
-          semset = without_entry self.old.state.semset id.0;
-        }) }
+        ensures { self.new ≡ left self.old (removed self.old.state kinds.Semset id.0) }
     {
         self.semset.remove(id.0);
         self.release();
@@ -114,14 +112,7 @@ impl State {
         ensures { IsTrue result ↔ (semaphore_count self.now.state.semset + nsems ≤ self.now.limits.semmns) }
     {
         let most = self.limits.semmns as usize;
-        nsems <= most && self.have_at_most(most - nsems)
-    }
-
-    /// Whether all sets have together no more semaphores than `most`.
-    fn have_at_most(&self, most: usize) -> bool
-        ensures { IsTrue result ↔ (semaphore_count self.now.state.semset ≤ most) }
-    {
-        are_few(self.semset.items(), most)
+        nsems <= most && self.semset.count_at_most(most - nsems)
     }
 
     /// Adds a set that was read, at the end. Refused for want of memory, all is as before.
@@ -135,10 +126,31 @@ impl State {
 
     /// Whether the sets are sound.
     pub(crate) fn are_semsets_sound(&self) -> bool
-        ensures { IsTrue result ↔ AreSoundSemsets self.now.limits self.now.state.semset }
+        ensures { IsTrue result
+            ↔ AreSound self.now.limits self.now.state.processes.entries kinds.Semset self.now.state.semset }
     {
         self.semset.are_sound(self.limits.semmni, &self.limits)
-            && self.have_at_most(self.limits.semmns as usize)
+            && self.semset.count_at_most(self.limits.semmns as usize)
+    }
+}
+
+impl Renew for SemSet {
+    type Asked = Moment;
+
+    ghost MayBe = { λ asked. ⊤ };
+
+    ghost renewed = { λ set asked. new_set (length set.semaphores) asked.0 };
+
+    fn make(&mut self, asked: Moment) {
+        self.renew(asked);
+    }
+}
+
+impl Counted for SemSet {
+    ghost count = { λ set. length set.semaphores };
+
+    fn count(&self) -> usize {
+        self.stat().nsems
     }
 }
 
@@ -149,19 +161,4 @@ impl SoundAlone for SemSet {
         let semaphores = self.semaphores();
         0 < semaphores.len() && semaphores.len() <= limits.semmsl as usize
     }
-}
-
-/// Whether these sets have together no more semaphores than `most`.
-fn are_few(sets: &[Item<KeyedEntry<SemSet>>], most: usize) -> bool
-    ensures { IsTrue result ↔ (sum_by (λ e. length e.value.object.semaphores) sets.now ≤ most) }
-{
-    let mut left = most;
-    for item in sets {
-        let nsems = item.value.object.stat().nsems;
-        if left < nsems {
-            return false;
-        }
-        left -= nsems;
-    }
-    true
 }

@@ -4,9 +4,10 @@ ghost use Rattle.std.specs.Prelude.{◌≡◌, ◌↔◌, IsTrue};
 ghost use Rattle.ipc_base.specs.Limits.{ArePassed};
 ghost use Rattle.ipc_state.specs.Held.Ready.{Nothing};
 ghost use Rattle.ipc_state.specs.Restored.{with_numbers};
-ghost use Rattle.ipc_state.specs.Sound.{AreSoundNamed, HasSoundParts};
+ghost use Rattle.ipc_state.specs.Sound.{AreSound, HasSoundParts};
 ghost use Rattle.ipc_state.specs.State.{start, at_moment, named_of};
 ghost use Rattle.ipc_keys.specs.declared.check.NameKind.{NameKind};
+ghost use Rattle.ipc_state.specs.declared.parked.ObjectKind.TheVariants as kinds;
 
 use crate::descriptors::Descriptors;
 use crate::numbered::Numbered;
@@ -222,7 +223,7 @@ impl State {
     /// Whether the objects with a name are sound.
     fn are_named_sound(&self) -> bool
         ensures { IsTrue result
-            ↔ ((kind : NameKind) → AreSoundNamed self.now.limits self.now.state.processes.entries kind
+            ↔ ((kind : NameKind) → AreSound self.now.limits self.now.state.processes.entries (kinds.Named kind)
             (named_of self.now.state kind)) }
     {
         self.are_mqs_sound() && self.are_psems_sound() && self.are_pshms_sound()

@@ -4,11 +4,10 @@ ghost use Rattle.std.specs.Prelude.{◌≡◌, ◌<◌, ◌≤◌, ◌-◌, ◌^
 ghost use Rattle.std.specs.Prelude.{IfSome, IfNone, length};
 ghost use Rattle.ipc_state.specs.Restored.{with_waits};
 ghost use Rattle.ipc_state.specs.State.{at_moment, due_calls, is_waiting, with_waiting, without_due, without_waiting};
-ghost use Rattle.ipc_state.specs.Touching.{object_of, object_on};
+ghost use Rattle.ipc_state.specs.Touching.{object_of};
 ghost use Rattle.ipc_state.specs.Waiting.{AreSoundWaits, IsSoundWaiting, has_deadline};
 ghost use Rattle.ipc_wait.specs.Waits.{waiting_call_of, next_deadline};
 
-use crate::descriptors::Opened;
 use crate::parked::{Awaited, Object, ObjectKind, Parked};
 use crate::state::State;
 use ipc_base::{Moment, Pid};
@@ -52,7 +51,7 @@ impl State {
                 number: id.0,
             }),
             Awaited::Descriptor(fd) => match self.descriptor(pid, fd) {
-                Some(descriptor) => Some(object_on(descriptor.on)),
+                Some(descriptor) => Some(descriptor.on),
                 None => None,
             },
         }
@@ -121,16 +120,6 @@ impl State {
         ensures { IsTrue result ↔ AreSoundWaits self.now.limits self.now.state.wait }
     {
         self.wait.len() <= self.limits.processes as usize && are_sound(self.wait.calls())
-    }
-}
-
-/// The object on which a descriptor is open.
-fn object_on(on: Opened) -> Object
-    ensures { result ≡ object_on on }
-{
-    Object {
-        kind: ObjectKind::Named(on.kind),
-        number: on.number,
     }
 }
 

@@ -46,7 +46,8 @@ module _ {O C : Type 0} where
   pub waiting_call_of-without_other : (pid q : Pid) (calls : List (Waiting O C)) → q ≢ pid → waiting_call_of q (without pid calls) ≡ waiting_call_of q calls
   waiting_call_of-without_other pid q [] ne = refl
   waiting_call_of-without_other pid q (w ∷ calls) ne =
-      elim (is_of pid w) as (λ b. is_of pid w ≡ b → waiting_call_of q (cond (not b) (w ∷ without pid calls) (without pid calls)) ≡ waiting_call_of q (w ∷ calls)) [
+      elim (is_of pid w) as
+      (λ b. is_of pid w ≡ b → waiting_call_of q (cond (not b) (w ∷ without pid calls) (without pid calls)) ≡ waiting_call_of q (w ∷ calls)) [
         | true ↦ λ e. waiting_call_of-without_other pid q calls ne ∙ (λ i. cond (sym (apart e) i) (Some w) (waiting_call_of q calls))
         | false ↦ λ e. ap (cond (is_of q w) (Some w)) (waiting_call_of-without_other pid q calls ne)
       ] refl
@@ -92,10 +93,11 @@ module _ {O C : Type 0} where
   waiting_call_of-filter test q w [] distinct h = h
   waiting_call_of-filter test q w (v ∷ calls) distinct h =
       elim (test v) as (λ b. waiting_call_of q (cond b (v ∷ filter test calls) (filter test calls)) ≡ Some w → waiting_call_of q (v ∷ calls) ≡ Some w) [
-        | true ↦ elim (is_of q v) as (λ b. cond b (Some v) (waiting_call_of q (filter test calls)) ≡ Some w → cond b (Some v) (waiting_call_of q calls) ≡ Some w) [
-          | true ↦ λ h. h
-          | false ↦ waiting_call_of-filter test q w calls distinct.1
-        ]
+        | true ↦ elim (is_of q v) as
+            (λ b. cond b (Some v) (waiting_call_of q (filter test calls)) ≡ Some w → cond b (Some v) (waiting_call_of q calls) ≡ Some w) [
+              | true ↦ λ h. h
+              | false ↦ waiting_call_of-filter test q w calls distinct.1
+            ]
         | false ↦ λ h. waiting_call_of-past v calls q w distinct.0 (waiting_call_of-filter test q w calls distinct.1 h)
       ] h
 
@@ -112,23 +114,18 @@ module _ {O C : Type 0} where
       let each = subst HaveDistinctPids is (HaveDistinctPids-filter test calls distinct) in
       filter-without test w.pid calls ∙ ap (without w.pid) is ∙ without-here w after before each
 
-  -- what a search finds among those that pass a test is its process's
-  pub waiting_call_of-found : (test found : Waiting O C → Bool) (calls : List (Waiting O C)) (w : Waiting O C) → HaveDistinctPids calls
-      → find found (filter test calls) ≡ Some w → waiting_call_of w.pid calls ≡ Some w
-  waiting_call_of-found test found calls w distinct is =
-      let parts = find-parts found (filter test calls) w is in
-      waiting_call_of-passing test calls parts.0 parts.1 w distinct parts.2
-
   -- what a process has among those that pass a test: its call, if that passes
   pub waiting_call_of-passes : (test : Waiting O C → Bool) (q : Pid) (calls : List (Waiting O C)) (w : Waiting O C) → HaveDistinctPids calls
       → waiting_call_of q calls ≡ Some w → is_some (waiting_call_of q (filter test calls)) ≡ test w
   waiting_call_of-passes test q [] w distinct h = cc
   waiting_call_of-passes test q (v ∷ calls) w distinct h =
-      elim (is_of q v) as (λ b. is_of q v ≡ b → cond b (Some v) (waiting_call_of q calls) ≡ Some w → is_some (waiting_call_of q (filter test (v ∷ calls))) ≡ test w) [
+      elim (is_of q v) as (λ b. is_of q v ≡ b → cond b (Some v) (waiting_call_of q calls) ≡ Some w
+      → is_some (waiting_call_of q (filter test (v ∷ calls))) ≡ test w) [
         | true ↦ λ e h.
             elim (test v) as (λ b. test v ≡ b → is_some (waiting_call_of q (cond b (v ∷ filter test calls) (filter test calls))) ≡ b) [
               | true ↦ λ _. (λ i. is_some (cond (e i) (Some v) (waiting_call_of q (filter test calls))))
-              | false ↦ λ _. ap is_some (find-filter_none (is_of q) test calls (subst (λ p. waiting_call_of p calls ≡ None) (same_process v.pid q e) distinct.0))
+              | false ↦ λ _. ap is_some
+                  (find-filter_none (is_of q) test calls (subst (λ p. waiting_call_of p calls ≡ None) (same_process v.pid q e) distinct.0))
             ] refl ∙ ap test (same_Some v w h)
         | false ↦ λ e h.
             elim (test v) as (λ b. is_some (waiting_call_of q (cond b (v ∷ filter test calls) (filter test calls))) ≡ test w) [
@@ -138,7 +135,8 @@ module _ {O C : Type 0} where
       ] refl h
 
   -- a process that has no call has none among those that pass a test
-  pub waiting_call_of-none : (test : Waiting O C → Bool) (q : Pid) (calls : List (Waiting O C)) → waiting_call_of q calls ≡ None → waiting_call_of q (filter test calls) ≡ None
+  pub waiting_call_of-none : (test : Waiting O C → Bool) (q : Pid) (calls : List (Waiting O C)) → waiting_call_of q calls ≡ None
+      → waiting_call_of q (filter test calls) ≡ None
   waiting_call_of-none test q calls none = find-filter_none (is_of q) test calls none
 
   -- if a call leaves that is due, those that are not stay as they are

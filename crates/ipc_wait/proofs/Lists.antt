@@ -167,7 +167,8 @@ module _ {O C : Type 0} where
       }
 
   -- a call before it is of another process
-  pub waiting_call_of-past : (v : Waiting O C) (calls : List (Waiting O C)) (q : Pid) (w : Waiting O C) → waiting_call_of v.pid calls ≡ None → waiting_call_of q calls ≡ Some w
+  pub waiting_call_of-past : (v : Waiting O C) (calls : List (Waiting O C)) (q : Pid) (w : Waiting O C) → waiting_call_of v.pid calls ≡ None
+      → waiting_call_of q calls ≡ Some w
       → waiting_call_of q (v ∷ calls) ≡ Some w
   waiting_call_of-past v calls q w none found =
       elim (is_of q v) as (λ b. is_of q v ≡ b → cond b (Some v) (waiting_call_of q calls) ≡ Some w) [
@@ -176,7 +177,8 @@ module _ {O C : Type 0} where
       ] refl
 
   -- a call at its place is its process's
-  pub waiting_call_of-at : (calls : List (Waiting O C)) (k : ℕ) (w : Waiting O C) → HaveDistinctPids calls → slice_get calls k ≡ Some w → waiting_call_of w.pid calls ≡ Some w
+  pub waiting_call_of-at : (calls : List (Waiting O C)) (k : ℕ) (w : Waiting O C) → HaveDistinctPids calls → slice_get calls k ≡ Some w
+      → waiting_call_of w.pid calls ≡ Some w
   waiting_call_of-at [] k w distinct at = absurd (none-some w at)
   waiting_call_of-at (v ∷ calls) zero w distinct at =
       let same = ap (λ (u : Waiting O C). nat_eq v.pid.0 u.pid.0) (sym (same_Some v w at)) ∙ same_number v.pid.0 in

@@ -11,12 +11,6 @@ use Rattle.ipc_wire.proofs.PairNumbers as pairs
 use Rattle.ipc_wire.proofs.Read as read
 use Rattle.ipc_wire.proofs.Streams as streams
 
--- a frame that the test finds not whole is not
-pub more-is : (f : PlainFrame) → is_more f ≡ true → f ≡ More
-more-is More e = refl
-more-is (Whole used request) e = cc
-more-is (Fault serial) e = cc
-
 -- fewer than four bytes are no whole frame
 pub first_short : (bytes : List ℕ) → length bytes < 4 → first bytes ≡ More
 first_short = frames.first_short
@@ -41,10 +35,6 @@ stream_step = streams.stream_step
 -- a stream whose first frame is known
 pub stream_begun : (bytes : List ℕ) (f : PlainFrame) → first bytes ≡ f → stream_of bytes ≡ begins_with f bytes (λ used. stream_of (drop used bytes))
 stream_begun bytes f e = streams.stream_step bytes ∙ ap (λ (g : PlainFrame). begins_with g bytes (λ used. stream_of (drop used bytes))) e
-
--- a stream in two pieces
-pub stream_pieces : (bytes more : List ℕ) → stream_of (bytes ++ more) ≡ continued (stream_of bytes).requests (stream_of bytes).ending more
-stream_pieces = streams.pieces
 
 -- the bytes of a reply are ten and its body
 pub length-reply_bytes : (r : PlainReply) → length (reply_bytes r) ≡ 10 + length (body_bytes r.body)

@@ -46,7 +46,8 @@ continued_front : (r : PlainRequest) (requests : List PlainRequest) (ending : En
 continued_front r requests (Rest bytes) more = refl
 continued_front r requests (Broken serial) more = refl
 
-pieces_by : (n : ℕ) (bytes more : List ℕ) (f : PlainFrame) → length bytes ≤ n → first bytes ≡ f → stream_of (bytes ++ more) ≡ continued_by (stream_of bytes) more
+pieces_by : (n : ℕ) (bytes more : List ℕ) (f : PlainFrame) → length bytes ≤ n → first bytes ≡ f → stream_of (bytes ++ more)
+    ≡ continued_by (stream_of bytes) more
 pieces_by n bytes more More le e = sym (ap (λ (s : Stream). continued_by s more) (begun bytes More e))
 pieces_by n bytes more (Fault serial) le e =
     begun (bytes ++ more) (Fault serial) (fault_stays bytes more serial e) ∙ sym (ap (λ (s : Stream). continued_by s more) (begun bytes (Fault serial) e))

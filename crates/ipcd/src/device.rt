@@ -1,11 +1,10 @@
 //! The device of a run, in memory or in a file.
 
-ghost use Rattle.std.specs.Prelude.{◌≡◌, ◌⊎◌, ℕ, List, [], Ok, Err, IfOk, IfErr};
+ghost use Rattle.std.specs.Prelude.{◌≡◌, ◌⊎◌, ℕ, Ok, Err, IfOk, IfErr};
 ghost use Rattle.ipc_base.specs.declared.limits.Limits.{Limits};
 ghost use Rattle.ipc_base.specs.Limits.{ArePassed};
 ghost use Rattle.ipc_disk.specs.Medium.{IsHonest};
 ghost use Rattle.ipc_disk.specs.Memory.{memory_medium};
-ghost use Rattle.ipc_engine.specs.Event.{PlainEvent};
 ghost use Rattle.ipc_image.specs.Sizes.{need_of};
 ghost use Rattle.ipc_state.specs.State.{start};
 ghost use Rattle.ipc_store.specs.Histories.{Keeps, OpensOn, Past, new_past, reopened};

@@ -8,14 +8,15 @@ use Rattle.ipc_keys.specs.declared.check.NameKind.TheVariants as names
 use Rattle.ipc_wire.specs.Posix.{PlainPosix}
 use Rattle.ipc_wire.specs.Posix as requests
 use Rattle.ipc_wire.specs.Request.{Posix}
+use Rattle.ipc_state.specs.declared.parked.ObjectKind.TheVariants as kinds
 use Rattle.ipc_state.specs.declared.descriptors.Descriptor.{Descriptor}
-use Rattle.ipc_state.specs.declared.descriptors.Opened.{Opened}
 use Rattle.ipc_state.specs.declared.parked.Awaited.{Awaited}
 use Rattle.ipc_state.specs.declared.parked.Awaited.TheVariants as awaited
+use Rattle.ipc_state.specs.declared.parked.Object.{Object}
 use Rattle.ipc_state.specs.Finish.{has_to_wait}
 use Rattle.ipc_state.specs.Opening.{descriptor_at}
 use Rattle.ipc_state.specs.State.{State}
-use Rattle.ipc_state.specs.Touching.{object_on, is_there, IsAsBefore}
+use Rattle.ipc_state.specs.Touching.{is_there, IsAsBefore}
 use Rattle.ipc_state.specs.Waiting.{awaited_by}
 use Rattle.ipc_state.proofs.CallerLemmas.{AreAlike, alike-waits, orelse-alike, past-alike, same-alike, then-alike, waits-for}
 use Rattle.posix_calls.specs.Calls.{attempt}
@@ -29,18 +30,20 @@ use Rattle.posix_calls.proofs.Reaching.{lowers, number-is, receives, sends}
 module _ (s t : State) (pid fd : ℕ) (alike : IsAsBefore pid (awaited.Descriptor fd) s t) where
   -- what the descriptor is open on
   on-it : (d : Descriptor) → descriptor_at s.processes.entries pid fd ≡ Some d
-      → option_map (λ (e : Descriptor). object_on e.on) (descriptor_at s.processes.entries pid fd) ≡ Some (object_on d.on)
-  on-it d is = ap (option_map (λ (e : Descriptor). object_on e.on)) is
+      → option_map (λ (e : Descriptor). e.on) (descriptor_at s.processes.entries pid fd) ≡ Some d.on
+  on-it d is = ap (option_map (λ (e : Descriptor). e.on)) is
 
   open-alike : AreAlike (open_mq t pid fd) (open_mq s pid fd)
   open-alike =
       orelse-alike EBADF EBADF alike.0 (λ d is. orelse-alike EBADF EBADF {o = number_in names.Mq d.on} refl (λ n on.
-      orelse-alike EBADF EBADF (alike.1 names.Mq n refl (on-it d is ∙ ap (λ (o : Opened). Some (object_on o)) (number-is names.Mq d.on n on))) (λ q _. same-alike refl)))
+      orelse-alike EBADF EBADF (alike.1 (kinds.Named names.Mq) n refl (on-it d is ∙ ap (λ (o : Object). Some o) (number-is names.Mq d.on n on)))
+      (λ q _. same-alike refl)))
 
   sem-alike : AreAlike (open_semaphore t pid fd) (open_semaphore s pid fd)
   sem-alike =
       orelse-alike EINVAL EINVAL alike.0 (λ d is. orelse-alike EINVAL EINVAL {o = number_in names.Psem d.on} refl (λ n on.
-      orelse-alike EINVAL EINVAL (alike.1 names.Psem n refl (on-it d is ∙ ap (λ (o : Opened). Some (object_on o)) (number-is names.Psem d.on n on))) (λ v _. same-alike refl)))
+      orelse-alike EINVAL EINVAL (alike.1 (kinds.Named names.Psem) n refl (on-it d is ∙ ap (λ (o : Object). Some o) (number-is names.Psem d.on n on)))
+      (λ v _. same-alike refl)))
 
   opens-alike : (allows : ℕ → Bool) → AreAlike (open_to allows t pid fd) (open_to allows s pid fd)
   opens-alike allows = then-alike open-alike (λ f. same-alike refl)

@@ -10,12 +10,13 @@ use Rattle.ipc_base.specs.declared.limits.Limits.{Limits}
 use Rattle.ipc_wire.specs.declared.reply.Body.TheVariants.{Empty}
 use Rattle.posix_mq.specs.Queue.{Queue as Mq, PlainMessage, deregistered as without_registration}
 use Rattle.posix_mq.specs.declared.queue.Registration.{Registration}
+use Rattle.ipc_state.specs.declared.parked.ObjectKind.TheVariants as kinds
 use Rattle.ipc_state.specs.declared.descriptors.Descriptor.{Descriptor}
 use Rattle.ipc_state.specs.declared.parked.Awaited.{Awaited}
 use Rattle.ipc_state.specs.declared.parked.Awaited.TheVariants as awaited
 use Rattle.ipc_state.specs.Descriptors.{Table}
-use Rattle.ipc_state.specs.Bound.{holding}
-use Rattle.ipc_state.specs.Named.{NamedEntry, nameless, unnamed, without_name}
+use Rattle.ipc_state.specs.Bound.{holding, rebound, unbound, without_bound}
+use Rattle.ipc_state.specs.Named.{NamedEntry}
 use Rattle.ipc_state.specs.Numbered.{entry_of, with_entry}
 use Rattle.ipc_keys.specs.declared.check.NameKind.{NameKind}
 use Rattle.ipc_keys.specs.declared.check.NameKind.TheVariants as names
@@ -24,7 +25,7 @@ use Rattle.ipc_state.specs.Sound.{HasSoundParts}
 use Rattle.ipc_state.specs.State.{State, closed, exit, is_process, restart, unlinked, with_descriptors}
 use Rattle.ipc_state.specs.State.{with_mq, without_descriptor, without_process}
 use Rattle.ipc_state.specs.declared.processes.Process.{Process}
-use Rattle.ipc_state.specs.Touching.{mq_object, object_of, object_on}
+use Rattle.ipc_state.specs.Touching.{mq_object, object_of}
 use Rattle.ipc_state.proofs.CallerLemmas.{elsewhere-table}
 use Rattle.posix_calls.specs.Mq.{arrived, firing, is_own}
 use Rattle.posix_calls.specs.Mq.{notified, registration}
@@ -78,7 +79,7 @@ module _ (p : ℕ) where
   pub put-mq : (s : State) (n : ℕ) (q new : Mq) → mq_object s n ≡ Some q
       → registrations (with_mq s n new) p + own p q.registration ≡ registrations s p + own p new.registration
   put-mq s n q new is =
-      let e = has-entry s names.Mq n q is in
+      let e = has-entry s (kinds.Named names.Mq) n q is in
       let whole = put s.mq.entries n e.entry (holding e.entry new) e.there in
       let same : own p e.entry.object.registration ≡ own p q.registration = ap (λ (r : Mq). own p r.registration) e.object in
       let state : registrations (with_mq s n new) p ≡ sum_by of-entry (with_value nat_eq s.mq.entries n (holding e.entry new)) =
@@ -89,8 +90,8 @@ module _ (p : ℕ) where
 
   -- registrations go, and queues that are no longer open
   fewer-swept : (left : List (ℕ × Process)) (goes : Registration → Bool) (es : List (ℕ × NamedEntry Mq))
-      → sum_by of-entry (filter (stays names.Mq left) (seen_as (deregistered goes) es)) ≤ sum_by of-entry es
-  fewer-swept left goes es = omega (arith, fewer-kept (stays names.Mq left) (seen_as (deregistered goes) es), fewer-seen goes es)
+      → sum_by of-entry (filter (stays (kinds.Named names.Mq) left) (seen_as (deregistered goes) es)) ≤ sum_by of-entry es
+  fewer-swept left goes es = omega (arith, fewer-kept (stays (kinds.Named names.Mq) left) (seen_as (deregistered goes) es), fewer-seen goes es)
 
   pub fewer-closed : (s : State) (pid fd : ℕ) → registrations (closed s pid fd) p ≤ registrations s p
   fewer-closed s pid fd = fewer-swept (without_descriptor s pid fd).processes.entries (is_by (Some pid) (Some fd)) s.mq.entries
@@ -138,14 +139,15 @@ module _ (p : ℕ) where
               let none = no-descriptor (value_at nat_eq ps r.pid.0) (ap (λ (q : ℕ). is_some (value_at nat_eq ps q)) one ∙ gone) r.descriptor in
               absurd (let both : true ≡ false = sym is ∙ none in cc)
 
-  pub fewer-unlinked : (s : State) (kind : NameKind) (n : ℕ) → registrations (unlinked s kind n) p ≤ registrations s p
-  fewer-unlinked s names.Psem n = fewer-kept (stays names.Mq s.processes.entries) s.mq.entries
-  fewer-unlinked s names.Pshm n = fewer-kept (stays names.Mq s.processes.entries) s.mq.entries
-  fewer-unlinked s names.Mq n = omega (arith, fewer-kept (stays names.Mq s.processes.entries) (unnamed s.mq n).entries, by_entry (entry_of s.mq n) refl)
+  pub fewer-unlinked : (s : State) (kind : NameKind) (n : ℕ) → registrations (unlinked s (kinds.Named kind) n) p ≤ registrations s p
+  fewer-unlinked s names.Psem n = fewer-kept (stays (kinds.Named names.Mq) s.processes.entries) s.mq.entries
+  fewer-unlinked s names.Pshm n = fewer-kept (stays (kinds.Named names.Mq) s.processes.entries) s.mq.entries
+  fewer-unlinked s names.Mq n =
+      omega (arith, fewer-kept (stays (kinds.Named names.Mq) s.processes.entries) (unbound (λ x. x) [] s.mq n).entries, by_entry (entry_of s.mq n) refl)
     where
-      by_entry : (r : Option (NamedEntry Mq)) → entry_of s.mq n ≡ r → sum_by of-entry (without_name s.mq n r).entries ≤ registrations s p
+      by_entry : (r : Option (NamedEntry Mq)) → entry_of s.mq n ≡ r → sum_by of-entry (without_bound (λ x. x) [] s.mq n r).entries ≤ registrations s p
       by_entry None is = omega arith
-      by_entry (Some e) is = omega (arith, put s.mq.entries n e (nameless e) is)
+      by_entry (Some e) is = omega (arith, put s.mq.entries n e (rebound (λ x. x) e []) is)
 
   -- what is sent is no more than was registered
   fewer-notifies : (r : Option Registration) → own p (notified r) ≤ own p r
@@ -176,7 +178,7 @@ module _ (p : ℕ) where
   table-objects s pid table other (awaited.MsgQueue id) = refl
   table-objects s pid table other (awaited.Semset id) = refl
   table-objects s pid table other (awaited.Descriptor fd) =
-      ap (option_map (λ (d : Descriptor). object_on d.on)) (elsewhere-table s pid table p (awaited.Descriptor fd) other).0
+      ap (option_map (λ (d : Descriptor). d.on)) (elsewhere-table s pid table p (awaited.Descriptor fd) other).0
 
   -- a call that makes one answers so
   pub made-one : (pid fd kind cookie : ℕ) → own p (Some (registration pid fd kind cookie)) ≤ may_make pid Empty p
@@ -199,7 +201,7 @@ pub registrations-restarted : (s : State) (p : ℕ) → registrations (restart s
 registrations-restarted s p = fewer-restarted p s
 
 pub registrations-few : (limits : Limits) (s : State) (p : ℕ) → HasSoundParts limits s → registrations s p ≤ limits.queues
-registrations-few limits s p h = omega (arith, few-registrations p s.mq.entries, (h.named names.Mq).held.named.numbered.count)
+registrations-few limits s p h = omega (arith, few-registrations p s.mq.entries, (h.named names.Mq).held.bound.numbered.count)
 
 pub registrations-none : (limits : Limits) (s : State) (p : ℕ) → HasSoundParts limits s → is_process s p ≡ false → registrations s p ≡ 0
 registrations-none limits s p h gone = none-registered p s.processes.entries gone s.mq.entries (h.named names.Mq).together

@@ -32,19 +32,20 @@ use Rattle.ipc_wire.specs.declared.reply.Body.TheVariants.{Empty, Number, Record
 use Rattle.posix_mq.specs.Queue.{Queue as Mq, PlainMessage, deregistered, empty_queue, next_to_receive, received, received_message, registered, with_message}
 use Rattle.posix_mq.specs.declared.queue.Registration.{Registration}
 use Rattle.ipc_state.specs.declared.descriptors.Descriptor.{Descriptor}
-use Rattle.ipc_state.specs.declared.descriptors.Opened.{Opened}
 use Rattle.ipc_state.specs.declared.parked.Awaited.{Awaited}
 use Rattle.ipc_state.specs.declared.parked.Object.{Object}
 use Rattle.ipc_state.specs.Descriptors.{lowest_unused}
 use Rattle.ipc_state.specs.Numbered.{entry_of}
 use Rattle.ipc_perm.specs.Perm.{perm_of}
-use Rattle.ipc_state.specs.Opening.{Content, NamedObjects, descriptor_at, descriptors_of, has_access, is_by_descriptor, is_on, is_there_for, of_kind, opened_as}
+use Rattle.ipc_state.specs.declared.parked.ObjectKind.TheVariants as kinds
+use Rattle.ipc_state.specs.Kinds.{Content, EntryOf, Objects, Those, has_access, of_kind, with_kind}
+use Rattle.ipc_state.specs.Opening.{descriptor_at, descriptors_of, is_by_descriptor, is_on, is_there_for, opened_as}
 use Rattle.ipc_state.specs.Finish.{Done, answer, answer_firing, done_firing, ◌>>=◌}
 use Rattle.ipc_state.specs.Sound.{FitsBody, HasSoundParts, IsSoundContent, IsSoundMq, IsSoundMqMessage, most_of}
 use Rattle.ipc_state.specs.State.{State, closed, cred_of, has_all_descriptors, is_waiting, unlinked, with_descriptor, with_descriptor_flags, with_mq}
 use Rattle.ipc_state.specs.State.{with_descriptors, with_new_of}
 use Rattle.ipc_state.specs.Descriptors.{Table}
-use Rattle.ipc_state.specs.Opening.{with_kind, with_table}
+use Rattle.ipc_state.specs.Opening.{with_table}
 use Rattle.ipc_state.specs.Descriptors.{opened as opened_table}
 use Rattle.ipc_state.specs.Bound.{holding}
 use Rattle.ipc_state.specs.Named.{Named, NamedEntry, named}
@@ -53,8 +54,8 @@ use Rattle.ipc_state.specs.declared.processes.Process.{Process}
 use Rattle.posix_sem.specs.Semaphore.{post_answer, posted, sem_value_max, wait_answer, waited}
 use Rattle.shm_segment.specs.Segment.{Segment, empty_segment, is_within, part, truncated, written}
 use Rattle.ipc_state.specs.Sound.{segment_bytes}
-use Rattle.ipc_state.specs.State.{named_in, named_of, with_psem, with_pshm}
-use Rattle.ipc_state.specs.Touching.{IsAsBefore, object_of, object_on}
+use Rattle.ipc_state.specs.State.{named_of, objects_in, with_psem, with_pshm}
+use Rattle.ipc_state.specs.Touching.{IsAsBefore, object_of}
 use Rattle.ipc_state.specs.Waiting.{may_wait}
 use Rattle.ipc_state.proofs.CallerLemmas.{IsGood, as_before, same-but-table, same-objects, same-processes}
 use Rattle.ipc_state.proofs.CallerLemmas.{AtEnd, after, after-refuse, after-then, at-all, at-some, at-value, by-if_some, by-test}
@@ -108,7 +109,7 @@ segment-mode flags is =
 -- ---- lengths
 
 -- those of a kind are what was put for it
-put-kind : (o : NamedObjects) (kind : NameKind) (those : Named (Content kind)) → of_kind (with_kind o kind those) kind ≡ those
+put-kind : (o : Objects) (kind : NameKind) (those : Those (kinds.Named kind)) → of_kind (with_kind o (kinds.Named kind) those) (kinds.Named kind) ≡ those
 put-kind o names.Mq those = refl
 put-kind o names.Psem those = refl
 put-kind o names.Pshm those = refl
@@ -174,7 +175,7 @@ module _ (flags : ℕ) (s : State) (n : ℕ) (e : NamedEntry Segment) where
   cut-sound limits there h = by_test (has flags trunc)
     where
       by_test : (b : Bool) → HasSoundParts limits (cut_if b)
-      by_test true = with_object-sound limits s names.Pshm n e (truncated 0 e.object) there tt
+      by_test true = with_object-sound limits s (kinds.Named names.Pshm) n e (truncated 0 e.object) there tt
           (omega (arith, (h.named names.Pshm).together, truncated-length e.object 0)) h
       by_test false = h
 
@@ -189,7 +190,7 @@ module _ (flags : ℕ) (s : State) (n : ℕ) (e : NamedEntry Segment) where
   cut-elsewhere p on = by_test (has flags trunc)
     where
       by_test : (b : Bool) → IsAsBefore p on s (cut_if b)
-      by_test true = elsewhere-object s names.Pshm n (truncated 0 e.object) p on (λ no. cc)
+      by_test true = elsewhere-object s (kinds.Named names.Pshm) n (truncated 0 e.object) p on refl (λ no. cc)
       by_test false = as_before p on s
 
 -- all but the segments is as it was
@@ -204,9 +205,9 @@ cut-same f same flags s n e = by_test (has flags trunc)
 -- ---- a queue that is open
 
 -- what a descriptor is open on is what a call by it may change
-on-object : (s : State) (pid fd : ℕ) (d : Descriptor) (on : Opened) → descriptor_at s.processes.entries pid fd ≡ Some d → d.on ≡ on
-    → on_descriptor s pid fd ≡ Some (object_on on)
-on-object s pid fd d on at is = ap (option_map (λ (e : Descriptor). object_on e.on)) at ∙ ap (λ (o : Opened). Some (object_on o)) is
+on-object : (s : State) (pid fd : ℕ) (d : Descriptor) (on : Object) → descriptor_at s.processes.entries pid fd ≡ Some d → d.on ≡ on
+    → on_descriptor s pid fd ≡ Some on
+on-object s pid fd d on at is = ap (option_map (λ (e : Descriptor). e.on)) at ∙ ap (λ (o : Object). Some o) is
 
 -- a registration by that descriptor
 registers-by : (s : State) (pid fd : ℕ) (f : Found) → IsOpen s pid fd f
@@ -304,11 +305,11 @@ module _ (limits : Limits) where
     keeps-access : {fd : ℕ} (f : Found) (o : IsOpen s pid fd f) (flags : ℕ) → bit_and flags 3 ≡ bit_and o.descriptor.flags 3 → HasSoundParts limits s
         → (d : Descriptor) → descriptor_at s.processes.entries pid fd ≡ Some d → has_access d.on.kind flags ≡ true
     keeps-access {fd} f o flags same h d at =
-        let good = (and_parts (is_there_for (named_in s) o.descriptor.on) _ (descriptor-sound limits s pid fd o.descriptor o.at h)).1 in
+        let good = (and_parts (is_there_for (objects_in s) o.descriptor.on) _ (descriptor-sound limits s pid fd o.descriptor o.at h)).1 in
         let one : d ≡ o.descriptor = same-some (sym at ∙ o.at) in
         let on : d.on ≡ opened_as names.Mq f.number = ap (λ (e : Descriptor). e.on) one ∙ o.on in
-        let was : not (nat_eq (bit_and o.descriptor.flags 3) 3) ≡ true = subst (λ (k : Opened). has_access k.kind o.descriptor.flags ≡ true) o.on good in
-        subst (λ (k : Opened). has_access k.kind flags ≡ true) (sym on) (rw same was)
+        let was : not (nat_eq (bit_and o.descriptor.flags 3) 3) ≡ true = subst (λ (k : Object). has_access k.kind o.descriptor.flags ≡ true) o.on good in
+        subst (λ (k : Object). has_access k.kind flags ≡ true) (sym on) (rw same was)
 
     -- ---- each call
 
@@ -320,14 +321,14 @@ module _ (limits : Limits) where
         → ((p : ℕ) → own p fired + own p q.registration ≤ own p f.queue.registration + may_make pid body p)
         → AtEnd never (Leaves (on_descriptor s pid fd)) (answer_firing (with_mq s f.number q) body fired)
     put-ends fd f q body fired o good stays fits owes =
-        let e = has-entry s names.Mq f.number f.queue o.there in
+        let e = has-entry s (kinds.Named names.Mq) f.number f.queue o.there in
         let was : HasSoundParts limits s → IsSoundMq limits f.queue = queue-sound limits s f.number f.queue o.there in
         same-ends (with_mq s f.number q) body fired refl refl refl
         (λ h. let by = subst (λ (r : Mq). is_by_descriptor s.processes.entries f.number r.registration ≡ true) e.object
         (mq-registered limits s f.number e.entry e.there h) in
-        with_object-sound limits s names.Mq f.number e.entry q e.there (good (was h)) (stays by) h)
+        with_object-sound limits s (kinds.Named names.Mq) f.number e.entry q e.there (good (was h)) (stays by) h)
         (λ h. fits (was h))
-        (λ h p on apart. elsewhere-object s names.Mq f.number q p on (λ _ same. apart (on-object s pid fd o.descriptor _ o.at o.on ∙ same)))
+        (λ h p on apart. elsewhere-object s (kinds.Named names.Mq) f.number q p on refl (λ _ same. apart (on-object s pid fd o.descriptor _ o.at o.on ∙ same)))
         (λ p. omega (arith, put-mq p s f.number f.queue q o.there, owes p))
 
     mq_send-ends : (fd priority : ℕ) (text : List ℕ) → AtEnd false (Leaves (on_descriptor s pid fd)) (mq_send s pid fd priority text)
@@ -380,8 +381,8 @@ module _ (limits : Limits) where
       unlink-ends : (kind : NameKind) (cred : Cred) (name : List ℕ) → AtEnd never (Leaves None) (unlink kind s cred name)
       unlink-ends kind cred name =
           after-then (proper-ends kind name) (λ _. after (unlinkable-ends (named_of s kind) cred name) (λ n _.
-          same-ends (unlinked s kind n) Empty None refl refl refl (unlinked-sound limits s kind n) (λ _. omega arith)
-          (λ h p on apart. elsewhere-unlinked limits s h kind n p on) (λ p. omega (arith, fewer-unlinked p s kind n))))
+          same-ends (unlinked s (kinds.Named kind) n) Empty None refl refl refl (unlinked-sound limits s (kinds.Named kind) n refl) (λ _. omega arith)
+          (λ h p on apart. elsewhere-unlinked limits s h (kinds.Named kind) n p on refl) (λ p. omega (arith, fewer-unlinked p s kind n))))
 
       close-ends : (fd : ℕ) → AtEnd never (Leaves (on_descriptor s pid fd)) (close s pid fd)
       close-ends fd =
@@ -399,9 +400,9 @@ module _ (limits : Limits) where
           (omega arith) (λ h p on other apart. elsewhere-table s pid _ p on other) (λ p. omega arith)))
 
       -- a descriptor on an object that is there, in a state of which others see nothing new
-      opens-ends : (t : State) (flags : ℕ) (on : Opened) → t.processes ≡ s.processes → t.clock ≡ s.clock → t.wait ≡ s.wait
+      opens-ends : (t : State) (flags : ℕ) (on : Object) → t.processes ≡ s.processes → t.clock ≡ s.clock → t.wait ≡ s.wait
           → has_all_descriptors limits t pid ≡ false → (HasSoundParts limits s → HasSoundParts limits t)
-          → (HasSoundParts limits s → is_there_for (named_in t) on ≡ true) → has_access on.kind flags ≡ true
+          → (HasSoundParts limits s → is_there_for (objects_in t) on ≡ true) → has_access on.kind flags ≡ true
           → (HasSoundParts limits s → (p : ℕ) (on : Awaited) → IsAsBefore p on s t) → ((p : ℕ) → registrations t p ≤ registrations s p)
           → AtEnd never (Leaves None) (opens t pid flags on)
       opens-ends t flags on same clock wait few sound there access others owes =
@@ -412,7 +413,8 @@ module _ (limits : Limits) where
           (λ h. with_descriptor-sound limits t pid d few (and_from _ _ (there h) access) (sound h)) (omega arith)
           (λ h p on other apart. before-then p on s t _ (others h p on) (elsewhere-table t pid table p on other)) owes
 
-      module _ (kind : NameKind) (cred : Cred) (flags : ℕ) (few : has_all_descriptors limits s pid ≡ false) (access : has_access kind flags ≡ true) where
+      module _ (kind : NameKind) (cred : Cred) (flags : ℕ) (few : has_all_descriptors limits s pid ≡ false)
+          (access : has_access (kinds.Named kind) flags ≡ true) where
         -- a descriptor on an object that is there, and that the caller may use
         there-ends : (n asked : ℕ)
             → AtEnd never (Leaves None) (usable (named_of s kind) cred n asked >>= (λ e. opens s pid flags (opened_as kind n)))
@@ -421,19 +423,19 @@ module _ (limits : Limits) where
             opens-ends s flags (opened_as kind n) refl refl refl few (λ h. h) (λ _. ap is_some there) access as_it_is (λ p. omega arith))
 
         -- a descriptor on a new object
-        new-ends : (name : List ℕ) (mode : ℕ) (x : Content kind) → is_ok (check_name kind name) ≡ true → named (named_of s kind) name ≡ None
-            → is_full (most_of limits kind) (named_of s kind) ≡ false → IsSoundContent limits kind x
-            → (HasSoundParts limits s → MayJoin limits kind (named_of s kind) x)
-            → ((p : ℕ) → registrations (with_new_of s kind name cred mode x) p ≤ registrations s p)
-            → AtEnd never (Leaves None) (opens (with_new_of s kind name cred mode x) pid flags (opened_as kind (named_of s kind).next))
+        new-ends : (name : List ℕ) (mode : ℕ) (x : Content (kinds.Named kind)) → is_ok (check_name kind name) ≡ true → named (named_of s kind) name ≡ None
+            → is_full (most_of limits (kinds.Named kind)) (named_of s kind) ≡ false → IsSoundContent limits (kinds.Named kind) x
+            → (HasSoundParts limits s → MayJoin limits (kinds.Named kind) (named_of s kind) x)
+            → ((p : ℕ) → registrations (with_new_of s (kinds.Named kind) name cred mode x) p ≤ registrations s p)
+            → AtEnd never (Leaves None) (opens (with_new_of s (kinds.Named kind) name cred mode x) pid flags (opened_as kind (named_of s kind).next))
         new-ends name mode x right unused room good may owes =
-            let those : Named (Content kind) = named_of s kind in
-            let e : NamedEntry (Content kind) = record { bound = name; perm = perm_of cred mode; object = x } in
-            opens-ends (with_new_of s kind name cred mode x) flags (opened_as kind those.next) refl refl refl few
-            (λ h. with_new-sound limits s kind name cred mode x unused room right good (may h) h)
-            (λ h. ap (λ (o : Named (Content kind)). is_some (entry_of o those.next)) (put-kind (named_in s) kind (with_new those e))
-            ∙ new-there those e (h.named kind).held.named.numbered.numbers)
-            access (λ h p on. elsewhere-new limits s h kind name cred mode x p on) owes
+            let those : Those (kinds.Named kind) = named_of s kind in
+            let e : EntryOf (kinds.Named kind) = record { bound = name; perm = perm_of cred mode; object = x } in
+            opens-ends (with_new_of s (kinds.Named kind) name cred mode x) flags (opened_as kind those.next) refl refl refl few
+            (λ h. with_new-sound limits s (kinds.Named kind) name cred mode x unused room right good (may h) h)
+            (λ h. ap (λ (o : Those (kinds.Named kind)). is_some (entry_of o those.next)) (put-kind (objects_in s) kind (with_new those e))
+            ∙ new-there those e (h.named kind).held.bound.numbered.numbers)
+            access (λ h p on. elsewhere-new limits s h (kinds.Named kind) e p on refl) owes
 
       mq_open-ends : (cred : Cred) (flags mode attr : ℕ) (maxmsg msgsize : ℤ) (name : List ℕ)
           → AtEnd never (Leaves None) (mq_open limits s cred pid flags mode attr maxmsg msgsize name)
@@ -453,12 +455,13 @@ module _ (limits : Limits) where
     change-ends : {never : Bool} (fd : ℕ) (f : FoundPsem) (value : ℕ) → IsOpenPsem s pid fd f → (f.value ≤ sem_value_max → value ≤ sem_value_max)
         → AtEnd never (Leaves (on_descriptor s pid fd)) (answer (with_psem s f.number value) Empty)
     change-ends fd f value o good =
-        let e = has-entry s names.Psem f.number f.value o.there in
+        let e = has-entry s (kinds.Named names.Psem) f.number f.value o.there in
         same-ends (with_psem s f.number value) Empty None refl refl refl
-        (λ h. let most = content-sound limits s names.Psem f.number e.entry e.there h in
-        with_object-sound limits s names.Psem f.number e.entry value e.there (good (subst (λ (n : ℕ). n ≤ sem_value_max) e.object most)) tt h)
+        (λ h. let most = content-sound limits s (kinds.Named names.Psem) f.number e.entry e.there h in
+        with_object-sound limits s (kinds.Named names.Psem) f.number e.entry value e.there (good (subst (λ (n : ℕ). n ≤ sem_value_max) e.object most)) tt h)
         (λ _. omega arith)
-        (λ h p on apart. elsewhere-object s names.Psem f.number value p on (λ _ same. apart (on-object s pid fd o.descriptor _ o.at o.on ∙ same)))
+        (λ h p on apart. elsewhere-object s (kinds.Named names.Psem) f.number value p on refl
+        (λ _ same. apart (on-object s pid fd o.descriptor _ o.at o.on ∙ same)))
         (λ p. omega arith)
 
     posted-few : (n : ℕ) → n ≤ sem_value_max → posted n ≤ sem_value_max
@@ -501,8 +504,9 @@ module _ (limits : Limits) where
           → (HasSoundParts limits s → segment_bytes s.pshm - length f.entry.object.bytes + length x.bytes ≤ limits.segment_bytes)
           → AtEnd never (Leaves None) (answer (with_pshm s f.number x) Empty)
       put_segment-ends fd f x o few =
-          same-ends (with_pshm s f.number x) Empty None refl refl refl (λ h. with_object-sound limits s names.Pshm f.number f.entry x o.there tt (few h) h)
-          (λ _. omega arith) (λ h p on apart. elsewhere-object s names.Pshm f.number x p on (λ no. cc)) (λ p. omega arith)
+          same-ends (with_pshm s f.number x) Empty None refl refl refl
+          (λ h. with_object-sound limits s (kinds.Named names.Pshm) f.number f.entry x o.there tt (few h) h) (λ _. omega arith)
+          (λ h p on apart. elsewhere-object s (kinds.Named names.Pshm) f.number x p on refl (λ no. cc)) (λ p. omega arith)
 
       ftruncate-ends : (fd len : ℕ) → AtEnd never (Leaves None) (ftruncate limits s pid fd len)
       ftruncate-ends fd len =

@@ -16,12 +16,15 @@ use Rattle.ipc_keys.specs.declared.check.NameKind.{NameKind}
 use Rattle.ipc_keys.specs.declared.check.NameKind.TheVariants as names
 use Rattle.posix_mq.specs.Queue.{Queue as Mq, PlainMessage, empty_queue, is_full, received_message}
 use Rattle.ipc_state.specs.declared.descriptors.Descriptor.{Descriptor}
-use Rattle.ipc_state.specs.declared.descriptors.Opened.{Opened}
+use Rattle.ipc_state.specs.declared.parked.Object.{Object}
+use Rattle.ipc_state.specs.declared.parked.ObjectKind.{ObjectKind}
+use Rattle.ipc_state.specs.declared.parked.ObjectKind.TheVariants as kinds
+use Rattle.ipc_state.specs.Kinds.{Content, EntryOf}
 use Rattle.ipc_state.specs.Named.{Named, NamedEntry, named}
 use Rattle.ipc_state.specs.Numbered.{entry_of}
-use Rattle.ipc_state.specs.Opening.{Content, descriptor_at, opened_as, same_kind}
-use Rattle.ipc_state.specs.State.{State, named_of}
-use Rattle.ipc_state.specs.Touching.{mq_object, named_object, psem_value}
+use Rattle.ipc_state.specs.Opening.{descriptor_at, object_as, opened_as, same_kind}
+use Rattle.ipc_state.specs.State.{State, objects_of}
+use Rattle.ipc_state.specs.Touching.{mq_object, object_at, psem_value}
 use Rattle.ipc_state.specs.Held.{Ready}
 use Rattle.ipc_state.specs.Held.Ready.{Mq as ForMq, Psem as ForPsem, Pshm as ForPshm}
 use Rattle.posix_calls.specs.Mq.{Found, asked_or, attributes, limited, open_mq, open_to, receivable, sendable, waits_or_fails}
@@ -40,13 +43,14 @@ pub record IsOpen (s : State) (pid fd : ℕ) (found : Found) : Type 0 where
   pub flags : descriptor.flags ≡ found.flags
   pub there : mq_object s found.number ≡ Some found.queue
 
-pub number-is : (kind : NameKind) (on : Opened) (n : ℕ) → number_in kind on ≡ Some n → on ≡ opened_as kind n
+pub number-is : (kind : NameKind) (on : Object) (n : ℕ) → number_in kind on ≡ Some n → on ≡ opened_as kind n
 number-is kind on n = by_kinds on.kind kind
   where
-    by_kinds : (k this : NameKind) → (if same_kind k this then Some on.number else None) ≡ Some n → opened_as k on.number ≡ opened_as this n
-    by_kinds names.Mq names.Mq is = cc
-    by_kinds names.Psem names.Psem is = cc
-    by_kinds names.Pshm names.Pshm is = cc
+    by_kinds : (k : ObjectKind) (this : NameKind) → (if same_kind k (kinds.Named this) then Some on.number else None) ≡ Some n
+        → object_as k on.number ≡ opened_as this n
+    by_kinds (kinds.Named names.Mq) names.Mq is = cc
+    by_kinds (kinds.Named names.Psem) names.Psem is = cc
+    by_kinds (kinds.Named names.Pshm) names.Pshm is = cc
     by_kinds k this is = cc
 
 pub open-ends : {never : Bool} (s : State) (pid fd : ℕ) → AtEnd never (IsOpen s pid fd) (open_mq s pid fd)
@@ -55,23 +59,23 @@ open-ends s pid fd =
     at-value _ (record { descriptor = d; at = at; on = number-is names.Mq d.on n on; flags = refl; there = there }))))
 
 -- the object of a number has an entry
-pub record HasEntry (s : State) (kind : NameKind) (n : ℕ) (x : Content kind) : Type 0 where
-  pub entry : NamedEntry (Content kind)
-  pub there : entry_of (named_of s kind) n ≡ Some entry
+pub record HasEntry (s : State) (kind : ObjectKind) (n : ℕ) (x : Content kind) : Type 0 where
+  pub entry : EntryOf kind
+  pub there : entry_of (objects_of s kind) n ≡ Some entry
   pub object : entry.object ≡ x
 
-pub has-entry : (s : State) (kind : NameKind) (n : ℕ) (x : Content kind) → named_object s kind n ≡ Some x → HasEntry s kind n x
-has-entry s kind n x is = by_entry (entry_of (named_of s kind) n) refl is
+pub has-entry : (s : State) (kind : ObjectKind) (n : ℕ) (x : Content kind) → object_at s kind n ≡ Some x → HasEntry s kind n x
+has-entry s kind n x is = by_entry (entry_of (objects_of s kind) n) refl is
   where
-    by_entry : (r : Option (NamedEntry (Content kind))) → entry_of (named_of s kind) n ≡ r
-        → option_map (λ (e : NamedEntry (Content kind)). e.object) r ≡ Some x → HasEntry s kind n x
+    by_entry : (r : Option (EntryOf kind)) → entry_of (objects_of s kind) n ≡ r
+        → option_map (λ (e : EntryOf kind). e.object) r ≡ Some x → HasEntry s kind n x
     by_entry None there is = cc
     by_entry (Some e) there is = record { entry = e; there = there; object = cc }
 
 -- it is sound, and whoever is registered with it has it open
 pub queue-sound : (limits : Limits) (s : State) (n : ℕ) (q : Mq) → mq_object s n ≡ Some q → HasSoundParts limits s → IsSoundMq limits q
 queue-sound limits s n q is h =
-    let e = has-entry s names.Mq n q is in subst (IsSoundMq limits) e.object (content-sound limits s names.Mq n e.entry e.there h)
+    let e = has-entry s (kinds.Named names.Mq) n q is in subst (IsSoundMq limits) e.object (content-sound limits s (kinds.Named names.Mq) n e.entry e.there h)
 
 -- ---- what is reserved
 

@@ -13,7 +13,8 @@ use Rattle.ipc_perm.specs.declared.perm.Perm.{Perm}
 use Rattle.ipc_perm.specs.Perm.{may}
 use Rattle.ipc_wire.specs.declared.reply.Body.TheVariants.{Empty, Number}
 use Rattle.ipc_state.specs.declared.descriptors.Descriptor.{Descriptor}
-use Rattle.ipc_state.specs.declared.descriptors.Opened.{Opened}
+use Rattle.ipc_state.specs.declared.parked.Object.{Object}
+use Rattle.ipc_state.specs.declared.parked.ObjectKind.TheVariants as kinds
 use Rattle.ipc_state.specs.Numbered.{entry_of}
 use Rattle.ipc_state.specs.Named.{Named, NamedEntry, named}
 use Rattle.ipc_state.specs.Descriptors.{lowest_unused}
@@ -22,8 +23,8 @@ use Rattle.ipc_state.specs.State.{State, named_of, unlinked, with_descriptor}
 use Rattle.ipc_state.specs.Finish.{Attempt, Done, Fails, answer, refuse, if_some, ◌orelse◌, ◌>>◌, ◌>>=◌}
 
 -- the number of what a descriptor is open on, if it is of this kind
-abbrev pub number_in : NameKind → Opened → Option ℕ
-number_in kind on = if same_kind on.kind kind then Some on.number else None
+abbrev pub number_in : NameKind → Object → Option ℕ
+number_in kind on = if same_kind on.kind (kinds.Named kind) then Some on.number else None
 
 -- ---- flags
 
@@ -102,7 +103,7 @@ abbrev pub unlink : NameKind → State → Cred → List ℕ → Attempt Done
 unlink kind s cred name = do
   proper kind name
   n ← unlinkable (named_of s kind) cred name
-  answer (unlinked s kind n) Empty
+  answer (unlinked s (kinds.Named kind) n) Empty
 
 -- ---- descriptors
 
@@ -114,7 +115,7 @@ abbrev pub described : State → ℕ → ℕ → Attempt Descriptor
 described s pid fd = described_or EBADF s pid fd
 
 -- a descriptor of the process that is open on an object with these flags, and its number
-abbrev pub opens : State → ℕ → ℕ → Opened → Attempt Done
+abbrev pub opens : State → ℕ → ℕ → Object → Attempt Done
 opens s pid flags on =
     answer (with_descriptor s pid (record { on = on; flags = flags }))
     (Number (lowest_unused (descriptors_of s.processes.entries pid)))

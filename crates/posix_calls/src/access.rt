@@ -14,7 +14,7 @@ ghost use Rattle.posix_calls.specs.Seen.{lent_of, opened_of};
 use bitflags::Flags;
 use ipc_base::{Cred, Errno, OpenFlags, Pid};
 use ipc_perm::{Access, Perm, may};
-use ipc_state::{Descriptor, Named, NamedEntry, Opened, State};
+use ipc_state::{Descriptor, Named, NamedEntry, Object, State};
 
 /// Whether a descriptor with these flags is open to read.
 pub(crate) fn reads(flags: OpenFlags) -> bool
@@ -137,7 +137,7 @@ pub(crate) fn described(state: &State, pid: Pid, fd: u32) -> Result<Descriptor, 
 }
 
 /// Opens a descriptor on an object, and gives its number.
-pub(crate) fn open_on(state: &mut State, pid: Pid, on: Opened, flags: u32) -> u32
+pub(crate) fn open_on(state: &mut State, pid: Pid, on: Object, flags: u32) -> u32
     requires sound { HasSoundParts state.old.limits state.old.state }
     requires process { is_process state.old.state pid.0 ≡ true }
     requires few { has_all_descriptors state.old.limits state.old.state pid.0 ≡ false }

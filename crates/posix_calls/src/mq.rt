@@ -1,11 +1,11 @@
 //! The calls on POSIX message queues: mq_open(3), mq_unlink(3), mq_notify(3), mq_getattr(3), mq_setattr(3), and
 //! close(2). None takes memory in its attempt.
 
-ghost use Rattle.std.specs.Prelude.{◌≡◌, ◌+◌, ◌≤◌, ◌++◌, [], Some, None, true, is_some, length};
+ghost use Rattle.std.specs.Prelude.{◌≡◌, ◌+◌, ◌≤◌, ◌++◌, Some, None, true, is_some, length};
 ghost use Rattle.std.specs.Prelude.{vec_len, vec_capacity, IfOk, OnOk};
 ghost use Rattle.ipc_base.specs.Limits.{ArePassed};
 ghost use Rattle.ipc_base.specs.Numbers.{record_bytes};
-ghost use Rattle.ipc_keys.specs.declared.check.NameKind.TheVariants as kinds;
+ghost use Rattle.ipc_keys.specs.declared.check.NameKind.TheVariants as names;
 ghost use Rattle.ipc_state.specs.Finish.{Finishes, ended, finish_of};
 ghost use Rattle.ipc_state.specs.Held.{Ready, left};
 ghost use Rattle.ipc_state.specs.Named.{named};
@@ -13,18 +13,17 @@ ghost use Rattle.ipc_state.specs.Numbered.{entry_of};
 ghost use Rattle.ipc_state.specs.Sound.{HasSoundParts};
 ghost use Rattle.ipc_state.specs.State.{with_mq};
 ghost use Rattle.ipc_state.specs.Touching.{mq_object};
-ghost use Rattle.posix_mq.specs.Queue.{Queue, registered, deregistered};
+ghost use Rattle.posix_mq.specs.Queue.{Queue, registered};
 ghost use Rattle.posix_calls.specs.Mq as defined;
 ghost use Rattle.posix_calls.specs.Open as opening;
 ghost use Rattle.posix_calls.specs.Registrations.{registrations};
-ghost use Rattle.ipc_state.specs.Steps.{result_of, seen};
 ghost use Rattle.posix_calls.specs.Seen.{found_of, plain_found};
 ghost use Rattle.ipc_state.specs.Spare.{IsSpare, KeepsBuffer};
 
 use crate::access::{described, unlinkable};
 use ipc_base::{Cred, Errno, Field, OpenFlags, Pid};
 use ipc_keys::{NameKind, check_name};
-use ipc_state::{Answer, Opened, State, take_spare};
+use ipc_state::{Answer, Object, ObjectKind, State, take_spare};
 use ipc_wire::{Body, push_fields};
 use posix_mq::{Mq, Registration};
 
@@ -44,8 +43,8 @@ pub(crate) fn open_mq(state: &State, pid: Pid, fd: u32) -> Result<Found<'_>, Err
     ensures passed { OnOk result (ArePassed state.now.limits) }
 {
     let descriptor = described(state, pid, fd)?;
-    let Opened {
-        kind: NameKind::Mq,
+    let Object {
+        kind: ObjectKind::Named(NameKind::Mq),
         number,
     } = descriptor.on
     else {
@@ -220,7 +219,7 @@ pub(crate) fn mq_notify(state: &mut State, pid: Pid, fd: u32, kind: u32, cookie:
 pub(crate) fn mq_unlink(state: &mut State, cred: Cred, name: &[u8]) -> Answer
     requires sound { HasSoundParts state.old.limits state.old.state }
     ensures finish { Finishes (finish_of state.new.state result)
-        ≡ ended state.old.state (opening.unlink kinds.Mq state.old.state cred name.now) }
+        ≡ ended state.old.state (opening.unlink names.Mq state.old.state cred name.now) }
     ensures held { state.old.ready ≡ Ready.Nothing → state.new ≡ left state.old state.new.state }
 {
     check_name(NameKind::Mq, name)?;

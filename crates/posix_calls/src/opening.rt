@@ -3,7 +3,7 @@
 ghost use Rattle.std.specs.Prelude.{◌≡◌, ◌<◌, ◌^◌, List, ℕ, None, false, true};
 ghost use Rattle.std.specs.Result.{is_ok};
 ghost use Rattle.ipc_keys.specs.Names.{check_name as checked};
-ghost use Rattle.ipc_keys.specs.declared.check.NameKind.TheVariants as kinds;
+ghost use Rattle.ipc_keys.specs.declared.check.NameKind.TheVariants as names;
 ghost use Rattle.ipc_state.specs.Finish.{Finishes, ended, finish_of};
 ghost use Rattle.ipc_state.specs.Held.{Ready, left};
 ghost use Rattle.ipc_state.specs.Named.{named};
@@ -15,7 +15,7 @@ ghost use Rattle.ipc_state.specs.Steps.{result_of};
 use crate::access::{asked_by, open_on, seek, usable};
 use ipc_base::{Cred, Errno, Limits, OpenFlags, Pid};
 use ipc_keys::{NameKind, check_name};
-use ipc_state::{Answer, Opened, State};
+use ipc_state::{Answer, Object, ObjectKind, State};
 use ipc_wire::Body;
 
 /// What mq_open(3) asks of a new queue: its mode and, unless `attr` is 0, its limits.
@@ -92,8 +92,8 @@ fn open_mq(state: &mut State, cred: Cred, pid: Pid, flags: OpenFlags, number: u3
     ensures held { state.new ≡ record state.old { state = state.new.state } }
 {
     usable(state.named_mqs(), cred, number, asked_by(flags))?;
-    let on = Opened {
-        kind: NameKind::Mq,
+    let on = Object {
+        kind: ObjectKind::Named(NameKind::Mq),
         number,
     };
     Ok(Body::Number(open_on(state, pid, on, flags.0 & KEPT_FLAGS)))
@@ -134,7 +134,7 @@ fn make_mq(state: &mut State, cred: Cred, pid: Pid, flags: OpenFlags, wanted: Wa
     requires sound { HasSoundParts state.old.limits state.old.state }
     requires process { is_process state.old.state pid.0 ≡ true }
     requires few { has_all_descriptors state.old.limits state.old.state pid.0 ≡ false }
-    requires proper { is_ok (checked kinds.Mq name) ≡ true }
+    requires proper { is_ok (checked names.Mq name) ≡ true }
     requires unused { named state.old.state.mq name ≡ None }
     requires ready { state.old.ready ≡ Ready.Mq name }
     ensures finish { Finishes (finish_of state.new.state result)
@@ -147,8 +147,8 @@ fn make_mq(state: &mut State, cred: Cred, pid: Pid, flags: OpenFlags, wanted: Wa
         return Err(Errno::ENOSPC);
     }
     let number = state.add_mq(cred, wanted.mode, maxmsg, msgsize);
-    let on = Opened {
-        kind: NameKind::Mq,
+    let on = Object {
+        kind: ObjectKind::Named(NameKind::Mq),
         number,
     };
     Ok(Body::Number(open_on(state, pid, on, flags.0 & KEPT_FLAGS)))

@@ -1,11 +1,11 @@
 //! The calls on named semaphores: sem_open(3), sem_unlink(3), sem_post(3), sem_wait(3), sem_trywait(3) and
 //! sem_getvalue(3). None takes memory in its attempt.
 
-ghost use Rattle.std.specs.Prelude.{◌≡◌, ◌≢◌, List, ℕ, [], Some, None, true, false, is_some, IfOk, OnOk};
+ghost use Rattle.std.specs.Prelude.{◌≡◌, ◌≢◌, List, ℕ, Some, None, true, false, is_some, IfOk, OnOk};
 ghost use Rattle.std.specs.Result.{is_ok};
 ghost use Rattle.ipc_base.specs.Limits.{ArePassed};
 ghost use Rattle.ipc_keys.specs.Names.{check_name as checked};
-ghost use Rattle.ipc_keys.specs.declared.check.NameKind.TheVariants as kinds;
+ghost use Rattle.ipc_keys.specs.declared.check.NameKind.TheVariants as names;
 ghost use Rattle.posix_sem.specs.Semaphore.{posted, sem_value_max, waited};
 ghost use Rattle.ipc_state.specs.Finish.{Finishes, ended, finish_of};
 ghost use Rattle.ipc_state.specs.Held.{Ready, left};
@@ -22,7 +22,7 @@ use crate::access::{described_or, open_on, seek, unlinkable, usable};
 use ipc_base::{Cred, Errno, OpenFlags, Pid};
 use ipc_keys::{NameKind, check_name};
 use ipc_perm::Access;
-use ipc_state::{Answer, Opened, State};
+use ipc_state::{Answer, Object, ObjectKind, State};
 use ipc_wire::Body;
 use posix_sem::SEM_VALUE_MAX;
 
@@ -41,8 +41,8 @@ pub(crate) fn open_semaphore(state: &State, pid: Pid, fd: u32) -> Result<FoundPs
     ensures there { IfOk result (λ found. is_some (entry_of state.now.state.psem found.number) ≡ true) }
 {
     let descriptor = described_or(Errno::EINVAL, state, pid, fd)?;
-    let Opened {
-        kind: NameKind::Psem,
+    let Object {
+        kind: ObjectKind::Named(NameKind::Psem),
         number,
     } = descriptor.on
     else {
@@ -121,8 +121,8 @@ fn open_at(state: &mut State, cred: Cred, pid: Pid, number: u32) -> Answer
         number,
         Access(Access::READ.0 + Access::WRITE.0),
     )?;
-    let on = Opened {
-        kind: NameKind::Psem,
+    let on = Object {
+        kind: ObjectKind::Named(NameKind::Psem),
         number,
     };
     Ok(Body::Number(open_on(state, pid, on, 0)))
@@ -134,7 +134,7 @@ fn make_semaphore(state: &mut State, cred: Cred, pid: Pid, mode: u32, value: u32
     requires sound { HasSoundParts state.old.limits state.old.state }
     requires process { is_process state.old.state pid.0 ≡ true }
     requires few { has_all_descriptors state.old.limits state.old.state pid.0 ≡ false }
-    requires proper { is_ok (checked kinds.Psem name) ≡ true }
+    requires proper { is_ok (checked names.Psem name) ≡ true }
     requires unused { named state.old.state.psem name ≡ None }
     requires ready { state.old.ready ≡ Ready.Psem name }
     ensures finish { Finishes (finish_of state.new.state result) ≡ ended state.old.state
@@ -148,8 +148,8 @@ fn make_semaphore(state: &mut State, cred: Cred, pid: Pid, mode: u32, value: u32
         return Err(Errno::ENOSPC);
     }
     let number = state.add_psem(cred, mode, value);
-    let on = Opened {
-        kind: NameKind::Psem,
+    let on = Object {
+        kind: ObjectKind::Named(NameKind::Psem),
         number,
     };
     Ok(Body::Number(open_on(state, pid, on, 0)))
@@ -159,7 +159,7 @@ fn make_semaphore(state: &mut State, cred: Cred, pid: Pid, mode: u32, value: u32
 pub(crate) fn sem_unlink(state: &mut State, cred: Cred, name: &[u8]) -> Answer
     requires sound { HasSoundParts state.old.limits state.old.state }
     ensures finish { Finishes (finish_of state.new.state result)
-        ≡ ended state.old.state (opening.unlink kinds.Psem state.old.state cred name.now) }
+        ≡ ended state.old.state (opening.unlink names.Psem state.old.state cred name.now) }
     ensures held { state.old.ready ≡ Ready.Nothing → state.new ≡ left state.old state.new.state }
 {
     check_name(NameKind::Psem, name)?;

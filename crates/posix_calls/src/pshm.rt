@@ -8,7 +8,7 @@ ghost use Rattle.std.specs.Result.{is_ok};
 ghost use Rattle.ipc_base.specs.Limits.{ArePassed};
 ghost use Rattle.ipc_base.specs.Numbers.{record_bytes};
 ghost use Rattle.ipc_keys.specs.Names.{check_name as checked};
-ghost use Rattle.ipc_keys.specs.declared.check.NameKind.TheVariants as kinds;
+ghost use Rattle.ipc_keys.specs.declared.check.NameKind.TheVariants as names;
 ghost use Rattle.shm_segment.specs.Segment.{Segment, empty_segment, truncated, written, is_within};
 ghost use Rattle.ipc_state.specs.Finish.{Finishes, ended, finish_of};
 ghost use Rattle.ipc_state.specs.Held.{Ready, left};
@@ -27,7 +27,7 @@ use bitflags::Flags;
 use ipc_base::{Cred, Errno, Field, OpenFlags, Pid};
 use ipc_keys::{NameKind, check_name};
 use ipc_perm::Access;
-use ipc_state::{Answer, NamedEntry, Opened, State, take_spare};
+use ipc_state::{Answer, NamedEntry, Object, ObjectKind, State, take_spare};
 use ipc_wire::{Body, push_fields};
 use shm_segment::Segment;
 
@@ -46,8 +46,8 @@ fn open_pshm(state: &State, pid: Pid, fd: u32) -> Result<FoundPshm<'_>, Errno>
     ensures passed { IfOk result (λ found. ArePassed state.now.limits) }
 {
     let descriptor = described(state, pid, fd)?;
-    let Opened {
-        kind: NameKind::Pshm,
+    let Object {
+        kind: ObjectKind::Named(NameKind::Pshm),
         number,
     } = descriptor.on
     else {
@@ -141,8 +141,8 @@ fn open_at(state: &mut State, cred: Cred, pid: Pid, flags: OpenFlags, number: u3
 {
     usable(state.pshms(), cred, number, asked_of_pshm(flags))?;
     cut(state, number, flags);
-    let on = Opened {
-        kind: NameKind::Pshm,
+    let on = Object {
+        kind: ObjectKind::Named(NameKind::Pshm),
         number,
     };
     Ok(Body::Number(open_on(state, pid, on, flags.access_mode())))
@@ -166,7 +166,7 @@ fn make_pshm(state: &mut State, cred: Cred, pid: Pid, flags: OpenFlags, mode: u3
     requires sound { HasSoundParts state.old.limits state.old.state }
     requires process { is_process state.old.state pid.0 ≡ true }
     requires few { has_all_descriptors state.old.limits state.old.state pid.0 ≡ false }
-    requires proper { is_ok (checked kinds.Pshm name) ≡ true }
+    requires proper { is_ok (checked names.Pshm name) ≡ true }
     requires unused { named state.old.state.pshm name ≡ None }
     requires ready { state.old.ready ≡ Ready.Pshm name }
     ensures finish { Finishes (finish_of state.new.state result) ≡ ended state.old.state
@@ -177,8 +177,8 @@ fn make_pshm(state: &mut State, cred: Cred, pid: Pid, flags: OpenFlags, mode: u3
         return Err(Errno::ENOSPC);
     }
     let number = state.add_pshm(cred, mode);
-    let on = Opened {
-        kind: NameKind::Pshm,
+    let on = Object {
+        kind: ObjectKind::Named(NameKind::Pshm),
         number,
     };
     Ok(Body::Number(open_on(state, pid, on, flags.access_mode())))
@@ -188,7 +188,7 @@ fn make_pshm(state: &mut State, cred: Cred, pid: Pid, flags: OpenFlags, mode: u3
 pub(crate) fn shm_unlink(state: &mut State, cred: Cred, name: &[u8]) -> Answer
     requires sound { HasSoundParts state.old.limits state.old.state }
     ensures finish { Finishes (finish_of state.new.state result)
-        ≡ ended state.old.state (opening.unlink kinds.Pshm state.old.state cred name.now) }
+        ≡ ended state.old.state (opening.unlink names.Pshm state.old.state cred name.now) }
     ensures held { state.old.ready ≡ Ready.Nothing → state.new ≡ left state.old state.new.state }
 {
     check_name(NameKind::Pshm, name)?;

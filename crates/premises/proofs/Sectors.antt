@@ -9,6 +9,7 @@ use Rattle.std.proofs.lemmas.Option.{slice_get-map, slice_get_within, get_or_fro
 use Rattle.ipc_disk.specs.declared.memory.Slot.{Slot as MemorySlot}
 use Rattle.ipc_disk.specs.Medium.{Image, IsSector, Stays, Writes}
 use Rattle.ipc_disk.specs.Slots.{MayLeave, last_values}
+use Rattle.ipc_disk.proofs.CallerLemmas.{written, MayLeave-written, only_contents, contents-flushed}
 use Rattle.ipc_disk.specs.Relations.Slots.{IsWhole, MayLeave-last_values, IsShaped-MayLeave, flushed, synced_slot}
 use Rattle.premises.specs.declared.remembering.Slot.{Slot}
 use Rattle.premises.specs.declared.remembering.TheConstants.{ZEROS}
@@ -76,38 +77,6 @@ pub full-had : (past : List (List MemorySlot)) (now slots : List MemorySlot) (si
 full-had past now slots size k were full is = subst (IsFull size) (get_or_from_slice_get (past ++ now ∷ []) k slots slots is)
     (All-push (IsFull size) past now were full k slots (slice_get_within (past ++ now ∷ []) k slots is))
 
--- a slot after a write
-abbrev pub written : MemorySlot → List ℕ → MemorySlot
-written slot bytes = record { synced = slot.synced; last = bytes }
-
--- an image after a write is one from before it, or one in which the sector is written
-MayLeave-written : (slots : List MemorySlot) (at : ℕ) (slot : MemorySlot) (bytes : List ℕ) (image : Image) → at < length slots
-    → slot ≡ slice_index_or slots at slot → MayLeave (slice_set slots at (written slot bytes)) image
-    → (before : Image) × MayLeave slots before × ((image ≡ before) ⊎ (image ≡ slice_set before at bytes))
-MayLeave-written [] at slot bytes image lt is left = absurd (omega arith)
-MayLeave-written (s ∷ ss) zero slot bytes [] lt is left = absurd left
-MayLeave-written (s ∷ ss) zero slot bytes (x ∷ xs) lt is left = ⊎_elim
-    (λ kept. (x ∷ xs, (inl (kept ∙ ap (λ (a : MemorySlot). a.synced) is), left.1), inl refl))
-    (λ new. (s.synced ∷ xs, (inl refl, left.1), inr (ap (λ (a : List ℕ). a ∷ xs) new)))
-    left.0
-MayLeave-written (s ∷ ss) (suc at) slot bytes [] lt is left = absurd left
-MayLeave-written (s ∷ ss) (suc at) slot bytes (x ∷ xs) lt is left =
-    let rest = MayLeave-written ss at slot bytes xs (omega arith) is left.1 in
-    (x ∷ rest.0, (left.0, rest.1), ⊎_elim (λ same. inl (ap (λ (l : Image). x ∷ l) same)) (λ set. inr (ap (λ (l : Image). x ∷ l) set)) rest.2)
-
--- after a sync there is one image
-MayLeave-flushed : (slots : List MemorySlot) (image : Image) → MayLeave (map flushed slots) image → image ≡ last_values slots
-MayLeave-flushed [] [] left = refl
-MayLeave-flushed [] (x ∷ xs) left = absurd left
-MayLeave-flushed (s ∷ ss) [] left = absurd left
-MayLeave-flushed (s ∷ ss) (x ∷ xs) left =
-    let first : x ≡ s.last = ⊎_elim (λ is. is) (λ is. is) left.0 in
-    ap (λ (a : List ℕ). a ∷ xs) first ∙ ap (λ (l : Image). s.last ∷ l) (MayLeave-flushed ss xs left.1)
-
-last_values-flushed : (slots : List MemorySlot) → last_values (map flushed slots) ≡ last_values slots
-last_values-flushed [] = refl
-last_values-flushed (s ∷ ss) = ap (λ (l : Image). s.last ∷ l) (last_values-flushed ss)
-
 -- a write of one sector
 module _ (slots : List Slot) (at : ℕ) (slot : Slot) (bytes : List ℕ) where
   abbrev pub set : List Slot
@@ -144,19 +113,6 @@ module _ (slots : List Slot) (at : ℕ) (slot : Slot) (bytes : List ℕ) where
 
 -- a sync leaves these slots
 module _ (old new : List MemorySlot) (is : new ≡ map flushed old) where
-  only_contents : (image : Image) → MayLeave new image → image ≡ last_values old
-  only_contents image left = MayLeave-flushed old image (subst (λ (l : List MemorySlot). MayLeave l image) is left)
-
-  contents-flushed : last_values new ≡ last_values old
-  contents-flushed = ap last_values is ∙ last_values-flushed old
-
-  pub durable-flushed : (image : Image) → MayLeave new image → image ≡ last_values new
-  durable-flushed image left = only_contents image left ∙ sym contents-flushed
-
-  pub whole-flushed : All IsWhole old → All IsWhole new
-  whole-flushed whole = subst (All IsWhole) (sym is)
-      (All-map IsWhole flushed old (λ k d lt. record { saved = (whole k d lt).newest; newest = (whole k d lt).newest }))
-
   pub length-flushed : length new ≡ length old
   length-flushed = ap length is ∙ length-map old flushed
 
@@ -164,8 +120,8 @@ module _ (old new : List MemorySlot) (is : new ≡ map flushed old) where
   Stays-flushed past next kept =
       subst (λ (p : List (List MemorySlot)). Stays (remembered_medium past old) (remembered_medium p new)) (sym kept)
       (record {
-        contents = λ honest. contents-flushed;
-        images = λ image left. subst (MayLeave old) (sym (only_contents image left)) (MayLeave-last_values old);
+        contents = λ honest. contents-flushed old new is;
+        images = λ image left. subst (MayLeave old) (sym (only_contents old new is image left)) (MayLeave-last_values old);
         time = Elapses-next past old new;
       })
 

@@ -1,5 +1,5 @@
 -- A list in memory whose keys rise by a total order: what an edit at a place makes of its entries.
-use Rattle.std.proofs.Common.{◌≡◌, ◌≢◌, ℕ, zero, suc, ◌+◌, ◌-◌, ◌<◌, ◌≤◌, arith, Bool, true, false, not, ◌&&◌, cond, T, List, [], ◌∷◌, ◌++◌, map, length}
+use Rattle.std.proofs.Common.{◌≡◌, ◌≢◌, ℕ, zero, suc, ◌+◌, ◌<◌, ◌≤◌, arith, Bool, true, false, not, ◌&&◌, cond, T, List, [], ◌∷◌, ◌++◌, map, length}
 use Rattle.std.proofs.Common.{get_or}
 use Rattle.std.proofs.Common.{take, drop, set, drop-cons, Some, None, inl, inr, refl, sym, ap, subst, ◌∙◌, true≢false}
 use Rattle.std.specs.Prelude.{All, filter}
@@ -12,7 +12,7 @@ use Rattle.std.specs.declared.cmp.Ordering.TheVariants.{Less, Equal, Greater}
 use Rattle.std.specs.FinMap.{find, put, is_sorted}
 use Rattle.std.specs.FinMap.Entries.{where_key, below_all, by_order}
 use Rattle.std.proofs.lemmas.Bool.{cases_order}
-use Rattle.std.proofs.lemmas.List.{map-append, set_split, take-append-drop, length-take, get_or-take, get_or-drop, get_or-map, length-drop, length-map}
+use Rattle.std.proofs.lemmas.List.{map-append, set_split, take-append-drop, length-take, get_or-take, get_or-drop, length-drop}
 use Rattle.std.proofs.lemmas.List.Elements.{All-nil, All-cons, All-head, All-tail, All-map}
 use Rattle.sem_undo.specs.Rows.{IsAt, IsGap}
 
@@ -170,22 +170,6 @@ module _ {K X : Type 0} (R : K → K → Ordering) (o : IsTotalOrder R) where
       place-at within key =
           let rest = after (suc i) (λ j d le lt. subst (λ x. R x (entry (get_or ys j d)).0 ≡ Less) (key d) (rises ys up i j d (omega (arith, le)) lt)) in
           record { within = within; key = key; between = record { before = before; after = rest } }
-
-    -- a key above the last is above all
-    pub above-last : (k : K) (ys : List Y) → T (is_sorted R (map entry ys)) → ((d : Y) → is_lt (R (entry (get_or ys (length ys - 1) d)).0 k) ≡ true)
-        → All (λ (e : K × X). is_lt (R e.0 k) ≡ true) (map entry ys)
-    above-last k ys up last = All-map (λ (e : K × X). is_lt (R e.0 k) ≡ true) entry ys (λ j d lt.
-        elim (cases_order j (length ys - 1)) [
-          | inl same ↦ subst (λ m. is_lt (R (entry (get_or ys m d)).0 k) ≡ true) (sym same) (last d)
-          | inr (inl lower) ↦ ap is_lt (o.trans _ _ k (rises ys up j (length ys - 1) d lower (omega (arith, lt))) (is_less _ (last d)))
-          | inr (inr upper) ↦ absurd (omega (arith, upper, lt))
-        ])
-
-    pub all-last : (k : K) (ys : List Y) → 0 < length ys → All (λ (e : K × X). is_lt (R e.0 k) ≡ true) (map entry ys)
-        → (d : Y) → is_lt (R (entry (get_or ys (length ys - 1) d)).0 k) ≡ true
-    all-last k ys some all d =
-        subst (λ (e : K × X). is_lt (R e.0 k) ≡ true) (get_or-map entry ys (length ys - 1) d (entry d) (omega arith))
-        (all (length ys - 1) (entry d) (omega (arith, length-map ys entry)))
 
     module _ (k : K) (ys : List Y) (i : ℕ) where
       -- the entries round a place

@@ -1,5 +1,5 @@
 -- Entries that rise, as finite maps; and what that says of rows.
-use Rattle.std.proofs.Common.{◌≡◌, ◌≢◌, ℕ, ℤ, pos, negsuc, to_z, of_z, ◌-ℤ◌, ◌+ℤ◌, Option, FitsSigned, Bool, true, false, not}
+use Rattle.std.proofs.Common.{◌≡◌, ◌≢◌, ℕ, ℤ, pos, to_z, of_z, ◌-ℤ◌, ◌+ℤ◌, Option, FitsSigned, Bool, true, false, not}
 use Rattle.std.proofs.Common.{cond, List, [], Some, None, refl, sym, ap, subst, ◌∙◌, arith}
 use Rattle.std.specs.Prelude.{All, ◌==◌, length, is_some}
 use Rattle.std.specs.Option.{unwrap_or}
@@ -81,12 +81,6 @@ pub empty-rows : (rows : List UndoRow) → rows ≡ [] → undo_of (entries_of r
 empty-rows rows e =
     ap (λ ys. undo_of (entries_of ys)) e
     ∙ same_map key_total key_apart _ _ (λ q. get-from_sorted key_cmp [] q tt ∙ sym (get-empty key_cmp q))
-
-within_range : (a : ℤ) → FitsSigned w16 a → a ≢ negsuc 32767 → is_adjustment a ≡ true
-within_range a fit ne = grind (arith, ints)
-
-pub kept_from : (a : ℤ) → FitsSigned w16 a → (of_z w16 a ≡ 0 → ⊥) → (of_z w16 a ≡ 32768 → ⊥) → IsKept a
-kept_from a fit zero least = (λ e. zero (ap (of_z w16) e), within_range a fit (λ e. least (ap (of_z w16) e)))
 
 zero_is : (a : ℤ) → a ≡ pos 0 → int_eq a (pos 0) ≡ true
 zero_is a e = ap (λ b. int_eq b (pos 0)) e

@@ -1,6 +1,6 @@
 //! A shared memory segment.
 
-ghost use Rattle.std.specs.Prelude.{◌≡◌, ◌≤◌, ◌↔◌, true, length as count, IsTrue, IfOk};
+ghost use Rattle.std.specs.Prelude.{◌≡◌, ◌↔◌, true, length as count, IsTrue, IfOk};
 ghost use Rattle.shm_segment.specs.Segment.{Segment as Plain, empty_segment, truncated, is_within, part, written};
 
 use std::alloc::{AllocError, Global};

@@ -21,7 +21,7 @@ use Rattle.ipc_state.specs.Numbered.{entry_of}
 use Rattle.ipc_state.specs.Sound.{FitsBody, HasSoundParts}
 use Rattle.ipc_state.specs.State.{State}
 use Rattle.ipc_state.specs.Touching.{IsAsBefore, is_there, object_of}
-use Rattle.ipc_state.proofs.CallerLemmas.{AtEnd, IsGood, at-value, same-processes}
+use Rattle.ipc_state.proofs.CallerLemmas.{AtEnd, IsGood, at-value, same-awaited, same-processes}
 
 -- it leaves the processes and the POSIX queues as they are, and fires no registration
 pub record IsApart (s : State) (f : Finish) : Type 0 where
@@ -77,7 +77,10 @@ module _ {limits : Limits} {s : State} {never : Bool} where
             → IsAsBefore pid on s (record s { msg = msg; semset = semset; undo = undo })
         same pid (awaited.MsgQueue n) apart there = queues n apart there
         same pid (awaited.Semset n) apart there = sets n apart there
-        same pid (awaited.Descriptor fd) apart there = (refl, λ kind n waits is. refl)
+        same pid (awaited.Descriptor fd) apart there = (
+          refl,
+          λ kind n waits is. same-awaited s (record s { msg = msg; semset = semset; undo = undo }) refl refl kind n waits,
+        )
 
     -- all is as it was
     pub read-ends : (body : PlainBody) → (HasSoundParts limits s → FitsBody limits body) → AtEnd never (Leaves limits s touches) (answer s body)

@@ -1,5 +1,5 @@
 -- What each call of message queues leaves and answers: msgget(2), msgop(2) and msgctl(2).
-use Rattle.std.proofs.Common.{ℕ, ℤ, pos, ◌<◌, ◌≤◌, Bool, List, [], ◌++◌, length, take, arith, subst}
+use Rattle.std.proofs.Common.{ℕ, ℤ, pos, ◌<◌, ◌≤◌, Bool, List, [], ◌++◌, length, take, refl, arith, subst}
 use Rattle.std.specs.Prelude.{None, false, nat_lt}
 use Rattle.std.proofs.lemmas.Bool.{ltb-false}
 use Rattle.std.proofs.lemmas.List.{length-take}
@@ -11,18 +11,19 @@ use Rattle.ipc_base.specs.declared.limits.Limits.{Limits}
 use Rattle.ipc_base.specs.Numbers.{record_bytes}
 use Rattle.ipc_base.proofs.CallerLemmas.{message-is_bounded, other-with, value_at-without}
 use Rattle.ipc_perm.specs.declared.perm.Perm.{Perm}
-use Rattle.ipc_perm.specs.Perm.{perm_of, owned_by, asked_by}
+use Rattle.ipc_perm.specs.Perm.{owned_by, asked_by}
 use Rattle.ipc_wire.specs.declared.reply.Body.TheVariants.{Empty, Number, Message, Record}
 use Rattle.ipc_wire.specs.Reply.{PlainBody}
-use Rattle.sysv_msg.specs.Queue.{Queue, PlainMessage, sent, taken, changed}
+use Rattle.sysv_msg.specs.Queue.{Queue, PlainMessage, new_queue, sent, taken, changed}
+use Rattle.ipc_state.specs.declared.parked.ObjectKind.TheVariants as kinds
 use Rattle.ipc_state.specs.Finish.{answer}
 use Rattle.ipc_state.specs.Bound.{holding, permitting}
 use Rattle.ipc_state.specs.Keyed.{Keyed, KeyedEntry}
 use Rattle.ipc_state.specs.Sound.{HasSoundParts, IsSoundMessage, IsSoundMsgQueue, FitsBody}
 use Rattle.ipc_state.specs.State.{State, with_msg_queue}
 use Rattle.ipc_state.proofs.CallerLemmas.{AtEnd, after, after-refuse, at-all, by-if_some}
-use Rattle.ipc_state.proofs.CallerLemmas.{changed-sound, owned_by-mode, perm_of-mode, permitted-sound, queue-sound, sent-sound, taken-sound}
-use Rattle.ipc_state.proofs.CallerLemmas.{with_msg_queue-sound, with_new_msg_queue-sound, without_msg_queue-sound}
+use Rattle.ipc_state.proofs.CallerLemmas.{changed-sound, content-sound, new_queue-sound, owned_by-mode, permitted-sound, sent-sound, taken-sound}
+use Rattle.ipc_state.proofs.CallerLemmas.{with_held-sound, with_new-sound, without_msg_queue-sound}
 use Rattle.sysv_calls.specs.Access.{read}
 use Rattle.sysv_calls.specs.Msg.{message_at, msgctl_rmid, msgctl_set, msgctl_stat, msgget, msgrcv, msgsnd}
 use Rattle.sysv_calls.specs.Records.{perm_fields, queue_fields}
@@ -41,7 +42,8 @@ module _ (limits : Limits) (s : State) (cred : Cred) {never : Bool} where
       after (sought-ends s.msg key flags) (λ found unused. by-if_some {o = found}
       (λ id _. after (accessible-ends false s.msg cred id (asked_by flags)) (λ e _. read-ends (Number id) (λ _. omega arith)))
       (λ none. after-refuse ENOSPC (λ room.
-      queues-ends _ (Number s.msg.next) (with_new_msg_queue-sound limits s key (perm_of cred flags) (unused none) room (perm_of-mode cred flags))
+      queues-ends _ (Number s.msg.next) (with_new-sound limits s kinds.MsgQueue key cred flags (new_queue limits.msgmnb s.clock) (unused none) room tt
+      (new_queue-sound limits s.clock) tt)
       (λ _. omega arith) (λ n apart there. there-append s.msg.entries _ n.0 there))))
 
   pub msgctl_stat-ends : (id : ℕ) → AtEnd never (Leaves limits s None) (msgctl_stat s cred id)
@@ -54,8 +56,9 @@ module _ (limits : Limits) (s : State) (cred : Cred) {never : Bool} where
       let perm : Perm = owned_by e.perm uid gid mode in
       let new : Queue = changed e.object qbytes s.clock in
       put-ends id (holding (permitting e perm) new) Empty
-      (λ h. permitted-sound limits s id e perm new there (owned_by-mode e.perm uid gid mode)
-      (changed-sound limits e.object qbytes s.clock (ltb-false limits.msgmnb qbytes within) (queue-sound limits s id e there h)) h) (λ _. omega arith)))
+      (λ h. permitted-sound limits s kinds.MsgQueue id e perm new there (owned_by-mode e.perm uid gid mode) refl
+      (changed-sound limits e.object qbytes s.clock (ltb-false limits.msgmnb qbytes within) (content-sound limits s kinds.MsgQueue id e there h)) tt h)
+      (λ _. omega arith)))
 
   pub msgctl_rmid-ends : (id : ℕ) → AtEnd never (Leaves limits s (queue id)) (msgctl_rmid s cred id)
   msgctl_rmid-ends id =
@@ -71,8 +74,8 @@ module _ (limits : Limits) (s : State) (cred : Cred) (pid : ℕ) (again : Bool) 
       let m : PlainMessage = record { mtype = mtype; text = text } in
       let new : Queue = sent e.object m pid s.clock in
       put-ends id (holding e new) Empty
-      (λ h. with_msg_queue-sound limits s id e new ok.there
-      (sent-sound limits e.object m pid s.clock ok.room ok.message (queue-sound limits s id e ok.there h)) h) (λ _. omega arith))
+      (λ h. with_held-sound limits s kinds.MsgQueue id e new ok.there
+      (sent-sound limits e.object m pid s.clock ok.room ok.message (content-sound limits s kinds.MsgQueue id e ok.there h)) tt h) (λ _. omega arith))
 
   -- a text of a message of a queue, cut
   message_at-fits : (q : Queue) (at size : ℕ) → at < length q.messages → IsSoundMsgQueue limits q
@@ -90,6 +93,6 @@ module _ (limits : Limits) (s : State) (cred : Cred) (pid : ℕ) (again : Bool) 
       let q : Queue = found.0.object in
       let new : Queue = taken q found.1 pid s.clock in
       put-ends id (holding found.0 new) (Message (message_at q found.1).mtype (take size (message_at q found.1).text))
-      (λ h. with_msg_queue-sound limits s id found.0 new ok.there
-      (taken-sound limits q found.1 pid s.clock ok.inside (queue-sound limits s id found.0 ok.there h)) h)
-      (λ h. message_at-fits q found.1 size ok.inside (queue-sound limits s id found.0 ok.there h)))
+      (λ h. with_held-sound limits s kinds.MsgQueue id found.0 new ok.there
+      (taken-sound limits q found.1 pid s.clock ok.inside (content-sound limits s kinds.MsgQueue id found.0 ok.there h)) tt h)
+      (λ h. message_at-fits q found.1 size ok.inside (content-sound limits s kinds.MsgQueue id found.0 ok.there h)))

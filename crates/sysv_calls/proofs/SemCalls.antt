@@ -5,7 +5,7 @@ use Rattle.std.specs.Prelude.{◌==◌, nat_eq, nat_lt, option_map, unwrap_or}
 use Rattle.std.specs.FinMap as fin
 use Rattle.std.proofs.lemmas.Bool.{ltb-false}
 use Rattle.std.proofs.lemmas.Bool.Decides.{nat_tests}
-use Rattle.std.proofs.lemmas.List.{length-map, length-set}
+use Rattle.std.proofs.lemmas.List.{length-map, length-replicate, length-set}
 use Rattle.std.proofs.lemmas.Simd.{map-map}
 use Rattle.ipc_base.specs.declared.errno.Errno.TheVariants.{EINVAL, ENOSPC, ERANGE}
 use Rattle.ipc_base.specs.declared.field.Field.TheVariants.{U16}
@@ -16,14 +16,15 @@ use Rattle.ipc_base.specs.Numbers.{record_bytes}
 use Rattle.ipc_base.specs.Table.{seen_as, value_at}
 use Rattle.ipc_base.proofs.CallerLemmas.{at-map, other-with, value_at-without}
 use Rattle.ipc_perm.specs.declared.perm.Perm.{Perm}
-use Rattle.ipc_perm.specs.Perm.{perm_of, owned_by, asked_by}
+use Rattle.ipc_perm.specs.Perm.{owned_by, asked_by}
 use Rattle.ipc_wire.specs.Pairs.{numbers_in}
 use Rattle.ipc_wire.specs.declared.reply.Body.TheVariants.{Empty, Number, Record}
 use Rattle.sem_undo.specs.Undo.{Key, Undo, adjustment, cleared}
 use Rattle.sem_undo.proofs.CallerLemmas.{cleared_others}
 use Rattle.sysv_sem.specs.declared.set.Semaphore.{Semaphore}
 use Rattle.sysv_sem.specs.Operation.{most_value}
-use Rattle.sysv_sem.specs.Set.{Set, changed, values_of, with_value, with_values}
+use Rattle.sysv_sem.specs.Set.{Set, changed, new_set, values_of, with_value, with_values}
+use Rattle.ipc_state.specs.declared.parked.ObjectKind.TheVariants as kinds
 use Rattle.ipc_state.specs.Finish.{answer}
 use Rattle.ipc_state.specs.Bound.{holding, permitting}
 use Rattle.ipc_state.specs.Keyed.{Keyed, KeyedEntry, keyed}
@@ -31,8 +32,8 @@ use Rattle.ipc_state.specs.Numbered.{is_full}
 use Rattle.ipc_state.specs.Sound.{semaphore_count}
 use Rattle.ipc_state.specs.State.{State, semset_of, without_adjustments}
 use Rattle.ipc_state.proofs.CallerLemmas.{AtEnd, after, after-orelse, after-refuse, by-if_some}
-use Rattle.ipc_state.proofs.CallerLemmas.{changed_set-sound, owned_by-mode, perm_of-mode, permitted_set-sound, set-sound, with_new_semset-sound}
-use Rattle.ipc_state.proofs.CallerLemmas.{with_semset-sound, with_value-sound, with_values-sound, without_adjustments-sound, without_semset-sound}
+use Rattle.ipc_state.proofs.CallerLemmas.{changed_set-sound, content-sound, new_set-sound, owned_by-mode, permitted-sound, with_held-sound, with_new-sound}
+use Rattle.ipc_state.proofs.CallerLemmas.{with_value-sound, with_values-sound, without_adjustments-sound, without_semset-sound}
 use Rattle.sysv_calls.specs.Access.{read, write}
 use Rattle.sysv_calls.specs.Records.{perm_fields, set_fields}
 use Rattle.sysv_calls.specs.Sem.{count_of, has_fewer, made_set, semctl_getall, semctl_getpid, semctl_getval, semctl_rmid, semctl_set, semctl_setall}
@@ -55,6 +56,10 @@ value-fits : (value : ℤ) (v : ℕ) → value_of value ≡ Some v → v ≤ mos
 value-fits (pos k) v is = let w = within-limit k most_value v is in omega (arith, w.0, w.1)
 value-fits (negsuc k) v is = cc
 
+-- a semaphore of a new set
+abbrev fresh : Semaphore
+fresh = record { value = 0; pid = record { 0 = 0 } }
+
 some-of : (n : ℕ) → (n == 0) ≡ false → 0 < n
 some-of n is = grind (arith, nat_tests)
 
@@ -63,8 +68,10 @@ module _ (limits : Limits) (s : State) (cred : Cred) {never : Bool} where
   made-ends key flags n unused few =
       after-refuse EINVAL {b = n == 0} (λ some. after-refuse ENOSPC {b = is_full limits.semmni s.semset} (λ room.
       after-refuse ENOSPC {b = nat_lt limits.semmns (semaphore_count s.semset + n)} (λ all.
-      sets-ends _ (Number s.semset.next) (with_new_semset-sound limits s key (perm_of cred flags) n unused room (perm_of-mode cred flags) (some-of n some) few
-      (ltb-false limits.semmns (semaphore_count s.semset + n) all)) (λ _. omega arith) (λ n there. there-append s.semset.entries _ n there))))
+      sets-ends _ (Number s.semset.next) (with_new-sound limits s kinds.Semset key cred flags (new_set n s.clock) unused room tt
+      (new_set-sound limits n s.clock (some-of n some) few)
+      (omega (arith, length-replicate n fresh, ltb-false limits.semmns (semaphore_count s.semset + n) all)))
+      (λ _. omega arith) (λ n there. there-append s.semset.entries _ n there))))
 
   pub semget-ends : (key nsems : ℤ) (flags : ℕ) → AtEnd never (Leaves limits s None) (semget limits s cred key nsems flags)
   semget-ends key nsems flags =
@@ -85,8 +92,8 @@ module _ (limits : Limits) (s : State) (cred : Cred) {never : Bool} where
       let e : KeyedEntry Set = found.0 in
       let p : Pid = record { 0 = pid } in
       let new : Set = with_value e.object num v p s.clock in
-      one_set-ends id _ _ (λ h. without_adjustments-sound limits _ id (Some num) (with_semset-sound limits s id e new ok.there
-      (with_value-sound limits e.object num v p s.clock (value-fits value v is) (set-sound limits s id e ok.there h))
+      one_set-ends id _ _ (λ h. without_adjustments-sound limits _ id (Some num) (with_held-sound limits s kinds.Semset id e new ok.there
+      (with_value-sound limits e.object num v p s.clock (value-fits value v is) (content-sound limits s kinds.Semset id e ok.there h))
       (length-set e.object.semaphores num (record { value = v; pid = p })) h))
       (λ n. other-with s.semset.entries id n (holding e new)) (cleared-apart s.undo id (Some num))))
 
@@ -97,7 +104,7 @@ module _ (limits : Limits) (s : State) (cred : Cred) {never : Bool} where
         arith,
         ap (λ fs. length (record_bytes fs)) (map-map U16 (λ (x : Semaphore). x.value) e.object.semaphores),
         values-length e.object.semaphores,
-        (set-sound limits s id e there h).few,
+        (content-sound limits s kinds.Semset id e there h).few,
       )))
 
   pub semctl_setall-ends : (pid id : ℕ) (bytes : List ℕ) → AtEnd never (Leaves limits s (set id)) (semctl_setall s cred pid id bytes)
@@ -106,8 +113,8 @@ module _ (limits : Limits) (s : State) (cred : Cred) {never : Bool} where
       let values : List ℕ = numbers_in bytes in
       let p : Pid = record { 0 = pid } in
       let new : Set = with_values e.object values p s.clock in
-      one_set-ends id _ _ (λ h. without_adjustments-sound limits _ id None (with_semset-sound limits s id e new ok.there
-      (with_values-sound limits e.object values p s.clock ok.count ok.values (set-sound limits s id e ok.there h))
+      one_set-ends id _ _ (λ h. without_adjustments-sound limits _ id None (with_held-sound limits s kinds.Semset id e new ok.there
+      (with_values-sound limits e.object values p s.clock ok.count ok.values (content-sound limits s kinds.Semset id e ok.there h))
       (length-map values (λ v. let x : Semaphore = record { value = v; pid = p } in x) ∙ ok.count) h))
       (λ n. other-with s.semset.entries id n (holding e new)) (cleared-apart s.undo id None))
 
@@ -120,8 +127,8 @@ module _ (limits : Limits) (s : State) (cred : Cred) {never : Bool} where
       after (owned-ends s.semset cred id) (λ e there.
       let perm : Perm = owned_by e.perm uid gid mode in
       let new : Set = changed e.object s.clock in
-      one_set-ends id _ s.undo (λ h. permitted_set-sound limits s id e perm new there (owned_by-mode e.perm uid gid mode)
-      (changed_set-sound limits e.object s.clock (set-sound limits s id e there h)) refl h)
+      one_set-ends id _ s.undo (λ h. permitted-sound limits s kinds.Semset id e perm new there (owned_by-mode e.perm uid gid mode) refl
+      (changed_set-sound limits e.object s.clock (content-sound limits s kinds.Semset id e there h)) refl h)
       (λ n. other-with s.semset.entries id n (holding (permitting e perm) new)) (λ pid k apart. refl))
 
   pub semctl_rmid-ends : (id : ℕ) → AtEnd never (Leaves limits s (set id)) (semctl_rmid s cred id)

@@ -16,12 +16,13 @@ use Rattle.sysv_sem.specs.declared.operation.Operation.{Operation}
 use Rattle.sysv_sem.specs.Operation.{has_undo}
 use Rattle.sysv_sem.specs.Set.{Set, carried}
 use Rattle.sysv_sem.proofs.CallerLemmas.{length-carried}
+use Rattle.ipc_state.specs.declared.parked.ObjectKind.TheVariants as kinds
 use Rattle.ipc_state.specs.Bound.{holding}
 use Rattle.ipc_state.specs.Keyed.{KeyedEntry}
 use Rattle.ipc_state.specs.Numbered.{entry_of}
 use Rattle.ipc_state.specs.Sound.{HasSoundParts, has_semaphore}
 use Rattle.ipc_state.specs.State.{State, undo_of, with_semset}
-use Rattle.ipc_state.proofs.CallerLemmas.{AtEnd, after, at-all, carried-sound, set-sound, undo_of-at, with_semset-sound, with_undo-sound}
+use Rattle.ipc_state.proofs.CallerLemmas.{AtEnd, after, at-all, carried-sound, content-sound, undo_of-at, with_held-sound, with_undo-sound}
 use Rattle.sysv_calls.specs.Access.{read}
 use Rattle.sysv_calls.specs.Semop.{count_stopped, held_by, noted, operated, operations_of, semctl_getcnt, semop}
 use Rattle.sysv_calls.proofs.Ending.{Leaves, read-ends, set, one_set-ends, those}
@@ -67,8 +68,8 @@ module _ (limits : Limits) (s : State) where
       let t : State = with_semset s id (holding e new) in
       let held = held_by s pid id in
       let long = length-carried e.object held ok.done.0 ops found.1 p s.clock ok.done.1 in
-      let good = carried-sound limits e.object held ok.done.0 ops found.1 p s.clock ok.done.1 (set-sound limits s id e ok.there h) in
-      let whole : HasSoundParts limits t = with_semset-sound limits s id e new ok.there good long h in
+      let good = carried-sound limits e.object held ok.done.0 ops found.1 p s.clock ok.done.1 (content-sound limits s kinds.Semset id e ok.there h) in
+      let whole : HasSoundParts limits t = with_held-sound limits s kinds.Semset id e new ok.there good long h in
       let there : entry_of t.semset id ≡ Some (holding e new) = at-with s.semset.entries id (holding e new) e ok.there in
       with_undo-sound limits t pid (fold (noted id) (undo_of s pid) ops) whole (noted-all t.semset id (undo_of s pid) ops (undo_of-at limits t pid whole)
       (All-weaker (λ o. o.num < length e.object.semaphores) (λ o. has_semaphore t.semset (id, o.num) ≡ true)

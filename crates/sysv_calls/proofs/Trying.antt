@@ -13,6 +13,7 @@ use Rattle.ipc_wire.specs.declared.reply.Body.TheVariants.{Empty, Message as Rec
 use Rattle.sysv_msg.specs.Queue.{Queue, byte_count, full, most_messages, sent, taken}
 use Rattle.sysv_msg.specs.declared.message.Message.{Message}
 use Rattle.sysv_sem.specs.Set.{Set}
+use Rattle.ipc_state.specs.declared.parked.ObjectKind.TheVariants as kinds
 use Rattle.ipc_state.specs.declared.answers.Halt.{Halt as Stops}
 use Rattle.ipc_state.specs.declared.operations.Operations.{Operations}
 use Rattle.ipc_state.specs.declared.parked.ParkedSysv.{ParkedSysv}
@@ -24,7 +25,7 @@ use Rattle.ipc_state.specs.Sound.{HasSoundParts}
 use Rattle.ipc_state.specs.State.{State, cred_of, is_process, msg_queue_of, with_msg_queue}
 use Rattle.ipc_state.specs.Steps.{attempted}
 use Rattle.ipc_state.specs.Waiting.{parked_sysv}
-use Rattle.ipc_state.proofs.CallerLemmas.{Answered, HasFound, Tested, ends-as, finishes, has-found, queue-sound, said, tested}
+use Rattle.ipc_state.proofs.CallerLemmas.{Answered, HasFound, Tested, content-sound, ends-as, finishes, has-found, said, tested}
 use Rattle.sysv_calls.specs.Calls.{attempt, definition_of}
 use Rattle.sysv_calls.specs.Msg.{message_at, receivable, sendable}
 use Rattle.sysv_calls.specs.Relations.{IsReady, Passes}
@@ -72,7 +73,7 @@ module _ {limits : Limits} {s : State} {pid : ℕ} {again : Bool} {call : Parked
     sends-room sound passed e there =
         let one : send.value ≡ e = cc (send.holds.there) in
         let most = (passed-bounds limits passed).msgmnb in
-        has_places e.object (length m.text.items) limits.msgmnb (queue-sound limits s id.0 e there sound).qbytes (omega (arith, most))
+        has_places e.object (length m.text.items) limits.msgmnb (content-sound limits s kinds.MsgQueue id.0 e there sound).qbytes (omega (arith, most))
         (subst (λ (f : KeyedEntry Queue). full f.object (length m.text.items) ≡ false) one send.holds.room)
 
     pub sends-finish : (t : State) → ((e : KeyedEntry Queue) → msg_queue_of s id.0 ≡ Some e

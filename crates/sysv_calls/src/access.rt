@@ -1,7 +1,7 @@
 //! What is alike for the objects of every kind: which of them a get finds, who may use them, and their records. See
 //! sysvipc(7).
 
-ghost use Rattle.std.specs.Prelude.{◌≡◌, ◌+◌, ◌≤◌, ◌++◌, [], vec_len, vec_capacity};
+ghost use Rattle.std.specs.Prelude.{◌≡◌, ◌+◌, ◌≤◌, ◌++◌, vec_len, vec_capacity};
 ghost use Rattle.ipc_base.specs.Numbers.{record_bytes};
 ghost use Rattle.ipc_state.specs.Directory.{ArePositive};
 ghost use Rattle.sysv_calls.specs.Access as defined;

@@ -6,7 +6,6 @@ ghost use Rattle.ipc_base.specs.Limits.{ArePassed};
 ghost use Rattle.ipc_base.specs.Table.{value_at};
 ghost use Rattle.ipc_perm.specs.Perm.{may as may_use};
 ghost use Rattle.ipc_wire.specs.Sixes.{bytes_of};
-ghost use Rattle.sysv_sem.specs.declared.operation.Operation.{Operation as PlainOperation};
 ghost use Rattle.sysv_sem.specs.Operation.{has_undo, trial_of};
 ghost use Rattle.sysv_sem.specs.Set.{Set};
 ghost use Rattle.ipc_state.specs.Keyed.{KeyedEntry};

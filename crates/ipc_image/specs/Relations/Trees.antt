@@ -7,9 +7,10 @@ use Rattle.std.proofs.lemmas.Int.{ints, to_z-of_z}
 use Rattle.ipc_base.specs.declared.identity.Moment.{Moment}
 use Rattle.ipc_base.proofs.CallerLemmas.{spelled-same}
 use Rattle.ipc_state.specs.declared.descriptors.Descriptor.{Descriptor}
-use Rattle.ipc_keys.specs.declared.check.NameKind.{NameKind}
 use Rattle.ipc_keys.specs.declared.check.NameKind.TheVariants as names
-use Rattle.ipc_state.specs.Opening.{opened_as}
+use Rattle.ipc_state.specs.declared.parked.ObjectKind.{ObjectKind}
+use Rattle.ipc_state.specs.declared.parked.ObjectKind.TheVariants as kinds
+use Rattle.ipc_state.specs.Opening.{object_as}
 use Rattle.ipc_state.specs.declared.processes.Process.{Process}
 use Rattle.ipc_state.specs.Waiting.{PlainWaiting, awaited_by}
 use Rattle.ipc_wire.specs.Request.{PlainRequest}
@@ -38,16 +39,18 @@ pub one_if_back : {X T : Type 0} (tree : X → T) (back : T → X) (Fits : X →
 one_if_back tree back Fits known x y fit also same = sym (known x fit) ∙ ap back same ∙ known y also
 
 -- two descriptors
-kind_known : (kind : NameKind) → kind_from (kind_number kind) ≡ kind
-kind_known names.Mq = refl
-kind_known names.Psem = refl
-kind_known names.Pshm = refl
+kind_known : (kind : ObjectKind) → kind_from (kind_number kind) ≡ kind
+kind_known kinds.MsgQueue = refl
+kind_known kinds.Semset = refl
+kind_known (kinds.Named names.Mq) = refl
+kind_known (kinds.Named names.Psem) = refl
+kind_known (kinds.Named names.Pshm) = refl
 
 pub descriptor_one : (d e : ℕ × Descriptor) → FitsDescriptor d → FitsDescriptor e
     → descriptor_numbers d ≡ descriptor_numbers e → d ≡ e
 descriptor_one =
     one_if_back descriptor_numbers descriptor_of FitsDescriptor
-    (λ d fit. ap (λ (kind : NameKind). (d.0, record { on = opened_as kind d.1.on.number; flags = d.1.flags }))
+    (λ d fit. ap (λ (kind : ObjectKind). (d.0, record { on = object_as kind d.1.on.number; flags = d.1.flags }))
     (kind_known d.1.on.kind))
 
 -- two processes

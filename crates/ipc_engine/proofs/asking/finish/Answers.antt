@@ -37,5 +37,6 @@ settle-requires-clause-others c =
 pub returns-clause-does : goal.returns-clause-does
 returns-clause-does c =
     let s = c.args.state.now in
-    does-after (replied c.args.pid.0 c.args.serial (finish_firing s.state c.args.answer c.args.fired)).outcomes (c.push_reply.ensures.outcomes s.state) c.push_reply.ensures.capacity
+    does-after (replied c.args.pid.0 c.args.serial (finish_firing s.state c.args.answer c.args.fired)).outcomes
+    (c.push_reply.ensures.outcomes s.state) c.push_reply.ensures.capacity
     (does-as (ap (settle s.limits) (sym (finish-state s.state c.args.answer c.args.fired))) c.settle.ensures.does)

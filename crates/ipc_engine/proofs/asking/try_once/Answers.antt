@@ -20,7 +20,8 @@ use Rattle.ipc_engine.proofs.asking.try_once.Goals.{In-Finishes}
 use Rattle.ipc_engine.proofs.asking.try_once.Goals as goal
 
 -- what it leaves, if it has come to its end
-ended : (c : In-Finishes) → HasEnded c.args.state.now.limits c.args.state.now.state c.args.pid.0 (touched_by c.args.state.now.state c.args.pid.0 c.args.parked.kind)
+ended : (c : In-Finishes)
+    → HasEnded c.args.state.now.limits c.args.state.now.state c.args.pid.0 (touched_by c.args.state.now.state c.args.pid.0 c.args.parked.kind)
     (finish_firing c.try_kept.new.state.state c.in-Finishes.answer c.in-Finishes.fired)
 ended c =
     let s = c.args.state.now in

@@ -17,7 +17,8 @@ one : (c : After-end_late) → Expires c.loop-waiting.state.state c.leave_due.ne
 one c =
     let l = c.loop-waiting in
     expires l.state.state c.leave_due.new.self.state (map plain_outcome l.outcomes.items) (map plain_outcome c.end_late.new.outcomes.items)
-    c.in-Some.waiting l.invariant.pids c.in-Some.ensures.first c.in-Some.ensures.call (ap (λ (h : Held). h.state) c.in-Some.ensures.held) c.end_late.ensures.outcomes
+    c.in-Some.waiting l.invariant.pids c.in-Some.ensures.first c.in-Some.ensures.call
+    (ap (λ (h : Held). h.state) c.in-Some.ensures.held) c.end_late.ensures.outcomes
 
 pub loop-waiting-smaller : goal.loop-waiting-smaller
 loop-waiting-smaller c = (one (goal.at.loop-waiting-smaller c).After-end_late).fewer

@@ -1,15 +1,19 @@
 use Rattle.std.proofs.Common.{◌≡◌, ℕ, Bool, true, false, cond, List, [], ◌∷◌, Option, Some, None, refl, sym, subst, ap, ◌∙◌}
-use Rattle.std.specs.Prelude.{All, ◌||◌, nat_eq, filter, option_map}
+use Rattle.std.specs.Prelude.{All, not, ◌||◌, nat_eq, filter, option_map}
 use Rattle.std.proofs.lemmas.List.Elements.{All-nil, All-cons}
 use Rattle.ipc_base.specs.Table.{value_at}
 use Rattle.ipc_base.proofs.CallerLemmas.{at-map}
+use Rattle.std.specs.Str.{bytes_eq}
+use Rattle.ipc_keys.specs.Names.{is_none}
 use Rattle.ipc_keys.specs.declared.check.NameKind.{NameKind}
 use Rattle.ipc_keys.specs.declared.check.NameKind.TheVariants as names
 use Rattle.posix_mq.specs.Queue.{Queue as Mq}
 use Rattle.posix_mq.specs.declared.queue.Registration.{Registration}
 use Rattle.ipc_state.specs.Bound.{kept_if}
-use Rattle.ipc_state.specs.Named.{Named, NamedEntry}
-use Rattle.ipc_state.specs.Opening.{deregistered, has_name, is_by, stays, still_open, unless_so, without_registrations}
+use Rattle.ipc_state.specs.declared.parked.ObjectKind.TheVariants as kinds
+use Rattle.ipc_state.specs.Kinds.{EntryOf, Those}
+use Rattle.ipc_state.specs.Named.{NamedEntry, has_name}
+use Rattle.ipc_state.specs.Opening.{deregistered, is_by, stays, still_open, unless_so, without_registrations}
 use Rattle.ipc_state.proofs.CallerLemmas.{restart-sets}
 use Rattle.ipc_engine.proofs.laws.restart_keeps_objects.Goals as goal
 
@@ -20,20 +24,23 @@ pub returns-clause-next_semset : goal.returns-clause-next_semset
 returns-clause-next_semset c limits s = (restart-sets limits s).1
 
 -- with no process, those that stay are those with a name
-named-stay : {X : Type 0} (kind : NameKind) (es : List (ℕ × NamedEntry X))
-    → filter (stays kind []) es ≡ filter (λ (e : ℕ × NamedEntry X). has_name e.1) es
+named-stay : (kind : NameKind) (es : List (ℕ × EntryOf (kinds.Named kind)))
+    → filter (stays (kinds.Named kind) []) es ≡ filter (λ (e : ℕ × EntryOf (kinds.Named kind)). has_name e.1) es
 named-stay kind [] = refl
-named-stay {X} kind (g ∷ es) =
-    ap (λ (b : Bool). cond b (g ∷ filter (stays kind []) es) (filter (stays kind []) es)) (alone (has_name g.1))
-    ∙ ap (λ (rest : List (ℕ × NamedEntry X)). cond (has_name g.1) (g ∷ rest) rest) (named-stay kind es)
+named-stay kind (g ∷ es) =
+    let kept : List (ℕ × EntryOf (kinds.Named kind)) = filter (stays (kinds.Named kind) []) es in
+    ap (λ (b : Bool). cond b (g ∷ kept) kept) (alone g.1.bound)
+    ∙ ap (λ (rest : List (ℕ × EntryOf (kinds.Named kind))). cond (has_name g.1) (g ∷ rest) rest) (named-stay kind es)
   where
-    alone : (b : Bool) → b || false ≡ b
-    alone true = refl
-    alone false = refl
+    alone : (name : List ℕ) → (not (bytes_eq name []) || false) || false ≡ not (is_none name)
+    alone [] = refl
+    alone (c ∷ cs) = refl
 
-named-kept : {X : Type 0} (kind : NameKind) (o : Named X) → still_open kind [] o ≡ kept_if (λ (e : ℕ × NamedEntry X). has_name e.1) o
-named-kept {X} kind o =
-    ap (λ (es : List (ℕ × NamedEntry X)). let p : Named X = record { next = o.next; entries = es } in p) (named-stay kind o.entries)
+named-kept : (kind : NameKind) (o : Those (kinds.Named kind))
+    → still_open (kinds.Named kind) [] o ≡ kept_if (λ (e : ℕ × EntryOf (kinds.Named kind)). has_name e.1) o
+named-kept kind o =
+    ap (λ (es : List (ℕ × EntryOf (kinds.Named kind))). let p : Those (kinds.Named kind) = record { next = o.next; entries = es } in p)
+    (named-stay kind o.entries)
 
 -- what has a name is left
 left : (es : List (ℕ × NamedEntry Mq)) (n : ℕ) (e : NamedEntry Mq) → value_at nat_eq es n ≡ Some e → has_name e ≡ true

@@ -46,7 +46,8 @@ returns-in-Finishes-clause-does c w also =
     let f = finish_firing now.state c.in-Finishes.answer c.in-Finishes.fired in
     let is = resumed-finishes s.limits s.state c.leave_wait.new.self.state c.leave_wait.new.self.limits c.args.pid c.serial-serial.result first.0 v w
     c.requires.parts first.1 its first.2
-    c.serial-serial.ensures (ap (λ (h : Held). h.limits) c.leave_wait.ensures.held) (ap (λ (h : Held). h.state) c.leave_wait.ensures.held) also f c.in-Finishes.ensures.finish in
+    c.serial-serial.ensures (ap (λ (h : Held). h.limits) c.leave_wait.ensures.held)
+    (ap (λ (h : Held). h.state) c.leave_wait.ensures.held) also f c.in-Finishes.ensures.finish in
     does-as (sym is) (record {
       state = held-still s c.leave_wait.new.self now _ _ c.leave_wait.ensures.held c.try_kept.ensures.held
           (sym (finish-state now.state c.in-Finishes.answer c.in-Finishes.fired));
@@ -62,7 +63,8 @@ returns-in-Waits-clause-does c w also =
     let its = left-is s.limits s.state c.args.pid first.0 v c.leave_wait.result c.requires.parts first.1 first.2 c.leave_wait.ensures.call c.in-Some.is in
     let is = resumed-waits s.limits s.state c.leave_wait.new.self.state c.leave_wait.new.self.limits c.args.pid c.serial-serial.result first.0 v w
     c.requires.parts first.1 its first.2
-    c.serial-serial.ensures (ap (λ (h : Held). h.limits) c.leave_wait.ensures.held) (ap (λ (h : Held). h.state) c.leave_wait.ensures.held) also c.in-Waits.ensures.finish in
+    c.serial-serial.ensures (ap (λ (h : Held). h.limits) c.leave_wait.ensures.held)
+    (ap (λ (h : Held). h.state) c.leave_wait.ensures.held) also c.in-Waits.ensures.finish in
     does-as (sym is) (record {
       state = held-still s c.leave_wait.new.self c.try_kept.new.state _ _ c.leave_wait.ensures.held c.try_kept.ensures.held
           (ap (λ (h : Held). h.state) c.in-Waits.ensures.kept.1);

@@ -69,7 +69,8 @@ loop-gone-preserved c =
       );
       buffer = omega (arith, l.invariant.buffer, c.resume.ensures.buffer);
       does = λ new last next.
-          l.invariant.does new last (does-as (sym all) (does-then (settle_within l.state.limits left) went (does-as (ap (λ (x : Limits). settle_within x left c.resume.new.state.state) same) next)));
+          l.invariant.does new last (does-as (sym all)
+          (does-then (settle_within l.state.limits left) went (does-as (ap (λ (x : Limits). settle_within x left c.resume.new.state.state) same) next)));
     }
 
 pub returns-clause-does : goal.returns-clause-does

@@ -47,6 +47,7 @@ returns-clause-ok c =
       subst (λ (l : List Adjustment). length l < 2 ^ 32) all read.1,
       subst (All FitsAdjustment) all read.2,
       read.3 ∙ ap (counted_bytes adjustment_bytes) all,
-      ap (λ (s : State). keys_of s.undo) c.in_ok-attach_all.ensures.state ∙ keys-attached c.restore_no_adjustments.new.self.state.undo (map plain_of c.deref.result.now)
+      ap (λ (s : State). keys_of s.undo) c.in_ok-attach_all.ensures.state
+          ∙ keys-attached c.restore_no_adjustments.new.self.state.undo (map plain_of c.deref.result.now)
           ∙ ap (λ (s : State). keys_of s.undo) c.in_ok-restore_no_adjustments.ensures.state ∙ none-keys_of c.args.state.now.state.processes.entries,
     )

@@ -26,7 +26,8 @@ stand : {E : Type 0} (state_in : E → State) (limits_in : E → Limits) (limits
 stand state_in limits_in limits t objects (Ok e) is under sound places are =
     let one : IsSound limits t = subst (IsSound limits) is (subst (λ (l : Limits). IsSound l (state_in e)) under sound) in
     let apart : IsDistinct nat_eq (keys_of t.undo) =
-    subst (IsDistinct nat_eq) (sym one.parts.undo.pids) (rising-distinct 1 (keys_of t.processes.entries) t.processes.next one.parts.processes.numbered.numbers) in
+    subst (IsDistinct nat_eq) (sym one.parts.undo.pids)
+    (rising-distinct 1 (keys_of t.processes.entries) t.processes.next one.parts.processes.numbered.numbers) in
     let all : StandForState limits t objects = record { sound = one; places = places apart; are = are } in
     subst (λ (s : State). StandForState limits s objects) (sym is) all
 stand state_in limits_in limits t objects (Err e) is under sound places are = tt

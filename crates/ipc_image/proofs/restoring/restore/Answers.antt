@@ -8,7 +8,7 @@ use Rattle.ipc_base.specs.Table.{keys_of}
 use Rattle.sem_undo.specs.Undo.{Undo}
 use Rattle.ipc_state.specs.declared.processes.Process.{Process}
 use Rattle.ipc_state.specs.Restored.{with_numbers}
-use Rattle.ipc_state.specs.State.{State, named_in, start}
+use Rattle.ipc_state.specs.State.{State, objects_in, start}
 use Rattle.ipc_image.specs.Saved.{clock_sizes, clock_numbers, processes_bytes, waits_bytes, adjustments_bytes, queue_object, set_object, named_objects}
 use Rattle.ipc_image.proofs.WholeState.{parts_of, same_object, processes_added, processes_one, all-added, AreAdjustmentsRead, all_restored, restored_once}
 use Rattle.ipc_image.proofs.WholeState.{sets_and_named, after-queues, after-sets}
@@ -78,14 +78,14 @@ pub returns-in_err-next-2-clause-damaged : goal.returns-in_err-next-2-clause-dam
 returns-in_err-next-2-clause-damaged c is s all are =
     let why = rw is at c.from_residual-in_err-next-2.ensures in
     let left = c.in_ok-next.ensures.whole s.msg.entries _ (after-queues s) (parts_of s c.args.objects.now are).things all.queues in
-    c.in_err-next-2.ensures.damaged (ap (λ e. Err e) (sym why.1)) s.semset.entries (named_objects (named_in s)) (after-sets s) all.sets left
+    c.in_err-next-2.ensures.damaged (ap (λ e. Err e) (sym why.1)) s.semset.entries (named_objects (objects_in s).named) (after-sets s) all.sets left
 
 pub returns-in_err-restore_named-clause-damaged : goal.returns-in_err-restore_named-clause-damaged
 returns-in_err-restore_named-clause-damaged c is s all are =
     let why = rw is at c.from_residual-in_err-restore_named.ensures in
     let left = c.in_ok-next.ensures.whole s.msg.entries _ (after-queues s) (parts_of s c.args.objects.now are).things all.queues in
     let last = c.in_ok-next-2.ensures.whole s.semset.entries _ (after-sets s) left all.sets in
-    c.in_err-restore_named.ensures.damaged (ap (λ e. Err e) (sym why.1)) (named_in s) all.named last
+    c.in_err-restore_named.ensures.damaged (ap (λ e. Err e) (sym why.1)) (objects_in s).named all.named last
 
 pub returns-clause-ok : goal.returns-clause-ok
 returns-clause-ok c =
@@ -129,7 +129,8 @@ returns-clause-once c s all are =
     (c.restore_numbers.ensures.state ∙ ap (λ (s : State). with_numbers s n) c.requires) in
     let added = processes_added n c.restore_numbers.new.self.limits _ _ _ ps.0 ws.0 from ps.4 ws.5 in
     let undo : c.restore_named.new.state.state.undo ≡ c.restore_adjustments.new.state.state.undo =
-    ap (λ (r : State × Limits). r.0.undo) c.in_ok-restore_named.ensures.ok.3 ∙ ap (λ (r : State × Limits). r.0.undo) c.in_ok-next-2.ensures.ok.3 ∙ ap (λ (r : State × Limits). r.0.undo) c.in_ok-next.ensures.ok.3 in
+    ap (λ (r : State × Limits). r.0.undo) c.in_ok-restore_named.ensures.ok.3 ∙ ap (λ (r : State × Limits). r.0.undo) c.in_ok-next-2.ensures.ok.3
+    ∙ ap (λ (r : State × Limits). r.0.undo) c.in_ok-next.ensures.ok.3 in
     restored_once s c.restore_named.new.state.state c.args.objects.now ps.0 c.in-Some-object_numbered.processes.now all are (returns-clause-ok c)
     c.in-Some-object_numbered.ensures.some ps.1 ps.2 ps.3
     (ap (λ (us : List (ℕ × Undo)). keys_of us) undo ∙ c.in_ok-restore_adjustments.ensures.ok.3
@@ -138,5 +139,6 @@ returns-clause-once c s all are =
 pub returns-clause-limits : goal.returns-clause-limits
 returns-clause-limits c =
     let limits : State × Limits → Limits = λ r. r.1 in
-    ap limits c.in_ok-restore_named.ensures.ok.3 ∙ ap limits c.in_ok-next-2.ensures.ok.3 ∙ ap limits c.in_ok-next.ensures.ok.3 ∙ c.in_ok-restore_adjustments.ensures.limits
-    ∙ c.in_ok-restore_waits.ensures.limits ∙ ap limits c.in_ok-read_counted.ensures.ok.4 ∙ c.restore_numbers.ensures.limits
+    ap limits c.in_ok-restore_named.ensures.ok.3 ∙ ap limits c.in_ok-next-2.ensures.ok.3 ∙ ap limits c.in_ok-next.ensures.ok.3
+    ∙ c.in_ok-restore_adjustments.ensures.limits ∙ c.in_ok-restore_waits.ensures.limits
+    ∙ ap limits c.in_ok-read_counted.ensures.ok.4 ∙ c.restore_numbers.ensures.limits

@@ -3,7 +3,7 @@ use Rattle.std.specs.Prelude.{Err}
 use Rattle.std.proofs.lemmas.List.{append-nil, length-drop, drop_all}
 use Rattle.ipc_base.specs.declared.limits.Limits.{Limits}
 use Rattle.ipc_base.specs.Objects.{PlainObjects}
-use Rattle.ipc_state.specs.Opening.{NamedObjects}
+use Rattle.ipc_state.specs.Kinds.{NamedObjects}
 use Rattle.ipc_state.specs.State.{State}
 use Rattle.ipc_image.specs.Saved.{mq_object, psem_object, pshm_object}
 use Rattle.ipc_image.specs.SavedParts.{put_psems, put_segments}

@@ -1,8 +1,8 @@
 use Rattle.std.proofs.Common.{◌-◌, ℕ, List, ap, subst, arith, length, get_or, map}
 use Rattle.std.proofs.lemmas.List.{length-map}
 use Rattle.ipc_base.specs.declared.objects.Mark.{Mark}
-use Rattle.ipc_state.specs.Opening.{NamedObjects}
-use Rattle.ipc_state.specs.State.{State, named_in}
+use Rattle.ipc_state.specs.Kinds.{NamedObjects}
+use Rattle.ipc_state.specs.State.{State, objects_in}
 use Rattle.ipc_state.specs.Tables.{item_row}
 use Rattle.ipc_image.specs.Kind.{FitsIn}
 use Rattle.ipc_image.specs.Saved.{mq_object, psem_object, pshm_object, named_objects, FitsMq, FitsPsem, FitsSegment}
@@ -21,7 +21,7 @@ later o = MarkAt IsAnyMark (last o) o.psem.entries
 
 -- this object stands there
 abbrev Here : State → ℕ → ℕ × List ℕ → (Mark → Type 0) → Type 0
-Here t at object IsOfIt = Stands (named_objects (named_in t)) (IsMarkOfNamed (named_in t)) at object IsOfIt
+Here t at object IsOfIt = Stands (named_objects (objects_in t).named) (IsMarkOfNamed (objects_in t).named) at object IsOfIt
 
 pub returns-then-at-objects-clause-stands : goal.returns-then-at-objects-clause-stands
 returns-then-at-objects-clause-stands c =
@@ -62,7 +62,7 @@ bounds-objects-inside-at-2 c =
     let o = c.objects.inside in
     omega (
       arith,
-      ap (λ (t : State). length (named_objects (named_in t))) c.objects.view_is,
+      ap (λ (t : State). length (named_objects (objects_in t).named)) c.objects.view_is,
       named-counted (seen_named o.numbers o.mqs.now o.sems.now o.segments.now),
       length-map o.mqs.now item_row,
       length-map o.sems.now item_row,
@@ -87,7 +87,7 @@ returns-clause-stands c =
     (here-last pshm_object IsAnyMark (λ at m. Unit {0}) n.pshm.entries at (item_row e)
     (table-at item_row o.segments.now at c.index-objects-at-2.result (omega (
       arith,
-      ap (λ (t : State). length (named_objects (named_in t))) c.objects.view_is,
+      ap (λ (t : State). length (named_objects (objects_in t).named)) c.objects.view_is,
       named-counted (seen_named o.numbers o.mqs.now o.sems.now o.segments.now),
       length-map o.mqs.now item_row,
       length-map o.sems.now item_row,
@@ -104,7 +104,7 @@ returns-clause-fits c =
     each-at (FitsIn FitsSegment) (map item_row o.segments.now) at _ c.objects.invariant.0.named.segments
     (table-at item_row o.segments.now at c.index-objects-at-2.result (omega (
       arith,
-      ap (λ (t : State). length (named_objects (named_in t))) c.objects.view_is,
+      ap (λ (t : State). length (named_objects (objects_in t).named)) c.objects.view_is,
       named-counted (seen_named o.numbers o.mqs.now o.sems.now o.segments.now),
       length-map o.mqs.now item_row,
       length-map o.sems.now item_row,

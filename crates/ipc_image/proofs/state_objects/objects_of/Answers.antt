@@ -21,8 +21,14 @@ invariant_of-result c =
     c.state-state.result.now.state c.clock.ensures c.next_pid.ensures c.next_msg_queue.ensures c.next_semset.ensures c.processes.ensures
     c.waits.ensures c.adjustments.ensures c.msg_queues.ensures c.semsets.ensures (λ i. record {
       mq = record { next = c.next_mq.ensures i; entries = c.mqs.ensures i };
-      psem = record { next = (c.next.ensures ∙ ap (λ (x : Named ℕ). x.next) c.psems.ensures.objects) i; entries = (c.items.ensures ∙ ap (λ (x : Named ℕ). x.entries) c.psems-2.ensures.objects) i };
-      pshm = record { next = (c.next-2.ensures ∙ ap (λ (x : Named Segment). x.next) c.pshms.ensures.objects) i; entries = (c.items-2.ensures ∙ ap (λ (x : Named Segment). x.entries) c.pshms-2.ensures.objects) i };
+      psem = record {
+        next = (c.next.ensures ∙ ap (λ (x : Named ℕ). x.next) c.psems.ensures.objects) i;
+        entries = (c.items.ensures ∙ ap (λ (x : Named ℕ). x.entries) c.psems-2.ensures.objects) i;
+      };
+      pshm = record {
+        next = (c.next-2.ensures ∙ ap (λ (x : Named Segment). x.next) c.pshms.ensures.objects) i;
+        entries = (c.items-2.ensures ∙ ap (λ (x : Named Segment). x.entries) c.pshms-2.ensures.objects) i;
+      };
     }) in
     let objects = saved-are c.args.engine.now.limits c.args.engine.now.state c.state-state.ensures.passed c.state-state.ensures.sound in
     (subst HasAllPlaces (sym same) c.read_state.ensures, subst (λ (s : State). AreObjects (saved s)) (sym (same ∙ c.state-state.ensures.state)) objects)
@@ -40,8 +46,14 @@ returns-clause-objects c =
     }) _ _ _ _ _ _ c.state-state.result.now.state c.clock.ensures c.next_pid.ensures c.next_msg_queue.ensures c.next_semset.ensures
     c.processes.ensures c.waits.ensures c.adjustments.ensures c.msg_queues.ensures c.semsets.ensures (λ i. record {
       mq = record { next = c.next_mq.ensures i; entries = c.mqs.ensures i };
-      psem = record { next = (c.next.ensures ∙ ap (λ (x : Named ℕ). x.next) c.psems.ensures.objects) i; entries = (c.items.ensures ∙ ap (λ (x : Named ℕ). x.entries) c.psems-2.ensures.objects) i };
-      pshm = record { next = (c.next-2.ensures ∙ ap (λ (x : Named Segment). x.next) c.pshms.ensures.objects) i; entries = (c.items-2.ensures ∙ ap (λ (x : Named Segment). x.entries) c.pshms-2.ensures.objects) i };
+      psem = record {
+        next = (c.next.ensures ∙ ap (λ (x : Named ℕ). x.next) c.psems.ensures.objects) i;
+        entries = (c.items.ensures ∙ ap (λ (x : Named ℕ). x.entries) c.psems-2.ensures.objects) i;
+      };
+      pshm = record {
+        next = (c.next-2.ensures ∙ ap (λ (x : Named Segment). x.next) c.pshms.ensures.objects) i;
+        entries = (c.items-2.ensures ∙ ap (λ (x : Named Segment). x.entries) c.pshms-2.ensures.objects) i;
+      };
     }) ∙ c.state-state.ensures.state)
 
 pub returns-clause-fit : goal.returns-clause-fit

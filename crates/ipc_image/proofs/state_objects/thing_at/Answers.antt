@@ -1,8 +1,8 @@
 use Rattle.std.proofs.Common.{◌-◌, ℕ, ap, sym, subst, arith, length, get_or}
 use Rattle.std.proofs.lemmas.List.{length-map}
 use Rattle.ipc_base.specs.declared.objects.Mark.{Mark}
-use Rattle.ipc_state.specs.Opening.{NamedObjects}
-use Rattle.ipc_state.specs.State.{State, named_in}
+use Rattle.ipc_state.specs.Kinds.{NamedObjects}
+use Rattle.ipc_state.specs.State.{State, objects_in}
 use Rattle.ipc_state.specs.Tables.{item_row}
 use Rattle.ipc_image.specs.Kind.{FitsIn}
 use Rattle.ipc_image.specs.Saved.{queue_object, set_object, named_objects, saved, FitsQueue, FitsSet}
@@ -16,7 +16,7 @@ use Rattle.ipc_image.proofs.state_objects.thing_at.Goals as goal
 
 -- the marks of those with a name, and of the sets and them
 abbrev last : State → ℕ → Mark → Type 0
-last s = IsMarkOfNamed (named_in s)
+last s = IsMarkOfNamed (objects_in s).named
 
 abbrev later : State → ℕ → Mark → Type 0
 later s = MarkAt IsMarkOfSet (last s) s.semset.entries
@@ -24,7 +24,8 @@ later s = MarkAt IsMarkOfSet (last s) s.semset.entries
 pub returns-then-at-objects : goal.returns-then-at-objects
 returns-then-at-objects c =
     let o = c.objects.inside in
-    let s : State = seen_state o.numbers o.processes.now o.waits.now o.undo.now o.queues.now o.sets.now (seen_named o.numbers o.mqs.now o.sems.now o.segments.now) in
+    let s : State = seen_state o.numbers o.processes.now o.waits.now o.undo.now o.queues.now o.sets.now
+    (seen_named o.numbers o.mqs.now o.sems.now o.segments.now) in
     let at : ℕ = c.args.i - 4 in
     let q = get_or o.queues.now at c.index-objects-at.result in
     let is = table-at item_row o.queues.now at c.index-objects-at.result c.if-at-objects.true in
@@ -36,7 +37,8 @@ returns-then-at-objects c =
 pub returns-then-at-objects-2 : goal.returns-then-at-objects-2
 returns-then-at-objects-2 c =
     let o = c.objects.inside in
-    let s : State = seen_state o.numbers o.processes.now o.waits.now o.undo.now o.queues.now o.sets.now (seen_named o.numbers o.mqs.now o.sems.now o.segments.now) in
+    let s : State = seen_state o.numbers o.processes.now o.waits.now o.undo.now o.queues.now o.sets.now
+    (seen_named o.numbers o.mqs.now o.sems.now o.segments.now) in
     let at : ℕ = c.args.i - 4 - length o.queues.now in
     let e = get_or o.sets.now at c.index-objects-at-then-at-objects-2.result in
     let is = table-at item_row o.sets.now at c.index-objects-at-then-at-objects-2.result c.if-at-objects-2.true in
@@ -45,7 +47,7 @@ returns-then-at-objects-2 c =
     (each-at (FitsIn FitsSet) s.semset.entries at (item_row e) c.objects.invariant.0.sets is)
     (past queue_object IsMarkOfQueue (later s) s.msg.entries (sets_and_named s) (c.args.i - 4) at _ _
     (omega (arith, length-map o.queues.now item_row, c.if-at-objects.false))
-    (here set_object IsMarkOfSet (last s) s.semset.entries (named_objects (named_in s)) at (item_row e) is)))
+    (here set_object IsMarkOfSet (last s) s.semset.entries (named_objects (objects_in s).named) at (item_row e) is)))
 
 pub named_at-requires : goal.named_at-requires
 named_at-requires c =
@@ -54,7 +56,7 @@ named_at-requires c =
     omega (
       arith,
       ap (λ (t : State). length (saved t)) c.objects.view_is,
-      ap (λ (t : State). length (named_objects (named_in t))) c.objects.view_is,
+      ap (λ (t : State). length (named_objects (objects_in t).named)) c.objects.view_is,
       seen_count o.numbers o.processes.now o.waits.now o.undo.now o.queues.now o.sets.now named,
       named-counted named,
       c.requires.object,
@@ -66,14 +68,16 @@ named_at-requires c =
 pub returns : goal.returns
 returns c =
     let o = c.objects.inside in
-    let s : State = seen_state o.numbers o.processes.now o.waits.now o.undo.now o.queues.now o.sets.now (seen_named o.numbers o.mqs.now o.sems.now o.segments.now) in
+    let s : State = seen_state o.numbers o.processes.now o.waits.now o.undo.now o.queues.now o.sets.now
+    (seen_named o.numbers o.mqs.now o.sems.now o.segments.now) in
     let second : ℕ = c.args.i - 4 - length o.queues.now in
     let at : ℕ = second - length o.sets.now in
     let r = c.named_at.result in
-    let named = subst (λ (t : State). Stands (named_objects (named_in t)) (IsMarkOfNamed (named_in t)) at (object_of r) (IsMarkOfThing r)) (sym c.objects.view_is) c.named_at.ensures.stands in
+    let named = subst (λ (t : State). Stands (named_objects (objects_in t).named) (IsMarkOfNamed (objects_in t).named) at (object_of r) (IsMarkOfThing r))
+    (sym c.objects.view_is) c.named_at.ensures.stands in
     subst (λ (t : State). IsFound t c.args.i (object_of r) (IsMarkOfThing r) (FitsThing r))
     c.objects.view_is (found-thing s c.objects.invariant.1 c.args.i c.requires.thing _ _ _ c.named_at.ensures.fits
     (past queue_object IsMarkOfQueue (later s) s.msg.entries (sets_and_named s) (c.args.i - 4) second _ _
     (omega (arith, length-map o.queues.now item_row, c.if-at-objects.false))
-    (past set_object IsMarkOfSet (last s) s.semset.entries (named_objects (named_in s)) second at _ _ (omega (arith, length-map o.sets.now item_row, c.if-at-objects-2.false))
-    named)))
+    (past set_object IsMarkOfSet (last s) s.semset.entries (named_objects (objects_in s).named) second at _ _
+    (omega (arith, length-map o.sets.now item_row, c.if-at-objects-2.false)) named)))

@@ -3,7 +3,8 @@ use Rattle.std.specs.Option.{option_copied_mut}
 use Rattle.slab.specs.Slab.{get, with_value}
 use Rattle.ipc_server.specs.Rows.{clients_of}
 use Rattle.ipc_server.specs.View.{ClientView, is_gone}
-use Rattle.ipc_server.proofs.Standing.{below-more, below-same, ended-live, failed-over, keeps-both, keeps-none, keeps-value, stands-both, stands-none, stands-seen, updates-value}
+use Rattle.ipc_server.proofs.Standing.{below-more, below-same, ended-live, failed-over, keeps-both, keeps-none}
+use Rattle.ipc_server.proofs.Standing.{keeps-value, stands-both, stands-none, stands-seen, updates-value}
 use Rattle.ipc_server.proofs.rounds.note_ends.Goals.{in-Some, in_default}
 use Rattle.ipc_server.proofs.rounds.note_ends.Goals as goal
 

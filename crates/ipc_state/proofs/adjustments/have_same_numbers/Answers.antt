@@ -5,7 +5,8 @@ use Rattle.ipc_state.proofs.adjustments.have_same_numbers.Goals as goal
 pub returns-then-items-place : goal.returns-then-items-place
 returns-then-items-place g c = (
   λ no. cc,
-  λ same. absurd (c.if-items-place.true (numbers-at c.args.items.now c.args.others.now same c.loop-place.place c.index-items-place.result c.index-others-place.result
+  λ same. absurd (c.if-items-place.true
+      (numbers-at c.args.items.now c.args.others.now same c.loop-place.place c.index-items-place.result c.index-others-place.result
       c.loop-place-test.true)),
 )
 

@@ -8,4 +8,5 @@ use Rattle.ipc_state.proofs.mqs.has_sound_messages.Goals as goal
 pub returns : goal.returns
 returns c =
     c.are_sound.ensures
-    ∙ (sym (list_all-map (is_sound_mq_message c.args.msgsize) plain c.messages.result.now) ∙ ap (list_all (is_sound_mq_message c.args.msgsize)) c.messages.ensures)
+    ∙ (sym (list_all-map (is_sound_mq_message c.args.msgsize) plain c.messages.result.now)
+    ∙ ap (list_all (is_sound_mq_message c.args.msgsize)) c.messages.ensures)

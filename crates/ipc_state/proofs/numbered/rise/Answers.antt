@@ -33,6 +33,7 @@ returns g c =
     let number = g.T.HasNumber.number_of in
     let xs = c.args.items.now in
     let done : RiseTo c.args.low (map number xs) c.loop-item.least =
-    subst (λ (l : List _). RiseTo c.args.low (map number l) c.loop-item.least) (take_all c.loop-item.item-index xs c.loop-item-test.false) c.loop-item.invariant in
+    subst (λ (l : List _). RiseTo c.args.low (map number l) c.loop-item.least)
+    (take_all c.loop-item.item-index xs c.loop-item-test.false) c.loop-item.invariant in
     subst (λ (k : ℕ). Decides (leb c.loop-item.least k) (IsRising c.args.low (map number xs) c.args.high)) (sym c.from-2.ensures)
     (rise-decides c.args.low _ c.loop-item.least c.args.high done)

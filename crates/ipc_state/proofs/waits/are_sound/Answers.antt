@@ -11,6 +11,7 @@ loop-waiting-preserved c =
 pub returns-then-not-is_sound : goal.returns-then-not-is_sound
 returns-then-not-is_sound c = (
   λ no. cc,
-  λ all. absurd (let yes = c.is_sound.ensures.1 (subst IsSoundWaiting (sym c.waiting-item.is) (all c.loop-waiting.waiting-index c.waiting-item.result c.loop-waiting-test.true)) in
+  λ all. absurd (let yes = c.is_sound.ensures.1
+      (subst IsSoundWaiting (sym c.waiting-item.is) (all c.loop-waiting.waiting-index c.waiting-item.result c.loop-waiting-test.true)) in
       let no = c.if-not-is_sound.true in cc),
 )

@@ -1,14 +1,16 @@
 use Rattle.std.proofs.Common.{sym, subst}
 use Rattle.posix_mq.specs.Queue.{Queue as Mq}
 use Rattle.ipc_keys.specs.declared.check.NameKind.TheVariants as names
+use Rattle.ipc_state.specs.declared.parked.ObjectKind.TheVariants as kinds
 use Rattle.ipc_state.specs.Directory.{ArePositive}
 use Rattle.ipc_state.specs.Named.{Named}
-use Rattle.ipc_state.proofs.CallerLemmas.{kind-names, kind-positive}
+use Rattle.ipc_state.proofs.CallerLemmas.{kind-bounds, kind-positive}
 use Rattle.posix_calls.proofs.mq.mq_unlink.Goals as goal
 
 pub unlinkable-requires : goal.unlinkable-requires
 unlinkable-requires c =
-    subst (λ (o : Named Mq). ArePositive o.entries) (sym c.named_mqs.ensures) (kind-positive c.args.state.now.limits c.args.state.now.state names.Mq c.requires.sound)
+    subst (λ (o : Named Mq). ArePositive o.entries) (sym c.named_mqs.ensures)
+    (kind-positive c.args.state.now.limits c.args.state.now.state (kinds.Named names.Mq) c.requires.sound)
 
 pub unlink_mq-requires-clause-named : goal.unlink_mq-requires-clause-named
-unlink_mq-requires-clause-named c = kind-names c.args.state.now.limits c.args.state.now.state names.Mq c.requires.sound
+unlink_mq-requires-clause-named c = kind-bounds c.args.state.now.limits c.args.state.now.state (kinds.Named names.Mq) c.requires.sound

@@ -1,6 +1,7 @@
 use Rattle.std.proofs.Common.{sym, subst}
 use Rattle.shm_segment.specs.Segment.{Segment}
 use Rattle.ipc_keys.specs.declared.check.NameKind.TheVariants as names
+use Rattle.ipc_state.specs.declared.parked.ObjectKind.TheVariants as kinds
 use Rattle.ipc_state.specs.Directory.{ArePositive}
 use Rattle.ipc_state.specs.Named.{Named}
 use Rattle.ipc_state.proofs.CallerLemmas.{kind-positive}
@@ -8,4 +9,5 @@ use Rattle.posix_calls.proofs.pshm.open.Goals as goal
 
 pub seek-requires : goal.seek-requires
 seek-requires c =
-    subst (λ (o : Named Segment). ArePositive o.entries) (sym c.pshms.ensures.objects) (kind-positive c.args.state.now.limits c.args.state.now.state names.Pshm c.requires.sound)
+    subst (λ (o : Named Segment). ArePositive o.entries) (sym c.pshms.ensures.objects)
+    (kind-positive c.args.state.now.limits c.args.state.now.state (kinds.Named names.Pshm) c.requires.sound)

@@ -17,7 +17,7 @@ has : (c : After-accessible) → accessible false c.args.state.now.state.msg c.a
 has c = search rules
 
 pub seek-requires : goal.seek-requires
-seek-requires c = held-positive c.msg.result.now c.args.state.now.state.msg c.msg.ensures.queues c.requires.sound.msg
+seek-requires c = held-positive c.msg.result.now c.args.state.now.state.msg c.msg.ensures.queues c.requires.sound.msg.held.bound
 
 pub returns-in_err-accessible-clause-finish : goal.returns-in_err-accessible-clause-finish
 returns-in_err-accessible-clause-finish c =

@@ -10,7 +10,7 @@ use Rattle.sysv_calls.proofs.msg.make_queue.Goals as goal
 
 pub add_msg_queue-requires : goal.add_msg_queue-requires
 add_msg_queue-requires c =
-    (rw c.requires.ready refl, (rw c.requires.ready c.requires.unused, (c.requires.sound.msg.numbered.numbers, search rules)))
+    (rw c.requires.ready refl, (rw c.requires.ready c.requires.unused, (c.requires.sound.msg.held.bound.numbered.numbers, search rules)))
 
 pub returns-clause-finish : goal.returns-clause-finish
 returns-clause-finish c =

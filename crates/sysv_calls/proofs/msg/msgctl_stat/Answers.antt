@@ -1,6 +1,7 @@
 use Rattle.std.proofs.Common.{◌≡◌, false, rules}
 use Rattle.std.specs.Prelude.{Ok}
-use Rattle.ipc_state.proofs.CallerLemmas.{queue-numbers, queue-sound}
+use Rattle.ipc_state.specs.declared.parked.ObjectKind.TheVariants as kinds
+use Rattle.ipc_state.proofs.CallerLemmas.{content-sound, queue-numbers}
 use Rattle.sysv_calls.specs.Access.{read, accessible}
 use Rattle.sysv_calls.proofs.Reaching.{accessible-there}
 use Rattle.sysv_calls.proofs.msg.msgctl_stat.Goals as goal
@@ -12,4 +13,4 @@ push_queue-requires-clause-numbers c =
     let e = c.in_ok-entry.entry.now in
     let is : accessible false s.msg c.args.cred c.args.id.0 read ≡ Ok e = search rules in
     let there = accessible-there s.msg c.args.cred c.args.id.0 e read is in
-    queue-numbers limits e.object c.msg.ensures.passed (queue-sound limits s c.args.id.0 e there c.requires.sound)
+    queue-numbers limits e.object c.msg.ensures.passed (content-sound limits s kinds.MsgQueue c.args.id.0 e there c.requires.sound)

@@ -32,7 +32,7 @@ has : (c : After-accessible) → accessible false c.args.state.now.state.semset 
 has c = search rules
 
 pub seek-requires : goal.seek-requires
-seek-requires c = held-positive c.semset.result.now c.args.state.now.state.semset c.semset.ensures.sets c.requires.sound.semset.keyed
+seek-requires c = held-positive c.semset.result.now c.args.state.now.state.semset c.semset.ensures.sets c.requires.sound.semset.held.bound
 
 pub make_set-requires-clause-ready : goal.make_set-requires-clause-ready
 make_set-requires-clause-ready c some =

@@ -20,7 +20,7 @@ pub add_semset-requires : goal.add_semset-requires
 add_semset-requires c =
     let g = (goal.at.add_semset-requires c).After-is_full in
     let ready = c.requires.ready (some g) in
-    (rw ready refl, (rw ready c.requires.unused, (c.requires.sound.semset.keyed.numbered.numbers, search rules)))
+    (rw ready refl, (rw ready c.requires.unused, (c.requires.sound.semset.held.bound.numbered.numbers, search rules)))
 
 pub returns-clause-finish : goal.returns-clause-finish
 returns-clause-finish c =

@@ -7,8 +7,9 @@ use Rattle.ipc_base.specs.declared.field.Field.TheVariants.{U16}
 use Rattle.ipc_wire.specs.declared.reply.Body.TheVariants.{Record}
 use Rattle.sysv_sem.specs.declared.set.Semaphore.{Semaphore}
 use Rattle.sysv_sem.specs.Set.{values_of}
+use Rattle.ipc_state.specs.declared.parked.ObjectKind.TheVariants as kinds
 use Rattle.ipc_state.specs.Finish.{Finishes, done}
-use Rattle.ipc_state.proofs.CallerLemmas.{set-sound}
+use Rattle.ipc_state.proofs.CallerLemmas.{content-sound}
 use Rattle.sysv_calls.specs.Access.{read, accessible}
 use Rattle.sysv_calls.proofs.Reaching.{accessible-there}
 use Rattle.sysv_calls.proofs.sem.semctl_getall.Goals.{After-semaphores}
@@ -29,7 +30,7 @@ push_values-requires c =
     let s = c.args.state.now.state in
     let e = c.in_ok-entry.entry.now in
     let there = accessible-there s.semset c.args.cred c.args.id.0 e read (reads g) in
-    let few = (set-sound limits s c.args.id.0 e there c.requires.sound).few in
+    let few = (content-sound limits s kinds.Semset c.args.id.0 e there c.requires.sound).few in
     let len : vec_len c.take_spare-body.result ≡ length c.take_spare-body.result.items = search rules in
     let all = ap length c.semaphores.ensures.semaphores in
     let room = ap vec_capacity c.take_spare-body.ensures.taken in

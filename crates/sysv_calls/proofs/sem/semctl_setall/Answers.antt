@@ -4,12 +4,13 @@ use Rattle.ipc_wire.specs.Pairs.{bytes_of, numbers_in}
 use Rattle.ipc_wire.specs.declared.reply.Body.TheVariants.{Empty}
 use Rattle.sysv_sem.specs.Operation.{most_value}
 use Rattle.sysv_sem.specs.Set.{Set, with_values}
+use Rattle.ipc_state.specs.declared.parked.ObjectKind.TheVariants as kinds
 use Rattle.ipc_state.specs.Finish.{Finishes, done}
 use Rattle.ipc_state.specs.Held.{Held}
 use Rattle.ipc_state.specs.Bound.{holding}
 use Rattle.ipc_state.specs.Keyed.{KeyedEntry}
 use Rattle.ipc_state.specs.State.{semset_of, with_semset, without_adjustments}
-use Rattle.ipc_state.proofs.CallerLemmas.{set-sound}
+use Rattle.ipc_state.proofs.CallerLemmas.{content-sound}
 use Rattle.ipc_state.specs.Steps.{result_of}
 use Rattle.ipc_state.proofs.CallerLemmas.{HasFound, has-found}
 use Rattle.sysv_calls.specs.Sem.{settable}
@@ -32,7 +33,7 @@ pub put_values-requires : goal.put_values-requires
 put_values-requires c =
     let g = (goal.at.put_values-requires c).In_ok-ready_to_set in
     let old = c.args.state.now in
-    let few = (set-sound old.limits old.state c.args.id.0 (found g).value (found g).holds.there c.requires.sound).few in
+    let few = (content-sound old.limits old.state kinds.Semset c.args.id.0 (found g).value (found g).holds.there c.requires.sound).few in
     omega (arith, few, (found g).holds.count, (passed-bounds old.limits c.in_ok-ready_to_set.ensures.passed).semmsl)
 
 -- the values that are read

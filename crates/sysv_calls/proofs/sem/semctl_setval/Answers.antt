@@ -4,12 +4,13 @@ use Rattle.ipc_base.proofs.CallerLemmas.{passed-bounds}
 use Rattle.ipc_wire.specs.declared.reply.Body.TheVariants.{Empty}
 use Rattle.sysv_sem.specs.declared.set.Semaphore.{Semaphore}
 use Rattle.sysv_sem.specs.Set.{Set, with_value}
+use Rattle.ipc_state.specs.declared.parked.ObjectKind.TheVariants as kinds
 use Rattle.ipc_state.specs.Finish.{Finishes, done}
 use Rattle.ipc_state.specs.Held.{Held}
 use Rattle.ipc_state.specs.Bound.{holding}
 use Rattle.ipc_state.specs.Keyed.{KeyedEntry}
 use Rattle.ipc_state.specs.State.{semset_of, with_semset, without_adjustments}
-use Rattle.ipc_state.proofs.CallerLemmas.{set-sound}
+use Rattle.ipc_state.proofs.CallerLemmas.{content-sound}
 use Rattle.ipc_state.proofs.CallerLemmas.{HasFound, has-found}
 use Rattle.sysv_calls.specs.Access.{write}
 use Rattle.ipc_state.specs.Steps.{result_of}
@@ -36,7 +37,7 @@ object c = let there = (found c).holds.there in search (rules, there)
 pub overflow_cast-num : goal.overflow_cast-num
 overflow_cast-num c =
     let old = c.args.state.now in
-    let few = (set-sound old.limits old.state c.args.id.0 (found c).value.0 (found c).holds.there c.requires.sound).few in
+    let few = (content-sound old.limits old.state kinds.Semset c.args.id.0 (found c).value.0 (found c).holds.there c.requires.sound).few in
     omega (arith, inside c, few, (passed-bounds old.limits c.in_ok-semaphore.ensures.passed).semmsl)
 
 pub set_value-requires-clause-num : goal.set_value-requires-clause-num

@@ -4,7 +4,8 @@ use Rattle.std.proofs.lemmas.List.{with_items_is}
 use Rattle.ipc_disk.specs.declared.memory.Slot.{Slot}
 use Rattle.ipc_disk.specs.Relations.Slots.{flushed}
 use Rattle.ipc_disk.proofs.Listed.{ListsUnsynced-none}
-use Rattle.ipc_disk.proofs.SlotsLemmas.{whole-flushed, contents-flushed, synced-flushed, durable-flushed, images-flushed, Elapses-slots}
+use Rattle.ipc_disk.proofs.CallerLemmas.{whole-flushed, contents-flushed, durable-flushed}
+use Rattle.ipc_disk.proofs.SlotsLemmas.{synced-flushed, images-flushed, Elapses-slots}
 use Rattle.ipc_disk.proofs.memory.MemoryDiskSectorDisk.sync.Goals as goal
 
 pub invariant_of-self : goal.invariant_of-self

@@ -4,7 +4,8 @@ use Rattle.std.specs.Prelude.{All}
 use Rattle.std.proofs.Math.ListN.{length-set}
 use Rattle.std.proofs.lemmas.List.{map-set}
 use Rattle.ipc_disk.proofs.Listed.{listed-write, places-write}
-use Rattle.ipc_disk.proofs.SlotsLemmas.{MayLeave-written, synced_values-written, Elapses-slots}
+use Rattle.ipc_disk.proofs.CallerLemmas.{MayLeave-written}
+use Rattle.ipc_disk.proofs.SlotsLemmas.{synced_values-written, Elapses-slots}
 use Rattle.ipc_disk.proofs.memory.MemoryDiskSectorDisk.write.Goals as goal
 
 pub invariant_of-self-clause-few : goal.invariant_of-self-clause-few

@@ -2,7 +2,7 @@ use Rattle.std.proofs.Common.{◌≡◌, ◌∙◌, ◌++◌, ◌∷◌, [], Lis
 use Rattle.ipc_base.specs.Numbers.{fields_bytes, FitFields}
 use Rattle.ipc_base.proofs.CallerLemmas.{fields_one, numbers_are}
 use Rattle.ipc_state.specs.declared.descriptors.Descriptor.{Descriptor}
-use Rattle.ipc_state.specs.Opening.{opened_as}
+use Rattle.ipc_state.specs.Opening.{object_as}
 use Rattle.ipc_image.specs.Saved.{descriptor_sizes, descriptor_numbers}
 use Rattle.ipc_image.proofs.process.DescriptorRowSaved.take.Goals as goal
 
@@ -23,7 +23,7 @@ returns-clause-ok c =
     let ns : List ℕ = c.in_ok-numbers.numbers in
     let found = rw c.in_ok-numbers.ensures.ok_part at c.take_fields.ensures.some in
     let is = c.in-Some.ensures.some in
-    let d : ℕ × Descriptor = (get_or ns 0 0, record { on = opened_as c.in-Some.kind (get_or ns 2 0); flags = get_or ns 3 0 }) in
+    let d : ℕ × Descriptor = (get_or ns 0 0, record { on = object_as c.in-Some.kind (get_or ns 2 0); flags = get_or ns 3 0 }) in
     let same : ns ≡ descriptor_numbers d =
     numbers_are descriptor_sizes ns found.0 ∙ ap (λ (n : ℕ). get_or ns 0 0 ∷ n ∷ get_or ns 2 0 ∷ get_or ns 3 0 ∷ []) is in (
       d,

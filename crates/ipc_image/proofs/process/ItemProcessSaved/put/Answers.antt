@@ -22,4 +22,5 @@ returns c =
     ∙ ap (λ (t : Table). passed (flat_map descriptor_bytes t) c.put_fields.new.window) c.rows-rows.ensures
     ∙ ap (passed (flat_map descriptor_bytes ds)) c.put_fields.ensures
     ∙ passed-both w (numbers (length c.rows-rows.result.now)) (flat_map descriptor_bytes ds)
-    ∙ ap (λ (n : ℕ). passed (numbers n ++ flat_map descriptor_bytes ds) w) (sym (length-map c.rows-rows.result.now descriptor_row) ∙ ap length c.rows-rows.ensures)
+    ∙ ap (λ (n : ℕ). passed (numbers n ++ flat_map descriptor_bytes ds) w)
+    (sym (length-map c.rows-rows.result.now descriptor_row) ∙ ap length c.rows-rows.ensures)

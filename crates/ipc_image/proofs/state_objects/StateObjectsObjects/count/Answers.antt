@@ -8,7 +8,11 @@ use Rattle.ipc_image.proofs.state_objects.StateObjectsObjects.count.Goals as goa
 pub returns-clause-count : goal.returns-clause-count
 returns-clause-count c =
     let o = c.self.inside in
-    omega (arith, tables_count o.numbers o.processes.now o.waits.now o.undo.now o.queues.now o.sets.now o.mqs.now o.sems.now o.segments.now, ap (λ (s : State). length (saved s)) c.self.view_is)
+    omega (
+      arith,
+      tables_count o.numbers o.processes.now o.waits.now o.undo.now o.queues.now o.sets.now o.mqs.now o.sems.now o.segments.now,
+      ap (λ (s : State). length (saved s)) c.self.view_is,
+    )
 
 pub returns-clause-objects : goal.returns-clause-objects
 returns-clause-objects c = subst (λ (s : State). AreObjects (saved s)) c.self.view_is c.self.invariant.1

@@ -6,7 +6,8 @@ use Rattle.ipc_state.specs.State.{State}
 use Rattle.ipc_state.specs.Tables.{item_row}
 use Rattle.ipc_state.specs.Waiting.{PlainWaiting}
 use Rattle.ipc_image.specs.Saved.{processes_bytes, waiting_bytes, waits_bytes, adjustments_bytes}
-use Rattle.ipc_image.proofs.SavedObjects.{saved-clock, saved-processes, saved-waits, saved-adjustments, processes-long, processes-counted, waits-long, waits-counted}
+use Rattle.ipc_image.proofs.SavedObjects.{saved-clock, saved-processes, saved-waits, saved-adjustments}
+use Rattle.ipc_image.proofs.SavedObjects.{processes-long, processes-counted, waits-long, waits-counted}
 use Rattle.ipc_image.proofs.state_objects.StateObjectsObjects.len.Goals as goal
 
 abbrev long : ℕ × List ℕ → ℕ

@@ -17,7 +17,8 @@ put c =
     c.lowest_unused_place-place.ensures.unused ∙ ap (λ rs. lowest_unused (map descriptor_row rs)) c.deref.ensures.value in
     let items : c.insert.new.self.items ≡ insert rows place new =
     c.insert.ensures.items ∙ ap (λ r. if is_ok r then insert rows place new else rows) c.unwrap.ensures in
-    ap (map descriptor_row) items ∙ put-in 0 rows (2 ^ 32) place new (subst (λ (t : Table). IsRising 0 (keys_of t) (2 ^ 32)) (sym c.self.view_is) c.requires.rising) (omega (arith, is)) (omega arith)
+    ap (map descriptor_row) items ∙ put-in 0 rows (2 ^ 32) place new
+    (subst (λ (t : Table). IsRising 0 (keys_of t) (2 ^ 32)) (sym c.self.view_is) c.requires.rising) (omega (arith, is)) (omega arith)
     ∙ ap (λ n. with_entry (map descriptor_row rows) n c.args.descriptor) is
 
 pub returns-clause-table : goal.returns-clause-table

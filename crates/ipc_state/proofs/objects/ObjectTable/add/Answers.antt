@@ -35,7 +35,7 @@ invariant_of-self g c =
     let b : Bounds _ = record { same = g.B.Bound.same; decides = g.met.B.Bound.decides; none = g.B.Bound.none } in
     let old = c.self.inside in
     let k = c.unwrap-bound.result.0 in
-    let e : Entry _ _ = record { bound = k; perm = c.args.perm; object = c.unwrap-bound.result.1 } in
+    let e : Entry _ _ = record { bound = k; perm = c.args.perm; object = c.make.new.self } in
     let above = subst (λ (h : HeldObjects _ _). 0 < h.objects.next) (sym c.self.view_is) c.requires.number.0 in
     let mine : option_map (λ r. r.0) old.ready ≡ Some k = ap (λ (r : Option _). option_map (λ r. r.0) r) (was g a) in (
       agree-last (by_bound b) (g.B.Bound.number_in old.directory) (g.B.Bound.number_in c.bind.new.directory) (numbered_of old.objects)

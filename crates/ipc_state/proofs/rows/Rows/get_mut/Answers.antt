@@ -54,6 +54,7 @@ returns g c =
       ),
       record {
         writes_back = tt;
-        value = sym (value_at_place item_row nat_eq n old.items place item found is) ∙ ap (λ (v : Vec (Item _)). value_at nat_eq (map item_row v.items) n) c.self.view_is;
+        value = sym (value_at_place item_row nat_eq n old.items place item found is)
+            ∙ ap (λ (v : Vec (Item _)). value_at nat_eq (map item_row v.items) n) c.self.view_is;
       },
     )

@@ -22,6 +22,7 @@ invariant_of-self g c rises = elim c.if-self.branch [
       ap keys_of (map-append item_row xs (new ∷ [])) ∙ map-append (λ (e : ℕ × _). e.0) (map item_row xs) (item_row new ∷ []) in
       subst (λ (ys : List (Item _)). IsRising 0 (keys_of (map item_row ys)) (2 ^ 32)) (sym c.push_reserved.ensures.items)
       (subst (λ (ks : List ℕ). IsRising 0 ks (2 ^ 32)) (sym last)
-      (rising-weaker 0 (keys_of (map item_row xs) ++ n ∷ []) (n + 1) (2 ^ 32) (omega (arith, c.ranges.number.fits)) (rising-push 0 (keys_of (map item_row xs)) n below)))
+      (rising-weaker 0 (keys_of (map item_row xs) ++ n ∷ []) (n + 1) (2 ^ 32) (omega (arith, c.ranges.number.fits))
+      (rising-push 0 (keys_of (map item_row xs)) n below)))
   | else-self w ↦ let no = w.self-is in cc
 ]

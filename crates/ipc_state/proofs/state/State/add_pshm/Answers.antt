@@ -1,43 +1,28 @@
-use Rattle.std.proofs.Common.{◌≡◌, ◌∙◌, None, Some, refl, sym, subst, ap}
-use Rattle.shm_segment.specs.Segment.{Segment}
+use Rattle.std.proofs.Common.{◌∙◌, refl, sym, subst, ap}
+use Rattle.shm_segment.specs.Segment.{empty_segment}
 use Rattle.ipc_state.specs.contracts.state.State.{the_view}
 use Rattle.ipc_state.specs.Held.{Held, left}
-use Rattle.ipc_state.specs.Named.{named}
 use Rattle.ipc_state.specs.Numbered.{with_new}
 use Rattle.ipc_state.specs.State.{with_new_pshm}
-use Rattle.ipc_state.specs.Tables.{HeldObjects}
+use Rattle.ipc_state.proofs.EntryKeys.{of_names}
 use Rattle.ipc_state.proofs.Inside.{state_in, ready-in}
-use Rattle.ipc_state.proofs.Reserved.{MayCome, made-ready, may-come}
-use Rattle.ipc_state.proofs.state.State.add_pshm.Goals.{After-unwrap}
+use Rattle.ipc_state.proofs.Reserved.{MayCome, come, comes}
 use Rattle.ipc_state.proofs.state.State.add_pshm.Goals as goal
-
--- what is ready, another
-made : (g : _) (c : After-unwrap g) → c.ready_mut.follows.lender c.new.result ≡ record c.self.inside.pshm { ready = Some (g.name, c.new.result) }
-made g c =
-    let t = c.self.inside in
-    let reserved = ap (λ (m : Held). m.ready) c.self.view_is ∙ c.requires.0 in
-    made-ready (λ r. record t.pshm { ready = r }) t.pshm.ready c.new.result (c.ready_mut.follows.lender c.new.result) g.name
-    (ready-in t _ reserved) (c.ready_mut.follows.holds c.new.result)
 
 pub add-number-requires : goal.add-number-requires
 add-number-requires g c =
-    let old = c.args.self.now in
-    let unused = subst (λ (m : Held). named m.state.pshm g.name ≡ None) (sym c.self.view_is) c.requires.1.0 in
-    let one = may-come old.limits.segments old.state.pshm c.requires.1.1.0 c.requires.1.1.1 in
-    let more = subst (λ (m : Held). MayCome m.state.pshm) (sym c.self.view_is) one in
-    rw (made g ((goal.at.add-number-requires g c).After-unwrap)) (record { ready = refl; unused = unused; positive = more.positive; number = more.number })
+    let t = c.self.inside in
+    let may = subst (λ (m : Held). MayCome of_names m.limits.segments m.state.pshm g.name) (sym c.self.view_is) c.requires.1 in
+    let h = comes of_names t.pshm g.name t.limits.segments (ready-in t _ (ap (λ (m : Held). m.ready) c.self.view_is ∙ c.requires.0)) may in
+    record { ready = h.ready; unused = h.unused; positive = h.positive; number = h.number; may = tt }
 
 pub returns-clause-added : goal.returns-clause-added
 returns-clause-added g c =
     let t = c.self.inside in
-    let put = rw (made g ((goal.at.returns-clause-added g c).After-unwrap)) at c.add-number.ensures.added in
+    let put = come t.pshm.ready g.name _ _ _ (ready-in t _ (ap (λ (m : Held). m.ready) c.self.view_is ∙ c.requires.0)) (λ x is. refl)
+    c.add-number.ensures.added in
     c.release.ensures ∙ (λ i. left (the_view t) (record (state_in t) { pshm = (put i).objects }))
     ∙ (λ i. left (the_view t) (record (state_in t) {
-      pshm = with_new t.pshm.objects (record { bound = g.name; perm = c.new-perm.ensures.perm i; object = c.new.ensures i });
+      pshm = with_new t.pshm.objects (record { bound = g.name; perm = c.new-perm.ensures.perm i; object = empty_segment });
     }))
     ∙ ap (λ (m : Held). left m (with_new_pshm m.state g.name c.args.cred c.args.mode)) c.self.view_is
-
-pub returns-clause-number : goal.returns-clause-number
-returns-clause-number g c =
-    c.add-number.ensures.number ∙ ap (λ (h : HeldObjects _ Segment). h.objects.next) (made g ((goal.at.returns-clause-number g c).After-unwrap))
-    ∙ ap (λ (m : Held). m.state.pshm.next) c.self.view_is

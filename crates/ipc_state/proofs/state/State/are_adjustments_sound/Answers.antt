@@ -19,7 +19,8 @@ same c =
     let is = ap (map item_row) c.items.ensures ∙ ap (λ (m : Held). m.state.undo) c.self.view_is in
     let of = ap (map item_row) c.items-2.ensures ∙ ap (λ (m : Held). m.state.processes.entries) c.self.view_is in
     subst (λ (us : List (ℕ × Undo)). Decides c.have_same_numbers.result (keys_of us ≡ keys_of c.args.self.now.state.processes.entries)) is
-    (subst (λ (ps : List (ℕ × Process)). Decides c.have_same_numbers.result (keys_of (map item_row c.items.result.now) ≡ keys_of ps)) of c.have_same_numbers.ensures)
+    (subst (λ (ps : List (ℕ × Process)).
+    Decides c.have_same_numbers.result (keys_of (map item_row c.items.result.now) ≡ keys_of ps)) of c.have_same_numbers.ensures)
 
 pub returns-then-have_same_numbers : goal.returns-then-have_same_numbers
 returns-then-have_same_numbers c =
@@ -28,8 +29,14 @@ returns-then-have_same_numbers c =
     let told = subst (λ (b : Bool). Decides b (EachValue (AreAt c.self.inside.semset.objects) (map item_row c.items-then-have_same_numbers.result.now)))
     (sym c.are_at_semaphores.ensures) (told-each c.self.inside.semset.objects c.items-then-have_same_numbers.result.now) in
     let each = subst (λ (o : Keyed Set). Decides c.are_at_semaphores.result (EachValue (AreAt o) c.args.self.now.state.undo)) sets
-    (subst (λ (us : List (ℕ × Undo)). Decides c.are_at_semaphores.result (EachValue (AreAt c.self.inside.semset.objects) us)) is told) in
-    (λ yes. record { pids = (same ((goal.at.returns-then-have_same_numbers c).After-have_same_numbers)).0 c.if-have_same_numbers.true; each = each.0 yes }, λ h. each.1 h.each)
+    (subst (λ (us : List (ℕ × Undo)). Decides c.are_at_semaphores.result (EachValue (AreAt c.self.inside.semset.objects) us)) is told) in (
+      λ yes. record {
+        pids = (same ((goal.at.returns-then-have_same_numbers c).After-have_same_numbers)).0 c.if-have_same_numbers.true;
+        each = each.0 yes;
+      },
+      λ h. each.1 h.each,
+    )
 
 pub returns-else-have_same_numbers : goal.returns-else-have_same_numbers
-returns-else-have_same_numbers c = (λ yes. let no = c.if-have_same_numbers.false in cc, λ h. (same ((goal.at.returns-else-have_same_numbers c).After-have_same_numbers)).1 h.pids)
+returns-else-have_same_numbers c =
+    (λ yes. let no = c.if-have_same_numbers.false in cc, λ h. (same ((goal.at.returns-else-have_same_numbers c).After-have_same_numbers)).1 h.pids)

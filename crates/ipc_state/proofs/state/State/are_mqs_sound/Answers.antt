@@ -1,11 +1,13 @@
-use Rattle.std.proofs.Common.{◌≡◌, true, ℕ, List, map, sym, ap, subst, ◌∙◌}
+use Rattle.std.proofs.Common.{◌≡◌, true, ℕ, List, map, sym, ap, subst, ◌∙◌, []}
 use Rattle.std.specs.Prelude.{All, Bool}
 use Rattle.std.specs.Bool.{Decides}
+use Rattle.std.specs.Str.{bytes_eq}
 use Rattle.ipc_keys.specs.declared.check.NameKind.TheVariants as names
 use Rattle.posix_mq.specs.Queue.{Queue as Mq}
-use Rattle.ipc_state.specs.Named.{NamedEntry}
+use Rattle.ipc_state.specs.declared.parked.ObjectKind.TheVariants as kinds
 use Rattle.ipc_state.specs.Held.{Held}
-use Rattle.ipc_state.specs.Opening.{is_registered}
+use Rattle.ipc_state.specs.Named.{NamedEntry, is_named_so}
+use Rattle.ipc_state.specs.Opening.{is_registered, stays}
 use Rattle.ipc_state.specs.Sound.{AreHeld, IsSoundMq}
 use Rattle.ipc_state.specs.Tables.{item_row}
 use Rattle.ipc_state.proofs.SoundMqs.{all-tests}
@@ -13,9 +15,11 @@ use Rattle.ipc_state.proofs.state.State.are_mqs_sound.Goals.{After-are_held}
 use Rattle.ipc_state.proofs.state.State.are_mqs_sound.Goals as goal
 
 told : (c : After-are_held) → Decides c.are_held.result
-    (let s = c.args.self.now in AreHeld s.limits.queues (IsSoundMq s.limits) names.Mq s.state.processes.entries s.state.mq)
+    (let s = c.args.self.now in AreHeld bytes_eq [] s.limits.queues (IsSoundMq s.limits) (is_named_so names.Mq)
+    (stays (kinds.Named names.Mq) s.state.processes.entries) s.state.mq)
 told c =
-    subst (λ (m : Held). Decides c.are_held.result (AreHeld m.limits.queues (IsSoundMq m.limits) names.Mq m.state.processes.entries m.state.mq))
+    subst (λ (m : Held). Decides c.are_held.result (AreHeld bytes_eq [] m.limits.queues (IsSoundMq m.limits) (is_named_so names.Mq)
+    (stays (kinds.Named names.Mq) m.state.processes.entries) m.state.mq))
     c.self.view_is c.are_held.ensures
 
 pub returns-then-are_held : goal.returns-then-are_held

@@ -1,13 +1,25 @@
-use Rattle.std.proofs.Common.{ap, arith, subst}
+use Rattle.std.proofs.Common.{◌≤◌, refl, subst}
+use Rattle.std.specs.Bool.{Decides}
+use Rattle.ipc_state.specs.declared.parked.ObjectKind.TheVariants as kinds
 use Rattle.ipc_state.specs.Held.{Held}
 use Rattle.ipc_state.specs.Keyed.{AreKeyed}
-use Rattle.ipc_state.specs.Sound.{IsSoundSemset}
+use Rattle.ipc_state.specs.Sound.{IsSoundSemset, semaphore_count}
+use Rattle.ipc_state.proofs.SoundMqs.{never-open-sound}
+use Rattle.ipc_state.proofs.state.State.are_semsets_sound.Goals.{After-are_sound}
 use Rattle.ipc_state.proofs.state.State.are_semsets_sound.Goals as goal
+
+told : (c : After-are_sound) → Decides c.are_sound.result
+    (let s = c.args.self.now in AreKeyed s.limits.semmni (IsSoundSemset s.limits) s.state.semset)
+told c =
+    subst (λ (m : Held). Decides c.are_sound.result (AreKeyed m.limits.semmni (IsSoundSemset m.limits) m.state.semset)) c.self.view_is c.are_sound.ensures
 
 pub returns-then-are_sound : goal.returns-then-are_sound
 returns-then-are_sound c =
-    let keyed = subst (λ (m : Held). AreKeyed m.limits.semmni (IsSoundSemset m.limits) m.state.semset) c.self.view_is (c.are_sound.ensures.0 c.if-are_sound.true) in
-    let most = ap (λ (m : Held). m.limits.semmns) c.self.view_is in (
-      λ yes. record { keyed = keyed; count = omega (arith, most, c.have_at_most.ensures.0 yes) },
-      λ sound. c.have_at_most.ensures.1 (omega (arith, most, sound.count)),
-    )
+    let s = c.args.self.now in
+    let keyed = (told ((goal.at.returns-then-are_sound c).After-are_sound)).0 c.if-are_sound.true in
+    let count = subst (λ (m : Held). Decides c.count_at_most.result (semaphore_count m.state.semset ≤ m.limits.semmns)) c.self.view_is
+    c.count_at_most.ensures in
+    (λ yes. never-open-sound s.limits kinds.Semset s.state.processes.entries s.state.semset refl keyed (count.0 yes), λ h. count.1 h.together)
+
+pub returns-else-are_sound : goal.returns-else-are_sound
+returns-else-are_sound c = (λ yes. let no = c.if-are_sound.false in cc, λ h. (told ((goal.at.returns-else-are_sound c).After-are_sound)).1 h.held.bound)

@@ -1,6 +1,7 @@
 use Rattle.std.proofs.Common.{ap, ◌∙◌}
 use Rattle.std.specs.Prelude.{map}
 use Rattle.ipc_keys.specs.declared.check.NameKind.TheVariants as names
+use Rattle.ipc_state.specs.declared.parked.ObjectKind.TheVariants as kinds
 use Rattle.ipc_state.specs.Held.{Held}
 use Rattle.ipc_state.specs.Held.Ready.{Nothing}
 use Rattle.ipc_state.specs.Opening.{still_open}
@@ -18,9 +19,9 @@ returns c =
       pshm = (c.sweep-3.ensures i).objects;
     } in s)
     ∙ (λ i. let s : State = record (state_in t) {
-      mq = still_open names.Mq (map item_row (c.items.ensures i)) t.mq.objects;
-      psem = still_open names.Psem (map item_row (c.items-2.ensures i)) t.psem.objects;
-      pshm = still_open names.Pshm (map item_row (c.items-3.ensures i)) t.pshm.objects;
+      mq = still_open (kinds.Named names.Mq) (map item_row (c.items.ensures i)) t.mq.objects;
+      psem = still_open (kinds.Named names.Psem) (map item_row (c.items-2.ensures i)) t.psem.objects;
+      pshm = still_open (kinds.Named names.Pshm) (map item_row (c.items-3.ensures i)) t.pshm.objects;
     } in s)
     ∙ ap (λ (m : Held). swept m.state) c.self.view_is in
     let limits = ap (λ (m : Held). m.limits) c.self.view_is in

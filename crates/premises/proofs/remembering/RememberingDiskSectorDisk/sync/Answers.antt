@@ -4,7 +4,8 @@ use Rattle.std.proofs.lemmas.List.{length-map, with_items_is}
 use Rattle.ipc_disk.specs.Relations.Slots.{flushed}
 use Rattle.premises.specs.declared.remembering.Slot.{Slot}
 use Rattle.premises.specs.Remembered.{slot_of, slots_of}
-use Rattle.premises.proofs.Sectors.{durable-flushed, whole-flushed, length-flushed, past_of-kept, were-kept, Stays-flushed}
+use Rattle.ipc_disk.proofs.CallerLemmas.{durable-flushed, whole-flushed}
+use Rattle.premises.proofs.Sectors.{length-flushed, past_of-kept, were-kept, Stays-flushed}
 use Rattle.premises.proofs.remembering.RememberingDiskSectorDisk.sync.Goals as goal
 
 pub invariant_of-self-2 : goal.invariant_of-self-2

@@ -8,7 +8,8 @@ use Rattle.sem_undo.proofs.undo.SemUndo.restore.Goals.{After-put_row}
 use Rattle.sem_undo.proofs.undo.SemUndo.restore.Goals as goal
 
 added : (c : After-put_row) → entries_of c.put_row.new.rows.items ≡ put key_cmp (key_of c.args.row) c.args.row.adjustment (entries_of c.self.inside.rows.items)
-added c = c.put_row.ensures.rows ∙ ap (λ (rows : List UndoRow). put key_cmp (key_of c.args.row) c.args.row.adjustment (entries_of rows)) (c.in_ok-reserve.ensures).items
+added c = c.put_row.ensures.rows
+    ∙ ap (λ (rows : List UndoRow). put key_cmp (key_of c.args.row) c.args.row.adjustment (entries_of rows)) (c.in_ok-reserve.ensures).items
 
 pub invariant_of-self-2 : goal.invariant_of-self-2
 invariant_of-self-2 c =

@@ -7,8 +7,10 @@ use Rattle.sem_undo.proofs.Tables.{where-rows, put-rows, removed-undo, put-undo,
 use Rattle.sem_undo.proofs.undo.SemUndo.subtract.Goals as goal
 
 pub invariant_of-self : goal.invariant_of-self
-invariant_of-self c =
-    (subst AreRows (sym c.remove_row.ensures.rows) (where-rows _ _ c.self.invariant.0), subst (λ n. most_rows ≤ n) (sym c.remove_row.ensures.capacity) c.self.invariant.1)
+invariant_of-self c = (
+  subst AreRows (sym c.remove_row.ensures.rows) (where-rows _ _ c.self.invariant.0),
+  subst (λ n. most_rows ≤ n) (sym c.remove_row.ensures.capacity) c.self.invariant.1,
+)
 
 pub returns-then-adjustment-eq0 : goal.returns-then-adjustment-eq0
 returns-then-adjustment-eq0 c =
