@@ -66,3 +66,6 @@ by_any W TooLong w = w
 by_any W (BadLine number) w = w
 by_any W (InUse number) w = w
 by_any W (Unknown number) w = w
+
+pub by_each : (W V P Q : Type 0) (e : ScriptFault) → (W → Q) → (V → Q) → (P → Q) → ByFault e W V P → Q
+by_each W V P Q e f d g x = by_any Q e (by_fault W Q V Q P Q e f d g x)

@@ -1,7 +1,7 @@
 -- The history of a device over lives of it.
 use Rattle.std.proofs.Common.{◌≡◌, ◌++◌, ℕ, true, false, List, [], ◌∷◌, length, inl, inr, refl, sym, ap, subst, ◌∙◌, arith, append_assoc, append-nil}
 use Rattle.ipc_base.specs.declared.limits.Limits.{Limits}
-use Rattle.ipc_disk.specs.Medium.{Image, Medium}
+use Rattle.ipc_disk.specs.Medium.{Medium}
 use Rattle.ipc_disk.specs.Since.{EachImageSince}
 use Rattle.ipc_engine.specs.Event.{PlainEvent, Restart}
 use Rattle.ipc_store.specs.Histories.{History, Past, accepted, acknowledged, full_past_of, grown, past_of, reopened, state_after}
@@ -14,7 +14,6 @@ use Rattle.ipc_hub.specs.Clients.{Clients}
 use Rattle.ipc_script.specs.ByLines.{HasRunLines, KeepsLines}
 use Rattle.ipc_script.specs.ByLines.HasRunLines.{None as none_run, Line, Again}
 use Rattle.ipc_script.specs.Script.{IsYoung, Run}
-use Rattle.ipc_script.proofs.Stopping.{lives-none, lives-more, lives-stop}
 use Rattle.ipc_script.specs.Stops.{ContinuesFrom, IsReopened, LivesOn}
 use Rattle.ipc_script.specs.Stops.LivesOn.{One, Stop}
 use Rattle.ipc_script.specs.Relations.Lasts.{Lasts}
@@ -122,39 +121,56 @@ module _ {D : Type 0} (medium : D → Medium) where
 
     -- ---- line by line
 
-    module _ (law : (d : D) (image : Image) → (medium d).images_since (medium d).moment image → (medium d).images_now image) (limits : Limits)
-        (h : Clients) (old : StoreView D) where
-      -- lines are lives
-      lives-of : (number : ℕ) (lines : List (List ℕ)) (last : StoreView D) (r : Run) (text : List ℕ)
-          → HasRunLines medium limits old h number lines last r text → LivesOn medium old last
-      lives-of _ _ _ _ _ none_run = lives-none medium old law
-      lives-of _ _ next _ _ (Line number lines line last _ r text cut p before is took committed goes) =
-          lives-more medium old last next (lives-of number lines last r text before) took
-      lives-of _ _ opened _ text (Again number lines line last closed _ r _ before is took again) =
-          lives-stop medium old law last closed opened (lives-of number lines last r text before) took again
-
+    module _ (limits : Limits) (h : Clients) (old : StoreView D) where
       -- nothing waits after any of them
       committed-of : (number : ℕ) (lines : List (List ℕ)) (last : StoreView D) (r : Run) (text : List ℕ)
           → HasRunLines medium limits old h number lines last r text → old.waiting ≡ 0 → last.waiting ≡ 0
       committed-of _ _ _ _ _ none_run empty = empty
-      committed-of _ _ next _ _ (Line number lines line last _ r text cut p before is took committed goes) empty =
+      committed-of _ _ next _ _ (Line number lines line last _ r text cut p before goes is took committed on) empty =
           committed (committed-of number lines last r text before empty)
-      committed-of _ _ opened _ text (Again number lines line last closed _ r _ before is took again) empty = again.opens.found.2.waits.count
+      committed-of _ _ opened _ text (Again number lines line last closed _ r _ before is took state again) empty = again.opens.found.2.waits.count
 
       -- a young store goes on
       on-of : (number : ℕ) (lines : List (List ℕ)) (last : StoreView D) (r : Run) (text : List ℕ)
           → HasRunLines medium limits old h number lines last r text → IsYoung old → last.stopped ≡ false
       on-of _ _ _ _ _ none_run young = young.running
-      on-of _ _ next _ _ (Line number lines line last _ r text cut p before is took committed goes) young = goes young
-      on-of _ _ opened _ text (Again number lines line last closed _ r _ before is took again) young = again.opens.found.2.running
+      on-of _ _ next _ _ (Line number lines line last _ r text cut p before goes is took committed on) young = on young
+      on-of _ _ opened _ text (Again number lines line last closed _ r _ before is took state again) young = again.opens.found.2.running
+
+      -- the history of the device, of which the events of the run are the last if those of the hub were
+      module _ (before : History) (keeps : Keeps (medium old.disk) old before) where
+        abbrev EndsIn : List PlainEvent → Run → Type 0
+        EndsIn all r = (found : List PlainEvent) → accepted before ≡ found ++ h.events → (others : List PlainEvent) × (all ≡ others ++ r.hub.events)
+
+        lines-on : (number : ℕ) (lines : List (List ℕ)) (last : StoreView D) (r : Run) (text : List ℕ)
+            → HasRunLines medium limits old h number lines last r text
+            → (here : ContinuesFrom medium before last) × EndsIn (accepted here.after) r
+        unfolding begun goes-more goes-again
+        lines-on _ _ _ _ _ none_run = (begun old before keeps, λ found is. (found, is))
+        lines-on _ _ next _ _ (Line number lines line last _ r text cut p so_far goes is took committed on) =
+            let was = lines-on number lines last r text so_far in
+            let moves = took.takes was.0.after was.0.keeps in (
+              goes-more before last next was.0 (took.events, took.takes),
+              λ found all.
+                  let named = was.1 found all in (
+                    named.0,
+                    moves.follows.accepts ∙ ap (λ (es : List PlainEvent). es ++ took.events) named.1
+                        ∙ append_assoc named.0 r.hub.events took.events ∙ ap (λ (es : List PlainEvent). named.0 ++ es) (sym took.adds),
+                  ),
+            )
+        lines-on _ _ opened _ text (Again number lines line last closed _ r _ so_far is took state again) =
+            let was = lines-on number lines last r text so_far in
+            let ended = goes-more before last closed was.0 ([], took) in
+            (goes-again before closed opened ended again, λ found all. (accepted ended.after, append-nil (accepted ended.after ++ Restart ∷ [])))
 
       pub keeps-lines : (last next : StoreView D) (before : History) (number : ℕ) (lines : List (List ℕ)) (r : Run) (text : List ℕ)
           (events : List PlainEvent) → Keeps (medium old.disk) old before → old.waiting ≡ 0
           → HasRunLines medium limits old h number lines last r text → IsYoung old → Takes medium last events next
-          → KeepsLines medium before last events next
+          → KeepsLines medium before h last r events next
       keeps-lines last next before number lines r text events keeps empty runs young takes =
           let running = on-of number lines last r text runs young in
-          let here = goes-on before old last keeps (lives-of number lines last r text runs) in
+          let lines_on = lines-on before keeps number lines last r text runs in
+          let here = lines_on.0 in
           let was : History = here.after in
           let none : was.waiting ≡ [] = none-waits last was here.keeps running (committed-of number lines last r text runs empty) in
           let all : past_of last.machine.limits was ≡ grown (full_past_of last.machine.limits before) here.more =
@@ -165,4 +181,5 @@ module _ {D : Type 0} (medium : D → Medium) where
             crash = subst (λ (p : Past). EachImageSince (medium last.disk) (medium next.disk) (StandsForPrefix p events)) all
                 (subst (λ (es : List PlainEvent). EachImageSince (medium last.disk) (medium next.disk)
                 (StandsForPrefix (past_of last.machine.limits was) (es ++ events))) none (takes was here.keeps).crash);
+            named = λ found is. let named = lines_on.1 found is in (named.0, sym here.accepts ∙ named.1);
           }

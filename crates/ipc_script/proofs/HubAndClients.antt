@@ -78,11 +78,13 @@ is_unknown medium counts hub next conn P serve.Unknown number makes r = makes r.
 is_unknown medium counts hub next conn P serve.Device number makes r = tt
 is_unknown medium counts hub next conn P serve.Stopped number makes r = tt
 
--- so it has that fault
-pub is_its_fault : (W P : Type 0) (e : ServeError) (number : ℕ) → P → ByFault (of_serve_error e number) W P ((of_serve_error e number ≡ Unknown number) × P)
-is_its_fault W P serve.Unknown number p = (refl, p)
-is_its_fault W P serve.Device number p = p
-is_its_fault W P serve.Stopped number p = p
+-- so it has that fault, and the hub is as it was
+pub is_its_fault : {D : Type 0} (medium : D → Medium) (counts : D → Counts) (hub next : StoredHub D) (conn : ℕ) (W V P : Type 0) (e : ServeError)
+    (number : ℕ) → V → P → Refuses medium counts hub next conn e
+    → ByFault (of_serve_error e number) W V ((of_serve_error e number ≡ Unknown number) × P × (next ≡ hub))
+is_its_fault medium counts hub next conn W V P serve.Unknown number v p r = (refl, p, r.2)
+is_its_fault medium counts hub next conn W V P serve.Device number v p r = v
+is_its_fault medium counts hub next conn W V P serve.Stopped number v p r = v
 
 -- ---- tables
 

@@ -1,22 +1,26 @@
 -- What each form of a line does.
-use Rattle.std.proofs.Common.{◌≡◌, ℕ, true, false, List, [], ◌++◌, length, take, drop, Option, refl, sym, ap, ◌∙◌, subst}
-use Rattle.std.specs.Prelude.{Ok, Err, Result, ⊤, OnOk, IfErr}
+use Rattle.std.proofs.Common.{◌≡◌, ℕ, true, false, List, [], ◌++◌, length, take, drop, Option, refl, sym, ap, ◌∙◌, subst, inl, inr}
+use Rattle.std.specs.Prelude.{◌≢◌, Ok, Err, Result, ⊤, OnOk, IfErr}
 use Rattle.std.specs.Io.KnownBytes.{Appends}
 use Rattle.std.proofs.KnownBytes.{Appends-nil}
 use Rattle.std.proofs.Math.Seq.{take-append_seam}
 use Rattle.ipc_base.specs.declared.limits.Limits.{Limits}
+use Rattle.ipc_disk.specs.Medium.{Medium}
+use Rattle.ipc_store.specs.Histories.{Takes}
 use Rattle.ipc_hub.specs.View.{StoredHub}
 use Rattle.ipc_hub.specs.Clients.{hangup}
 use Rattle.ipc_hub.specs.Relations.Matches.{StoredMatches}
 use Rattle.ipc_script.specs.declared.fault.ScriptFault.{ScriptFault}
 use Rattle.ipc_script.specs.declared.fault.ScriptFault.TheVariants.{InUse, Unknown}
 use Rattle.ipc_script.specs.declared.report.Opened.{Opened}
-use Rattle.ipc_script.specs.Line.{PlainLine, Open, End}
-use Rattle.ipc_script.specs.Script.{Run, Progress, Cut, is_open, opened, report, line_done, first_cut, WritesPart, WritesMore}
+use Rattle.ipc_script.specs.Line.{PlainLine, Open, End, Stop}
+use Rattle.ipc_script.specs.Script.{Run, Progress, Cut, is_open, opened, report, line_done, first_part, WritesPart, WritesMore}
 use Rattle.ipc_script.specs.Relations.Faults.{ByFault, IfRefused}
+use Rattle.ipc_script.specs.Relations.Lasts.{LastsAs, FailsWithin}
 use Rattle.ipc_script.specs.Relations.Matches.{RunMatches, ProgressMatches}
 use Rattle.ipc_script.specs.Relations.Simulation.{LineStops, SimulatesLine, text_of}
 use Rattle.ipc_script.proofs.FaultCases.{by_fault_both, by_fault}
+use Rattle.ipc_script.proofs.Lasting.{takes-more}
 use Rattle.ipc_script.proofs.WrittenText.{part_none, grown_none}
 
 -- a list that is written back into its vector
@@ -34,33 +38,59 @@ pub line_unwritten : (limits : Limits) (number : ℕ) (r : Run) (line : PlainLin
     × WritesPart w w (text_of (line_done limits number r line cut))
 line_unwritten limits number r line w = ([], part_none w (text_of (line_done limits number r line [])))
 
-module _ {D : Type 0} (limits : Limits) (number : ℕ) (r : Run) (mid next : StoredHub D) (w0 w1 : Option (List ℕ)) where
-  -- what is done is reported
+module _ {D : Type 0} (medium : D → Medium) (limits : Limits) (number : ℕ) (r : Run) (old mid next : StoredHub D) (w0 w1 : Option (List ℕ)) where
+  -- what is done is reported; nothing is accepted then
   pub line_reported : (line : PlainLine) (between changed final : List Opened) (result : Result ⊤ ScriptFault)
       → OnOk result ((limits : Limits) (r : Run) → RunMatches limits mid between r → ProgressMatches limits next changed w0 w1 (report r))
       → IfErr result (λ e. ByFault e ((limits : Limits) (r : Run) → RunMatches limits mid between r → WritesPart w0 w1 (report r).text)
       (Appends w0 w1 []) ⊥)
       → final ≡ changed → (now : Run) → RunMatches limits mid between now → ((cut : Cut) → line_done limits number r line cut ≡ Ok (report now))
-      → SimulatesLine limits (line_done limits number r line) next final w0 w1 result
-  line_reported line between changed final (Ok u) ok err same now i done =
-      let matches = subst (λ (os : List Opened). ProgressMatches limits next os w0 w1 (report now)) (sym same) (ok limits now i) in
-      (first_cut [], report now, done (first_cut []), matches)
-  line_reported line between changed final (Err e) ok err same now i done =
-      by_fault ((limits : Limits) (r : Run) → RunMatches limits mid between r → WritesPart w0 w1 (report r).text)
-      ((cut : Cut) × WritesPart w0 w1 (text_of (line_done limits number r line cut))) (Appends w0 w1 []) (WritesMore w0 w1 []) ⊥
-      (((cut : Cut) → line_done limits number r line cut ≡ Err e) × Appends w0 w1 []) e
-      (λ part. ([], subst (λ (p : Result Progress ScriptFault). WritesPart w0 w1 (text_of p)) (sym (done [])) (part limits now i)))
-      (λ none. ([], none)) (λ never. absurd never) err
+      → LastsAs medium r.hub now.hub old.store mid.store → Takes medium mid.store [] next.store → line ≢ Stop → first_part 0 line ≡ line
+      → SimulatesLine medium limits number r line old next final w0 w1 result
+  line_reported line between changed final result ok err same now i done took settled goes whole = by_result result ok err
+    where
+      lasts : LastsAs medium r.hub (report now).run.hub old.store next.store
+      lasts = record { events = took.events; adds = took.adds; takes = takes-more medium old.store mid.store next.store took.events took.takes settled }
 
--- a line that is refused
-pub line_refused : (limits : Limits) (number : ℕ) (r : Run) (w : Option (List ℕ)) (line : PlainLine) (e fault : ScriptFault) (U : Type 0)
-    → IfRefused e (e ≡ fault) → IfRefused e U → (U → (cut : Cut) → line_done limits number r line cut ≡ Err fault)
-    → LineStops (line_done limits number r line) w w e
-line_refused limits number r w line e fault U a u refused =
-    by_fault_both ⊤ ((cut : Cut) × WritesPart w w (text_of (line_done limits number r line cut))) ⊤ (WritesMore w w [])
-    (e ≡ fault) U (((cut : Cut) → line_done limits number r line cut ≡ Err e) × Appends w w []) e
-    (λ _. line_unwritten limits number r line w) (λ _. grown_none w)
-    (λ is v. (λ cut. refused v cut ∙ ap (λ (f : ScriptFault). Err f) (sym is), Appends-nil w)) a u
+      all : FailsWithin medium limits number r line old.store next.store
+      all = inr (record {
+        goes = goes;
+        count = 0;
+        cut = [];
+        part = report now;
+        done = ap (λ (l : PlainLine). line_done limits number r l []) whole ∙ done [];
+        lasts = lasts;
+      })
+
+      by_result : (result : Result ⊤ ScriptFault)
+          → OnOk result ((limits : Limits) (r : Run) → RunMatches limits mid between r → ProgressMatches limits next changed w0 w1 (report r))
+          → IfErr result (λ e. ByFault e ((limits : Limits) (r : Run) → RunMatches limits mid between r → WritesPart w0 w1 (report r).text)
+          (Appends w0 w1 []) ⊥)
+          → SimulatesLine medium limits number r line old next final w0 w1 result
+      by_result (Ok u) ok err =
+          let matches = subst (λ (os : List Opened). ProgressMatches limits next os w0 w1 (report now)) (sym same) (ok limits now i) in
+          ([], report now, done [], matches, lasts, goes)
+      by_result (Err e) ok err =
+          by_fault ((limits : Limits) (r : Run) → RunMatches limits mid between r → WritesPart w0 w1 (report r).text)
+          (FailsWithin medium limits number r line old.store next.store
+          × ((cut : Cut) × WritesPart w0 w1 (text_of (line_done limits number r line cut)))) (Appends w0 w1 [])
+          (FailsWithin medium limits number r line old.store next.store × WritesMore w0 w1 []) ⊥
+          (((cut : Cut) → line_done limits number r line cut ≡ Err e) × Appends w0 w1 [] × (next ≡ old)) e
+          (λ part. (all, ([], subst (λ (p : Result Progress ScriptFault). WritesPart w0 w1 (text_of p)) (sym (done [])) (part limits now i))))
+          (λ none. (all, ([], none))) (λ never. absurd never) err
+
+-- a line that is refused, or of which nothing was done
+pub line_refused : {D : Type 0} (medium : D → Medium) (limits : Limits) (number : ℕ) (r : Run) (old new : StoredHub D) (w : Option (List ℕ))
+    (line : PlainLine) (e fault : ScriptFault) (U : Type 0) → Takes medium old.store [] new.store
+    → IfRefused e ((e ≡ fault) × (new ≡ old)) → IfRefused e U → (U → (cut : Cut) → line_done limits number r line cut ≡ Err fault)
+    → LineStops medium limits number r line old new w w e
+line_refused medium limits number r old new w line e fault U none a u refused =
+    by_fault_both ⊤ (FailsWithin medium limits number r line old.store new.store
+    × ((cut : Cut) × WritesPart w w (text_of (line_done limits number r line cut))))
+    ⊤ (FailsWithin medium limits number r line old.store new.store × WritesMore w w [])
+    ((e ≡ fault) × (new ≡ old)) U (((cut : Cut) → line_done limits number r line cut ≡ Err e) × Appends w w [] × (new ≡ old)) e
+    (λ _. (inl none, line_unwritten limits number r line w)) (λ _. (inl none, grown_none w))
+    (λ is v. (λ cut. refused v cut ∙ ap (λ (f : ScriptFault). Err f) (sym is.0), Appends-nil w, is.1)) a u
 
 -- the forms, where they are done and where they are refused
 pub open_done : (limits : Limits) (number : ℕ) (r : Run) (conn : ℕ) → is_open r conn ≡ false → (cut : Cut)

@@ -6,7 +6,6 @@ use Rattle.ipc_disk.specs.Medium.{Medium}
 use Rattle.ipc_store.specs.declared.fault.CommitError.{CommitError}
 use Rattle.ipc_store.specs.declared.fault.CommitError.TheVariants as commit
 use Rattle.ipc_store.specs.View.{StoreView, Spends}
-use Rattle.ipc_hub.specs.declared.fault.ServeError.TheVariants as serve
 use Rattle.ipc_hub.specs.Relations.Faults.{Halts}
 use Rattle.ipc_hub.specs.View.{StoredHub, HasStopped, most_events}
 use Rattle.ipc_script.specs.declared.fault.ScriptFault.{ScriptFault}

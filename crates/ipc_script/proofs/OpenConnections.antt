@@ -17,11 +17,13 @@ use Rattle.ipc_hub.specs.Clients.{Client, Clients, client_at, start_client, conn
 use Rattle.ipc_hub.specs.Relations.Matches.{HubMatches, Simulates, Serves}
 use Rattle.ipc_script.specs.declared.report.Opened.{Opened}
 use Rattle.ipc_script.specs.Script.{Run, is_open, opened}
+use Rattle.ipc_script.specs.Relations.Lasts.{LastsAs}
 use Rattle.ipc_script.specs.Relations.Matches.{RunMatches, RunMatchesBetween, opened_of}
 use Rattle.ipc_base.proofs.CallerLemmas.{test_cases as test, flipped, same_key as same_number}
 use Rattle.ipc_script.proofs.RisingNumbers.{gone}
 use Rattle.ipc_script.proofs.HubAndClients.{connected}
 use Rattle.ipc_script.proofs.FedPieces.{open_here}
+use Rattle.ipc_script.proofs.Lasting.{lasts-as-come}
 use Rattle.ipc_script.proofs.UnchangedHeads.{heads, heads_leave, heads_tick, same_keys, same_untouched}
 
 -- ---- one comes
@@ -156,6 +158,7 @@ pub close_in : {D : Type 0} (medium : D → Medium) (limits : Limits) (hub next 
     → (is_connected hub.hub conn ≡ false → ⊥)
     → Serves medium hub next (λ limits h. hangup limits h conn moment) → map by_number items ≡ without nat_eq (map by_number os) conn
     → (is_open r conn ≡ true) × RunMatches limits next items (record r { hub = hangup limits r.hub conn moment })
+    × LastsAs medium r.hub (hangup limits r.hub conn moment) hub.store next.store
 close_in medium limits hub next os items r conn moment b known takes left =
     let i : RunMatches limits hub os r = b.run in
     let t : List (ℕ × Client) = r.hub.clients in
@@ -178,4 +181,5 @@ close_in medium limits hub next os items r conn moment b known takes left =
         ]);
         rising = subst (λ (ks : List ℕ). IsRising 0 ks (2 ^ 32)) (sym keys) (rising-without 0 t (2 ^ 32) conn i.rising);
       },
+      lasts-as-come medium limits r.hub now hub next (takes limits r.hub i.matches),
     )

@@ -2,14 +2,14 @@
 use Rattle.std.proofs.Common.{◌≡◌, ℕ, ◌+◌, ◌<◌, ◌≤◌, Bool, true, false, drop, List, [], ◌∷◌, ◌++◌, length, Option, Some, None, refl, sym, ap, ◌∙◌}
 use Rattle.std.proofs.Common.{inl, inr, subst, append_assoc, append-nil, arith, map, take}
 use Rattle.std.proofs.Math.Seq.{take-append_seam}
-use Rattle.std.specs.Prelude.{◌≢◌, ◌⊎◌, Ok, Err, Result, ⊤, IfSome, All, if◌then◌else◌}
+use Rattle.std.specs.Prelude.{◌≢◌, ◌⊎◌, Ok, Err, Result, ⊤, IfSome, OnOk, All, if◌then◌else◌}
 use Rattle.std.specs.Io.KnownBytes.{Appends}
 use Rattle.std.proofs.KnownBytes.{Appends-nil, Appends-trans}
 use Rattle.std.proofs.lemmas.List.{length-append}
 use Rattle.std.proofs.lemmas.List.Elements.{All-head, All-tail}
 use Rattle.ipc_base.specs.declared.limits.Limits.{Limits}
 use Rattle.ipc_base.specs.Table.{keys_of}
-use Rattle.ipc_disk.specs.Medium.{Medium, IsHonest}
+use Rattle.ipc_disk.specs.Medium.{Image, Medium, IsHonest}
 use Rattle.ipc_state.specs.State.{restart}
 use Rattle.ipc_engine.specs.Event.{Restart}
 use Rattle.ipc_hub.specs.View.{StoredHub}
@@ -23,15 +23,17 @@ use Rattle.ipc_script.specs.Line.{longest_script, PlainLine, Open, Data, End, Ti
 use Rattle.ipc_script.specs.Script.{Run, Cut, Progress, Outcome, start_run, text_done, first_cut, then_next, run_lines, is_open, opened, report}
 use Rattle.ipc_script.specs.Script.{after_line, run_after, script_after}
 use Rattle.ipc_script.specs.Script.{MayStop, HasNoStop, stopped, fed_in_pieces, script_run, lines_run, WritesPart, WritesMore, EndsAs, BreaksOff, Halts, Runs}
+use Rattle.ipc_store.specs.Histories.{Takes}
 use Rattle.ipc_store.specs.View.{StoreView}
-use Rattle.ipc_script.specs.ByLines.{EndsAfter, HasRunLines}
+use Rattle.ipc_script.specs.ByLines.{ByEnd, EndsAfter, HasRunLines, TakesNext}
 use Rattle.ipc_script.specs.ByLines.HasRunLines.{None as none_run, Again as line_again}
 use Rattle.ipc_script.specs.Stops.{IsReopened}
-use Rattle.ipc_script.specs.Relations.Lasts.{Lasts}
+use Rattle.ipc_script.specs.Relations.Lasts.{Lasts, FailsWithin}
 use Rattle.ipc_script.specs.Relations.Input.{IsReadFault, ReadsTooMuch}
 use Rattle.ipc_script.specs.Relations.Matches.{RunMatchesBetween, opened_of}
 use Rattle.ipc_script.specs.Relations.Simulation.{LineStops, SimulatesScript, text_of}
-use Rattle.ipc_script.proofs.FaultCases.{by_fault, by_any}
+use Rattle.ipc_script.proofs.Lasting.{lasts-fails, takes-same}
+use Rattle.ipc_script.proofs.FaultCases.{by_each}
 use Rattle.ipc_script.proofs.WrittenText.{part_none, part_after, part_more, grown_by, grown_part}
 
 -- after a text, what comes
@@ -130,18 +132,38 @@ module _ {D : Type 0} (limits : Limits) (h : Clients) (script : List ℕ) (mediu
 
     -- the server was dropped, and its device opened again
     pub run_stopped : (line behind : List ℕ) → lines_of rest ≡ line ∷ lines_of behind → line_of line ≡ Some Stop → (next : StoredHub D)
-        → StoredMatches limits next (no_clients (restart p.now.hub.state) (Restart ∷ [])) → (closed : StoreView D) → Lasts medium hub.store closed
-        → IsReopened medium closed next.store → PartlyRun limits h script medium old (number + 1) next [] behind w0 w1
-    run_stopped line behind lines is next matches closed took again =
+        → StoredMatches limits next (no_clients (restart p.now.hub.state) (Restart ∷ [])) → (closed : StoreView D) → Takes medium hub.store [] closed
+        → closed.machine.state ≡ p.now.hub.state → IsReopened medium closed next.store
+        → PartlyRun limits h script medium old (number + 1) next [] behind w0 w1
+    run_stopped line behind lines is next matches closed took state again =
         run_more line behind lines [] (record { text = []; run = stopped p.now }) (ap (λ (o : Option PlainLine). text_done limits number p.now o []) is)
         next [] w1 (starts limits (no_clients (restart p.now.hub.state) (Restart ∷ [])) next matches refl) (Appends-nil w1)
         (subst (HasRunLines medium limits old h (number + 1) (p.first ++ line ∷ []) next.store (stopped p.now)) (sym (append-nil p.text))
-        (line_again number p.first line hub.store closed next.store p.now p.text p.lived is took again))
+        (line_again number p.first line hub.store closed next.store p.now p.text p.lived is took state again))
+
+    -- all lines were run, or the next one is refused: the store is as it was
+    abbrev pub AsLeft : Option (List ℕ) → StoreView D → Type 0
+    AsLeft w2 closed = (closed ≡ hub.store) × (closed.machine.state ≡ p.now.hub.state) × Appends w0 w2 p.text
+
+    pub as_left : (w2 : Option (List ℕ)) (closed : StoreView D) → Appends w1 w2 [] → closed ≡ hub.store → closed.machine.state ≡ hub.hub.state
+        → AsLeft w2 closed
+    as_left w2 closed none same state =
+        (same, state ∙ p.at.run.matches.hub.state, subst (Appends w0 w2) (append-nil p.text) (Appends-trans w0 w1 w2 p.text [] p.written none))
+
+    -- the next one has failed
+    abbrev pub Failed : StoreView D → Type 0
+    Failed closed = Takes medium hub.store [] closed ⊎ TakesNext medium limits number p.now (lines_of rest) hub.store closed
+
+    pub failed : (line behind : List ℕ) → lines_of rest ≡ line ∷ lines_of behind → (form : PlainLine) → line_of line ≡ Some form → (closed : StoreView D)
+        → FailsWithin medium limits number p.now form hub.store closed → Failed closed
+    failed line behind lines form is closed (inl none) = inl none
+    failed line behind lines form is closed (inr part) =
+        inr (record { line = line; behind = lines_of behind; next = lines; form = form; is = is; part = part })
 
     -- what was run so far, and what the store took then
-    pub ends_after : (closed : StoreView D) (w2 : Option (List ℕ)) → Lasts medium hub.store closed → WritesMore w1 w2 []
-        → EndsAfter medium limits h script w0 w2 old closed
-    ends_after closed w2 took more = record {
+    pub ends_after : (closed : StoreView D) (w2 : Option (List ℕ)) (result : Result ⊤ ScriptFault) → WritesMore w1 w2 [] → OnOk result (lines_of rest ≡ [])
+        → ByEnd result (Failed closed) (AsLeft w2 closed) → EndsAfter medium limits h script w0 w2 old closed result
+    ends_after closed w2 result more whole ends = record {
       number = number;
       lines = p.first;
       rest = lines_of rest;
@@ -151,7 +173,8 @@ module _ {D : Type 0} (limits : Limits) (h : Clients) (script : List ℕ) (mediu
       text = p.text;
       runs = p.lived;
       written = (more.0, Appends-trans w0 w1 w2 p.text more.0 p.written more.1);
-      ends = took;
+      whole = whole;
+      ends = ends;
     }
 
     -- the disk failed in a line: what was written goes on
@@ -224,11 +247,18 @@ module _ {D : Type 0} (limits : Limits) (h : Clients) (script : List ℕ) (mediu
         (p.done, subst (Appends w0 w1) (sym (append-nil p.text) ∙ sym (ap (λ (o : Outcome). o.text) ends)) p.written, ap (λ (r : Run). r.hub) all)
 
 -- whatever a line that is not run wrote, nothing was taken back
-pub stops_grown : (done : Cut → Result Progress ScriptFault) (a b : Option (List ℕ)) (e : ScriptFault) → LineStops done a b e → WritesMore a b []
-stops_grown done a b e stops =
-    by_any (WritesMore a b []) e
-    (by_fault _ (WritesMore a b []) _ (WritesMore a b []) _ (WritesMore a b []) e (λ part. grown_part a b _ part.1) (λ more. more)
-    (λ refused. grown_by a b [] refused.1) stops)
+module _ {D : Type 0} (medium : D → Medium) (limits : Limits) (number : ℕ) (r : Run) (line : PlainLine) (old new : StoredHub D) (a b : Option (List ℕ))
+    (e : ScriptFault) (stops : LineStops medium limits number r line old new a b e) where
+  pub stops_grown : WritesMore a b []
+  stops_grown = by_each _ _ _ (WritesMore a b []) e (λ part. grown_part a b _ part.1.1) (λ failed. failed.1) (λ refused. grown_by a b [] refused.1) stops
+
+  -- and the store takes some events
+  pub stops_lasts : ((d : D) (image : Image) → (medium d).images_since (medium d).moment image → (medium d).images_now image)
+      → Lasts medium old.store new.store
+  stops_lasts law =
+      by_each _ _ _ (Lasts medium old.store new.store) e (λ part. lasts-fails medium limits number r line old.store new.store part.0)
+      (λ failed. lasts-fails medium limits number r line old.store new.store failed.0)
+      (λ refused. ([], takes-same medium law old.store new.store (ap (λ (h : StoredHub D). h.store) refused.2))) stops
 
 -- ---- lines that are `stop`
 
@@ -260,6 +290,10 @@ no-stop-here rest line behind is none =
 pub no-stop-behind : (rest line behind : List ℕ) → lines_of rest ≡ line ∷ lines_of behind → HasNoStop rest → HasNoStop behind
 no-stop-behind rest line behind is none =
     All-tail (λ (l : List ℕ). line_of l ≢ Some Stop) line (lines_of behind) (subst (All (λ (l : List ℕ). line_of l ≢ Some Stop)) is none)
+
+-- a line is not `stop`
+pub goes_on : (o : Option PlainLine) (form : PlainLine) → o ≡ Some form → form ≢ Stop → o ≢ Some Stop
+goes_on o form is goes stop = goes (let same : Some form ≡ Some Stop = sym is ∙ stop in cc)
 
 -- no text, no line
 pub no_lines : (text : List ℕ) → length text ≡ 0 → lines_of text ≡ []

@@ -25,19 +25,6 @@ unless (BadLine number) P Q makes p = makes p
 unless (InUse number) P Q makes p = makes p
 unless (Unknown number) P Q makes p = makes p
 
-pub unless-any : (e : ScriptFault) (P : Type 0) → P → UnlessDisk e P
-unless-any NoMemory P p = p
-unless-any Input P p = p
-unless-any Output P p = p
-unless-any Device P p = tt
-unless-any NotFormatted P p = tt
-unless-any (Version found) P p = tt
-unless-any (Damaged sector) P p = tt
-unless-any TooLong P p = p
-unless-any (BadLine number) P p = p
-unless-any (InUse number) P p = p
-unless-any (Unknown number) P p = p
-
 module _ {D : Type 0} (medium : D → Medium) (old : StoreView D) where
   -- the last life goes on
   pub lives-more : (mid new : StoreView D) → LivesOn medium old mid → Lasts medium mid new → LivesOn medium old new

@@ -1,39 +1,74 @@
 -- The run of a script line by line, as its store and its disk go through it: which lines were run, and what was written
 -- by then.
-use Rattle.std.specs.Prelude.{◌≡◌, ◌+◌, ℕ, false, Some, Ok, List, [], ◌∷◌, ◌++◌, Option}
+use Rattle.std.specs.Prelude.{◌≡◌, ◌≢◌, ◌⊎◌, ⊤, ◌+◌, ℕ, false, Some, List, [], ◌∷◌, ◌++◌, Option, Result, Ok, Err}
+use Rattle.std.specs.Prelude.{OnOk}
+use Rattle.std.specs.Io.KnownBytes.{Appends}
 use Rattle.ipc_base.specs.declared.limits.Limits.{Limits}
 use Rattle.ipc_disk.specs.Medium.{Medium}
 use Rattle.ipc_disk.specs.Since.{EachImageSince}
 use Rattle.ipc_engine.specs.Event.{PlainEvent}
-use Rattle.ipc_store.specs.Histories.{History, StandsForPrefix, full_past_of, grown}
+use Rattle.ipc_store.specs.Histories.{History, StandsForPrefix, Takes, accepted, full_past_of, grown}
 use Rattle.ipc_store.specs.View.{StoreView}
 use Rattle.ipc_hub.specs.Clients.{Clients}
-use Rattle.ipc_script.specs.Line.{Stop, line_of, lines_of}
+use Rattle.ipc_script.specs.declared.fault.ScriptFault.{ScriptFault}
+use Rattle.ipc_script.specs.declared.fault.ScriptFault.TheVariants.{NoMemory, Input, Output, Device}
+use Rattle.ipc_script.specs.declared.fault.ScriptFault.TheVariants.{NotFormatted, Version, Damaged}
+use Rattle.ipc_script.specs.declared.fault.ScriptFault.TheVariants.{TooLong, BadLine, InUse, Unknown}
+use Rattle.ipc_script.specs.Line.{PlainLine, Stop, line_of, lines_of}
 use Rattle.ipc_script.specs.Script.{Cut, IsYoung, Progress, Run, WritesMore, start_run, stopped, text_done}
 use Rattle.ipc_script.specs.Stops.{IsReopened}
-use Rattle.ipc_script.specs.Relations.Lasts.{Lasts, StaysCommitted}
+use Rattle.ipc_script.specs.Relations.Lasts.{LastsAs, StaysCommitted, TakesPart}
 
--- These lines were run, one after another; what comes next has this number. They have written this text. Each takes
--- events, and if nothing waited before it, nothing waits when it has ended: its events were made last then. If the
--- store was young before all of them, it goes on.
+-- These lines were run, one after another; what comes next has this number. They have written this text. The store
+-- takes the events of each, and if nothing waited before it, nothing waits when it has ended: its events were made last
+-- then. If the store was young before all of them, it goes on.
 pub data HasRunLines {D : Type 0} (medium : D → Medium) (limits : Limits) (old : StoreView D) (h : Clients)
     : ℕ → List (List ℕ) → StoreView D → Run → List ℕ → Type 0 where
   None : HasRunLines medium limits old h 1 [] old (start_run h) []
   Line : (number : ℕ) (lines : List (List ℕ)) (line : List ℕ) (last next : StoreView D) (r : Run) (text : List ℕ)
       (cut : Cut) (p : Progress) → HasRunLines medium limits old h number lines last r text
-      → text_done limits number r (line_of line) cut ≡ Ok p → Lasts medium last next → StaysCommitted last next
+      → line_of line ≢ Some Stop → text_done limits number r (line_of line) cut ≡ Ok p
+      → LastsAs medium r.hub p.run.hub last next → StaysCommitted last next
       → (IsYoung old → next.stopped ≡ false)
       → HasRunLines medium limits old h (number + 1) (lines ++ line ∷ []) next p.run (text ++ p.text)
-  -- a line `stop`, which writes nothing
+  -- a line `stop`, which writes nothing: the store that is closed is in the state of the run, and accepts no event
   Again : (number : ℕ) (lines : List (List ℕ)) (line : List ℕ) (last closed opened : StoreView D) (r : Run)
       (text : List ℕ) → HasRunLines medium limits old h number lines last r text → line_of line ≡ Some Stop
-      → Lasts medium last closed → IsReopened medium closed opened
+      → Takes medium last [] closed → closed.machine.state ≡ r.hub.state → IsReopened medium closed opened
       → HasRunLines medium limits old h (number + 1) (lines ++ line ∷ []) opened (stopped r) text
 
--- The first lines of a script were run, and their whole text was written. The store that is there at the end took some
--- events of the next line, if there was one, and maybe more was written.
+-- one thing if memory, a write or the disk failed; another if all lines were run, the next one is wrong, or the script
+-- was not read
+abbrev pub ByEnd : Result ⊤ ScriptFault → Type 0 → Type 0 → Type 0
+ByEnd (Ok _) F P = P
+ByEnd (Err NoMemory) F P = F
+ByEnd (Err Input) F P = P
+ByEnd (Err Output) F P = F
+ByEnd (Err Device) F P = F
+ByEnd (Err NotFormatted) F P = F
+ByEnd (Err (Version found)) F P = F
+ByEnd (Err (Damaged sector)) F P = F
+ByEnd (Err TooLong) F P = P
+ByEnd (Err (BadLine number)) F P = P
+ByEnd (Err (InUse number)) F P = P
+ByEnd (Err (Unknown number)) F P = P
+
+-- a first part of the next line was done, and the store takes the events of that
+pub record TakesNext {D : Type 0} (medium : D → Medium) (limits : Limits) (number : ℕ) (r : Run)
+    (rest : List (List ℕ)) (last closed : StoreView D) : Type 0 where
+  pub line : List ℕ
+  pub behind : List (List ℕ)
+  pub next : rest ≡ line ∷ behind
+  pub form : PlainLine
+  pub is : line_of line ≡ Some form
+  pub part : TakesPart medium limits number r form last closed
+
+-- The first lines of a script were run, and their whole text was written. If the answer is Ok these are all. If it is,
+-- or the next line is wrong, or the script was not read, nothing more was written, and the store that is there at the
+-- end is as these lines left it, in the state of the run. If memory, a write or the disk failed, it took the events of
+-- a first part of the next line, or none, and maybe more was written.
 pub record EndsAfter {D : Type 0} (medium : D → Medium) (limits : Limits) (h : Clients) (script : List ℕ)
-    (before after : Option (List ℕ)) (store closed : StoreView D) : Type 0 where
+    (before after : Option (List ℕ)) (store closed : StoreView D) (result : Result ⊤ ScriptFault) : Type 0 where
   pub number : ℕ
   pub lines : List (List ℕ)
   pub rest : List (List ℕ)
@@ -43,13 +78,18 @@ pub record EndsAfter {D : Type 0} (medium : D → Medium) (limits : Limits) (h :
   pub text : List ℕ
   pub runs : HasRunLines medium limits store h number lines last run text
   pub written : WritesMore before after text
-  pub ends : Lasts medium last closed
+  pub whole : OnOk result (rest ≡ [])
+  pub ends : ByEnd result (Takes medium last [] closed ⊎ TakesNext medium limits number run rest last closed)
+      ((closed ≡ last) × (closed.machine.state ≡ run.hub.state) × Appends before after text)
 
 -- After lines that were run the store takes these events, those of the next line. What was accepted before the script
 -- and in the lines is acknowledged. So what a crash leaves at any moment of the next line stands for the state after
--- all of that, and some of these events, from the first on.
-pub record KeepsLines {D : Type 0} (medium : D → Medium) (before : History) (last : StoreView D)
-    (events : List PlainEvent) (next : StoreView D) : Type 0 where
+-- all of that, and some of these events, from the first on. If the events of the hub before the script are the last of
+-- those that were accepted then, the events of the run's are the last of all.
+pub record KeepsLines {D : Type 0} (medium : D → Medium) (before : History) (h : Clients) (last : StoreView D)
+    (r : Run) (events : List PlainEvent) (next : StoreView D) : Type 0 where
   pub more : List PlainEvent
   pub crash : EachImageSince (medium last.disk) (medium next.disk)
       (StandsForPrefix (grown (full_past_of last.machine.limits before) more) events)
+  pub named : (found : List PlainEvent) → accepted before ≡ found ++ h.events
+      → (others : List PlainEvent) × (accepted before ++ more ≡ others ++ r.hub.events)

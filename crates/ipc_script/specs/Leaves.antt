@@ -9,7 +9,7 @@ use Rattle.ipc_script.specs.declared.fault.ScriptFault.{ScriptFault}
 use Rattle.ipc_script.specs.declared.fault.ScriptFault.TheVariants.{NoMemory, Input, Output, Device}
 use Rattle.ipc_script.specs.declared.fault.ScriptFault.TheVariants.{NotFormatted, Version, Damaged}
 use Rattle.ipc_script.specs.declared.fault.ScriptFault.TheVariants.{TooLong, BadLine, InUse, Unknown}
-use Rattle.ipc_script.specs.ByLines.{EndsAfter}
+use Rattle.ipc_script.specs.ByLines.{ByEnd, EndsAfter}
 use Rattle.ipc_script.specs.Script.{Cut, HasNoStop, IsYoung, script_run, script_after}
 use Rattle.ipc_script.specs.Stops.{IsHanded, LivesOn}
 use Rattle.ipc_script.specs.Relations.Lasts.{Lasts, StaysCommitted}
@@ -40,14 +40,15 @@ EndsSettled old new (Err e) = UnlessDisk e (StaysCommitted old new)
 -- line is `stop`, there is one life, and its disk is handed back. If nothing waited before, all events stand there,
 -- unless the disk failed. If all lines were run, they lead to the state to which the lines lead, for the same cut of
 -- each line as what was written, and a store that was young goes on. All this is so line by line (`by_lines`): the
--- lines whose whole text was written were run before, and their events were made last then.
+-- lines whose whole text was written were run before, and their events, which are those of the definitions, were made
+-- last then; after them nothing was accepted but a first part of the next line, and nothing at all if that was wrong.
 pub record Leaves {D : Type 0} (medium : D → Medium) (limits : Limits) (h : Clients) (script : List ℕ)
     (before after : Option (List ℕ)) (store : StoreView D) (disk : D) (result : Result ⊤ ScriptFault)
     : Type 0 where
   pub closed : StoreView D
   pub lives : LivesOn medium store closed
-  pub by_lines : EndsAfter medium limits h script before after store closed
-  pub handed : IsHanded medium closed disk
+  pub by_lines : EndsAfter medium limits h script before after store closed result
+  pub handed : ByEnd result (IsHanded medium closed disk) (disk ≡ closed.disk)
   pub one : HasNoStop script → Lasts medium store closed × (disk ≡ closed.disk)
   pub committed : EndsSettled store closed result
   pub state : OnOk result ((cuts : List Cut) × Appends before after (script_run limits h script cuts).text

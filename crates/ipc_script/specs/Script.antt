@@ -137,6 +137,11 @@ line_done limits number r (Tick moment) cut =
 line_done limits number r Save cut = Ok (report r)
 line_done limits number r Stop cut = Ok (record { text = []; run = stopped r })
 
+-- a first part of a line: of `data` so many of its bytes; another line is done as a whole
+abbrev pub first_part : ℕ → PlainLine → PlainLine
+first_part count (Data moment conn bytes) = Data moment conn (take count bytes)
+first_part count line = line
+
 -- a text that may be a line
 abbrev pub text_done : Limits → ℕ → Run → Option PlainLine → Cut → Result Progress ScriptFault
 text_done limits number r None cut = Err (BadLine number)

@@ -27,13 +27,14 @@ pub fn a_stop_takes_nothing_back<D: SectorDisk>()
 /// A machine that is stopped at any moment of a line leaves the lines before, whose text was written:
 /// the disk stands for the state after all that was accepted before the script and in those lines,
 /// and some of the events of the line, from the first on. So it is if nothing waited before the
-/// script, and if the store was young then.
+/// script, and if the store was young then. Of the events that were accepted in the lines, the last
+/// are those by which the definitions come to the run, since its last restart.
 pub fn lines_that_were_run_stay<D: SectorDisk>()
     ensures { (limits : Limits) (h : Clients) (old last next : StoreView D) (before : History) (number : ℕ)
         (lines : List (List ℕ)) (r : Run) (text : List ℕ) (events : List PlainEvent)
         → Keeps (D.medium old.disk) old before → old.waiting ≡ 0
         → HasRunLines D.medium limits old h number lines last r text → IsYoung old
-        → Takes D.medium last events next → KeepsLines D.medium before last events next }
+        → Takes D.medium last events next → KeepsLines D.medium before h last r events next }
 {
     an_open_finds_what_stands_there::<D>();
 }

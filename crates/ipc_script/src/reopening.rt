@@ -5,13 +5,13 @@ ghost use Rattle.ipc_base.specs.declared.limits.Limits.{Limits};
 ghost use Rattle.ipc_disk.specs.Medium.{IsHonest};
 ghost use Rattle.ipc_state.specs.State.{restart};
 ghost use Rattle.ipc_engine.specs.Event.{Restart};
+ghost use Rattle.ipc_store.specs.Histories.{Takes};
 ghost use Rattle.ipc_store.specs.View.{Spends, StoreView};
 ghost use Rattle.ipc_hub.specs.Clients.{Clients, no_clients};
 ghost use Rattle.ipc_hub.specs.Relations.Matches.{StoredMatches};
 ghost use Rattle.ipc_script.specs.Leaves.{UnlessDisk};
 ghost use Rattle.ipc_script.specs.Script.{DiskFailed};
 ghost use Rattle.ipc_script.specs.Stops.{IsHanded, IsReopened};
-ghost use Rattle.ipc_script.specs.Relations.Lasts.{Lasts};
 ghost use Rattle.ipc_script.specs.Relations.Faults.{ByFault};
 ghost use Rattle.ipc_script.specs.Relations.Numbers.{HasNumbers};
 
@@ -33,10 +33,12 @@ pub(crate) fn reopened<D: SectorDisk>(
     ensures honest { IfOk result (λ next.
         IsHonest (D.medium hub.store.disk) → IsHonest (D.medium next.store.disk)) }
     ensures stops { IfOk result (λ next. IsHonest (D.medium hub.store.disk) →
-        (closed : StoreView D) × Lasts D.medium hub.store closed × IsReopened D.medium closed next.store) }
+        (closed : StoreView D) × Takes D.medium hub.store [] closed
+        × ((limits : Limits) (h : Clients) → StoredMatches limits hub h → closed.machine.state ≡ h.state)
+        × IsReopened D.medium closed next.store) }
     ensures err { IfErr result (λ e. ByFault e.0 ⊤ ⊤ ⊥) }
     ensures left { IfErr result (λ e. IsHonest (D.medium hub.store.disk) →
-        (closed : StoreView D) × Lasts D.medium hub.store closed × IsHanded D.medium closed e.1
+        (closed : StoreView D) × Takes D.medium hub.store [] closed × IsHanded D.medium closed e.1
         × UnlessDisk e.0 (closed.waiting ≡ 0)) }
     ensures spends { IfOk result (λ next. IsHonest (D.medium hub.store.disk) →
         HasNumbers 3 hub.store → Spends D.counts 3 hub.store next.store) }

@@ -1,12 +1,13 @@
 //! A script: lines of what connections do and when, run on a hub.
 
 ghost use Rattle.std.specs.Prelude.{◌≡◌, ◌≢◌, ◌<◌, ◌≤◌, ◌+◌, ◌*◌, ℕ, true, false, List, [], length, position};
-ghost use Rattle.std.specs.Prelude.{⊤, nat_eq, nat_lt, IfOk, IfErr, IfSome, OnOk};
+ghost use Rattle.std.specs.Prelude.{⊤, nat_eq, nat_lt, IfOk, IfErr, IfSome, OnErr, OnOk};
 ghost use Rattle.std.specs.List.{prefix_len};
 ghost use Rattle.std.specs.Io.KnownBytes.{Appends};
 ghost use Rattle.ipc_base.specs.declared.limits.Limits.{Limits};
 ghost use Rattle.ipc_disk.specs.Medium.{IsHonest};
 ghost use Rattle.ipc_engine.specs.Event.{PlainEvent};
+ghost use Rattle.ipc_store.specs.Histories.{Takes};
 ghost use Rattle.ipc_store.specs.View.{Spends};
 ghost use Rattle.ipc_hub.specs.Clients.{Clients, no_clients, hangup};
 ghost use Rattle.ipc_hub.specs.Relations.Matches.{StoredMatches};
@@ -15,13 +16,13 @@ ghost use Rattle.ipc_script.specs.Line.{longest_script};
 ghost use Rattle.ipc_script.specs.Line.PlainLine.{Data, Stop};
 ghost use Rattle.ipc_script.specs.Script.{Run, Runs, MayStop, WritesMore, IsYoung};
 ghost use Rattle.ipc_script.specs.Script.{DiskFailed};
-ghost use Rattle.ipc_script.specs.Script.{is_open, line_done, opened as opened_run};
-ghost use Rattle.ipc_script.specs.Relations.Lasts.{Lasts, StaysCommitted, CommitsOrFails};
+ghost use Rattle.ipc_script.specs.Script.{is_open, opened as opened_run};
+ghost use Rattle.ipc_script.specs.Relations.Lasts.{LastsAs, StaysCommitted, CommitsOrFails};
 ghost use Rattle.ipc_script.specs.Relations.Lines.{plain_line};
 ghost use Rattle.ipc_script.specs.Relations.Faults.{ByFault, IfRefused, of_serve_error};
 ghost use Rattle.ipc_script.specs.Relations.Matches.{RunMatches, RunMatchesBetween};
 ghost use Rattle.ipc_script.specs.Relations.Numbers.{HasNumbers, Costs, line_cost};
-ghost use Rattle.ipc_script.specs.Relations.Pieces.{SimulatesPiece, PieceBreaksOff};
+ghost use Rattle.ipc_script.specs.Relations.Pieces.{SimulatesPiece, PieceBreaksOff, PieceFails};
 ghost use Rattle.ipc_script.specs.Relations.Simulation.{SimulatesLine, SimulatesScript};
 
 use crate::fault::ScriptFault;
@@ -125,10 +126,8 @@ fn run_line<D: SectorDisk, W: Write>(
     requires { plain_line line ≢ Stop }
     ensures line { (limits : Limits) (r : Run) →
         RunMatchesBetween limits hub.old opened.old.items r →
-        SimulatesLine limits (line_done limits number r (plain_line line.entry))
+        SimulatesLine D.medium limits number r (plain_line line.entry) hub.old
         hub.new opened.new.items (W.contents writer.old) (W.contents writer.new) result }
-    ensures lasts { (limits : Limits) (r : Run) → RunMatchesBetween limits hub.old opened.old.items r →
-        Lasts D.medium hub.old.store hub.new.store }
     ensures commits { CommitsOrFails hub.old.store hub.new.store result }
     ensures honest { OnOk result (IsHonest (D.medium hub.old.store.disk)
         → IsHonest (D.medium hub.new.store.disk)) }
@@ -156,10 +155,8 @@ fn serve_line<D: SectorDisk, W: Write>(
     requires { plain_line line ≢ Stop }
     ensures line { (limits : Limits) (r : Run) →
         RunMatchesBetween limits hub.old opened.old.items r →
-        SimulatesLine limits (line_done limits number r (plain_line line.entry))
+        SimulatesLine D.medium limits number r (plain_line line.entry) hub.old
         hub.new opened.new.items (W.contents writer.old) (W.contents writer.new) result }
-    ensures lasts { (limits : Limits) (r : Run) → RunMatchesBetween limits hub.old opened.old.items r →
-        Lasts D.medium hub.old.store hub.new.store }
     ensures commits { CommitsOrFails hub.old.store hub.new.store result }
     ensures honest { IsHonest (D.medium hub.old.store.disk)
         → IsHonest (D.medium hub.new.store.disk) }
@@ -217,7 +214,8 @@ fn open<D: SectorDisk>(
     ensures ok { OnOk result ((limits : Limits) (r : Run) →
         RunMatchesBetween limits hub.old opened.old.items r → (is_open r conn ≡ false)
         × RunMatches limits hub.new opened.new.items (opened_run r conn)) }
-    ensures err { IfErr result (λ e. IfRefused e (e ≡ ScriptFault.InUse number)) }
+    ensures err { IfErr result (λ e. IfRefused e ((e ≡ ScriptFault.InUse number)
+        × (hub.new ≡ hub.old))) }
     ensures in_use { IfErr result (λ e. IfRefused e ((limits : Limits) (r : Run) →
         RunMatchesBetween limits hub.old opened.old.items r → is_open r conn ≡ true)) }
     ensures store { hub.new.store ≡ hub.old.store }
@@ -256,12 +254,13 @@ fn close<D: SectorDisk>(
     ensures ok { OnOk result ((limits : Limits) (r : Run) →
         RunMatchesBetween limits hub.old opened.old.items r → (is_open r conn ≡ true)
         × RunMatches limits hub.new opened.new.items
-        (record r { hub = hangup limits r.hub conn moment.0 })) }
-    ensures err { IfErr result (λ e. IfRefused e (e ≡ ScriptFault.Unknown number)) }
+        (record r { hub = hangup limits r.hub conn moment.0 })
+        × LastsAs D.medium r.hub (hangup limits r.hub conn moment.0) hub.old.store hub.new.store) }
+    ensures err { IfErr result (λ e. IfRefused e ((e ≡ ScriptFault.Unknown number)
+        × (hub.new ≡ hub.old))) }
+    ensures takes { OnErr result (Takes D.medium hub.old.store [] hub.new.store) }
     ensures unknown { IfErr result (λ e. IfRefused e ((limits : Limits) (r : Run) →
         RunMatchesBetween limits hub.old opened.old.items r → is_open r conn ≡ false)) }
-    ensures lasts { (limits : Limits) (r : Run) → RunMatchesBetween limits hub.old opened.old.items r →
-        Lasts D.medium hub.old.store hub.new.store }
     ensures commits { IfErr result (λ e.
         ByFault e (StaysCommitted hub.old.store hub.new.store) ⊤ (StaysCommitted hub.old.store hub.new.store)) }
     ensures honest { IsHonest (D.medium hub.old.store.disk)
@@ -305,11 +304,9 @@ fn feed<D: SectorDisk, W: Write>(
 ) -> Result<(), ScriptFault>
     requires { 0 < length bytes.now }
     ensures line { (limits : Limits) (r : Run) → RunMatchesBetween limits hub.old opened.old r →
-        SimulatesLine limits
-        (line_done limits sender.number r (Data sender.moment.0 sender.conn bytes.now))
+        SimulatesLine D.medium limits sender.number r
+        (Data sender.moment.0 sender.conn bytes.now) hub.old
         hub.new opened.new (W.contents writer.old) (W.contents writer.new) result }
-    ensures lasts { (limits : Limits) (r : Run) → RunMatchesBetween limits hub.old opened.old r →
-        Lasts D.medium hub.old.store hub.new.store }
     ensures commits { CommitsOrFails hub.old.store hub.new.store result }
     ensures honest { IsHonest (D.medium hub.old.store.disk)
         → IsHonest (D.medium hub.new.store.disk) }
@@ -338,20 +335,21 @@ fn feed_some<D: SectorDisk, W: Write>(
 ) -> Result<usize, ScriptFault>
     ensures ok { IfOk result (λ taken. (limits : Limits) (r : Run) →
         RunMatchesBetween limits hub.old opened.old r →
-        SimulatesPiece limits r sender bytes.now taken
+        SimulatesPiece D.medium limits r sender bytes.now taken hub.old.store
         hub.new opened.new (W.contents writer.old) (W.contents writer.new)) }
     ensures within { IfOk result (λ taken. taken ≤ length bytes.now) }
     ensures err { IfErr result (λ e. ByFault e
         ((limits : Limits) (r : Run) → RunMatchesBetween limits hub.old opened.old r →
-        PieceBreaksOff limits r sender bytes.now
+        PieceBreaksOff D.medium limits r sender bytes.now hub.old.store hub.new.store
         (W.contents writer.old) (W.contents writer.new))
-        (Appends (W.contents writer.old) (W.contents writer.new) [])
+        (((limits : Limits) (r : Run) → RunMatchesBetween limits hub.old opened.old r →
+        PieceFails D.medium limits r sender bytes.now hub.old.store hub.new.store)
+        × Appends (W.contents writer.old) (W.contents writer.new) [])
         ((e ≡ ScriptFault.Unknown sender.number)
-        × Appends (W.contents writer.old) (W.contents writer.new) [])) }
+        × Appends (W.contents writer.old) (W.contents writer.new) []
+        × (hub.new ≡ hub.old))) }
     ensures unknown { IfErr result (λ e. IfRefused e ((limits : Limits) (r : Run) →
         RunMatchesBetween limits hub.old opened.old r → is_open r sender.conn ≡ false)) }
-    ensures lasts { (limits : Limits) (r : Run) → RunMatchesBetween limits hub.old opened.old r →
-        Lasts D.medium hub.old.store hub.new.store }
     ensures commits { CommitsOrFails hub.old.store hub.new.store result }
     ensures honest { IsHonest (D.medium hub.old.store.disk)
         → IsHonest (D.medium hub.new.store.disk) }

@@ -3,5 +3,5 @@ use Rattle.ipc_script.proofs.laws.lines_that_were_run_stay.Goals as goal
 
 pub returns : goal.returns
 returns g c = λ limits h old last next before number lines r text events keeps empty runs young takes.
-    keeps-lines g.D.SectorDisk.medium c.an_open_finds_what_stands_there.ensures.keeps g.met.D.SectorDisk.only_now limits h old last next before number
+    keeps-lines g.D.SectorDisk.medium c.an_open_finds_what_stands_there.ensures.keeps limits h old last next before number
     lines r text events keeps empty runs young takes

@@ -10,10 +10,8 @@ use Rattle.ipc_hub.specs.View.{most_events}
 use Rattle.ipc_store.specs.Histories.{OpensOn, Takes}
 use Rattle.ipc_store.specs.Relations.Matches.{OpensTo, StoreMatches}
 use Rattle.ipc_store.specs.View.{numbers_used}
-use Rattle.ipc_script.specs.Relations.Lasts.{Lasts}
-use Rattle.ipc_script.proofs.Lasting.{lasts-halted}
+use Rattle.ipc_script.proofs.Lasting.{takes-halted, unless-any}
 use Rattle.ipc_script.proofs.NumbersSpent.{halted-by}
-use Rattle.ipc_script.proofs.Stopping.{unless-any}
 use Rattle.ipc_script.proofs.OpenedAgain.{reopens, stood, root}
 use Rattle.ipc_script.proofs.reopening.reopened.Given.{Over}
 use Rattle.ipc_script.proofs.reopening.reopened.Goals.{After-close-3}
@@ -57,12 +55,9 @@ returns-in-Ok-clause-ok g c limits h m honest =
     (there g d honest) (c.in-Ok.ensures.ok (here g d honest)) limits h c.release.new.self c.new.result (c.in_default.ensures.ok limits h m)
     c.close-2.ensures.limits c.close-2.ensures.state c.in-Ok.ensures.confirmed c.new.ensures.matches
 
--- the store that is closed takes what waited
-came : (g : Over) (c : After-close-3 g) → Lasts g.D.SectorDisk.medium c.args.hub.store c.close-2.result
-came g c = (
-  [],
-  subst (λ s. Takes g.D.SectorDisk.medium c.args.hub.store [] s) (sym c.close-2.ensures.store) c.release.ensures.takes,
-)
+-- the store that is closed has accepted no event
+came : (g : Over) (c : After-close-3 g) → Takes g.D.SectorDisk.medium c.args.hub.store [] c.close-2.result
+came g c = subst (λ s. Takes g.D.SectorDisk.medium c.args.hub.store [] s) (sym c.close-2.ensures.store) c.release.ensures.takes
 
 pub returns-in-Ok-clause-stops : goal.returns-in-Ok-clause-stops
 returns-in-Ok-clause-stops g c honest =
@@ -73,6 +68,7 @@ returns-in-Ok-clause-stops g c honest =
     rw c.new.ensures.store (
       c.close-2.result,
       came g d,
+      λ limits h m. c.close-2.ensures.state ∙ (c.in_default.ensures.ok limits h m).hub.state,
       record {
         running = ap (λ s. s.stopped) c.close-2.ensures.store
             ∙ ready-goes-on c.release.new.self.store most_events (omega arith) c.in_default.ensures.ready;
@@ -86,7 +82,7 @@ returns-in-Ok-clause-stops g c honest =
 pub returns-in-Err-clause-left : goal.returns-in-Err-clause-left
 returns-in-Err-clause-left g c = λ honest. (
   c.release.new.self.store,
-  lasts-halted g.D.SectorDisk.medium g.met.D.SectorDisk.only_now g.D.SectorDisk.counts c.args.hub c.release.new.self c.in-Err.field-0
+  takes-halted g.D.SectorDisk.medium g.met.D.SectorDisk.only_now g.D.SectorDisk.counts c.args.hub c.release.new.self c.in-Err.field-0
       c.in-Err.ensures.refused,
   inl (c.close-in-Err.ensures.disk ∙ ap (λ s. s.disk) c.close.ensures.store),
   tt,

@@ -7,7 +7,7 @@ use Rattle.std.specs.Prelude.{⊤}
 use Rattle.ipc_script.specs.Relations.Faults.{of_serve_error}
 use Rattle.ipc_script.proofs.FaultCases.{by_fault}
 use Rattle.ipc_script.proofs.OpenConnections.{by_number, close_in}
-use Rattle.ipc_script.proofs.Lasting.{lasts-refused}
+use Rattle.ipc_script.proofs.Lasting.{takes-refused}
 use Rattle.ipc_script.proofs.script.close.Goals as goal
 
 pub returns-in-Some-clause-ok : goal.returns-in-Some-clause-ok
@@ -37,10 +37,11 @@ returns-in-Err-clause-unknown g c =
 
 pub returns-in-Err-clause-err : goal.returns-in-Err-clause-err
 returns-in-Err-clause-err g c =
-    rw c.fault_of.ensures (by_fault ⊤ ⊤ ⊤ ⊤ _ _ (of_serve_error c.in-Err.error c.args.number) (λ t. t) (λ t. t) (λ is. is.0)
-    (is_its_fault ⊤ ⊤ c.in-Err.error c.args.number tt))
+    rw c.fault_of.ensures (by_fault ⊤ ⊤ ⊤ ⊤ _ _ (of_serve_error c.in-Err.error c.args.number) (λ t. t) (λ t. t) (λ is. (is.0, is.2))
+    (is_its_fault g.D.SectorDisk.medium g.D.SectorDisk.counts c.args.hub.now c.hangup.new.self c.args.conn ⊤ ⊤ ⊤ c.in-Err.error c.args.number tt tt
+    c.in-Err.ensures.refused))
 
-pub returns-in-Err-clause-lasts : goal.returns-in-Err-clause-lasts
-returns-in-Err-clause-lasts g c limits r b =
-    lasts-refused g.D.SectorDisk.medium g.met.D.SectorDisk.only_now g.D.SectorDisk.counts c.args.hub.now c.hangup.new.self c.args.conn c.in-Err.error
+pub returns-in-Err-clause-takes : goal.returns-in-Err-clause-takes
+returns-in-Err-clause-takes g c =
+    takes-refused g.D.SectorDisk.medium g.met.D.SectorDisk.only_now g.D.SectorDisk.counts c.args.hub.now c.hangup.new.self c.args.conn c.in-Err.error
     c.in-Err.ensures.refused

@@ -4,7 +4,7 @@ use Rattle.ipc_base.specs.declared.limits.Limits.{Limits}
 use Rattle.ipc_store.specs.View.{Spends}
 use Rattle.ipc_script.specs.Script.{Run}
 use Rattle.ipc_script.specs.Relations.Numbers.{HasNumbers}
-use Rattle.ipc_script.specs.Relations.Lasts.{Lasts, StaysCommitted}
+use Rattle.ipc_script.specs.Relations.Lasts.{StaysCommitted}
 use Rattle.ipc_script.specs.Relations.Matches.{RunMatchesBetween}
 use Rattle.ipc_script.proofs.FedPieces.{PartlyFed}
 use Rattle.ipc_script.proofs.script.feed.Given as goal
@@ -16,9 +16,8 @@ invariant-pieces g l = record {
   left : length l.rest ≤ length l.bytes;
   spends : HasNumbers (4 * length l.bytes) l.fn.hub.store
       → Spends g.D.SectorDisk.counts (3 * l.counter + (length l.bytes - length l.rest)) l.fn.hub.store l.hub.store;
-  lasts : (limits : Limits) (r : Run) → RunMatchesBetween limits l.fn.hub l.fn.opened r → Lasts g.D.SectorDisk.medium l.fn.hub.store l.hub.store;
   committed : StaysCommitted l.fn.hub.store l.hub.store;
   runs : (limits : Limits) (r : Run) → RunMatchesBetween limits l.fn.hub l.fn.opened r
       → (length l.rest + l.counter ≤ length l.bytes) × (0 < length l.rest)
-      × PartlyFed limits r l.sender l.bytes l.hub l.opened l.rest (g.W.Write.contents l.fn.writer) (g.W.Write.contents l.writer);
+      × PartlyFed g.D.SectorDisk.medium limits r l.sender l.bytes l.fn.hub l.hub l.opened l.rest (g.W.Write.contents l.fn.writer) (g.W.Write.contents l.writer);
 }

@@ -1,35 +1,46 @@
-use Rattle.std.proofs.Common.{sym, ◌∙◌}
+use Rattle.std.proofs.Common.{sym, ◌∙◌, inl, inr}
 use Rattle.std.proofs.KnownBytes.{Appends-nil}
 use Rattle.std.proofs.lemmas.Result.{err_from_is_err_and}
 use Rattle.ipc_script.proofs.HubAndClients.{connected, is_known, is_unknown, is_its_fault}
-use Rattle.ipc_script.proofs.FedPieces.{feeds_some, feeds_part}
+use Rattle.ipc_script.proofs.FedPieces.{feeds_some, feeds_part, piece_taken}
 use Rattle.ipc_script.proofs.FaultCases.{by_fault}
-use Rattle.ipc_script.proofs.Lasting.{lasts-refused, lasts-more, commits-empty}
+use Rattle.ipc_script.proofs.Lasting.{takes-refused, commits-empty}
 use Rattle.ipc_script.proofs.script.feed_some.Goals as goal
 
 pub returns-in_err-report-in-Ok-clause-err : goal.returns-in_err-report-in-Ok-clause-err
 returns-in_err-report-in-Ok-clause-err g c =
     let q = err_from_is_err_and c.from_residual.result c.from_residual.ensures.1 in
     let conn = c.args.sender.conn in
+    let known = is_known c.args.hub.now conn c.feed.result _ c.in-Ok.is c.feed.ensures.stopped c.feed.ensures.unknown in
     rw (q.1, q.2) (by_fault _ _ _ _ _ _ c.in_err-report-in-Ok.field-0.0 (λ part limits r b.
     feeds_part g.D.SectorDisk.medium limits r c.args.sender c.args.bytes.now c.in-Ok.taken
-    c.args.hub.now c.feed.new.self c.report.new.hub c.args.opened.now c.report.new.opened _ _
-    b c.in-Ok.ensures.ok c.in-Ok.ensures.starts
-    (is_known c.args.hub.now conn c.feed.result _ c.in-Ok.is c.feed.ensures.stopped c.feed.ensures.unknown) part)
-    (λ none. none) (λ never. absurd never) c.in_err-report-in-Ok.ensures.err)
+    c.args.hub.now c.feed.new.self c.report.new.hub c.args.opened.now b c.in-Ok.ensures.ok c.in-Ok.ensures.starts known c.report.ensures.takes _ _ part)
+    (λ none. (
+      λ limits r b. inr (
+        c.in-Ok.taken,
+        piece_taken g.D.SectorDisk.medium limits r c.args.sender c.args.bytes.now c.in-Ok.taken
+            c.args.hub.now c.feed.new.self c.report.new.hub c.args.opened.now b c.in-Ok.ensures.ok c.in-Ok.ensures.starts known c.report.ensures.takes,
+      ),
+      none,
+    ))
+    (λ never. absurd never) c.in_err-report-in-Ok.ensures.err)
 
 pub returns-in_ok-report-in-Ok-clause-ok : goal.returns-in_ok-report-in-Ok-clause-ok
 returns-in_ok-report-in-Ok-clause-ok g c = λ limits r b.
     let conn = c.args.sender.conn in
     feeds_some g.D.SectorDisk.medium limits r c.args.sender c.args.bytes.now c.in-Ok.taken
-    c.args.hub.now c.feed.new.self c.report.new.hub c.args.opened.now c.report.new.opened _ _
-    b c.in-Ok.ensures.ok c.in-Ok.ensures.starts
-    (is_known c.args.hub.now conn c.feed.result _ c.in-Ok.is c.feed.ensures.stopped c.feed.ensures.unknown) c.in_ok-report-in-Ok.ensures.ok
+    c.args.hub.now c.feed.new.self c.report.new.hub c.args.opened.now b c.in-Ok.ensures.ok c.in-Ok.ensures.starts
+    (is_known c.args.hub.now conn c.feed.result _ c.in-Ok.is c.feed.ensures.stopped c.feed.ensures.unknown) c.report.ensures.takes
+    c.report.new.opened _ _ c.in_ok-report-in-Ok.ensures.ok
 
 pub returns-in-Err-clause-err : goal.returns-in-Err-clause-err
 returns-in-Err-clause-err g c =
     let w = Appends-nil (g.W.Write.contents c.args.writer.now) in
-    rw c.fault_of.ensures (is_its_fault _ _ c.in-Err.error c.args.sender.number w)
+    let conn = c.args.sender.conn in
+    let none = takes-refused g.D.SectorDisk.medium g.met.D.SectorDisk.only_now g.D.SectorDisk.counts c.args.hub.now c.feed.new.self conn c.in-Err.error
+    c.in-Err.ensures.refused in
+    rw c.fault_of.ensures (is_its_fault g.D.SectorDisk.medium g.D.SectorDisk.counts c.args.hub.now c.feed.new.self conn _ _ _ c.in-Err.error
+    c.args.sender.number (λ limits r b. inl none, w) w c.in-Err.ensures.refused)
 
 pub returns-in-Err-clause-unknown : goal.returns-in-Err-clause-unknown
 returns-in-Err-clause-unknown g c =
@@ -38,25 +49,10 @@ returns-in-Err-clause-unknown g c =
     c.args.sender.number (λ none limits r b. sym (connected limits hub.store.confirmed hub.hub r.hub c.args.sender.conn b.run.matches.hub) ∙ none)
     c.in-Err.ensures.refused)
 
-pub returns-in_err-report-in-Ok-clause-lasts : goal.returns-in_err-report-in-Ok-clause-lasts
-returns-in_err-report-in-Ok-clause-lasts g c = λ limits r b.
-    let fed = (c.in-Ok.ensures.ok limits r.hub b.run.matches).1 in
-    lasts-more g.D.SectorDisk.medium c.args.hub.now.store c.feed.new.self.store c.report.new.hub.store (fed.events, fed.takes) c.report.ensures.takes
-
 pub returns-in_err-report-in-Ok-clause-commits : goal.returns-in_err-report-in-Ok-clause-commits
 returns-in_err-report-in-Ok-clause-commits g c =
     let q = err_from_is_err_and c.from_residual.result c.from_residual.ensures.1 in
     rw (q.1, q.2) (commits-empty c.args.hub.now.store c.report.new.hub.store c.in_err-report-in-Ok.field-0.0 c.in_err-report-in-Ok.ensures.empties)
 
-pub returns-in_ok-report-in-Ok-clause-lasts : goal.returns-in_ok-report-in-Ok-clause-lasts
-returns-in_ok-report-in-Ok-clause-lasts g c = λ limits r b.
-    let fed = (c.in-Ok.ensures.ok limits r.hub b.run.matches).1 in
-    lasts-more g.D.SectorDisk.medium c.args.hub.now.store c.feed.new.self.store c.report.new.hub.store (fed.events, fed.takes) c.report.ensures.takes
-
 pub returns-in_ok-report-in-Ok-clause-commits : goal.returns-in_ok-report-in-Ok-clause-commits
 returns-in_ok-report-in-Ok-clause-commits g c = λ _. c.in_ok-report-in-Ok.ensures.empties
-
-pub returns-in-Err-clause-lasts : goal.returns-in-Err-clause-lasts
-returns-in-Err-clause-lasts g c = λ limits r b.
-    lasts-refused g.D.SectorDisk.medium g.met.D.SectorDisk.only_now g.D.SectorDisk.counts c.args.hub.now c.feed.new.self c.args.sender.conn c.in-Err.error
-    c.in-Err.ensures.refused

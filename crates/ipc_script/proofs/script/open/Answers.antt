@@ -1,4 +1,4 @@
-use Rattle.std.proofs.Common.{◌≡◌, ℕ, true, false, List, sym, ap, subst, ◌∙◌, inl, inr, rules}
+use Rattle.std.proofs.Common.{◌≡◌, ℕ, true, false, List, refl, sym, ap, subst, ◌∙◌, inl, inr, rules}
 use Rattle.std.specs.Prelude.{nat_lt}
 use Rattle.std.specs.List.{insert, prefix_len}
 use Rattle.ipc_hub.specs.View.{HasStopped, is_connected}
@@ -26,6 +26,9 @@ returns-clause-ok g c limits r b =
     put ∙ ap (λ (xs : List Opened). insert xs c.place_for-place.result one) kept ∙ ap (λ (k : ℕ). insert os k one) place in
     let done = open_in limits c.args.hub.now c.connect.new.self os r c.args.conn c.ranges.conn.fits b new c.in-Ok.ensures.ok c.in-Ok.ensures.store in
     (done.0, subst (λ (xs : List Opened). RunMatches limits c.connect.new.self xs (opened r c.args.conn)) (sym items) done.1)
+
+pub returns-in-Err-InUse-clause-err : goal.returns-in-Err-InUse-clause-err
+returns-in-Err-InUse-clause-err g c = (refl, c.in-Err-InUse.ensures.err)
 
 pub returns-in-Err-InUse-clause-in_use : goal.returns-in-Err-InUse-clause-in_use
 returns-in-Err-InUse-clause-in_use g c limits r b =

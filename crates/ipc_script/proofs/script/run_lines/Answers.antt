@@ -1,20 +1,21 @@
-use Rattle.std.proofs.Common.{◌≡◌, ◌+◌, [], inl, refl, length, Option, Some, Result, sym, ap, subst, ◌∙◌, arith}
+use Rattle.std.proofs.Common.{◌≡◌, ◌+◌, [], inl, refl, length, Option, Some, Result, Ok, Err, sym, ap, subst, ◌∙◌, arith}
 use Rattle.std.specs.Bool.{◌==◌}
-use Rattle.std.specs.Prelude.{option_map, ℕ, true}
+use Rattle.std.specs.Prelude.{option_map, ⊤, ℕ, true}
 use Rattle.std.proofs.KnownBytes.{Appends-nil}
 use Rattle.std.proofs.lemmas.Bool.Decides.{nat_tests}
 use Rattle.ipc_script.specs.declared.fault.ScriptFault.{ScriptFault}
 use Rattle.ipc_script.specs.declared.fault.ScriptFault.TheVariants.{BadLine}
-use Rattle.ipc_script.specs.Line.{PlainLine, Stop, line_of}
+use Rattle.ipc_script.specs.Line.{PlainLine, Stop, line_of, lines_of}
 use Rattle.ipc_script.specs.Relations.Lines.{plain_line}
 use Rattle.ipc_script.specs.Script.{Cut, Progress, WritesPart, line_done, text_done}
 use Rattle.ipc_script.specs.ByLines.HasRunLines.{Line}
 use Rattle.ipc_script.specs.Relations.Simulation.{text_of}
 use Rattle.ipc_script.proofs.FaultCases.{by_fault}
 use Rattle.ipc_script.proofs.ScriptLines.{run_begun, run_more, run_stopped, run_refused, run_broken, run_halted, run_ended, no_lines, may-here, may-behind}
-use Rattle.ipc_script.proofs.ScriptLines.{no-stop-here, no-stop-behind, run_came, ends_after, stops_grown}
+use Rattle.ipc_script.proofs.ScriptLines.{no-stop-here, no-stop-behind, run_came, ends_after, as_left, Failed, failed, goes_on, stops_grown, stops_lasts}
 use Rattle.ipc_hub.specs.Clients.{Clients}
-use Rattle.ipc_script.proofs.Lasting.{lasts-none, lasts-both, commits-after, committed-unless}
+use Rattle.ipc_script.specs.Relations.Lasts.{FailsWithin}
+use Rattle.ipc_script.proofs.Lasting.{lasts-none, lasts-both, commits-after, committed-unless, ends-any, ends-by}
 use Rattle.ipc_script.proofs.Stopping.{unless, lives-none, lives-more, lives-stop}
 use Rattle.ipc_script.proofs.WrittenText.{part_none, grown_none}
 use Rattle.ipc_script.proofs.LineLengths.{cost-fits}
@@ -66,9 +67,10 @@ returns-in-Err-run_line-clause-runs g c = λ limits h matches none may.
     let then = g.W.Write.contents c.lines.writer in
     by_fault _ _ _ _ _ _ e
     (λ part. run_broken limits h c.args.script.now g.D.SectorDisk.medium c.args.hub.store n c.lines.hub c.lines.opened.items c.lines.rest.now _ _ p
-    c.first_line.result.0.now c.first_line.result.1.now c.first_line.ensures.lines part.0 _
-    (subst (λ (r : Result Progress ScriptFault). WritesPart then (g.W.Write.contents c.run_line.new.writer) (text_of r)) (sym (is part.0)) part.1))
-    (run_halted limits h c.args.script.now g.D.SectorDisk.medium c.args.hub.store n c.lines.hub c.lines.opened.items c.lines.rest.now _ _ p _)
+    c.first_line.result.0.now c.first_line.result.1.now c.first_line.ensures.lines part.1.0 _
+    (subst (λ (r : Result Progress ScriptFault). WritesPart then (g.W.Write.contents c.run_line.new.writer) (text_of r)) (sym (is part.1.0)) part.1.1))
+    (λ more. run_halted limits h c.args.script.now g.D.SectorDisk.medium c.args.hub.store n c.lines.hub c.lines.opened.items c.lines.rest.now _ _ p _
+    more.1)
     (λ a. run_refused limits h c.args.script.now g.D.SectorDisk.medium c.args.hub.store n c.lines.hub c.lines.opened.items c.lines.rest.now _ _ p
     c.first_line.result.0.now c.first_line.result.1.now c.first_line.ensures.lines e (λ cut. is cut ∙ a.0 cut) _ a.1)
     (c.in-Err-run_line.ensures.line limits p.now p.at)
@@ -97,10 +99,10 @@ lines-preserved-in-Ok g c =
           let honest = may-here rest text behind c.first_line.ensures.lines old (c.lines.invariant.may may) stop in
           let again = c.in-Ok.ensures.stops honest in
           lives-stop g.D.SectorDisk.medium c.args.hub.store g.met.D.SectorDisk.only_now c.lines.hub.store again.0 c.in-Ok.next.store
-          (c.lines.invariant.lives limits h matches none may) again.1 again.2;
+          (c.lines.invariant.lives limits h matches none may) ([], again.1) again.3;
       committed = λ may waits.
           let honest = may-here rest text behind c.first_line.ensures.lines old (c.lines.invariant.may may) stop in
-          (c.in-Ok.ensures.stops honest).2.opens.found.2.waits.count;
+          (c.in-Ok.ensures.stops honest).3.opens.found.2.waits.count;
       runs = λ limits h matches none may.
           let p = c.lines.invariant.runs limits h matches none may in
           let honest = may-here rest text behind c.first_line.ensures.lines old (c.lines.invariant.may may) stop in
@@ -108,10 +110,11 @@ lines-preserved-in-Ok g c =
           rw c.clear.ensures.items
           (run_stopped limits h c.args.script.now g.D.SectorDisk.medium c.args.hub.store (c.lines.number + 1)
           c.lines.hub c.lines.opened.items rest _ _ p text behind c.first_line.ensures.lines stop
-          c.in-Ok.next (c.in-Ok.ensures.ok limits p.now.hub p.at.run.matches honest) again.0 again.1 again.2);
+          c.in-Ok.next (c.in-Ok.ensures.ok limits p.now.hub p.at.run.matches honest) again.0 again.1
+          (again.2 limits p.now.hub p.at.run.matches) again.3);
     }
 
--- the line was run
+-- the line was run, and the store takes its events
 pub lines-preserved : goal.lines-preserved
 lines-preserved g c = record {
   few = omega (arith, c.lines.invariant.few, c.first_line.ensures.shorter);
@@ -130,22 +133,23 @@ lines-preserved g c = record {
   lasts = λ limits h matches none stops.
       let p = c.lines.invariant.runs limits h matches none (inl stops) in
       lasts-both g.D.SectorDisk.medium c.args.hub.store c.lines.hub.store c.run_line.new.hub.store
-      (c.lines.invariant.lasts limits h matches none stops) (c.run_line.ensures.lasts limits p.now p.at);
+      (c.lines.invariant.lasts limits h matches none stops) (let took = (c.in_default-run_line.ensures.line limits p.now p.at).4 in (took.events, took.takes));
   lives = λ limits h matches none may.
       let p = c.lines.invariant.runs limits h matches none may in
       lives-more g.D.SectorDisk.medium c.args.hub.store c.lines.hub.store c.run_line.new.hub.store
-      (c.lines.invariant.lives limits h matches none may) (c.run_line.ensures.lasts limits p.now p.at);
+      (c.lines.invariant.lives limits h matches none may) (let took = (c.in_default-run_line.ensures.line limits p.now p.at).4 in (took.events, took.takes));
   committed = λ may waits. c.in_default-run_line.ensures.commits (c.lines.invariant.committed may waits);
   runs = λ limits h matches none may.
       let p = c.lines.invariant.runs limits h matches none may in
       let n = c.lines.number + 1 in
       let s = c.in_default-run_line.ensures.line limits p.now p.at in
-      let is = ap (λ (o : Option PlainLine). text_done limits n p.now o s.0) (sym c.line_of.ensures ∙ ap (option_map plain_line) c.in-Some.is) ∙ s.2 in
+      let form = sym c.line_of.ensures ∙ ap (option_map plain_line) c.in-Some.is in
+      let is = ap (λ (o : Option PlainLine). text_done limits n p.now o s.0) form ∙ s.2 in
       run_more limits h c.args.script.now g.D.SectorDisk.medium c.args.hub.store n c.lines.hub c.lines.opened.items c.lines.rest.now _ _ p
       c.first_line.result.0.now c.first_line.result.1.now c.first_line.ensures.lines s.0 s.1
       is c.run_line.new.hub c.run_line.new.opened.items _ s.3.0 s.3.1
-      (Line n p.first c.first_line.result.0.now c.lines.hub.store c.run_line.new.hub.store p.now p.text s.0 s.1 p.lived is
-      (c.run_line.ensures.lasts limits p.now p.at) c.in_default-run_line.ensures.commits (λ young.
+      (Line n p.first c.first_line.result.0.now c.lines.hub.store c.run_line.new.hub.store p.now p.text s.0 s.1 p.lived
+      (goes_on _ (plain_line c.in-Some.line) form s.5) is s.4 c.in_default-run_line.ensures.commits (λ young.
       let has = young-has c.args.hub.store c.args.script.now young c.requires in
       let cost = cost-fits c.first_line.result.0.now (plain_line c.in-Some.line) (sym c.line_of.ensures ∙ ap (option_map plain_line) c.in-Some.is)
       c.first_line.ensures.parts c.first_line.ensures.shorter in
@@ -185,14 +189,17 @@ returns-in-Err-run_line-clause-disk g c has may =
 -- what is left: of a text that is no line, of a line that was not run, and at the end
 pub returns-in_default-clause-leaves : goal.returns-in_default-clause-leaves
 returns-in_default-clause-leaves g c = λ limits h matches none may.
+    let p = c.lines.invariant.runs limits h matches none may in
+    let n = c.lines.number + 1 in
     let handed = c.close-in_default.ensures.disk ∙ ap (λ s. s.disk) c.close.ensures.store in
     record {
       closed = c.lines.hub.store;
       lives = c.lines.invariant.lives limits h matches none may;
-      by_lines = ends_after limits h c.args.script.now g.D.SectorDisk.medium c.args.hub.store (c.lines.number + 1) c.lines.hub
-          c.lines.opened.items c.lines.rest.now _ _ (c.lines.invariant.runs limits h matches none may) c.lines.hub.store _
-          (lasts-none g.D.SectorDisk.medium g.met.D.SectorDisk.only_now c.lines.hub.store) (grown_none _);
-      handed = inl handed;
+      by_lines = ends_after limits h c.args.script.now g.D.SectorDisk.medium c.args.hub.store n c.lines.hub
+          c.lines.opened.items c.lines.rest.now _ _ p c.lines.hub.store _ (Err (BadLine n)) (grown_none _) tt
+          (as_left limits h c.args.script.now g.D.SectorDisk.medium c.args.hub.store n c.lines.hub c.lines.opened.items c.lines.rest.now _ _ p _
+          c.lines.hub.store (Appends-nil _) refl (ap (λ s. s.machine.state) (sym c.close.ensures.store) ∙ c.close.ensures.state));
+      handed = handed;
       one = λ stops. (c.lines.invariant.lasts limits h matches none stops, handed);
       committed = c.lines.invariant.committed may;
       state = tt;
@@ -209,11 +216,12 @@ returns-in-Err-clause-leaves g c = λ limits h matches none may.
     let left = c.in-Err.ensures.left honest in
     record {
       closed = left.0;
-      lives = lives-more g.D.SectorDisk.medium c.args.hub.store c.lines.hub.store left.0 (c.lines.invariant.lives limits h matches none may) left.1;
+      lives = lives-more g.D.SectorDisk.medium c.args.hub.store c.lines.hub.store left.0 (c.lines.invariant.lives limits h matches none may)
+          ([], left.1);
       by_lines = ends_after limits h c.args.script.now g.D.SectorDisk.medium c.args.hub.store (c.lines.number + 1) c.lines.hub
-          c.lines.opened.items c.lines.rest.now _ _ (c.lines.invariant.runs limits h matches none may) left.0 _
-          left.1 (grown_none _);
-      handed = left.2;
+          c.lines.opened.items rest _ _ (c.lines.invariant.runs limits h matches none may) left.0 _ (Err c.in-Err.fault) (grown_none _) tt
+          (ends-by ⊤ ⊤ ⊥ _ _ c.in-Err.fault (λ _. inl left.1) (λ _. inl left.1) (λ never. absurd never) c.in-Err.ensures.err);
+      handed = ends-by ⊤ ⊤ ⊥ _ _ c.in-Err.fault (λ _. left.2) (λ _. left.2) (λ never. absurd never) c.in-Err.ensures.err;
       one = λ stops. absurd (no-stop-here rest text behind c.first_line.ensures.lines (c.lines.invariant.none stops) stop);
       committed = unless c.in-Err.fault _ _ (λ empty _. empty) left.3;
       state = tt;
@@ -222,50 +230,61 @@ returns-in-Err-clause-leaves g c = λ limits h matches none may.
 pub returns-in-Err-run_line-clause-leaves : goal.returns-in-Err-run_line-clause-leaves
 returns-in-Err-run_line-clause-leaves g c = λ limits h matches none may.
     let p = c.lines.invariant.runs limits h matches none may in
-    let lasts = c.run_line.ensures.lasts limits p.now p.at in
+    let med = g.D.SectorDisk.medium in
+    let n = c.lines.number + 1 in
+    let e = c.in-Err-run_line.fault in
+    let form = plain_line c.in-Some.line in
+    let is : line_of c.first_line.result.0.now ≡ Some form = sym c.line_of.ensures ∙ ap (option_map plain_line) c.in-Some.is in
+    let closed = c.run_line.new.hub.store in
+    let stops = c.in-Err-run_line.ensures.line limits p.now p.at in
+    let lasts = stops_lasts med limits n p.now form c.lines.hub c.run_line.new.hub _ _ e stops g.met.D.SectorDisk.only_now in
     let handed = c.close-in-Err-run_line-2.ensures.disk ∙ ap (λ s. s.disk) c.close-in-Err-run_line.ensures.store in
+    let broke : FailsWithin med limits n p.now form c.lines.hub.store closed → Failed limits h c.args.script.now med c.args.hub.store n c.lines.hub
+    c.lines.opened.items c.lines.rest.now _ _ p closed =
+    failed limits h c.args.script.now med c.args.hub.store n c.lines.hub c.lines.opened.items c.lines.rest.now _ _ p
+    c.first_line.result.0.now c.first_line.result.1.now c.first_line.ensures.lines form is closed in
     record {
-      closed = c.run_line.new.hub.store;
-      lives = lives-more g.D.SectorDisk.medium c.args.hub.store c.lines.hub.store c.run_line.new.hub.store
-          (c.lines.invariant.lives limits h matches none may) lasts;
-      by_lines = ends_after limits h c.args.script.now g.D.SectorDisk.medium c.args.hub.store (c.lines.number + 1) c.lines.hub
-          c.lines.opened.items c.lines.rest.now _ _ (c.lines.invariant.runs limits h matches none may) c.run_line.new.hub.store _
-          lasts (stops_grown (line_done limits (c.lines.number + 1) p.now (plain_line c.in-Some.line)) _ _ c.in-Err-run_line.fault
-          (c.in-Err-run_line.ensures.line limits p.now p.at));
-      handed = inl handed;
-      one = λ stops. (
-        lasts-both g.D.SectorDisk.medium c.args.hub.store c.lines.hub.store c.run_line.new.hub.store
-            (c.lines.invariant.lasts limits h matches none stops) lasts,
+      closed = closed;
+      lives = lives-more med c.args.hub.store c.lines.hub.store closed (c.lines.invariant.lives limits h matches none may) lasts;
+      by_lines = ends_after limits h c.args.script.now med c.args.hub.store n c.lines.hub
+          c.lines.opened.items c.lines.rest.now _ _ p closed _ (Err e) (stops_grown med limits n p.now form c.lines.hub c.run_line.new.hub _ _ e stops) tt
+          (ends-by _ _ _ _ _ e (λ part. broke part.0) (λ more. broke more.0)
+          (λ a. as_left limits h c.args.script.now med c.args.hub.store n c.lines.hub c.lines.opened.items c.lines.rest.now _ _ p _ closed a.1
+          (ap (λ h. h.store) a.2) (ap (λ s. s.machine.state) (sym c.close-in-Err-run_line.ensures.store) ∙ c.close-in-Err-run_line.ensures.state
+          ∙ ap (λ h. h.hub.state) a.2)) stops);
+      handed = ends-any _ _ e (inl handed) handed;
+      one = λ none_stops. (
+        lasts-both med c.args.hub.store c.lines.hub.store closed (c.lines.invariant.lasts limits h matches none none_stops) lasts,
         handed,
       );
-      committed = committed-unless c.args.hub.store c.run_line.new.hub.store c.in-Err-run_line.fault
-          (commits-after c.args.hub.store c.lines.hub.store c.run_line.new.hub.store c.in-Err-run_line.fault
-          (c.lines.invariant.committed may) c.in-Err-run_line.ensures.commits);
+      committed = committed-unless c.args.hub.store closed e
+          (commits-after c.args.hub.store c.lines.hub.store closed e (c.lines.invariant.committed may) c.in-Err-run_line.ensures.commits);
       state = tt;
     }
 
 pub returns-clause-leaves : goal.returns-clause-leaves
 returns-clause-leaves g c = λ limits h matches none may.
+    let p = c.lines.invariant.runs limits h matches none may in
+    let n = c.lines.number + 1 in
     let handed = c.close-3.ensures.disk ∙ ap (λ s. s.disk) c.close-2.ensures.store in
+    let empty : lines_of c.lines.rest.now ≡ [] = no_lines c.lines.rest.now (none-left _ c.lines-test.ensures) in
+    let state = ap (λ s. s.machine.state) (sym c.close-2.ensures.store) ∙ c.close-2.ensures.state in
     record {
       closed = c.lines.hub.store;
       lives = c.lines.invariant.lives limits h matches none may;
-      by_lines = ends_after limits h c.args.script.now g.D.SectorDisk.medium c.args.hub.store (c.lines.number + 1) c.lines.hub
-          c.lines.opened.items c.lines.rest.now _ _ (c.lines.invariant.runs limits h matches none may) c.lines.hub.store _
-          (lasts-none g.D.SectorDisk.medium g.met.D.SectorDisk.only_now c.lines.hub.store) (grown_none _);
-      handed = inl handed;
+      by_lines = ends_after limits h c.args.script.now g.D.SectorDisk.medium c.args.hub.store n c.lines.hub
+          c.lines.opened.items c.lines.rest.now _ _ p c.lines.hub.store _ (Ok tt) (grown_none _) empty
+          (as_left limits h c.args.script.now g.D.SectorDisk.medium c.args.hub.store n c.lines.hub c.lines.opened.items c.lines.rest.now _ _ p _
+          c.lines.hub.store (Appends-nil _) refl state);
+      handed = handed;
       one = λ stops. (c.lines.invariant.lasts limits h matches none stops, handed);
       committed = c.lines.invariant.committed may;
       state =
-          let p = c.lines.invariant.runs limits h matches none may in
-          let empty : length c.lines.rest.now ≡ 0 = none-left _ c.lines-test.ensures in
-          let all = run_came limits h c.args.script.now g.D.SectorDisk.medium c.args.hub.store (c.lines.number + 1)
-          c.lines.hub c.lines.opened.items c.lines.rest.now _ _ p
-          (no_lines c.lines.rest.now empty) in (
+          let all = run_came limits h c.args.script.now g.D.SectorDisk.medium c.args.hub.store n c.lines.hub c.lines.opened.items c.lines.rest.now _ _ p
+          empty in (
             all.0,
             all.1,
-            ap (λ s. s.machine.state) (sym c.close-2.ensures.store) ∙ c.close-2.ensures.state ∙ p.at.run.matches.hub.state
-                ∙ ap (λ (k : Clients). k.state) (sym all.2),
+            state ∙ p.at.run.matches.hub.state ∙ ap (λ (k : Clients). k.state) (sym all.2),
             handed,
             λ young. (c.lines.invariant.spends (young-has c.args.hub.store c.args.script.now young c.requires) may).running,
           );

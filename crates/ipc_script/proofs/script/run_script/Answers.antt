@@ -5,7 +5,6 @@ use Rattle.ipc_script.specs.Script.{MayStop}
 use Rattle.ipc_script.proofs.Lasting.{leaves-same}
 use Rattle.ipc_script.proofs.NumbersSpent.{not-the-readers}
 use Rattle.ipc_script.proofs.ScriptLines.{script_done, not_read}
-use Rattle.ipc_script.proofs.WrittenText.{grown_none}
 use Rattle.ipc_script.proofs.script.run_script.Goals as goal
 
 pub returns-in-Err : goal.returns-in-Err
@@ -17,8 +16,8 @@ returns-in-Err g c =
       is.1,
       λ events _ _. is.2 machine.limits (no_clients machine.state events),
       λ _ _. not-the-readers _ _ c.in-Err.fault c.in-Err.ensures.faults,
-      λ events _ _. leaves-same g.D.SectorDisk.medium g.met.D.SectorDisk.only_now machine.limits (no_clients machine.state events) is.0 _ _ c.args.store _
-          c.in-Err.fault c.close.ensures.disk (grown_none _),
+      λ events _ _. leaves-same g.D.SectorDisk.medium g.met.D.SectorDisk.only_now machine.limits (no_clients machine.state events) is.0 _ c.args.store _
+          c.in-Err.fault c.close.ensures.disk refl,
     )
 
 pub returns-in-Ok : goal.returns-in-Ok
