@@ -1,6 +1,8 @@
 -- What steps come to, one after another: calls of the hub were made, and their events were taken.
-use Rattle.std.proofs.Common.{◌≡◌, ℕ, List, [], ◌∷◌, ◌++◌, Option, Some, None, refl, sym, ap, ◌∙◌, append_assoc, append-nil, inr, subst}
-use Rattle.std.specs.Prelude.{◌≤◌, ⊤, Result, Ok, Err, OnOk, OnErr, length}
+use Rattle.std.proofs.Common.{◌≡◌, ℕ, Bool, true, ◌||◌, ◌==◌, List, [], ◌∷◌, ◌++◌, Option, Some, None, refl, sym, ap, ◌∙◌, append_assoc, append-nil, inr, subst}
+use Rattle.std.proofs.Common.{take, drop, take-append-drop, length-take-le}
+use Rattle.std.specs.Prelude.{◌≤◌, ◌↔◌, ⊤, Result, Ok, Err, OnOk, OnErr, length}
+use Rattle.std.proofs.lemmas.List.Elements.{All-cons, All-nil}
 use Rattle.ipc_base.specs.declared.limits.Limits.{Limits}
 use Rattle.ipc_disk.specs.Counts.{Counts}
 use Rattle.ipc_disk.specs.Medium.{Image, Medium}
@@ -9,20 +11,24 @@ use Rattle.ipc_store.specs.declared.fault.CommitError.TheVariants as commit
 use Rattle.ipc_store.specs.Histories.{Takes}
 use Rattle.ipc_store.proofs.CallerLemmas.{Takes-none, Takes-both}
 use Rattle.ipc_hub.specs.declared.fault.ConnectError.{ConnectError}
-use Rattle.ipc_hub.specs.Clients.{Client, Clients, client_at, consume, tick}
+use Rattle.ipc_hub.specs.declared.fault.ConnectError.TheVariants.{InUse, Stopped}
+use Rattle.ipc_hub.specs.Clients.{Client, Clients, Frame, client_at, consume, tick}
 use Rattle.ipc_hub.specs.Lives.{ClientCall, HubCall}
 use Rattle.ipc_hub.specs.Lives.ClientCall.{Connects as to_connect, Consumes as to_consume, Ticks as to_tick}
 use Rattle.ipc_hub.specs.Lives.ClientCall.{Feeds as to_feed, HangsUp as to_hang_up, Stays as to_stay}
 use Rattle.ipc_hub.specs.Lives.HubCall.{Serves as call_serves}
-use Rattle.ipc_hub.specs.View.{StoredHub, output_of}
+use Rattle.ipc_hub.specs.View.{HasStopped, StoredHub, is_connected, output_of}
 use Rattle.ipc_hub.specs.Relations.Faults.{Halts}
 use Rattle.ipc_hub.specs.Relations.Matches.{Comes, HubMatches, Serves, Simulates, StoredMatches}
-use Rattle.ipc_server.specs.Acts.{Act, IsAt, IsShown, after, after_one}
+use Rattle.ipc_server.specs.Acts.{Act, IsAt, IsShown, Sees, Spares, after, after_one}
 use Rattle.ipc_server.specs.Acts.Act.{Connects, Ticks, Feeds, HangsUp, Releases, Consumes}
 use Rattle.ipc_server.specs.Fault.{of_commit_error}
-use Rattle.ipc_server.specs.Runs.{Steps, CallsMade, RunsCalls, RunsRound, Sends, StopsAt, BreaksOff}
+use Rattle.ipc_server.specs.Runs.{Steps, CallsMade, RunsCalls, RunsRound, RunsSuch, Sends, StopsAt, BreaksOff}
 use Rattle.ipc_server.specs.Runs.Steps.{None as no_step, More as one_step}
 use Rattle.ipc_server.specs.Runs.Sends.{None as no_send, More as one_send}
+use Rattle.ipc_server.specs.Streams.{OnlyJoins}
+use Rattle.ipc_server.proofs.Showing.{shows-some}
+use Rattle.ipc_server.proofs.Standing.{or-true}
 
 -- ---- calls, one after another
 
@@ -40,22 +46,28 @@ consume-events h conn count = by (client_at h conn) refl
 
 -- ---- what clients were sent
 
-pub sends-store : {D : Type 0} (old new : StoredHub D) → Sends old new → new.store ≡ old.store
-sends-store old _ no_send = refl
-sends-store old new (one_send last _ conn count before within does store) = store ∙ sends-store old last before
+pub sends-store : {D : Type 0} (old new : StoredHub D) (told : List Act) → Sends old new told → new.store ≡ old.store
+sends-store old _ _ no_send = refl
+sends-store old new _ (one_send last _ told conn bytes before begins does store) = store ∙ sends-store old last told before
 
-pub sends-none : {D : Type 0} (hub : StoredHub D) → Sends hub hub
+pub sends-none : {D : Type 0} (hub : StoredHub D) → Sends hub hub []
 sends-none hub = no_send
 
-pub sends-both : {D : Type 0} (old mid new : StoredHub D) → Sends old mid → Sends mid new → Sends old new
-sends-both old mid _ one no_send = one
-sends-both old mid new one (one_send last _ conn count before within does store) =
-    one_send last new conn count (sends-both old mid last one before) within does store
+pub sends-both : {D : Type 0} (old mid new : StoredHub D) (told more : List Act) → Sends old mid told → Sends mid new more → Sends old new (told ++ more)
+sends-both old mid _ told _ one no_send = subst (λ (all : List Act). Sends old mid all) (sym (append-nil told)) one
+sends-both old mid new told _ one (one_send last _ more conn bytes before begins does store) =
+    subst (λ (all : List Act). Sends old new all) (append_assoc told more (Consumes conn bytes ∷ []))
+    (one_send last new (told ++ more) conn bytes (sends-both old mid last told more one before) begins does store)
 
--- one client was sent so many bytes
-pub sends-one : {D : Type 0} (old new : StoredHub D) (conn count : ℕ) → count ≤ length (output_of old.hub conn)
-    → Simulates old.hub new.hub (λ _ h. consume h conn count) → new.store ≡ old.store → Sends old new
-sends-one old new conn count within does store = one_send old new conn count no_send within does store
+-- one client was sent the first so many bytes of its output
+pub sends-one : {D : Type 0} (old new : StoredHub D) (conn count : ℕ) → count ≤ length (output_of old.hub conn) → is_connected old.hub conn ≡ true
+    → Simulates old.hub new.hub (λ _ h. consume h conn count) → new.store ≡ old.store
+    → Sends old new (Consumes conn (take count (output_of old.hub conn)) ∷ [])
+sends-one old new conn count within there does store =
+    let shown : List ℕ = output_of old.hub conn in
+    one_send old new [] conn (take count shown) no_send
+    (record { connected = there; rest = drop count shown; first = sym (take-append-drop count shown) })
+    (subst (λ (n : ℕ). Simulates old.hub new.hub (λ _ h. consume h conn n)) (sym (length-take-le count shown within)) does) store
 
 -- ---- calls, one after another
 
@@ -66,23 +78,21 @@ client-call limits h (Ticks moment) = to_tick moment
 client-call limits h (Feeds conn bytes moment refused) = to_feed conn bytes moment refused
 client-call limits h (HangsUp conn moment) = to_hang_up conn moment
 client-call limits h Releases = to_stay
-client-call limits h (Consumes conn count) = to_consume conn count
+client-call limits h (Consumes conn bytes) = to_consume conn (length bytes)
 
 module _ {D : Type 0} (medium : D → Medium) (moment : ℕ) (limits : Limits) where
-  pub steps-both : (old mid : StoredHub D) (h : Clients) (acts : List Act) (new : StoredHub D) (others : List Act) → Steps medium moment limits old h mid acts
-      → Steps medium moment limits mid (after limits h acts) new others → Steps medium moment limits old h new (acts ++ others)
-  steps-both old mid h acts _ _ one no_step =
-      subst (λ (all : List Act). Steps medium moment limits old h mid all) (sym (append-nil acts)) one
-  steps-both old mid h acts new _ one (one_step last _ others act before is shown call) =
+  pub steps-both : (old mid : StoredHub D) (h : Clients) (acts : List Act) (seen : List Frame) (new : StoredHub D) (others : List Act) (more : List Frame)
+      → Steps medium moment limits old h mid acts seen → Steps medium moment limits mid (after limits h acts) new others more
+      → Steps medium moment limits old h new (acts ++ others) (more ++ seen)
+  steps-both old mid h acts seen _ _ _ one no_step =
+      subst (λ (all : List Act). Steps medium moment limits old h mid all seen) (sym (append-nil acts)) one
+  steps-both old mid h acts seen new _ _ one (one_step last _ others more act frames before is shown sees call) =
       let same : after limits (after limits h acts) others ≡ after limits h (acts ++ others) = sym (after-both limits h acts others) in
-      subst (λ (all : List Act). Steps medium moment limits old h new all) (append_assoc acts others (act ∷ []))
-      (one_step last new (acts ++ others) act (steps-both old mid h acts last others one before) is shown
-      (subst (λ (k : Clients). HubCall medium limits last k new (after_one limits k act)) same call))
-
-  -- one call
-  pub steps-one : (old new : StoredHub D) (h : Clients) (act : Act) → IsAt moment act → IsShown old.hub act
-      → HubCall medium limits old h new (after_one limits h act) → Steps medium moment limits old h new (act ∷ [])
-  steps-one old new h act is shown call = one_step old new [] act no_step is shown call
+      subst (λ (all : List Act). Steps medium moment limits old h new all ((frames ++ more) ++ seen)) (append_assoc acts others (act ∷ []))
+      (subst (λ (all : List Frame). Steps medium moment limits old h new ((acts ++ others) ++ act ∷ []) all) (sym (append_assoc frames more seen))
+      (one_step last new (acts ++ others) (more ++ seen) act frames (steps-both old mid h acts seen last others more one before) is shown
+      (subst (λ (k : Clients). Sees last.hub k act frames) same sees)
+      (subst (λ (k : Clients). HubCall medium limits last k new (after_one limits k act)) same call)))
 
 -- ---- steps that go on
 
@@ -104,18 +114,44 @@ module _ {D : Type 0} (medium : D → Medium) where
         → CallsMade medium moment limits old mid h acts → CallsMade medium moment limits mid new (after limits h acts) others
         → CallsMade medium moment limits old new h (acts ++ others)
     makes-both limits old mid new h acts others one two = record {
-      steps = steps-both medium moment limits old mid h acts new others one.steps two.steps;
+      seen = two.seen ++ one.seen;
+      steps = steps-both medium moment limits old mid h acts one.seen new others two.seen one.steps two.steps;
       comes = rw (after-both limits h acts others)
           (comes-both limits old mid new h (after limits h acts) (after limits (after limits h acts) others) one.comes two.comes);
     }
 
     -- one call
-    pub makes-one : (limits : Limits) (old new : StoredHub D) (h : Clients) (act : Act) → IsAt moment act → IsShown old.hub act
-        → Comes medium limits old new h (after_one limits h act) → CallsMade medium moment limits old new h (act ∷ [])
-    makes-one limits old new h act is shown comes = record {
-      steps = steps-one medium moment limits old new h act is shown (call_serves (after_one limits h act) (client-call limits h act) comes);
+    pub makes-one : (limits : Limits) (old new : StoredHub D) (h : Clients) (act : Act) (frames : List Frame) → IsAt moment act → IsShown old.hub act
+        → Sees old.hub h act frames → Comes medium limits old new h (after_one limits h act) → CallsMade medium moment limits old new h (act ∷ [])
+    makes-one limits old new h act frames is shown sees comes = record {
+      seen = frames ++ [];
+      steps = one_step old new [] [] act frames no_step is shown sees (call_serves (after_one limits h act) (client-call limits h act) comes);
       comes = comes;
     }
+
+    -- these calls are made, whatever the clients are
+    abbrev pub Makes : StoredHub D → StoredHub D → List Act → Type 0
+    Makes old new acts = (limits : Limits) (h : Clients) → StoredMatches limits old h → CallsMade medium moment limits old new h acts
+
+    pub made-both : (old mid new : StoredHub D) (acts others : List Act) → Makes old mid acts → Makes mid new others → Makes old new (acts ++ others)
+    made-both old mid new acts others one two limits h m =
+        let a = one limits h m in
+        makes-both limits old mid new h acts others a (two limits (after limits h acts) a.comes.matches)
+
+    -- one call that lets time pass
+    pub made-one : (old new : StoredHub D) (act : Act) → IsAt moment act → IsShown old.hub act → ((h : Clients) → Sees old.hub h act [])
+        → Serves medium old new (λ limits h. after_one limits h act) → Makes old new (act ∷ [])
+    made-one old new act is shown sees serves limits h m = makes-one limits old new h act [] is shown (sees h) (serves limits h m)
+
+    -- the hub's events were made to last
+    pub made-released : (old new : StoredHub D) → ((limits : Limits) (h : Clients) → StoredMatches limits old h → StoredMatches limits new h)
+        → Takes medium old.store [] new.store → Makes old new (Releases ∷ [])
+    made-released old new same takes limits h m =
+        makes-one limits old new h Releases [] tt tt refl
+        (record { matches = same limits h m; events = []; adds = sym (append-nil h.events); takes = takes })
+
+    pub made-goes : (old new : StoredHub D) (acts : List Act) → Makes old new acts → RunsCalls medium moment old new
+    made-goes old new acts made limits h m = (acts, made limits h m)
 
     pub goes-both : (old mid new : StoredHub D) → RunsCalls medium moment old mid → RunsCalls medium moment mid new → RunsCalls medium moment old new
     goes-both old mid new one two limits h m =
@@ -127,22 +163,28 @@ module _ {D : Type 0} (medium : D → Medium) where
     pub goes-round : (old mid new : StoredHub D) → Serves medium old mid (λ limits h. tick limits h moment) → RunsCalls medium moment mid new
         → RunsRound medium moment old new
     goes-round old mid new serves goes limits h m =
-        let one = serves limits h m in
-        let a = goes limits (tick limits h moment) one.matches in
-        (a.0, makes-both limits old mid new h (Ticks moment ∷ []) a.0 (makes-one limits old mid h (Ticks moment) refl tt one) a.1)
+        let one = made-one old mid (Ticks moment) refl tt (λ h. refl) serves limits h m in
+        let a = goes limits (tick limits h moment) one.comes.matches in
+        (a.0, makes-both limits old mid new h (Ticks moment ∷ []) a.0 one a.1)
 
-    -- one call that lets time pass
-    pub goes-one : (old new : StoredHub D) (act : Act) → IsAt moment act → IsShown old.hub act
-        → Serves medium old new (λ limits h. after_one limits h act) → RunsCalls medium moment old new
-    goes-one old new act is shown serves limits h m = (act ∷ [], makes-one limits old new h act is shown (serves limits h m))
+    -- calls of which something holds
+    pub such-goes : (old new : StoredHub D) (Such : List Act → Type 0) → RunsSuch medium moment old new Such → RunsCalls medium moment old new
+    such-goes old new Such such limits h m = let a = such limits h m in (a.0, a.1)
 
-    -- the hub's events were made to last
-    pub goes-released : (old new : StoredHub D) → ((limits : Limits) (h : Clients) → StoredMatches limits old h → StoredMatches limits new h)
-        → Takes medium old.store [] new.store → RunsCalls medium moment old new
-    goes-released old new same takes limits h m = (
-      Releases ∷ [],
-      makes-one limits old new h Releases tt tt (record { matches = same limits h m; events = []; adds = sym (append-nil h.events); takes = takes }),
-    )
+    pub such-weaker : (old new : StoredHub D) (Such Other : List Act → Type 0) → ((acts : List Act) → Such acts → Other acts)
+        → RunsSuch medium moment old new Such → RunsSuch medium moment old new Other
+    such-weaker old new Such Other weaker such limits h m = let a = such limits h m in (a.0, a.1, weaker a.0 a.2)
+
+    pub made-such : (old new : StoredHub D) (acts : List Act) (Such : List Act → Type 0) → Makes old new acts → Such acts
+        → RunsSuch medium moment old new Such
+    made-such old new acts Such made such limits h m = (acts, made limits h m, such)
+
+    pub such-both : (old mid new : StoredHub D) (One Two Both : List Act → Type 0) → RunsSuch medium moment old mid One → RunsSuch medium moment mid new Two
+        → ((acts others : List Act) → One acts → Two others → Both (acts ++ others)) → RunsSuch medium moment old new Both
+    such-both old mid new One Two Both one two both limits h m =
+        let a = one limits h m in
+        let b = two limits (after limits h a.0) a.1.comes.matches in
+        (a.0 ++ b.0, makes-both limits old mid new h a.0 b.0 a.1 b.1, both a.0 b.0 a.2 b.2)
 
   -- calls that leave the store as it is
   module _ (law : (d : D) (image : Image) → (medium d).images_since (medium d).moment image → (medium d).images_now image) where
@@ -161,35 +203,54 @@ module _ {D : Type 0} (medium : D → Medium) where
 
     pub makes-none : (moment : ℕ) (limits : Limits) (hub : StoredHub D) (h : Clients) → StoredMatches limits hub h
         → CallsMade medium moment limits hub hub h []
-    makes-none moment limits hub h m = record { steps = no_step; comes = comes-none limits hub h m }
+    makes-none moment limits hub h m = record { seen = []; steps = no_step; comes = comes-none limits hub h m }
+
+    pub made-none : (moment : ℕ) (hub : StoredHub D) → Makes moment hub hub []
+    made-none moment hub limits h m = makes-none moment limits hub h m
 
     pub goes-none : (moment : ℕ) (hub : StoredHub D) → RunsCalls medium moment hub hub
     goes-none moment hub limits h m = ([], makes-none moment limits hub h m)
 
-    goes-connected : (moment : ℕ) (old new : StoredHub D) (conn : ℕ) → Simulates old.hub new.hub (λ limits h. after_one limits h (Connects conn))
-        → new.store ≡ old.store → RunsCalls medium moment old new
-    goes-connected moment old new conn does store limits h m = (
-      Connects conn ∷ [],
-      makes-one moment limits old new h (Connects conn) tt tt
-          (comes-still limits old new h _ m store refl (does limits old.store.confirmed h m.hub)),
-    )
+    made-connected : (moment : ℕ) (old new : StoredHub D) (conn : ℕ) → Simulates old.hub new.hub (λ limits h. after_one limits h (Connects conn))
+        → new.store ≡ old.store → Makes moment old new (Connects conn ∷ [])
+    made-connected moment old new conn does store limits h m =
+        makes-one moment limits old new h (Connects conn) [] tt tt refl
+        (comes-still limits old new h _ m store refl (does limits old.store.confirmed h m.hub))
 
-    -- a connection was made, or refused
-    pub goes-asked : (moment : ℕ) (old new : StoredHub D) (conn : ℕ) (result : Result ⊤ ConnectError)
-        → OnOk result (Simulates old.hub new.hub (λ limits h. after_one limits h (Connects conn))) → new.store ≡ old.store → OnErr result (new ≡ old)
-        → RunsCalls medium moment old new
-    goes-asked moment old new conn (Ok done) ok store err = goes-connected moment old new conn ok store
-    goes-asked moment old new conn (Err refusal) ok store err = rw err (goes-none moment old)
+    -- nothing was done
+    pub joins-none : (moment : ℕ) (hub : StoredHub D) → RunsSuch medium moment hub hub (OnlyJoins hub.hub hub.hub)
+    joins-none moment hub =
+        made-such moment hub hub [] (OnlyJoins hub.hub hub.hub) (made-none moment hub)
+        (record { spares = λ number there. All-nil (Spares number); stays = λ number there. there })
 
-    pub goes-sent : (moment : ℕ) (old new : StoredHub D) → Sends old new → RunsCalls medium moment old new
-    goes-sent moment old _ no_send = goes-none moment old
-    goes-sent moment old new (one_send last _ conn count before within does store) =
-        goes-both moment old last new (goes-sent moment old last before)
-        (λ limits h m. (
-          Consumes conn count ∷ [],
-          makes-one moment limits last new h (Consumes conn count) tt within
-              (comes-still limits last new h _ m store (consume-events h conn count) (does limits last.store.confirmed h m.hub)),
-        ))
+    -- a connection was made, under a number that was not in use, or refused
+    pub joins-asked : (moment : ℕ) (old new : StoredHub D) (conn : ℕ) (result : Result ⊤ ConnectError)
+        → OnOk result (Simulates old.hub new.hub (λ limits h. after_one limits h (Connects conn)))
+        → OnOk result ((other : ℕ) → is_connected new.hub other ≡ (other == conn || is_connected old.hub other)) → new.store ≡ old.store
+        → ((result ≡ Err Stopped) ↔ HasStopped old) → ((result ≡ Err InUse) ↔ ((¬ HasStopped old) × (is_connected old.hub conn ≡ true)))
+        → OnErr result (new ≡ old) → RunsSuch medium moment old new (OnlyJoins old.hub new.hub)
+    joins-asked moment old new conn (Err refusal) ok joins store stopped in_use err = rw err (joins-none moment old)
+    joins-asked moment old new conn (Ok done) ok joins store stopped in_use err =
+        made-such moment old new (Connects conn ∷ []) (OnlyJoins old.hub new.hub) (made-connected moment old new conn ok store)
+        (record {
+          spares = λ number there. All-cons (Spares number) (Connects conn) [] (λ same. taken (rw (sym same) at there)) (All-nil (Spares number));
+          stays = λ number there. joins number ∙ ap (λ (b : Bool). number == conn || b) there ∙ or-true (number == conn);
+        })
+      where
+        going : ¬ HasStopped old
+        going = λ has. let never = stopped.1 has in cc
+
+        taken : is_connected old.hub conn ≡ true → ⊥
+        taken there = let never = in_use.1 (going, there) in cc
+
+    pub sends-made : (moment : ℕ) (old new : StoredHub D) (told : List Act) → Sends old new told → Makes moment old new told
+    sends-made moment old _ _ no_send = made-none moment old
+    sends-made moment old new _ (one_send last _ told conn bytes before begins does store) =
+        made-both moment old last new told (Consumes conn bytes ∷ []) (sends-made moment old last told before)
+        (λ limits h m.
+        let shows = shows-some limits last.store.confirmed last.hub h conn m.hub begins.connected in
+        makes-one moment limits last new h (Consumes conn bytes) shows.0 tt begins shows.1
+        (comes-still limits last new h _ m store (consume-events h conn (length bytes)) (does limits last.store.confirmed h m.hub)))
 
   -- ---- steps that broke off
 
@@ -199,7 +260,7 @@ module _ {D : Type 0} (medium : D → Medium) where
         → StopsAt medium counts moment old new error
     breaks-at old mid new error goes halts limits h m =
         let a = goes limits h m in
-        record { acts = a.0; before = mid; makes = a.1; halted = new; halts = halts; sends = sends-none new }
+        record { acts = a.0; before = mid; makes = a.1; halted = new; halts = halts; told = []; sends = sends-none new }
 
     -- steps broke off after some others
     pub breaks-later : (old mid new : StoredHub D) (error : CommitError) → RunsCalls medium moment old mid → StopsAt medium counts moment mid new error
@@ -213,13 +274,14 @@ module _ {D : Type 0} (medium : D → Medium) where
           makes = makes-both moment limits old mid b.before h a.0 b.acts a.1 b.makes;
           halted = b.halted;
           halts = b.halts;
+          told = b.told;
           sends = b.sends;
         }
 
     -- and then clients were sent something
-    pub breaks-sent : (old mid new : StoredHub D) (error : CommitError) → StopsAt medium counts moment old mid error → Sends mid new
-        → StopsAt medium counts moment old new error
-    breaks-sent old mid new error breaks sent limits h m =
+    pub breaks-sent : (old mid new : StoredHub D) (error : CommitError) (more : List Act) → StopsAt medium counts moment old mid error
+        → Sends mid new more → StopsAt medium counts moment old new error
+    breaks-sent old mid new error more breaks sent limits h m =
         let b = breaks limits h m in
         record {
           acts = b.acts;
@@ -227,7 +289,8 @@ module _ {D : Type 0} (medium : D → Medium) where
           makes = b.makes;
           halted = b.halted;
           halts = b.halts;
-          sends = sends-both b.halted mid new b.sends sent;
+          told = b.told ++ more;
+          sends = sends-both b.halted mid new b.told more b.sends sent;
         }
 
     -- what a turn answers then

@@ -55,7 +55,7 @@ first-false : (a b : Bool) → (a || b) ≡ false → a ≡ false
 first-false false b is = refl
 first-false true b is = cc
 
-or-true : (a : Bool) → (a || true) ≡ true
+pub or-true : (a : Bool) → (a || true) ≡ true
 or-true false = refl
 or-true true = refl
 
@@ -101,11 +101,12 @@ module _ {S : Type 0} where
   stands-at slab number client is = at-number slab number ∙ ap (option_map view_of) is
 
   -- a number has the same client in two slabs with the same slot
-  same-at : (old new : Slab (Client S)) (number : ℕ) → get new number ≡ get old number → client_of (clients_of new) number ≡ client_of (clients_of old) number
+  pub same-at : (old new : Slab (Client S)) (number : ℕ) → get new number ≡ get old number → client_of (clients_of new) number
+      ≡ client_of (clients_of old) number
   same-at old new number same = at-number new number ∙ ap (option_map view_of) same ∙ sym (at-number old number)
 
   -- what stands at the key that was changed
-  changed-at : (old new : Slab (Client S)) (key : ℕ) (slot : Option (Client S)) → Updates old new key slot
+  pub changed-at : (old new : Slab (Client S)) (key : ℕ) (slot : Option (Client S)) → Updates old new key slot
       → client_of (clients_of new) key ≡ option_map view_of slot
   changed-at old new key slot updates = at-number new key ∙ ap (option_map view_of) updates.changed
 
@@ -214,10 +215,11 @@ module _ {S : Type 0} where
       → EachBelow key (WasWritten hub) (clients_of slab) → EachBelow (key + 1) (WasWritten next) (clients_of (with_value slab key now))
   written-more hub next slab key was now is own others here before =
       below-more (WasWritten next) slab (with_value slab key now) key (Some now) (updates-value slab key was now is) here
-      (λ number client small there room fine.
+      (λ number client small there.
       let apart : client.conn ≢ was.conn =
       λ same. omega (arith, small, own number client there, own key (view_of was) (stands-at slab key was is), same) in
-      rw (others client.conn apart) (before number client small there room fine))
+      let so_far = before number client small there in
+      (so_far.0, λ room fine. rw (others client.conn apart) (so_far.1 room fine)))
 
   -- a client was changed, and one that is not over is as it was
   pub stands-seen : (slab : Slab (Client S)) (key : ℕ) (was now : Client S) → get slab key ≡ Some was → (now.over ≡ false → view_of now ≡ view_of was)
@@ -259,6 +261,10 @@ module _ {S : Type 0} where
   conn-kept old new keeps number =
       sym (get_or-map conn_of (clients_of new) number None) ∙ ap (λ (cs : List (Option ℕ)). get_or cs number None) keeps.conns
       ∙ get_or-map conn_of (clients_of old) number None
+
+  pub some-kept : (old new : Slab (Client S)) → KeepsClients old new → (number : ℕ)
+      → is_some (client_of (clients_of new) number) ≡ is_some (client_of (clients_of old) number)
+  some-kept old new keeps number = both-some (client_of (clients_of new) number) (client_of (clients_of old) number) (conn-kept old new keeps number)
 
   -- the client that was there
   one-kept : (old new : Slab (Client S)) → KeepsClients old new → (number : ℕ) (client : ClientView) → client_of (clients_of new) number ≡ Some client

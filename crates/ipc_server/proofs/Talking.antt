@@ -1,15 +1,18 @@
 -- What a client's bytes come to, and what it is sent.
-use Rattle.std.proofs.Common.{◌≡◌, ℕ, List, [], ◌∷◌, ◌++◌, Option, Some, None, refl, sym, ap, ◌∙◌, append_assoc, append-nil, take, drop, length, arith}
+use Rattle.std.proofs.Common.{◌≡◌, ◌≤◌, ◌==◌, ℕ, true, false, List, [], ◌∷◌, ◌++◌, Option}
+use Rattle.std.proofs.Common.{Some, None, is_some, option_map, unwrap_or, refl, sym, ap, subst, ◌∙◌}
+use Rattle.std.proofs.Common.{append_assoc, append-nil, take, drop, length, arith}
 use Rattle.std.specs.Io.KnownBytes.{Appends, Consumes, Keeps, prepend_known}
 use Rattle.std.proofs.lemmas.List.{map-append, take-append-drop}
 use Rattle.std.proofs.lemmas.Grind.{flat_map-append}
 use Rattle.ipc_disk.specs.Medium.{Image, Medium}
-use Rattle.ipc_hub.specs.View.{StoredHub}
-use Rattle.ipc_hub.specs.Relations.Matches.{ServesFeed}
-use Rattle.ipc_server.specs.Acts.{Piece, after, all_of, feeds}
-use Rattle.ipc_server.specs.Acts.Act.{Feeds}
-use Rattle.ipc_server.specs.Runs.{RunsCalls, FeedsInput, WritesOutput}
-use Rattle.ipc_server.proofs.Going.{makes-both, makes-none, makes-one}
+use Rattle.ipc_hub.specs.Clients.{consume}
+use Rattle.ipc_hub.specs.View.{ConnectionView, HubView, StoredHub, connection_of, is_connected, output_of}
+use Rattle.ipc_hub.specs.Relations.Matches.{ServesFeed, Simulates}
+use Rattle.ipc_server.specs.Acts.{Piece, after, all_of, feeds, joined, sends}
+use Rattle.ipc_server.specs.Acts.Act.{Consumes as to_consume, Feeds}
+use Rattle.ipc_server.specs.Runs.{RunsCalls, FeedsInput, Sends, WritesOutput}
+use Rattle.ipc_server.proofs.Going.{makes-both, makes-none, makes-one, sends-both, sends-none, sends-one}
 
 -- ---- known bytes
 
@@ -52,24 +55,61 @@ appends-both (Some zs) None all xs ys one two = absurd one
 appends-both (Some zs) (Some mid) None xs ys one two = absurd two
 appends-both (Some zs) (Some mid) (Some all) xs ys one two = two ∙ ap (λ ws. ws ++ ys) one ∙ append_assoc zs xs ys
 
+-- what is appended is as before, if what is there is kept
+pub appends-kept : (known mid all : Option (List ℕ)) (xs : List ℕ) → Appends known mid xs → Keeps mid all → Appends known all xs
+appends-kept None mid all xs one same = tt
+appends-kept (Some ys) None all xs one same = absurd one
+appends-kept (Some ys) (Some mid) None xs one same = absurd same
+appends-kept (Some ys) (Some mid) (Some all) xs one same = same ∙ one
+
 -- ---- what a client is sent
 
-pub tells-none : (known : Option (List ℕ)) (shown : List ℕ) → WritesOutput known known shown shown
-tells-none known shown = ([], refl, appends-none known)
+-- a connection that shows something is there
+pub shown-there : (hub : HubView) (conn : ℕ) → (length (output_of hub conn) == 0) ≡ false → is_connected hub conn ≡ true
+shown-there hub conn some = by (connection_of hub conn) refl
+  where
+    by : (found : Option ConnectionView) → connection_of hub conn ≡ found → is_connected hub conn ≡ true
+    by None is =
+        let never : true ≡ false =
+        sym (ap (λ (r : Option ConnectionView). length (unwrap_or (option_map (λ c. c.outbox.visible) r) []) == 0) is) ∙ some in
+        cc
+    by (Some c) is = ap is_some is
 
-pub tells-both : (known mid all : Option (List ℕ)) (shown left less : List ℕ) → WritesOutput known mid shown left → WritesOutput mid all left less
-    → WritesOutput known all shown less
-tells-both known mid all shown left less one two = (
-  one.0 ++ two.0,
-  one.1 ∙ ap (λ xs. one.0 ++ xs) two.1 ∙ sym (append_assoc one.0 two.0 less),
-  appends-both known mid all one.0 two.0 one.2 two.2,
-)
+module _ {D : Type 0} (conn : ℕ) where
+  pub tells-none : (hub : StoredHub D) (known : Option (List ℕ)) → WritesOutput conn hub hub known known
+  tells-none hub known = ([], sends-none hub, refl, appends-none known)
 
--- one write, and what it took is consumed
-pub tells-one : (known all : Option (List ℕ)) (shown left : List ℕ) (count : ℕ) → Appends known all (take count shown) → left ≡ drop count shown
-    → WritesOutput known all shown left
-tells-one known all shown left count appends rest =
-    (take count shown, sym (take-append-drop count shown) ∙ ap (λ xs. take count shown ++ xs) (sym rest), appends)
+  pub tells-both : (old mid new : StoredHub D) (known some all : Option (List ℕ)) → WritesOutput conn old mid known some
+      → WritesOutput conn mid new some all → WritesOutput conn old new known all
+  tells-both old mid new known some all one two =
+      let same : joined (one.0 ++ two.0) ≡ joined one.0 ++ joined two.0 = flat_map-append (λ bytes. bytes) one.0 two.0 in (
+        one.0 ++ two.0,
+        subst (Sends old new) (sym (map-append (λ bytes. to_consume conn bytes) one.0 two.0))
+            (sends-both old mid new (sends conn one.0) (sends conn two.0) one.1 two.1),
+        one.2 ∙ ap (λ (xs : List ℕ). joined one.0 ++ xs) two.2 ∙ sym (append_assoc (joined one.0) (joined two.0) (output_of new.hub conn))
+            ∙ ap (λ (xs : List ℕ). xs ++ output_of new.hub conn) (sym same),
+        subst (Appends known all) (sym same) (appends-both known some all (joined one.0) (joined two.0) one.3 two.3),
+      )
+
+  -- a write that took nothing
+  pub tells-kept : (old new : StoredHub D) (known some all : Option (List ℕ)) → WritesOutput conn old new known some → Keeps some all
+      → WritesOutput conn old new known all
+  tells-kept old new known some all one same = (one.0, one.1, one.2, appends-kept known some all (joined one.0) one.3 same)
+
+  -- one write, and what it took is consumed
+  pub tells-one : (old new : StoredHub D) (count : ℕ) (known all : Option (List ℕ)) → count ≤ length (output_of old.hub conn)
+      → is_connected old.hub conn ≡ true → Simulates old.hub new.hub (λ _ h. consume h conn count) → new.store ≡ old.store
+      → output_of new.hub conn ≡ drop count (output_of old.hub conn) → Appends known all (take count (output_of old.hub conn))
+      → WritesOutput conn old new known all
+  tells-one old new count known all within there does store rest appends =
+      let shown : List ℕ = output_of old.hub conn in
+      let bytes : List ℕ = take count shown in (
+        bytes ∷ [],
+        sends-one old new conn count within there does store,
+        sym (take-append-drop count shown) ∙ ap (λ (xs : List ℕ). bytes ++ xs) (sym rest)
+            ∙ ap (λ (xs : List ℕ). xs ++ output_of new.hub conn) (sym (append-nil bytes)),
+        subst (Appends known all) (sym (append-nil bytes)) appends,
+      )
 
 -- ---- what a client's bytes come to
 
@@ -109,7 +149,7 @@ module _ {D : Type 0} (medium : D → Medium) (conn moment : ℕ) where
       let a = serves limits h m in
       let piece : Piece = record { bytes = take count bytes; refused = a.0 } in (
         piece ∷ [],
-        makes-one medium moment limits old new h (Feeds conn (take count bytes) moment a.0) refl tt a.1,
+        makes-one medium moment limits old new h (Feeds conn (take count bytes) moment a.0) [] refl tt refl a.1,
         rw (append-nil (take count bytes)) (piece-consumes bytes count known),
       )
 

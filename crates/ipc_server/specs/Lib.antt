@@ -6,5 +6,6 @@ pub mod Rounds
 pub mod Rest
 pub mod Rows
 pub mod Served
+pub mod Streams
 pub mod Turns
 pub mod View

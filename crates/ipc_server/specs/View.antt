@@ -1,5 +1,5 @@
 -- What a caller sees of a server: its hub, and its clients by the number of their connection.
-use Rattle.std.specs.Prelude.{◌≡◌, ◌⊎◌, ℕ, Bool, true, false, ◌&&◌, ◌||◌, ◌==◌, List, [], length}
+use Rattle.std.specs.Prelude.{◌≡◌, ◌⊎◌, ◌<◌, ℕ, Bool, true, false, ◌&&◌, ◌||◌, ◌==◌, List, [], length}
 use Rattle.std.specs.Prelude.{Option, Some, None, is_some, option_map, slice_index_or, unwrap_or}
 use Rattle.ipc_hub.specs.View.{HubView, StoredHub, is_connected, output_of, ended_of}
 
@@ -73,12 +73,13 @@ pub record HaveConnections (hub : HubView) (clients : List (Option ClientView)) 
 abbrev pub WasRead : ClientView → Type 0
 WasRead client = client.readable ≡ true → client.piece ≡ [] → client.reads ≡ most_reads
 
--- A client was written to: if its socket is not full and has not failed, then nothing is left that it may see, or its
--- writes are used.
+-- A client was written to: a write was made if its socket is full; and if that is not full and has not failed, then
+-- nothing is left that it may see, or its writes are used.
 abbrev pub WasWritten : HubView → ClientView → Type 0
 WasWritten hub client =
-    client.writing.full ≡ false → client.writing.failed ≡ false
-    → (output_of hub client.conn ≡ []) ⊎ (client.writing.writes ≡ most_writes)
+    (client.writing.full ≡ true → 0 < client.writing.writes)
+    × (client.writing.full ≡ false → client.writing.failed ≡ false
+    → (output_of hub client.conn ≡ []) ⊎ (client.writing.writes ≡ most_writes))
 
 -- A client is gone if it is over, or if the server has ended its connection and all that it may see was written.
 abbrev pub is_gone : HubView → ClientView → Bool

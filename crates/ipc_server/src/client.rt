@@ -5,7 +5,7 @@ ghost use Rattle.std.specs.Prelude.{[]};
 ghost use Rattle.std.specs.Prelude.{IfErr, IfOk, OnOk};
 ghost use Rattle.std.specs.Io.KnownBytes.{Keeps, prepend_known};
 ghost use Rattle.ipc_hub.specs.View.{numbers_of, output_of};
-ghost use Rattle.ipc_server.specs.Runs.{FeedsInput, Sends, WritesOutput, StopsAt};
+ghost use Rattle.ipc_server.specs.Runs.{FeedsInput, WritesOutput, StopsAt};
 ghost use Rattle.ipc_server.specs.Rest.{has_work};
 ghost use Rattle.ipc_server.specs.Rows.{view_of};
 ghost use Rattle.ipc_server.specs.View.{WasRead, WasWritten, is_gone, most_reads};
@@ -168,6 +168,8 @@ impl<S: Read> Client<S> {
         ensures failed { self.new.failed ≡ self.old.failed }
         ensures numbers { numbers_of hub.new.hub ≡ numbers_of hub.old.hub }
         ensures read { OnOk result (self.new.over ≡ false → WasRead (view_of self.new)) }
+        // It is noted that a read would block only after one was made.
+        ensures tried { OnOk result (self.old.readable ≡ true → self.new.readable ≡ false → 0 < self.new.reads) }
     {
         self.reads = 0;
         self.feed(hub, moment)?;
@@ -213,6 +215,7 @@ impl<S: Read> Client<S> {
         ensures conn { self.new.conn ≡ self.old.conn }
         ensures failed { self.new.failed ≡ self.old.failed }
         ensures reads { self.new.reads ≡ self.old.reads }
+        ensures readable { self.new.readable ≡ self.old.readable }
         ensures numbers { numbers_of hub.new.hub ≡ numbers_of hub.old.hub }
     {
         if self.piece.is_empty() {
@@ -231,10 +234,9 @@ impl<S: Read> Client<S> {
 impl<S: Write> Client<S> {
     /// Writes what the client may see, until nothing is left or a write would block.
     pub fn put_out<D: SectorDisk>(&mut self, hub: &mut Hub<D>)
-        ensures sends { Sends hub.old hub.new }
         // The socket is written what the client could see, in order, each byte once.
-        ensures tells { WritesOutput (S.contents self.old.socket) (S.contents self.new.socket)
-            (output_of hub.old.hub self.old.conn) (output_of hub.new.hub self.old.conn) }
+        ensures tells { WritesOutput self.old.conn hub.old hub.new (S.contents self.old.socket)
+            (S.contents self.new.socket) }
         ensures written { WasWritten hub.new.hub (view_of self.new) }
         ensures same { view_of self.new
             ≡ record (view_of self.old) { writing = (view_of self.new).writing } }

@@ -1,12 +1,13 @@
 //! What is done with all clients, in rising number.
 
-ghost use Rattle.std.specs.Prelude.{◌≡◌, ◌==◌, ◌&&◌, ℕ, not, true, false, None, IfErr, OnErr, OnOk};
+ghost use Rattle.std.specs.Prelude.{◌≡◌, ◌==◌, ◌&&◌, ℕ, not, true, false, List, [], Option, None, IfErr, OnErr, OnOk};
 ghost use Rattle.ipc_hub.specs.View.{StoredHub, is_connected, numbers_of};
-ghost use Rattle.ipc_server.specs.Runs.{RunsCalls, Sends, StopsAt};
+ghost use Rattle.ipc_server.specs.Runs.{RunsCalls, RunsSuch, StopsAt};
 ghost use Rattle.ipc_hub.specs.Relations.Faults.{Halts};
-ghost use Rattle.ipc_server.specs.Rounds.{Answers, HangsUp, EndsRound};
+ghost use Rattle.ipc_server.specs.Rounds.{EndsConnection, EndsRound};
 ghost use Rattle.ipc_server.specs.Rest.{has_work};
 ghost use Rattle.ipc_server.specs.Rows.{clients_of, EachBelow, IsServing, KeepsClients, StandsIn, Stays};
+ghost use Rattle.ipc_server.specs.Streams.{AnswersEach, AreSent, HearsEach, PartsWith, SendsEach, Streams};
 ghost use Rattle.ipc_server.specs.View.{EachClient, HaveOwnNumbers, SomeClient, WasRead, WasWritten};
 ghost use Rattle.ipc_server.specs.View.{client_of, has_failed, is_gone};
 
@@ -28,6 +29,9 @@ pub(crate) fn serve_all<D: SectorDisk, S: Read + Write + Drop>(
     moment: Moment,
 ) -> Result<(), CommitError>
     ensures goes { OnOk result (RunsCalls D.medium moment.0 hub.old hub.new) }
+    // Each client is fed what its own socket has given, and what it is sent is written to that.
+    ensures streams { IsServing hub.old.hub clients.old → OnOk result (RunsSuch D.medium moment.0 hub.old hub.new
+        (Streams S.remaining S.contents clients.old clients.new)) }
     ensures committed { OnOk result (hub.new.store.waiting ≡ 0) }
     ensures breaks { IfErr result (λ e. StopsAt D.medium D.counts moment.0 hub.old hub.new e) }
     ensures serving { IsServing hub.old.hub clients.old → IsServing hub.new.hub clients.new }
@@ -55,7 +59,8 @@ fn take_in_all<D: SectorDisk, S: Read>(
     clients: &mut Slab<Client<S>>,
     moment: Moment,
 ) -> Result<(), CommitError>
-    ensures goes { OnOk result (RunsCalls D.medium moment.0 hub.old hub.new) }
+    ensures hears { OnOk result (RunsSuch D.medium moment.0 hub.old hub.new
+        (HearsEach S.remaining clients.old clients.new)) }
     ensures breaks { IfErr result (λ e. StopsAt D.medium D.counts moment.0 hub.old hub.new e) }
     ensures numbers { numbers_of hub.new.hub ≡ numbers_of hub.old.hub }
     ensures keeps { KeepsClients clients.old clients.new }
@@ -75,7 +80,7 @@ fn answer_all<D: SectorDisk, S: Write>(
     hub: &mut Hub<D>,
     clients: &mut Slab<Client<S>>,
 ) -> Result<(), CommitError>
-    ensures answers { OnOk result (Answers D.medium hub.old hub.new) }
+    ensures answers { OnOk result (AnswersEach D.medium S.contents hub.old hub.new clients.old clients.new) }
     ensures committed { OnOk result (hub.new.store.waiting ≡ 0) }
     ensures refused { IfErr result (λ e. Halts D.medium D.counts hub.old hub.new e) }
     ensures numbers { numbers_of hub.new.hub ≡ numbers_of hub.old.hub }
@@ -91,7 +96,7 @@ fn answer_all<D: SectorDisk, S: Write>(
 
 /// Writes to the clients what they may see.
 pub(crate) fn put_out_all<D: SectorDisk, S: Write>(hub: &mut Hub<D>, clients: &mut Slab<Client<S>>)
-    ensures sends { Sends hub.old hub.new }
+    ensures sends { SendsEach S.contents hub.old hub.new clients.old clients.new }
     ensures numbers { numbers_of hub.new.hub ≡ numbers_of hub.old.hub }
     ensures keeps { KeepsClients clients.old clients.new }
     ensures stays { Stays (clients_of clients.old) (clients_of clients.new) }
@@ -108,6 +113,8 @@ pub(crate) fn put_out_all<D: SectorDisk, S: Write>(hub: &mut Hub<D>, clients: &m
 // Notes which clients are gone, all of them before the first is parted with.
 fn note_ends<D: SectorDisk, S>(hub: &Hub<D>, clients: &mut Slab<Client<S>>)
     ensures keeps { KeepsClients clients.old clients.new }
+    // No socket is written to.
+    ensures sockets { (contents : S → Option (List ℕ)) → AreSent contents clients.old clients.new [] }
     ensures stands { StandsIn (clients_of clients.old) (clients_of clients.new) }
     ensures gone { EachBelow clients.new.capacity
         (λ c. c.over ≡ false → is_gone hub.now.hub c ≡ false) (clients_of clients.new) }
@@ -127,8 +134,10 @@ fn part_with_gone<D: SectorDisk, S: Drop>(
     clients: &mut Slab<Client<S>>,
     moment: Moment,
 ) -> Result<(), CommitError>
-    ensures hangs_up { OnOk result (HangsUp D.medium moment.0 hub.old hub.new) }
+    // The connections that are hung up are none of those clients that are left.
+    ensures hangs_up { OnOk result (PartsWith D.medium moment.0 hub.old hub.new clients.old clients.new) }
     ensures breaks { IfErr result (λ e. StopsAt D.medium D.counts moment.0 hub.old hub.new e) }
+    ensures sockets { (contents : S → Option (List ℕ)) → AreSent contents clients.old clients.new [] }
     ensures serving { IsServing hub.old.hub clients.old → IsServing hub.new.hub clients.new }
     ensures capacity { clients.new.capacity ≡ clients.old.capacity }
     ensures stands { StandsIn (clients_of clients.old) (clients_of clients.new) }
@@ -149,7 +158,7 @@ fn part_with_gone<D: SectorDisk, S: Drop>(
 
 // Hangs up a connection.
 fn hang_up<D: SectorDisk>(hub: &mut Hub<D>, conn: u32, moment: Moment) -> Result<(), CommitError>
-    ensures hangs_up { OnOk result (HangsUp D.medium moment.0 hub.old hub.new) }
+    ensures hangs_up { OnOk result (EndsConnection D.medium moment.0 conn hub.old hub.new) }
     ensures breaks { IfErr result (λ e. StopsAt D.medium D.counts moment.0 hub.old hub.new e) }
     ensures leaves { OnOk result ((other : ℕ) → is_connected hub.new.hub other
         ≡ (not (other == conn) && is_connected hub.old.hub other)) }

@@ -4,10 +4,11 @@ ghost use Rattle.std.specs.Prelude.{◌≡◌, ◌≤◌, ◌↔◌, ℕ, Bool, 
 ghost use Rattle.std.specs.Prelude.{IfErr, IfOk, IsTrue, OnOk};
 ghost use Rattle.ipc_wait.specs.Waits.{next_deadline};
 ghost use Rattle.ipc_hub.specs.View.{HasStopped};
-ghost use Rattle.ipc_server.specs.Runs.{RunsCalls, RunsRound, StopsAt, BreaksOff};
+ghost use Rattle.ipc_server.specs.Runs.{RunsRound, RunsSuch, StopsAt, BreaksOff};
 ghost use Rattle.ipc_server.specs.Rounds.{HasParted};
 ghost use Rattle.ipc_server.specs.Rest.{IsBusy, longest_wait, until_due};
 ghost use Rattle.ipc_server.specs.Rows.{KeepsClients, KeepsFailed};
+ghost use Rattle.ipc_server.specs.Streams.{OnlyJoins, SparesBoth};
 ghost use Rattle.ipc_server.specs.View.{EachClient, HaveConnections, WasRead, WasWritten};
 ghost use Rattle.ipc_server.specs.View.{client_of, has_failed};
 
@@ -94,7 +95,9 @@ pub struct Unserved<D: SectorDisk> {
 fn watch<R: Net + AllocGlobal>(
     rt: &R,
     listener: &mut UnixListener,
-) -> Result<(Poll, Events), ServerError> {
+) -> Result<(Poll, Events), ServerError>
+    ensures { listener.new ≡ listener.old }
+{
     let Ok(events) = Events::with_capacity(rt.alloc(), MOST_EVENTS) else {
         return Err(ServerError::NoMemory);
     };
@@ -137,6 +140,8 @@ impl<D: SectorDisk> Server<D> {
         requires { hub.hub.connections ≡ [] }
         ensures ok { IfOk result (λ server. server.hub ≡ hub) }
         ensures err { IfErr result (λ unserved. unserved.hub ≡ hub) }
+        // It is handed back as it came.
+        ensures listener { IfErr result (λ unserved. unserved.listener ≡ listener) }
     {
         let mut listener = listener;
         match watch(rt, &mut listener) {
@@ -164,6 +169,9 @@ impl<D: SectorDisk> Server<D> {
     /// parts with those that are gone.
     pub fn turn(&mut self, moment: Moment) -> Result<(), ServeFault>
         ensures ok { OnOk result (RunsRound D.medium moment.0 self.old.hub self.new.hub) }
+        // The connection of a client that was there before and is there after is neither made nor hung up.
+        ensures spares { OnOk result (RunsSuch D.medium moment.0 self.old.hub self.new.hub
+            (SparesBoth self.old.clients self.new.clients)) }
         // All of it lasts.
         ensures committed { OnOk result (self.new.hub.store.waiting ≡ 0) }
         // Each client has its connection, and no other connection is there.
@@ -200,6 +208,8 @@ impl<D: SectorDisk> Server<D> {
     // What a turn does after the wait.
     fn go_round(&mut self, moment: Moment) -> Result<(), CommitError>
         ensures goes { OnOk result (RunsRound D.medium moment.0 self.old.hub self.new.hub) }
+        ensures spares { OnOk result (RunsSuch D.medium moment.0 self.old.hub self.new.hub
+            (SparesBoth self.old.clients self.new.clients)) }
         ensures committed { OnOk result (self.new.hub.store.waiting ≡ 0) }
         ensures connected { HaveConnections self.new.hub.hub self.new.clients }
         ensures read { OnOk result (EachClient WasRead self.new.clients) }
@@ -310,7 +320,8 @@ impl<D: SectorDisk> Server<D> {
     // there may be more. If an accept fails otherwise than that it would block, as without a
     // descriptor, connections may wait still, and the system does not tell of them again.
     fn admit(&mut self) -> bool
-        ensures goes { (moment : ℕ) → RunsCalls D.medium moment self.old.hub self.new.hub }
+        ensures goes { (moment : ℕ) → RunsSuch D.medium moment self.old.hub self.new.hub
+            (OnlyJoins self.old.hub.hub self.new.hub.hub) }
         ensures failed { KeepsFailed self.old.clients self.new.clients }
     {
         if !self.may_accept {
@@ -330,7 +341,8 @@ impl<D: SectorDisk> Server<D> {
 
     // Takes a new connection, or closes it if something that it needs is refused.
     fn take_client(&mut self, socket: UnixStream)
-        ensures goes { (moment : ℕ) → RunsCalls D.medium moment self.old.hub self.new.hub }
+        ensures goes { (moment : ℕ) → RunsSuch D.medium moment self.old.hub self.new.hub
+            (OnlyJoins self.old.hub.hub self.new.hub.hub) }
         ensures failed { KeepsFailed self.old.clients self.new.clients }
     {
         let mut socket = socket;

@@ -1,8 +1,11 @@
-use Rattle.ipc_server.proofs.Turning.{serving, turned, broken, all-served, short}
+use Rattle.ipc_server.proofs.Turning.{sent-of, serving, turned, broken, all-served, short}
 use Rattle.ipc_server.proofs.laws.turns_are_calls_on_a_hub.Goals as goal
 
 pub returns-clause-calls : goal.returns-clause-calls
 returns-clause-calls g c = λ limits opened moment last now seen turns. serving g.D.SectorDisk.medium limits opened moment last now seen turns
+
+pub returns-clause-sent : goal.returns-clause-sent
+returns-clause-sent g c = λ limits moment last next now acts sent steps. sent-of g.D.SectorDisk.medium limits moment last now next acts sent steps
 
 pub returns-clause-turn : goal.returns-clause-turn
 returns-clause-turn g c = λ limits opened before moment last next now seen turns matches later goes.

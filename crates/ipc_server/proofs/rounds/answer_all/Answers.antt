@@ -18,13 +18,19 @@ returns-in_err-release-clause-stays g c = stays-none (clients_of c.args.clients.
 
 pub returns-clause-answers : goal.returns-clause-answers
 returns-clause-answers g c = record {
-  lasting = c.release.new.self;
-  releases = record { same = c.in_ok-release.ensures.ok; takes = c.in_ok-release.ensures.takes };
-  sends = c.put_out_all.ensures.sends;
+  told = c.put_out_all.ensures.sends.told;
+  answers = record {
+    lasting = c.release.new.self;
+    releases = record { same = c.in_ok-release.ensures.ok; takes = c.in_ok-release.ensures.takes };
+    sends = c.put_out_all.ensures.sends.sends;
+  };
+  sent = c.put_out_all.ensures.sends.sent;
 }
 
 pub returns-clause-committed : goal.returns-clause-committed
-returns-clause-committed g c = rw (sends-store c.release.new.self c.put_out_all.new.hub c.put_out_all.ensures.sends) c.in_ok-release.ensures.waiting
+returns-clause-committed g c =
+    let sends = c.put_out_all.ensures.sends in
+    rw (sends-store c.release.new.self c.put_out_all.new.hub sends.told sends.sends) c.in_ok-release.ensures.waiting
 
 pub returns-clause-numbers : goal.returns-clause-numbers
 returns-clause-numbers g c = c.put_out_all.ensures.numbers ∙ c.release.ensures.numbers

@@ -1,5 +1,6 @@
+use Rattle.std.proofs.Common.{inl, inr}
 use Rattle.ipc_server.proofs.Going.{goes-none, breaks-at}
-use Rattle.ipc_server.proofs.Parting.{hangs-none, hangs-one, none-leaves}
+use Rattle.ipc_server.proofs.Parting.{none-leaves}
 use Rattle.ipc_server.proofs.rounds.hang_up.Goals as goal
 
 pub returns-in-Err-Device-clause-breaks : goal.returns-in-Err-Device-clause-breaks
@@ -15,13 +16,10 @@ returns-in-Err-Stopped-clause-breaks g c =
     (rw c.in-Err-Stopped.field-0-is at c.in-Err-Stopped.ensures.refused)
 
 pub returns-in-Ok-clause-hangs_up : goal.returns-in-Ok-clause-hangs_up
-returns-in-Ok-clause-hangs_up g c =
-    hangs-one g.D.SectorDisk.medium c.args.moment.0 c.args.hub.now c.hangup.new.self c.args.conn c.in-Ok.ensures.ok
+returns-in-Ok-clause-hangs_up g c = inr c.in-Ok.ensures.ok
 
 pub returns-in-Err-Unknown-clause-hangs_up : goal.returns-in-Err-Unknown-clause-hangs_up
-returns-in-Err-Unknown-clause-hangs_up g c =
-    rw (rw c.in-Err-Unknown.field-0-is at c.in-Err-Unknown.ensures.refused).2
-    (hangs-none g.D.SectorDisk.medium c.args.moment.0 c.args.hub.now)
+returns-in-Err-Unknown-clause-hangs_up g c = inl (rw c.in-Err-Unknown.field-0-is at c.in-Err-Unknown.ensures.refused).2
 
 pub returns-in-Err-Unknown-clause-leaves : goal.returns-in-Err-Unknown-clause-leaves
 returns-in-Err-Unknown-clause-leaves g c =

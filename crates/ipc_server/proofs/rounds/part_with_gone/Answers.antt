@@ -5,14 +5,16 @@ use Rattle.slab.specs.Slab.{get}
 use Rattle.ipc_server.specs.Rows.{clients_of}
 use Rattle.ipc_server.specs.View.{ClientView}
 use Rattle.ipc_server.proofs.Going.{breaks-later}
-use Rattle.ipc_server.proofs.Parting.{hangs-both, hangs-goes, hangs-none}
+use Rattle.ipc_server.proofs.Parting.{hangs-goes}
 use Rattle.ipc_server.proofs.Standing.{below-left, below-same, keeps-none, serving-gone, serving-kept, stands-both, stands-left, stands-none}
+use Rattle.ipc_server.proofs.Streaming.{parts-more, parts-none, unsent-left, unsent-none}
 use Rattle.ipc_server.proofs.rounds.part_with_gone.Goals.{then-is_over+in_ok-hang_up+in-Some-1, then-is_over+in_ok-hang_up+in-None-1, else-is_over}
 use Rattle.ipc_server.proofs.rounds.part_with_gone.Goals as goal
 
 pub loop-key-init : goal.loop-key-init
 loop-key-init g c = record {
-  hangs_up = hangs-none g.D.SectorDisk.medium c.args.moment.0 c.args.hub.now;
+  hangs_up = parts-none g.D.SectorDisk.medium c.args.moment.0 c.args.hub.now c.args.clients.now;
+  sockets = λ contents. unsent-none contents c.args.clients.now;
   serving = λ is. is;
   capacity = refl;
   stands = stands-none (clients_of c.args.clients.now);
@@ -24,7 +26,8 @@ returns-in_err-hang_up-clause-breaks g c =
     let q = err_from_is_err_and c.from_residual.result c.from_residual.ensures.1 in
     let med = g.D.SectorDisk.medium in
     rw (q.1, q.2) (breaks-later med g.D.SectorDisk.counts c.args.moment.0 c.args.hub.now c.loop-key.hub c.hang_up.new.hub _
-    (hangs-goes med c.args.moment.0 g.met.D.SectorDisk.only_now c.args.hub.now c.loop-key.hub c.loop-key.invariant.hangs_up)
+    (hangs-goes med c.args.moment.0 g.met.D.SectorDisk.only_now c.args.hub.now c.loop-key.hub c.loop-key.invariant.hangs_up.acts
+    c.loop-key.invariant.hangs_up.hangs_up)
     c.in_err-hang_up.ensures.breaks)
 
 pub returns-in_err-hang_up-clause-serving : goal.returns-in_err-hang_up-clause-serving
@@ -38,6 +41,7 @@ loop-key-preserved-in_default g c =
     let none : get c.loop-key.clients c.loop-key.key ≡ None = sym c.get.ensures ∙ ap option_copied c.in_default.is in
     record {
       hangs_up = c.loop-key.invariant.hangs_up;
+      sockets = c.loop-key.invariant.sockets;
       serving = c.loop-key.invariant.serving;
       capacity = c.loop-key.invariant.capacity;
       stands = c.loop-key.invariant.stands;
@@ -51,8 +55,11 @@ loop-key-preserved g c = elim c.if-is_over.branch [
       let new = w.try_remove.new.self in
       let med = g.D.SectorDisk.medium in
       rw (w.hub-is, w.clients-is) (record {
-        hangs_up = hangs-both med c.args.moment.0 c.args.hub.now c.loop-key.hub w.hang_up.new.hub c.loop-key.invariant.hangs_up
-            w.in_ok-hang_up.ensures.hangs_up;
+        hangs_up = parts-more med c.args.moment.0 c.args.hub.now c.loop-key.hub w.hang_up.new.hub c.args.clients.now old new c.loop-key.key
+            c.in-Some.client.now (sym c.in-Some.ensures) c.loop-key.invariant.serving w.try_remove.ensures.updates
+            (rw w.conn.ensures at w.in_ok-hang_up.ensures.hangs_up) c.loop-key.invariant.hangs_up;
+        sockets = λ contents. unsent-left contents c.args.clients.now old new c.loop-key.key w.try_remove.ensures.updates
+            (c.loop-key.invariant.sockets contents);
         serving = λ is. serving-gone c.loop-key.hub.hub w.hang_up.new.hub.hub old new c.loop-key.key c.in-Some.client.now (sym c.in-Some.ensures)
             (c.loop-key.invariant.serving is) w.try_remove.ensures.updates w.try_remove.ensures.capacity (rw w.conn.ensures at w.in_ok-hang_up.ensures.leaves);
         capacity = w.try_remove.ensures.capacity ∙ c.loop-key.invariant.capacity;
@@ -65,8 +72,11 @@ loop-key-preserved g c = elim c.if-is_over.branch [
       let new = w.try_remove.new.self in
       let med = g.D.SectorDisk.medium in
       rw (w.hub-is, w.clients-is) (record {
-        hangs_up = hangs-both med c.args.moment.0 c.args.hub.now c.loop-key.hub w.hang_up.new.hub c.loop-key.invariant.hangs_up
-            w.in_ok-hang_up.ensures.hangs_up;
+        hangs_up = parts-more med c.args.moment.0 c.args.hub.now c.loop-key.hub w.hang_up.new.hub c.args.clients.now old new c.loop-key.key
+            c.in-Some.client.now (sym c.in-Some.ensures) c.loop-key.invariant.serving w.try_remove.ensures.updates
+            (rw w.conn.ensures at w.in_ok-hang_up.ensures.hangs_up) c.loop-key.invariant.hangs_up;
+        sockets = λ contents. unsent-left contents c.args.clients.now old new c.loop-key.key w.try_remove.ensures.updates
+            (c.loop-key.invariant.sockets contents);
         serving = λ is. serving-gone c.loop-key.hub.hub w.hang_up.new.hub.hub old new c.loop-key.key c.in-Some.client.now (sym c.in-Some.ensures)
             (c.loop-key.invariant.serving is) w.try_remove.ensures.updates w.try_remove.ensures.capacity (rw w.conn.ensures at w.in_ok-hang_up.ensures.leaves);
         capacity = w.try_remove.ensures.capacity ∙ c.loop-key.invariant.capacity;
@@ -78,6 +88,7 @@ loop-key-preserved g c = elim c.if-is_over.branch [
       let live : c.in-Some.client.now.over ≡ false = sym w.if-is_over.ensures in
       rw (w.hub-is, w.clients-is) (record {
         hangs_up = c.loop-key.invariant.hangs_up;
+        sockets = c.loop-key.invariant.sockets;
         serving = c.loop-key.invariant.serving;
         capacity = c.loop-key.invariant.capacity;
         stands = c.loop-key.invariant.stands;

@@ -3,14 +3,14 @@ use Rattle.std.specs.Option.{option_copied_mut}
 use Rattle.slab.specs.Slab.{get, with_value}
 use Rattle.ipc_server.specs.Rows.{clients_of}
 use Rattle.ipc_server.specs.View.{ClientView, WasWritten}
-use Rattle.ipc_server.proofs.Going.{sends-both, sends-none}
 use Rattle.ipc_server.proofs.Standing.{below-same, keeps-both, keeps-none, keeps-value, own-kept, stays-both, stays-none, stays-value, written-more}
+use Rattle.ipc_server.proofs.Streaming.{sends-each-more, sends-each-none}
 use Rattle.ipc_server.proofs.rounds.put_out_all.Goals.{in-Some, in_default}
 use Rattle.ipc_server.proofs.rounds.put_out_all.Goals as goal
 
 pub loop-key-init : goal.loop-key-init
 loop-key-init g c = record {
-  sends = sends-none c.args.hub.now;
+  sends = sends-each-none g.S.Write.contents c.args.hub.now c.args.clients.now;
   numbers = refl;
   keeps = keeps-none c.args.clients.now;
   stays = stays-none (clients_of c.args.clients.now);
@@ -26,7 +26,8 @@ loop-key-preserved g c = elim c.match-get_mut.branch [
       let now = w.put_out.new.self in
       let found = sym w.in-Some.ensures.value in
       rw (w.hub-is, w.clients-is) (record {
-        sends = sends-both c.args.hub.now c.loop-key.hub w.put_out.new.hub c.loop-key.invariant.sends w.put_out.ensures.sends;
+        sends = sends-each-more g.S.Write.contents c.args.hub.now c.loop-key.hub w.put_out.new.hub c.args.clients.now slab key was now found
+            c.loop-key.invariant.keeps w.put_out.ensures.tells c.loop-key.invariant.sends;
         numbers = w.put_out.ensures.numbers ∙ c.loop-key.invariant.numbers;
         keeps = keeps-both c.args.clients.now slab (with_value slab key now) c.loop-key.invariant.keeps
             (keeps-value slab key was now found (ap (λ (v : ClientView). v.conn) w.put_out.ensures.same) w.put_out.ensures.failed);

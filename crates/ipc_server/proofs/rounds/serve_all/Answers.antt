@@ -1,11 +1,14 @@
 use Rattle.std.proofs.Common.{◌≡◌, ◌<◌, ℕ, Some, false, ◌∙◌}
 use Rattle.std.proofs.lemmas.Result.{err_from_is_err_and, on_ok_weaker, IfErr-weaker}
 use Rattle.ipc_server.specs.Runs.{RunsCalls}
+use Rattle.ipc_server.specs.Rounds.{EndsRound}
 use Rattle.ipc_server.specs.Rows.{IsServing, KeepsClients, clients_of}
+use Rattle.ipc_server.specs.Streams.{AnswersEach, HearsEach}
 use Rattle.ipc_server.specs.View.{ClientView, WasRead, client_of, is_gone}
-use Rattle.ipc_server.proofs.Going.{goes-both, breaks-at, breaks-later}
+use Rattle.ipc_server.proofs.Going.{goes-both, breaks-at, breaks-later, such-goes}
 use Rattle.ipc_server.proofs.Parting.{goes-answered, hangs-goes, parts-goes}
-use Rattle.ipc_server.proofs.Standing.{failed-left, keeps-both, left-each, serving-kept, serving-noted, stands-all, stands-both}
+use Rattle.ipc_server.proofs.Standing.{failed-left, keeps-both, left-each, own-kept, serving-kept, serving-noted, some-kept, stands-all, stands-both}
+use Rattle.ipc_server.proofs.Streaming.{streams-all}
 use Rattle.ipc_server.proofs.rounds.serve_all.Given.{Over}
 use Rattle.ipc_server.proofs.rounds.serve_all.Goals as goal
 
@@ -25,7 +28,8 @@ pub returns-in_err-answer_all-clause-breaks : goal.returns-in_err-answer_all-cla
 returns-in_err-answer_all-clause-breaks g c =
     let q = err_from_is_err_and c.from_residual-in_err-answer_all.result c.from_residual-in_err-answer_all.ensures.1 in
     rw (q.1, q.2) (breaks-at g.D.SectorDisk.medium g.D.SectorDisk.counts c.args.moment.0 c.args.hub.now c.take_in_all.new.hub c.answer_all.new.hub _
-    c.in_ok-take_in_all.ensures.goes c.in_err-answer_all.ensures.refused)
+    (such-goes g.D.SectorDisk.medium c.args.moment.0 c.args.hub.now c.take_in_all.new.hub
+    (HearsEach g.S.Read.remaining c.args.clients.now c.take_in_all.new.clients) c.in_ok-take_in_all.ensures.hears) c.in_err-answer_all.ensures.refused)
 
 pub returns-in_err-answer_all-clause-serving : goal.returns-in_err-answer_all-clause-serving
 returns-in_err-answer_all-clause-serving g c =
@@ -41,7 +45,10 @@ returns-in_err-part_with_gone-clause-breaks g c =
     let med = g.D.SectorDisk.medium in
     rw (q.1, q.2) (breaks-later med g.D.SectorDisk.counts c.args.moment.0 c.args.hub.now c.answer_all.new.hub c.part_with_gone.new.hub _
     (goes-answered med c.args.moment.0 g.met.D.SectorDisk.only_now c.args.hub.now c.take_in_all.new.hub c.answer_all.new.hub
-    c.in_ok-take_in_all.ensures.goes c.in_ok-answer_all.ensures.answers)
+    c.in_ok-answer_all.ensures.answers.told
+    (such-goes med c.args.moment.0 c.args.hub.now c.take_in_all.new.hub (HearsEach g.S.Read.remaining c.args.clients.now c.take_in_all.new.clients)
+    c.in_ok-take_in_all.ensures.hears)
+    c.in_ok-answer_all.ensures.answers.answers)
     c.in_err-part_with_gone.ensures.breaks)
 
 pub returns-in_err-part_with_gone-clause-serving : goal.returns-in_err-part_with_gone-clause-serving
@@ -57,7 +64,10 @@ returns-in_err-part_with_gone-clause-serving g c is =
 written : (g : Over) (c : goal.After-answer_all-2 g) → RunsCalls g.D.SectorDisk.medium c.args.moment.0 c.args.hub.now c.answer_all.new.hub
 written g c =
     goes-answered g.D.SectorDisk.medium c.args.moment.0 g.met.D.SectorDisk.only_now c.args.hub.now c.take_in_all.new.hub c.answer_all.new.hub
-    c.in_ok-take_in_all.ensures.goes c.in_ok-answer_all.ensures.answers
+    c.in_ok-answer_all.ensures.answers.told
+    (such-goes g.D.SectorDisk.medium c.args.moment.0 c.args.hub.now c.take_in_all.new.hub
+    (HearsEach g.S.Read.remaining c.args.clients.now c.take_in_all.new.clients) c.in_ok-take_in_all.ensures.hears)
+    c.in_ok-answer_all.ensures.answers.answers
 
 -- each client keeps its connection until those that are gone are noted
 kept : (g : Over) (c : goal.After-answer_all-2 g) → KeepsClients c.args.clients.now c.note_ends.new.clients
@@ -65,22 +75,50 @@ kept g c =
     keeps-both c.args.clients.now c.take_in_all.new.clients c.note_ends.new.clients c.take_in_all.ensures.keeps
     (keeps-both c.take_in_all.new.clients c.answer_all.new.clients c.note_ends.new.clients c.answer_all.ensures.keeps c.note_ends.ensures.keeps)
 
+noted_serves : (g : Over) (c : goal.After-answer_all-2 g) → IsServing c.args.hub.now.hub c.args.clients.now
+    → IsServing c.answer_all.new.hub.hub c.note_ends.new.clients
+noted_serves g c =
+    serving-kept c.args.hub.now.hub c.answer_all.new.hub.hub c.args.clients.now c.note_ends.new.clients
+    (c.answer_all.ensures.numbers ∙ c.take_in_all.ensures.numbers) (kept g c)
+
 parted : (g : Over) (c : goal.After-answer_all-2 g) → IsServing c.args.hub.now.hub c.args.clients.now
     → IsServing c.part_with_gone.new.hub.hub c.part_with_gone.new.clients
-parted g c is =
-    c.part_with_gone.ensures.serving
-    (serving-kept c.args.hub.now.hub c.answer_all.new.hub.hub c.args.clients.now c.note_ends.new.clients
-    (c.answer_all.ensures.numbers ∙ c.take_in_all.ensures.numbers) (kept g c) is)
+parted g c is = c.part_with_gone.ensures.serving (noted_serves g c is)
+
+-- the end of the round, once the last answers are written
+ends : (g : Over) (c : goal.After-answer_all-2 g)
+    → AnswersEach g.D.SectorDisk.medium g.S.Write.contents c.part_with_gone.new.hub c.answer_all-2.new.hub
+    c.part_with_gone.new.clients c.answer_all-2.new.clients
+    → EndsRound g.D.SectorDisk.medium c.args.moment.0 c.answer_all.new.hub c.answer_all-2.new.hub
+ends g c answers = record {
+  parted = c.part_with_gone.new.hub;
+  hung_up = c.in_ok-part_with_gone.ensures.hangs_up.acts;
+  hangs_up = c.in_ok-part_with_gone.ensures.hangs_up.hangs_up;
+  told = answers.told;
+  answers = answers.answers;
+}
 
 pub returns-clause-goes : goal.returns-clause-goes
 returns-clause-goes g c =
     let med = g.D.SectorDisk.medium in
     on_ok_weaker c.answer_all-2.result (λ answers. goes-both med c.args.moment.0 _ _ _ (written g c)
-    (parts-goes med c.args.moment.0 g.met.D.SectorDisk.only_now c.answer_all.new.hub c.answer_all-2.new.hub (record {
-      parted = c.part_with_gone.new.hub;
-      hangs_up = c.in_ok-part_with_gone.ensures.hangs_up;
-      answers = answers;
-    })))
+    (parts-goes med c.args.moment.0 g.met.D.SectorDisk.only_now c.answer_all.new.hub c.answer_all-2.new.hub (ends g c answers)))
+    c.answer_all-2.ensures.answers
+
+pub returns-clause-streams : goal.returns-clause-streams
+returns-clause-streams g c is =
+    let own = is.connected.own in
+    let old = c.args.clients.now in
+    let read = c.take_in_all.new.clients in
+    let noted = c.note_ends.new.clients in
+    on_ok_weaker c.answer_all-2.result
+    (λ answers. streams-all g.D.SectorDisk.medium c.args.moment.0 g.met.D.SectorDisk.only_now g.S.Read.remaining g.S.Write.contents
+    c.args.hub.now c.take_in_all.new.hub c.answer_all.new.hub c.part_with_gone.new.hub c.answer_all-2.new.hub
+    old read c.answer_all.new.clients noted c.part_with_gone.new.clients c.answer_all-2.new.clients
+    c.in_ok-answer_all.ensures.answers c.in_ok-part_with_gone.ensures.hangs_up answers c.in_ok-take_in_all.ensures.hears
+    (c.note_ends.ensures.sockets g.S.Write.contents) (c.part_with_gone.ensures.sockets g.S.Write.contents) own
+    (own-kept old read c.take_in_all.ensures.keeps own) (noted_serves g c is) (parted g c is).connected.own
+    (some-kept c.part_with_gone.new.clients c.answer_all-2.new.clients c.answer_all-2.ensures.keeps))
     c.answer_all-2.ensures.answers
 
 pub returns-clause-breaks : goal.returns-clause-breaks
@@ -89,7 +127,8 @@ returns-clause-breaks g c =
     IfErr-weaker c.answer_all-2.result _ _
     (λ e. breaks-at med g.D.SectorDisk.counts c.args.moment.0 c.args.hub.now c.part_with_gone.new.hub c.answer_all-2.new.hub e
     (goes-both med c.args.moment.0 _ _ _ (written g c)
-    (hangs-goes med c.args.moment.0 g.met.D.SectorDisk.only_now c.answer_all.new.hub c.part_with_gone.new.hub c.in_ok-part_with_gone.ensures.hangs_up)))
+    (hangs-goes med c.args.moment.0 g.met.D.SectorDisk.only_now c.answer_all.new.hub c.part_with_gone.new.hub
+    c.in_ok-part_with_gone.ensures.hangs_up.acts c.in_ok-part_with_gone.ensures.hangs_up.hangs_up)))
     c.answer_all-2.ensures.refused
 
 last : (g : Over) (c : goal.After-answer_all-2 g) → IsServing c.args.hub.now.hub c.args.clients.now
@@ -139,7 +178,7 @@ returns-clause-parted g c is =
     on_ok_weaker c.answer_all-2.result (λ answers. (
       c.answer_all.new.hub,
       written g c,
-      record { parted = c.part_with_gone.new.hub; hangs_up = c.in_ok-part_with_gone.ensures.hangs_up; answers = answers },
+      ends g c answers,
       left-each (λ v. is_gone c.answer_all.new.hub.hub v ≡ false) (λ client writing on. on) c.part_with_gone.new.clients.capacity
           (clients_of c.note_ends.new.clients) (clients_of c.part_with_gone.new.clients) (clients_of c.answer_all-2.new.clients)
           (rw c.part_with_gone.ensures.capacity c.note_ends.ensures.gone) c.part_with_gone.ensures.stands

@@ -20,6 +20,7 @@ loop-self-preserved g c =
       conn = c.feed-in-loop-self.ensures.conn ∙ same;
       failed = c.feed-in-loop-self.ensures.failed ∙ c.read.ensures.failed ∙ c.loop-self.invariant.failed;
       reads = omega arith;
+      tried = λ could cannot. omega (arith, c.feed-in-loop-self.ensures.reads, c.read.ensures.reads);
       numbers = c.feed-in-loop-self.ensures.numbers ∙ c.loop-self.invariant.numbers;
       hears = hears-both g.D.SectorDisk.medium c.args.self.now.conn c.args.moment.0 c.args.hub.now c.loop-self.hub c.feed-in-loop-self.new.hub _ _ _
           c.loop-self.invariant.hears (hears-kept g.D.SectorDisk.medium c.args.self.now.conn c.args.moment.0 c.loop-self.hub c.feed-in-loop-self.new.hub _ _ _

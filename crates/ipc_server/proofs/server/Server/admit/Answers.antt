@@ -1,16 +1,18 @@
 use Rattle.std.proofs.Common.{ap}
-use Rattle.ipc_server.proofs.Going.{goes-none, goes-both}
+use Rattle.ipc_server.specs.Streams.{OnlyJoins}
+use Rattle.ipc_server.proofs.Going.{joins-none, such-both}
+use Rattle.ipc_server.proofs.Streaming.{joins-both}
 use Rattle.ipc_server.proofs.server.Server.admit.Goals as goal
 
 pub returns-then-not-self-clause-goes : goal.returns-then-not-self-clause-goes
-returns-then-not-self-clause-goes g c = λ moment. goes-none g.D.SectorDisk.medium g.met.D.SectorDisk.only_now moment c.args.self.now.hub
+returns-then-not-self-clause-goes g c = λ moment. joins-none g.D.SectorDisk.medium g.met.D.SectorDisk.only_now moment c.args.self.now.hub
 
 pub returns-then-not-self-clause-failed : goal.returns-then-not-self-clause-failed
 returns-then-not-self-clause-failed g c number bad = bad
 
 pub loop-init : goal.loop-init
 loop-init g c = record {
-  goes = λ moment. goes-none g.D.SectorDisk.medium g.met.D.SectorDisk.only_now moment c.args.self.now.hub;
+  goes = λ moment. joins-none g.D.SectorDisk.medium g.met.D.SectorDisk.only_now moment c.args.self.now.hub;
   failed = λ number bad. bad;
 }
 
@@ -22,8 +24,12 @@ returns-in-Err-clause-failed g c = rw (ap (λ v. v.clients) c.self-in-loop.view_
 
 pub loop-preserved : goal.loop-preserved
 loop-preserved g c = record {
-  goes = λ moment. goes-both g.D.SectorDisk.medium moment c.args.self.now.hub c.loop.self.hub c.take_client.new.self.hub
-      (c.loop.invariant.goes moment) (c.take_client.ensures.goes moment);
+  goes = λ moment.
+      let first = c.args.self.now.hub in
+      let last = c.loop.self.hub in
+      let next = c.take_client.new.self.hub in
+      such-both g.D.SectorDisk.medium moment first last next (OnlyJoins first.hub last.hub) (OnlyJoins last.hub next.hub) (OnlyJoins first.hub next.hub)
+      (c.loop.invariant.goes moment) (c.take_client.ensures.goes moment) (joins-both first.hub last.hub next.hub);
   failed = λ number bad. c.take_client.ensures.failed number (c.loop.invariant.failed number bad);
 }
 

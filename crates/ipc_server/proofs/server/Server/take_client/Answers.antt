@@ -1,35 +1,37 @@
 use Rattle.std.proofs.Common.{rules, ◌≡◌, ◌∙◌, sym, ap, arith}
 use Rattle.ipc_server.specs.Rows.{clients_of}
 use Rattle.ipc_server.proofs.Standing.{failed-joined, serving-grown, serving-joined}
-use Rattle.ipc_server.proofs.Going.{goes-none, goes-asked}
+use Rattle.ipc_server.proofs.Going.{joins-none, joins-asked}
 use Rattle.ipc_server.proofs.server.Server.take_client.Goals as goal
 
 pub returns-in_default-clause-goes : goal.returns-in_default-clause-goes
-returns-in_default-clause-goes g c = λ moment. goes-none g.D.SectorDisk.medium g.met.D.SectorDisk.only_now moment c.args.self.now.hub
+returns-in_default-clause-goes g c = λ moment. joins-none g.D.SectorDisk.medium g.met.D.SectorDisk.only_now moment c.args.self.now.hub
 
 pub returns-then-is_err-clause-goes : goal.returns-then-is_err-clause-goes
 returns-then-is_err-clause-goes g c = λ moment.
-    rw (ap (λ v. v.hub) c.self.view_is) (goes-none g.D.SectorDisk.medium g.met.D.SectorDisk.only_now moment c.args.self.now.hub)
+    rw (ap (λ v. v.hub) c.self.view_is) (joins-none g.D.SectorDisk.medium g.met.D.SectorDisk.only_now moment c.args.self.now.hub)
 
 pub returns-then-is_err-2-clause-goes : goal.returns-then-is_err-2-clause-goes
 returns-then-is_err-2-clause-goes g c = λ moment.
-    rw (ap (λ v. v.hub) c.self.view_is) (goes-none g.D.SectorDisk.medium g.met.D.SectorDisk.only_now moment c.args.self.now.hub)
+    rw (ap (λ v. v.hub) c.self.view_is) (joins-none g.D.SectorDisk.medium g.met.D.SectorDisk.only_now moment c.args.self.now.hub)
 
 pub returns-in_default-new-clause-goes : goal.returns-in_default-new-clause-goes
 returns-in_default-new-clause-goes g c = λ moment.
-    rw (ap (λ v. v.hub) c.self.view_is) (goes-none g.D.SectorDisk.medium g.met.D.SectorDisk.only_now moment c.args.self.now.hub)
+    rw (ap (λ v. v.hub) c.self.view_is) (joins-none g.D.SectorDisk.medium g.met.D.SectorDisk.only_now moment c.args.self.now.hub)
 
 pub returns-in_default-connect-clause-goes : goal.returns-in_default-connect-clause-goes
 returns-in_default-connect-clause-goes g c = λ moment.
     let same = ap (λ v. v.hub) c.self.view_is in
-    goes-asked g.D.SectorDisk.medium g.met.D.SectorDisk.only_now moment c.args.self.now.hub c.connect.new.self c.in-Ok.conn c.connect.result
-    (rw same at c.connect.ensures.ok) (rw same at c.connect.ensures.store) (rw same at c.connect.ensures.err)
+    joins-asked g.D.SectorDisk.medium g.met.D.SectorDisk.only_now moment c.args.self.now.hub c.connect.new.self c.in-Ok.conn c.connect.result
+    (rw same at c.connect.ensures.ok) (rw same at c.connect.ensures.joins) (rw same at c.connect.ensures.store)
+    (rw same at c.connect.ensures.stopped) (rw same at c.connect.ensures.in_use) (rw same at c.connect.ensures.err)
 
 pub returns-clause-goes : goal.returns-clause-goes
 returns-clause-goes g c = λ moment.
     let same = ap (λ v. v.hub) c.self.view_is in
-    goes-asked g.D.SectorDisk.medium g.met.D.SectorDisk.only_now moment c.args.self.now.hub c.connect.new.self c.in-Ok.conn c.connect.result
-    (rw same at c.connect.ensures.ok) (rw same at c.connect.ensures.store) (rw same at c.connect.ensures.err)
+    joins-asked g.D.SectorDisk.medium g.met.D.SectorDisk.only_now moment c.args.self.now.hub c.connect.new.self c.in-Ok.conn c.connect.result
+    (rw same at c.connect.ensures.ok) (rw same at c.connect.ensures.joins) (rw same at c.connect.ensures.store)
+    (rw same at c.connect.ensures.stopped) (rw same at c.connect.ensures.in_use) (rw same at c.connect.ensures.err)
 
 -- ---- the clients whose sockets have failed
 
