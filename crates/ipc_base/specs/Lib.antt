@@ -1,3 +1,4 @@
+pub mod Adjustment
 pub mod Errno
 pub mod Fields
 pub mod Limits

@@ -145,10 +145,12 @@ impl Engine {
         })
     }
 
-    /// The state, which is sound. What its readers tell is of the machine's state.
+    /// The state, which is sound. What its readers tell is of the machine's state. Nothing is reserved in it, so no key
+    /// or name is vacant in a directory.
     pub fn state(&self) -> &State
         ensures limits { result.now.limits ≡ self.now.limits }
         ensures state { result.now.state ≡ self.now.state }
+        ensures ready { result.now.ready ≡ Nothing }
         ensures sound { IsSound self.now.limits self.now.state }
         ensures passed { ArePassed self.now.limits }
     {

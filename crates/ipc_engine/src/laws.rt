@@ -4,15 +4,19 @@ ghost use Rattle.std.specs.Prelude.{◌≡◌, ◌≢◌, ◌+◌, ◌<◌, ◌�
 ghost use Rattle.std.specs.Prelude.{List, [], ◌∷◌, ◌++◌, length, map, max};
 ghost use Rattle.std.specs.Prelude.{None, Some, All, is_some, nat_eq};
 ghost use Rattle.std.specs.List.{fold};
+ghost use Rattle.std.specs.List.Sorted.{IsPermutation, IsSortedBy, IsStableBy};
 ghost use Rattle.ipc_base.specs.Table.{keys_of, value_at};
 ghost use Rattle.ipc_base.specs.declared.errno.Errno.{Errno};
 ghost use Rattle.ipc_base.specs.declared.errno.Errno.TheVariants.{EALREADY};
 ghost use Rattle.ipc_base.specs.declared.limits.Limits.{Limits};
 ghost use Rattle.ipc_base.specs.declared.identity.Cred.{Cred};
 ghost use Rattle.ipc_wire.specs.Request.{PlainRequest, Interrupt as Interrupts};
+ghost use Rattle.ipc_keys.specs.declared.check.NameKind.{NameKind};
 ghost use Rattle.ipc_state.specs.declared.parked.Awaited.{Awaited};
+ghost use Rattle.ipc_state.specs.declared.parked.ObjectKind.TheVariants as kinds;
 ghost use Rattle.ipc_state.specs.Finish.{Finishes, Waits, refused};
 ghost use Rattle.ipc_state.specs.Bound.{kept_if, holding};
+ghost use Rattle.ipc_state.specs.Kinds.{Content};
 ghost use Rattle.ipc_state.specs.Named.{NamedEntry, has_name};
 ghost use Rattle.ipc_state.specs.Numbered.{entry_of};
 ghost use Rattle.posix_mq.specs.Queue.{Queue as Mq, deregistered};
@@ -26,6 +30,7 @@ ghost use Rattle.ipc_state.specs.Sound.{HasSoundParts, FitsBody};
 ghost use Rattle.ipc_engine.specs.Bytes.{IsAnswered, IsGreeted, allowed, asked_count, asks, bytes_to, most_owed, owed};
 ghost use Rattle.ipc_engine.specs.Bytes.{replies_to, unanswered};
 ghost use Rattle.ipc_engine.specs.Engine.{IsForProcess, HasRequest};
+ghost use Rattle.ipc_engine.specs.Listing.{by_name, is_named_before};
 ghost use Rattle.ipc_engine.specs.Sound.{IsSound, NoneIsDue};
 
 /// The state is sound before the first event, and after each event if it was before. The process that the event names
@@ -279,4 +284,16 @@ pub fn call_interrupt_and_tick_keep_processes()
         → (step limits s (Interrupt pid serial moment)).state.processes ≡ s.processes }
     ensures tick { (limits : Limits) (s : State) (moment : ℕ)
         → (step limits s (Tick moment)).state.processes ≡ s.processes }
+{}
+
+/// Objects with a name are listed in the order of their names, byte by byte: none is named before the one ahead of it
+/// (`sorted`). Those of the same name, in a sound state those without one, stay as they stood, by rising number
+/// (`stable`). They are those that are there, each once (`all`).
+pub fn objects_are_listed_by_name()
+    ensures sorted { (kind : NameKind) (entries : List (ℕ × NamedEntry (Content (kinds.Named kind))))
+        → IsSortedBy is_named_before (by_name entries) }
+    ensures stable { (kind : NameKind) (entries : List (ℕ × NamedEntry (Content (kinds.Named kind))))
+        → IsStableBy is_named_before entries (by_name entries) }
+    ensures all { (kind : NameKind) (entries : List (ℕ × NamedEntry (Content (kinds.Named kind))))
+        → IsPermutation entries (by_name entries) }
 {}

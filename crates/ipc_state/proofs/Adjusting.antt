@@ -1,6 +1,6 @@
 -- Adjustments stay at semaphores that are there, as sets and processes come and go.
 use Rattle.std.proofs.Common.{◌≡◌, ◌≢◌, ℕ, ℤ, Bool, true, false, cond, List, [], ◌∷◌, ◌++◌, Option, Some, None, length, refl, sym, ap, subst, ◌∙◌, arith}
-use Rattle.std.specs.Prelude.{is_some, not, map, ◌&&◌, IsTrue, nat_eq, nat_lt, option_map, unwrap_or}
+use Rattle.std.specs.Prelude.{is_some, not, map, ◌&&◌, IsTrue, nat_eq, nat_lt, option_map, unwrap_or, All}
 use Rattle.std.specs.List.{fold, list_all}
 use Rattle.std.specs.FinMap as fin
 use Rattle.std.specs.FinMap.{get-remove, get-empty, get-entries, len-entries, len-empty, find}
@@ -11,11 +11,12 @@ use Rattle.std.specs.declared.cmp.Ordering.TheVariants.{Less, Equal, Greater}
 use Rattle.std.specs.Ordering.{is_eq}
 use Rattle.std.proofs.lemmas.Bool.Decides.{nat_tests}
 use Rattle.std.proofs.lemmas.List.{length-set}
+use Rattle.std.proofs.lemmas.List.Elements.{All-nil, All-cons, All-head, All-tail}
 use Rattle.ipc_base.specs.Table.{value_at, with_value, without, keys_of, seen_as, EachValue}
 use Rattle.ipc_base.specs.declared.identity.Pid.{Pid}
 use Rattle.ipc_base.proofs.CallerLemmas.{at-with, other-with, value_at-without}
-use Rattle.sem_undo.specs.Undo.{Key, Undo, key_cmp, cleared, without_set}
-use Rattle.sem_undo.proofs.CallerLemmas.{key_total, key_apart, retained}
+use Rattle.sem_undo.specs.Undo.{Key, Undo, key_cmp, cleared, without_set, IsSoundUndo}
+use Rattle.sem_undo.proofs.CallerLemmas.{key_total, key_apart, retained, cleared-sound}
 use Rattle.sysv_sem.specs.Set.{Set, after_exit}
 use Rattle.ipc_state.specs.Keyed.{KeyedEntry, Keyed}
 use Rattle.ipc_state.specs.declared.numbered.Item.{Item}
@@ -111,7 +112,7 @@ each-moved old new all [] h = tt
 each-moved old new all (p ∷ ps) h = (λ k there. all k (h.0 k there), each-moved old new all ps h.1)
 
 pub moved : (pids : List ℕ) (old new : Keyed Set) (undo : List (ℕ × Undo)) → HasAll old new → AreAdjustments pids old undo → AreAdjustments pids new undo
-moved pids old new undo all h = record { pids = h.pids; each = each-moved old new all undo h.each }
+moved pids old new undo all h = record { pids = h.pids; each = each-moved old new all undo h.each; kept = h.kept }
 
 -- what is cleared was there before, and not at what is cleared
 pub cleared-there : (set : ℕ) (num : Option ℕ) (u : Undo) (k : Key) → is_some (fin.get (cleared set num u) k) ≡ true → is_some (fin.get u k) ≡ true
@@ -137,6 +138,12 @@ pub each-cleared : (o : Keyed Set) (set : ℕ) (num : Option ℕ) (undo : List (
     → EachValue (AreAt o) (seen_as (cleared set num) undo)
 each-cleared o set num [] h = tt
 each-cleared o set num (p ∷ ps) h = (λ k there. h.0 k (cleared-there set num p.1 k there), each-cleared o set num ps h.1)
+
+-- what is left is in its range, and not 0
+pub kept-cleared : (set : ℕ) (num : Option ℕ) (undo : List (ℕ × Undo)) → EachValue IsSoundUndo undo
+    → EachValue IsSoundUndo (seen_as (cleared set num) undo)
+kept-cleared set num [] h = tt
+kept-cleared set num (p ∷ ps) h = (cleared-sound set num p.1 h.0, kept-cleared set num ps h.1)
 
 -- a set goes, and its adjustments with it
 pub each-dropped : (o : Keyed Set) (set : ℕ) (undo : List (ℕ × Undo)) → EachValue (AreAt o) undo
@@ -194,18 +201,29 @@ tells-one sets (e ∷ es) h =
     later true k is = refl
     later false k is = is
 
--- whether the adjustments of each are at semaphores
-pub told-each : (sets : Keyed Set) (items : List (Item Undo))
-    → Decides (list_all (λ e. list_all (λ a. has_semaphore sets a.0) (fin.entries e.value)) items) (EachValue (AreAt sets) (map item_row items))
-told-each sets [] = (λ _. tt, λ _. is-istrue true refl)
-told-each sets (e ∷ es) = (
-  λ is. let all = istrue-is _ is in (
-    λ k there. told-one sets (fin.entries e.value) (and-left _ _ all) k (subst (λ r. is_some r ≡ true) (get-entries e.value k) there),
-    (told-each sets es).0 (is-istrue _ (and-right _ _ all)),
-  ),
-  λ h. is-istrue _ (and-both _ _ (tells-one sets (fin.entries e.value) (λ k there. h.0 k (subst (λ r. is_some r ≡ true) (sym (get-entries e.value k)) there)))
-      (istrue-is _ ((told-each sets es).1 h.1))),
+-- whether the adjustments of a process are at semaphores
+pub told-at : (sets : Keyed Set) (u : Undo) → Decides (list_all (λ a. has_semaphore sets a.0) (fin.entries u)) (AreAt sets u)
+told-at sets u = (
+  λ is k there. told-one sets (fin.entries u) (istrue-is _ is) k (subst (λ r. is_some r ≡ true) (get-entries u k) there),
+  λ at. is-istrue _ (tells-one sets (fin.entries u) (λ k there. at k (subst (λ r. is_some r ≡ true) (sym (get-entries u k)) there))),
 )
+
+-- they are, and in their range
+abbrev pub AreKept : Keyed Set → Item Undo → Type 0
+AreKept sets e = AreAt sets e.value × IsSoundUndo e.value
+
+pub told-each : (sets : Keyed Set) (items : List (Item Undo)) → All (AreKept sets) items
+    → EachValue (AreAt sets) (map item_row items) × EachValue IsSoundUndo (map item_row items)
+told-each sets [] all = (tt, tt)
+told-each sets (e ∷ es) all =
+    let here = All-head (AreKept sets) e es all in
+    let rest = told-each sets es (All-tail (AreKept sets) e es all) in
+    ((here.0, rest.0), (here.1, rest.1))
+
+pub tells-each : (sets : Keyed Set) (items : List (Item Undo))
+    → EachValue (AreAt sets) (map item_row items) × EachValue IsSoundUndo (map item_row items) → All (AreKept sets) items
+tells-each sets [] each = All-nil (AreKept sets)
+tells-each sets (e ∷ es) each = All-cons (AreKept sets) e es (each.0.0, each.1.0) (tells-each sets es (each.0.1, each.1.1))
 
 -- ---- whose they are
 

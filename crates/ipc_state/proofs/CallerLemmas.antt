@@ -11,7 +11,8 @@ use Rattle.std.proofs.lemmas.List.Filters.{length-filter_both}
 use Rattle.std.specs.Option.{option_map_or}
 use Rattle.ipc_base.specs.Table.{keys_of, seen_as, value_at, without as without_value, EachValue}
 use Rattle.std.specs.FinMap as fin
-use Rattle.sem_undo.specs.Undo.{Key, Undo, cleared}
+use Rattle.sem_undo.specs.Undo.{Key, Undo, cleared, IsSoundUndo}
+use Rattle.sem_undo.proofs.CallerLemmas.{empty-sound}
 use Rattle.ipc_base.proofs.CallerLemmas.{nobody, each-at, each-with, each-without, keys_of-with_value}
 use Rattle.ipc_state.specs.Directory.{ArePositive}
 use Rattle.ipc_state.proofs.Directories.{named-positive}
@@ -54,7 +55,7 @@ use Rattle.ipc_state.specs.Waiting.{PlainWaiting, AreSoundWaits, IsSoundWaiting,
 use Rattle.ipc_state.specs.declared.parked.Awaited.TheVariants as awaited
 use Rattle.ipc_state.proofs.Numbering.{none_yet-numbered}
 use Rattle.ipc_state.proofs.Counting.{few-waiting}
-use Rattle.ipc_state.proofs.Few.{few-each, each-fewer}
+use Rattle.ipc_state.proofs.Few.{covered, few-each, each-fewer}
 use Rattle.ipc_state.proofs.Binding as binding
 use Rattle.ipc_state.proofs.Elsewhere as elsewhere
 use Rattle.ipc_state.proofs.SoundSets as sets
@@ -64,7 +65,7 @@ pub use Rattle.ipc_state.proofs.SoundOpening.{MayBind, MayJoin, MayStandFor, per
 pub use Rattle.ipc_state.proofs.SoundQueues.{new_queue-sound}
 pub use Rattle.ipc_state.proofs.SoundSets.{new_set-sound}
 use Rattle.ipc_state.proofs.Adjusting.{HasAll, moved, has-new, has-with, has-adjusted, adjusted-by, exit-length, undone-keeps, all-undone-keeps}
-use Rattle.ipc_state.proofs.Adjusting.{each-moved, each-cleared, each-dropped, none-at, without-same, push-same, each-pushed, seen-keys}
+use Rattle.ipc_state.proofs.Adjusting.{each-moved, each-cleared, each-dropped, kept-cleared, none-at, without-same, push-same, each-pushed, seen-keys}
 pub use Rattle.ipc_state.proofs.EntryKeys.{All-seen}
 pub use Rattle.ipc_state.proofs.Ending.{HasSameProcesses, IsGood, as_before, by-finish, refused-good, same-processes, same-but-table, same-connected}
 pub use Rattle.ipc_state.proofs.Ending.{same-awaited, same-objects}
@@ -83,25 +84,34 @@ owned_by-mode perm uid gid mode = omega (arith, and_le_r mode 511)
 
 module _ (limits : Limits) where
   -- a state with another part that is sound is sound
-  pub set-undo : (s : State) (undo : List (ℕ × Undo)) → HasSoundParts limits s → AreAdjustments (keys_of s.processes.entries) s.semset undo
+  set-undo : (s : State) (undo : List (ℕ × Undo)) → HasSoundParts limits s → AreAdjustments (keys_of s.processes.entries) s.semset undo
       → HasSoundParts limits (record s { undo = undo })
   set-undo s undo h good = record { processes = h.processes; wait = h.wait; undo = good; msg = h.msg; semset = h.semset; named = h.named }
 
-  -- other adjustments of a process, at semaphores that are there
-  pub with_undo-sound : (s : State) (pid : ℕ) (undo : Undo) → HasSoundParts limits s → AreAt s.semset undo → HasSoundParts limits (with_undo s pid undo)
-  with_undo-sound s pid undo h good =
+  -- other adjustments of a process, at semaphores that are there, in their range and not 0
+  pub with_undo-sound : (s : State) (pid : ℕ) (undo : Undo) → HasSoundParts limits s → AreAt s.semset undo → IsSoundUndo undo
+      → HasSoundParts limits (with_undo s pid undo)
+  with_undo-sound s pid undo h good kept =
       set-undo s _ h (record {
         pids = keys_of-with_value nat_eq s.undo pid undo ∙ h.undo.pids;
         each = each-with (AreAt s.semset) s.undo pid undo h.undo.each good;
+        kept = each-with IsSoundUndo s.undo pid undo h.undo.kept kept;
       })
 
-  -- those that a process has are at such
-  pub undo_of-at : (s : State) (pid : ℕ) → HasSoundParts limits s → AreAt s.semset (undo_of s pid)
-  undo_of-at s pid h = by_value (value_at nat_eq s.undo pid) refl
+  -- what each process's adjustments are, and none is, those of any number are
+  undo_of-each : (P : Undo → Type 0) → P fin.empty → (s : State) (pid : ℕ) → EachValue P s.undo → P (undo_of s pid)
+  undo_of-each P none s pid each = by_value (value_at nat_eq s.undo pid) refl
     where
-      by_value : (r : Option Undo) → value_at nat_eq s.undo pid ≡ r → AreAt s.semset (unwrap_or r fin.empty)
-      by_value None is = none-at s.semset
-      by_value (Some u) is = each-at (AreAt s.semset) s.undo pid u h.undo.each is
+      by_value : (r : Option Undo) → value_at nat_eq s.undo pid ≡ r → P (unwrap_or r fin.empty)
+      by_value None is = none
+      by_value (Some u) is = each-at P s.undo pid u each is
+
+  -- those that a process has are at such, and in their range
+  pub undo_of-at : (s : State) (pid : ℕ) → HasSoundParts limits s → AreAt s.semset (undo_of s pid)
+  undo_of-at s pid h = undo_of-each (AreAt s.semset) (none-at s.semset) s pid h.undo.each
+
+  pub undo_of-kept : (s : State) (pid : ℕ) → HasSoundParts limits s → IsSoundUndo (undo_of s pid)
+  undo_of-kept s pid h = undo_of-each IsSoundUndo empty-sound s pid h.undo.kept
 
   pub set-wait : (s : State) (calls : List PlainWaiting) → HasSoundParts limits s → AreSoundWaits limits calls
       → HasSoundParts limits (record s { wait = calls })
@@ -156,7 +166,7 @@ module _ (limits : Limits) where
       record {
         processes = record { numbered = none_yet-numbered limits.processes; descriptors = All-nil _ };
         wait = none-waits;
-        undo = record { pids = refl; each = tt };
+        undo = record { pids = refl; each = tt; kept = tt };
         msg = none kinds.MsgQueue;
         semset = none kinds.Semset;
         named = λ kind. none (kinds.Named kind);
@@ -206,6 +216,7 @@ module _ (limits : Limits) where
         undo = record {
           pids = without-same s.undo s.processes.entries pid h.undo.pids;
           each = each-moved s.semset (undone s.semset p) all _ (each-without (AreAt s.semset) s.undo pid h.undo.each);
+          kept = each-without IsSoundUndo s.undo pid h.undo.kept;
         };
         msg = left.objects kinds.MsgQueue;
         semset = left.objects kinds.Semset;
@@ -219,7 +230,7 @@ module _ (limits : Limits) where
       record {
         processes = left.processes;
         wait = none-waits;
-        undo = record { pids = refl; each = tt };
+        undo = record { pids = refl; each = tt; kept = tt };
         msg = left.objects kinds.MsgQueue;
         semset = left.objects kinds.Semset;
         named = λ kind. left.objects (kinds.Named kind);
@@ -234,6 +245,7 @@ module _ (limits : Limits) where
         undo = record {
           pids = push-same s.undo s.processes.entries s.processes.next fin.empty (record { cred = cred; descriptors = [] }) h.undo.pids;
           each = each-pushed (AreAt s.semset) s.undo s.processes.next fin.empty h.undo.each (none-at s.semset);
+          kept = each-pushed IsSoundUndo s.undo s.processes.next fin.empty h.undo.kept empty-sound;
         };
         msg = come.objects kinds.MsgQueue;
         semset = come.objects kinds.Semset;
@@ -248,7 +260,13 @@ module _ (limits : Limits) where
       (λ e is. (keys_of-with_value nat_eq o.entries a.0.0 (holding e (after_exit e.object a.0.1 a.1 (record { 0 = pid }))) ∙ h.0, h.1)) h)
       s.semset s.undo (refl, refl)
 
-  -- no process has more adjustments than there may be semaphores
+  -- adjustments at semaphores that are there are no more than there may be semaphores, and so are those of each process
+  pub few-at : (s : State) (u : Undo) → HasSoundParts limits s → AreAt s.semset u → fin.len u ≤ limits.semmns
+  few-at s u h at =
+      let here : fin.len u ≤ semaphore_count s.semset = covered s.semset.entries u at in
+      let most : semaphore_count s.semset ≤ limits.semmns = h.semset.together in
+      omega (arith, here, most)
+
   pub few-adjustments : (s : State) → HasSoundParts limits s → EachValue (λ (u : Undo). fin.len u ≤ limits.semmns) s.undo
   few-adjustments s h = each-fewer limits.semmns (semaphore_count s.semset) h.semset.together s.undo (few-each s.semset s.undo h.undo.each)
 
@@ -258,6 +276,7 @@ module _ (limits : Limits) where
       set-undo s _ h (record {
         pids = seen-keys (cleared set num) s.undo ∙ h.undo.pids;
         each = each-cleared s.semset set num s.undo h.undo.each;
+        kept = kept-cleared set num s.undo h.undo.kept;
       })
 
   -- ---- objects, and descriptors
@@ -269,7 +288,7 @@ module _ (limits : Limits) where
       record {
         processes = parts.processes;
         wait = h.wait;
-        undo = record { pids = at.pids ∙ sym same; each = at.each };
+        undo = record { pids = at.pids ∙ sym same; each = at.each; kept = at.kept };
         msg = parts.objects kinds.MsgQueue;
         semset = parts.objects kinds.Semset;
         named = λ kind. parts.objects (kinds.Named kind);
@@ -352,7 +371,11 @@ module _ (limits : Limits) where
   pub without_semset-sound : (s : State) (id : ℕ) → HasSoundParts limits s → HasSoundParts limits (without_adjustments id None (removed s kinds.Semset id))
   without_semset-sound s id h =
       set-opened (record s { undo = seen_as (cleared id None) s.undo }) s.processes _ (without_adjustments-sound s id None h) refl
-      (record { pids = seen-keys (cleared id None) s.undo ∙ h.undo.pids; each = each-dropped s.semset id s.undo h.undo.each })
+      (record {
+        pids = seen-keys (cleared id None) s.undo ∙ h.undo.pids;
+        each = each-dropped s.semset id s.undo h.undo.each;
+        kept = kept-cleared id None s.undo h.undo.kept;
+      })
       (opening.without-all limits s.processes (objects_in s) (all-held s h) kinds.Semset id refl)
 
   -- what holds of an object that is there

@@ -70,7 +70,7 @@ stripped id (suc n) u below =
         omega (arith, low, other)
 
 -- those of all these sets
-covered : (es : List (ℕ × KeyedEntry Set)) (u : Undo) → ((k : Key) → is_some (fin.get u k) ≡ true → holds (value_at nat_eq es k.0) k.1 ≡ true)
+pub covered : (es : List (ℕ × KeyedEntry Set)) (u : Undo) → ((k : Key) → is_some (fin.get u k) ≡ true → holds (value_at nat_eq es k.0) k.1 ≡ true)
     → fin.len u ≤ sum_by (λ e. length e.1.object.semaphores) es
 covered [] u all =
     omega (arith, ap fin.len (same_map key_total key_apart u fin.empty (λ q. none q (fin.get u q) refl ∙ sym (get-empty key_cmp q))), len-empty key_cmp ℤ)

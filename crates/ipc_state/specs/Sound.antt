@@ -5,7 +5,7 @@ use Rattle.std.specs.Prelude.{◌≡◌, ⊤, ℕ, ◌^◌, ◌<◌, ◌≤◌, 
 use Rattle.std.specs.Prelude.{length, All, sum_by, IsTrue, option_map, unwrap_or, is_some, List}
 use Rattle.std.specs.FinMap as fin
 use Rattle.ipc_base.specs.Table.{keys_of, EachValue, IsRising}
-use Rattle.sem_undo.specs.Undo.{Key, Undo}
+use Rattle.sem_undo.specs.Undo.{Key, Undo, IsSoundUndo}
 use Rattle.ipc_base.specs.declared.limits.Limits.{Limits}
 use Rattle.ipc_base.specs.Limits.{longest_body}
 use Rattle.ipc_wire.specs.Reply.{PlainBody, body_bytes}
@@ -68,10 +68,12 @@ has_semaphore sets k =
 abbrev pub AreAt : Keyed Set → Undo → Type 0
 AreAt sets undo = (k : Key) → is_some (fin.get undo k) ≡ true → has_semaphore sets k ≡ true
 
--- each of these processes has adjustments, if only none, and nobody else has any; they are at semaphores of these sets
+-- each of these processes has adjustments, if only none, and nobody else has any; they are at semaphores of these sets,
+-- and each is in its range and not 0
 pub record AreAdjustments (connected : List ℕ) (sets : Keyed Set) (undo : List (ℕ × Undo)) : Type 0 where
   pub pids : keys_of undo ≡ connected
   pub each : EachValue (AreAt sets) undo
+  pub kept : EachValue IsSoundUndo undo
 
 -- a message of a POSIX queue has a priority below 32768 and at most msgsize bytes
 pub record IsSoundMqMessage (msgsize : ℕ) (m : MqMessage) : Type 0 where

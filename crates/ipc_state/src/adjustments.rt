@@ -1,13 +1,13 @@
 //! The adjustments of the processes: what an exit adds, and what is cleared. See semop(2).
 
-ghost use Rattle.std.specs.Prelude.{◌≡◌, ◌<◌, ◌-ℤ◌, ◌↔◌, ◌++◌, true, None, map, IsTrue, OnOk, OnErr};
+ghost use Rattle.std.specs.Prelude.{◌≡◌, ◌<◌, ◌-ℤ◌, ◌↔◌, true, None, map, All, IfOk, IsTrue, OnOk, OnErr};
 ghost use Rattle.std.specs.FinMap as fin;
 ghost use Rattle.std.specs.List.{fold, list_all};
 ghost use Rattle.ipc_base.specs.Table.{keys_of, seen_as};
-ghost use Rattle.sem_undo.specs.Undo.{key_of, entry_of, cleared, IsKept};
+ghost use Rattle.sem_undo.specs.Undo.{key_of, entry_of, cleared, IsKept, IsSoundUndo};
 ghost use Rattle.sem_undo.specs.Undo.{adjustment, subtracted, is_adjustment, most_rows};
 ghost use Rattle.ipc_state.specs.Restored.{with_adjustment, with_no_adjustments};
-ghost use Rattle.ipc_state.specs.Sound.{has_semaphore, AreAdjustments};
+ghost use Rattle.ipc_state.specs.Sound.{has_semaphore, AreAt, AreAdjustments};
 ghost use Rattle.ipc_state.specs.State.{adjusted, undone, undo_of, with_undo, without_adjustments};
 ghost use Rattle.ipc_state.specs.Rows.{has_room, item_row};
 ghost use Rattle.ipc_state.specs.Tables.{numbered_of};
@@ -64,20 +64,23 @@ impl State {
         self.undo.items.clear_at(set, num);
     }
 
-    /// Each process that was read has adjustments, which are none.
+    /// Each process that was read has adjustments, which are none. Refused for want of memory, all is as before.
     pub fn restore_no_adjustments(&mut self) -> Result<(), AllocError>
         ensures state { OnOk result (self.new.state ≡ with_no_adjustments self.old.state) }
         ensures limits { self.new.limits ≡ self.old.limits }
+        ensures err { OnErr result (self.new ≡ self.old) }
     {
-        self.undo.clear();
-        add_none(self.alloc, &mut self.undo, self.processes.items())
+        let undo = no_adjustments(self.alloc, self.processes.items())?;
+        self.undo = undo;
+        Ok(())
     }
 
-    /// Adds an adjustment that was read to those of its process, if it is one. It is dropped if no process has the
-    /// number. Refused for want of memory, all is as before.
+    /// Adds an adjustment that was read to those of its process, if it is there. What is none, 0 or -32768, is dropped,
+    /// whoever has the number. Refused for want of memory, all is as before.
     pub fn restore_adjustment(&mut self, pid: Pid, row: UndoRow) -> Result<(), AllocError>
         ensures state { OnOk result (IsKept row.adjustment
             → self.new.state ≡ with_adjustment self.old.state pid.0 row) }
+        ensures dropped { OnOk result (¬ IsKept row.adjustment → self.new ≡ self.old) }
         ensures limits { self.new.limits ≡ self.old.limits }
         ensures err { OnErr result (self.new ≡ self.old) }
     {
@@ -117,20 +120,20 @@ impl State {
     }
 }
 
-/// Adds no adjustments for each of these processes, at the end.
-fn add_none(
+/// Adjustments of each of these processes, which are none. Refused for want of memory.
+fn no_adjustments(
     alloc: Global,
-    undo: &mut Numbered<SemUndo>,
     processes: &[Item<Process>],
-) -> Result<(), AllocError>
-    ensures { OnOk result ((numbered_of undo.new).entries ≡ (numbered_of undo.old).entries
-        ++ seen_as (λ p. fin.empty) (map item_row processes.now)) }
+) -> Result<Numbered<SemUndo>, AllocError>
+    ensures { IfOk result (λ undo. (numbered_of undo).entries
+        ≡ seen_as (λ p. fin.empty) (map item_row processes.now)) }
 {
+    let mut undo = Numbered::new(alloc);
     for process in processes {
         undo.reserve()?;
         undo.push(process.number, SemUndo::new(alloc)?);
     }
-    Ok(())
+    Ok(undo)
 }
 
 /// Adds the adjustments of these processes to the sets.
@@ -196,17 +199,22 @@ fn have_same_numbers<T, U>(items: &[Item<T>], others: &[Item<U>]) -> bool
     true
 }
 
-/// Whether each adjustment of these processes is at a semaphore that is there.
+/// Whether each adjustment of these processes is at a semaphore that is there. Each is in its range and not 0, as a
+/// `SemUndo` has no other.
 fn are_at_semaphores(sets: &Keyed<SemSet>, items: &[Item<SemUndo>]) -> bool
-    ensures { result ≡ list_all (λ e. list_all (λ a. has_semaphore sets.now.objects a.0)
-        (fin.entries e.value)) items.now }
+    ensures { IsTrue result ↔ All (λ e. AreAt sets.now.objects e.value × IsSoundUndo e.value) items.now }
 {
-    items.iter().all(|item| is_at_semaphores(sets, item))
+    for item in items {
+        if !is_at_semaphores(sets, item) {
+            return false;
+        }
+    }
+    true
 }
 
 /// Whether each adjustment of a process is.
 fn is_at_semaphores(sets: &Keyed<SemSet>, item: &Item<SemUndo>) -> bool
-    ensures { result ≡ list_all (λ a. has_semaphore sets.now.objects a.0) (fin.entries item.now.value) }
+    ensures { IsTrue result ↔ (AreAt sets.now.objects item.now.value × IsSoundUndo item.now.value) }
 {
     have_semaphores(sets, item.value.rows())
 }

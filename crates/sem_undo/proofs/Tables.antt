@@ -10,7 +10,7 @@ use Rattle.std.specs.Ordering.{is_eq, eq_by_cmp, nat_cmp, int_eq}
 use Rattle.std.specs.declared.cmp.Ordering.{Ordering}
 use Rattle.std.specs.declared.cmp.Ordering.TheVariants.{Less, Equal, Greater}
 use Rattle.std.specs.FinMap as fin
-use Rattle.std.specs.FinMap.{IsAntisymmetric, put, nat_cmp-IsAntisymmetric, same_map, same_entries_map, entries-insert}
+use Rattle.std.specs.FinMap.{IsAntisymmetric, put, nat_cmp-IsAntisymmetric, same_map, same_entries_map, entries-insert, entries_sorted}
 use Rattle.std.specs.FinMap.{entries-from_sorted, len-entries, get-from_sorted, get-retain_keys, get-remove, get-insert, get-empty}
 use Rattle.std.specs.FinMap.Entries.{where_key, find-where_key, is_sorted-where_key, is_sorted-put}
 use Rattle.std.specs.Int.{w16}
@@ -97,6 +97,46 @@ removed-undo k a es are e =
 pub put-undo : (k : Key) (a : ℤ) (es : List (Key × ℤ)) → AreRows es → a ≢ pos 0 → undo_of (put key_cmp k a es) ≡ with_adjustment (undo_of es) k a
 put-undo k a es are ne =
     insert-undo k a es are ∙ sym (ap (λ b. cond b (fin.remove (undo_of es) k) (fin.insert (undo_of es) k a)) (zero_not a ne))
+
+-- ---- what a change keeps
+
+-- adjustments are in their range, and none is 0: so they are those of rows
+rows-in : (u : Undo) → IsSoundUndo u → AreRows (fin.entries u)
+rows-in u is = record { rising = entries_sorted u; kept = is }
+
+made-of : (u : Undo) → undo_of (fin.entries u) ≡ u
+made-of u = same_entries_map _ _ (entries-from_sorted key_cmp (fin.entries u) (entries_sorted u))
+
+-- what rows are, after a change, that of the adjustments is
+changed-sound : (es : List (Key × ℤ)) (f : Undo → Undo) (u : Undo) → AreRows es → undo_of es ≡ f (undo_of (fin.entries u)) → IsSoundUndo (f u)
+changed-sound es f u are is = subst (λ (v : Undo). IsSoundUndo v) (is ∙ ap f (made-of u)) (sound es are)
+
+pub empty-sound : IsSoundUndo fin.empty
+empty-sound = subst (λ (v : Undo). IsSoundUndo v) (empty-rows [] refl) (sound (entries_of []) no-rows)
+
+removed-sound : (k : Key) (u : Undo) → IsSoundUndo u → IsSoundUndo (fin.remove u k)
+removed-sound k u is =
+    let p : Key → Bool = λ x. not (eq_by_cmp key_cmp k x) in
+    changed-sound (where_key key_cmp p (fin.entries u)) (λ (v : Undo). fin.remove v k) u (where-rows p (fin.entries u) (rows-in u is))
+    (without-undo k (fin.entries u) (rows-in u is))
+
+pub cleared-sound : (set : ℕ) (num : Option ℕ) (u : Undo) → IsSoundUndo u → IsSoundUndo (cleared set num u)
+cleared-sound set None u is =
+    let p : Key → Bool = λ k. not (k.0 == set) in
+    changed-sound (where_key key_cmp p (fin.entries u)) (λ (v : Undo). fin.retain_keys v p) u (where-rows p (fin.entries u) (rows-in u is))
+    (where-undo p (fin.entries u) (rows-in u is))
+cleared-sound set (Some num) u is = removed-sound (set, num) u is
+
+-- another adjustment, which is in its range
+pub with-sound : (u : Undo) (k : Key) (a : ℤ) → is_adjustment a ≡ true → IsSoundUndo u → IsSoundUndo (with_adjustment u k a)
+with-sound u k a range is = by_zero (int_eq a (pos 0)) refl
+  where
+    by_zero : (b : Bool) → int_eq a (pos 0) ≡ b → IsSoundUndo (cond b (fin.remove u k) (fin.insert u k a))
+    by_zero true is_zero = removed-sound k u is
+    by_zero false other =
+        let some : a ≢ pos 0 = λ none. let yes = zero_is a none in cc in
+        changed-sound (put key_cmp k a (fin.entries u)) (λ (v : Undo). fin.insert v k a) u
+        (put-rows k a (fin.entries u) (some, range) (rows-in u is)) (insert-undo k a (fin.entries u) (rows-in u is))
 
 -- ---- an operation
 

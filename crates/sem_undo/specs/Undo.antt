@@ -1,13 +1,14 @@
 -- What is undone when a process exits (semop(2)): at each semaphore, by its set and its number there, an adjustment,
 -- which is added to the value at the exit. Only adjustments that are not 0 are kept; if there is none, it is 0. So two
 -- processes with the same adjustments have equal ones, whatever memory they have.
-use Rattle.std.specs.Prelude.{◌≡◌, ◌≢◌, ℕ, ℤ, pos, negsuc, int_le, ◌-ℤ◌, ◌==◌, Bool, true, not, ◌&&◌}
+use Rattle.std.specs.Prelude.{◌≡◌, ◌≢◌, ℕ, ℤ, pos, ◌-ℤ◌, ◌==◌, Bool, true, not}
 use Rattle.std.specs.Prelude.{Option, Some, None, All, if◌then◌else◌}
 use Rattle.std.specs.Coded.{Coded, coded×, coded_ℕ, coded_ℤ}
 use Rattle.std.specs.Option.{unwrap_or}
 use Rattle.std.specs.Ordering.{nat_cmp, int_eq, ordering_then}
 use Rattle.std.specs.declared.cmp.Ordering.{Ordering}
 use Rattle.std.specs.FinMap as fin
+pub use Rattle.ipc_base.specs.Adjustment.{is_adjustment}
 use Rattle.sem_undo.specs.declared.undo.UndoRow.{UndoRow}
 
 -- the set and the number of the semaphore
@@ -53,10 +54,6 @@ without_set set undo = fin.retain_keys undo (λ k. not (k.0 == set))
 abbrev pub cleared : ℕ → Option ℕ → Undo → Undo
 cleared set None undo = without_set set undo
 cleared set (Some num) undo = without_semaphore set num undo
-
--- whether an adjustment may be so much (negsuc n is -(n + 1))
-abbrev pub is_adjustment : ℤ → Bool
-is_adjustment a = int_le (negsuc 32766) a && int_le a (pos 32767)
 
 -- what is kept: an adjustment, and not 0
 abbrev pub IsKept : ℤ → Type 0

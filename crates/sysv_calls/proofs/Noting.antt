@@ -1,5 +1,5 @@
 -- What is noted of a list of operations: each that can be performed can be noted, at semaphores that are there.
-use Rattle.std.proofs.Common.{◌≡◌, ◌∙◌, ℕ, zero, suc, ◌+◌, ◌<◌, ◌≤◌, ℤ, pos, negsuc, ◌-ℤ◌, true, false, cond, ◌&&◌, nat_eq}
+use Rattle.std.proofs.Common.{◌≡◌, ◌∙◌, ℕ, zero, suc, ◌+◌, ◌<◌, ◌≤◌, ℤ, pos, negsuc, ◌-ℤ◌, Bool, true, false, cond, ◌&&◌, nat_eq}
 use Rattle.std.proofs.Common.{List, [], ◌∷◌, Option, Some, None, length, take, get_or, All, refl, sym, ap, subst, arith}
 use Rattle.std.specs.Prelude.{is_some, nat_lt, option_map, unwrap_or, slice_index}
 use Rattle.std.specs.FinMap as fin
@@ -9,10 +9,10 @@ use Rattle.std.proofs.lemmas.Bool.{eqb-true, eqb-false, lt-ltb}
 use Rattle.std.proofs.lemmas.List.Elements.{All-head, All-tail}
 use Rattle.ipc_base.specs.declared.limits.Limits.{Limits}
 use Rattle.ipc_base.specs.Limits.{ArePassed}
-use Rattle.ipc_base.specs.Table.{value_at, with_value}
-use Rattle.ipc_base.proofs.CallerLemmas.{at-with, each-at, each-with, keys_of-with_value, own, passed-bounds, same_keys, twice}
-use Rattle.sem_undo.specs.Undo.{Key, Undo, adjustment, most_rows, subtracted, with_adjustment}
-use Rattle.sem_undo.proofs.CallerLemmas.{key_total, subtracted_each, subtracted_others}
+use Rattle.ipc_base.specs.Table.{value_at}
+use Rattle.ipc_base.proofs.CallerLemmas.{at-with, each-at, own, passed-bounds, same_keys, twice}
+use Rattle.sem_undo.specs.Undo.{Key, Undo, IsSoundUndo, adjustment, most_rows, subtracted, with_adjustment}
+use Rattle.sem_undo.proofs.CallerLemmas.{key_total, subtracted_each, subtracted_others, subtracted_there, with-sound}
 use Rattle.sysv_sem.specs.declared.operation.Operation.{Operation}
 use Rattle.sysv_sem.specs.declared.operation.Verdict.TheVariants.{Passes as Goes, Waits, OutOfRange}
 use Rattle.sysv_sem.specs.Operation.{Done as IsDone, has_undo, is_adjustment}
@@ -23,7 +23,7 @@ use Rattle.ipc_state.specs.Keyed.{Keyed, KeyedEntry}
 use Rattle.ipc_state.specs.Numbered.{entry_of}
 use Rattle.ipc_state.specs.Sound.{HasSoundParts, AreAt, has_semaphore}
 use Rattle.ipc_state.specs.State.{State, is_process, undo_of, with_undo}
-use Rattle.ipc_state.proofs.CallerLemmas.{few-adjustments, set-undo}
+use Rattle.ipc_state.proofs.CallerLemmas.{few-at}
 use Rattle.sysv_calls.specs.Relations.{CanBeNoted, CanNote, IsReady}
 use Rattle.sysv_calls.specs.Semop.{held_by, noted}
 
@@ -56,16 +56,8 @@ process-undo limits s pid sound process =
 -- ---- what can be noted
 
 -- for adjustments at semaphores that are there, there is room
-room : (limits : Limits) (s : State) (pid : ℕ) → HasSoundParts limits s → ArePassed limits → value_at nat_eq s.undo pid ≡ Some (undo_of s pid)
-    → (u : Undo) → AreAt s.semset u → fin.len u ≤ most_rows
-room limits s pid sound passed there u at =
-    let put = set-undo limits s (with_value nat_eq s.undo pid u) sound (record {
-      pids = keys_of-with_value nat_eq s.undo pid u ∙ sound.undo.pids;
-      each = each-with (AreAt s.semset) s.undo pid u sound.undo.each at;
-    }) in
-    let few = each-at (λ (v : Undo). fin.len v ≤ limits.semmns) (with_value nat_eq s.undo pid u) pid u
-    (few-adjustments limits (record s { undo = with_value nat_eq s.undo pid u }) put) (at-with s.undo pid u (undo_of s pid) there) in
-    omega (arith, few, (passed-bounds limits passed).semmns)
+room : (limits : Limits) (s : State) → HasSoundParts limits s → ArePassed limits → (u : Undo) → AreAt s.semset u → fin.len u ≤ most_rows
+room limits s sound passed u at = omega (arith, few-at limits s u sound at, (passed-bounds limits passed).semmns)
 
 -- a semaphore of a set that is there
 pub has-within : (sets : Keyed Set) (id num : ℕ) (e : KeyedEntry Set) → entry_of sets id ≡ Some e → num < length e.object.semaphores
@@ -89,24 +81,45 @@ noted-all sets id u (o ∷ rest) at within =
     noted-all sets id (noted id u o) rest (noted-at sets id u o (All-head (λ o. has_semaphore sets (id, o.num) ≡ true) o rest within) at)
     (All-tail (λ o. has_semaphore sets (id, o.num) ≡ true) o rest within)
 
-module _ (sets : Keyed Set) (id : ℕ) (e : KeyedEntry Set) (found : entry_of sets id ≡ Some e) (most : (u : Undo) → AreAt sets u → fin.len u ≤ most_rows)
-    (subtracted-there : (u : Undo) (k : Key) (a : ℤ) → adjustment (subtracted u k a) k ≡ adjustment u k -ℤ a) where
-  -- the adjustments of the definition are those that are noted
-  noted-adjusted : (u : Undo) (held : ℕ → ℤ) (o : Operation) → ((n : ℕ) → held n ≡ adjustment u (id, n)) → (n : ℕ)
-      → adjusted held o n ≡ adjustment (noted id u o) (id, n)
-  noted-adjusted u held o same n =
-      elim (has_undo o) as (λ b. cond (b && nat_eq n o.num) (held n -ℤ o.sem_op) (held n) ≡ adjustment (cond b (subtracted u (id, o.num) o.sem_op) u) (id, n)) [
-        | true ↦ elim (nat_eq n o.num) as (λ b. nat_eq n o.num ≡ b
-            → cond b (held n -ℤ o.sem_op) (held n) ≡ adjustment (subtracted u (id, o.num) o.sem_op) (id, n)) [
-              | true ↦ λ is. let here : n ≡ o.num = eqb-true n o.num is in
-                  ap (λ (a : ℤ). a -ℤ o.sem_op) (same n ∙ ap (λ (m : ℕ). adjustment u (id, m)) here) ∙ sym (subtracted-there u (id, o.num) o.sem_op)
-                  ∙ ap (λ (m : ℕ). adjustment (subtracted u (id, o.num) o.sem_op) (id, m)) (sym here)
-              | false ↦ λ is. same n ∙ ap (λ (r : Option ℤ). unwrap_or r (pos 0)) (sym (subtracted_others u (id, o.num) (id, n) o.sem_op
-                  (λ one. eqb-false n o.num is (ap (λ (x : Key). x.1) one))))
-            ] refl
-        | false ↦ same n
-      ]
+-- the adjustments of the definition are those that are noted
+noted-adjusted : (id : ℕ) (u : Undo) (held : ℕ → ℤ) (o : Operation) → ((n : ℕ) → held n ≡ adjustment u (id, n)) → (n : ℕ)
+    → adjusted held o n ≡ adjustment (noted id u o) (id, n)
+noted-adjusted id u held o same n =
+    elim (has_undo o) as (λ b. cond (b && nat_eq n o.num) (held n -ℤ o.sem_op) (held n) ≡ adjustment (cond b (subtracted u (id, o.num) o.sem_op) u) (id, n)) [
+      | true ↦ elim (nat_eq n o.num) as (λ b. nat_eq n o.num ≡ b
+          → cond b (held n -ℤ o.sem_op) (held n) ≡ adjustment (subtracted u (id, o.num) o.sem_op) (id, n)) [
+            | true ↦ λ is. let here : n ≡ o.num = eqb-true n o.num is in
+                ap (λ (a : ℤ). a -ℤ o.sem_op) (same n ∙ ap (λ (m : ℕ). adjustment u (id, m)) here) ∙ sym (subtracted_there u (id, o.num) o.sem_op)
+                ∙ ap (λ (m : ℕ). adjustment (subtracted u (id, o.num) o.sem_op) (id, m)) (sym here)
+            | false ↦ λ is. same n ∙ ap (λ (r : Option ℤ). unwrap_or r (pos 0)) (sym (subtracted_others u (id, o.num) (id, n) o.sem_op
+                (λ one. eqb-false n o.num is (ap (λ (x : Key). x.1) one))))
+          ] refl
+      | false ↦ same n
+    ]
 
+-- if a list passes, the adjustments that are noted stay in their range
+pub noted-kept : (id at : ℕ) (values : List ℕ) (held : ℕ → ℤ) (ops : List Operation) (v : List ℕ) (a : ℕ → ℤ) (u : Undo)
+    → outcome_from at values held ops ≡ IsDone v a → ((n : ℕ) → held n ≡ adjustment u (id, n)) → IsSoundUndo u
+    → IsSoundUndo (fold (noted id) u ops)
+noted-kept id at values held [] v a u is same kept = kept
+noted-kept id at values held (o ∷ rest) v a u is same kept =
+    elim (judged (slice_index values o.num) (held o.num) o) as (λ w. judged (slice_index values o.num) (held o.num) o ≡ w
+    → unless_stopped w at (outcome_from (at + 1) (performed values o) (adjusted held o) rest) ≡ IsDone v a
+    → IsSoundUndo (fold (noted id) (noted id u o) rest)) [
+      | Goes ↦ λ goes later. noted-kept id (at + 1) (performed values o) (adjusted held o) rest v a (noted id u o) later
+          (noted-adjusted id u held o same) (by_undo (has_undo o) refl goes)
+      | Waits ↦ λ goes later. cc
+      | OutOfRange ↦ λ goes later. cc
+    ] refl is
+  where
+    by_undo : (b : Bool) → has_undo o ≡ b → judged (slice_index values o.num) (held o.num) o ≡ Goes
+        → IsSoundUndo (cond b (subtracted u (id, o.num) o.sem_op) u)
+    by_undo true undo goes =
+        with-sound u (id, o.num) (adjustment u (id, o.num) -ℤ o.sem_op) (subst (λ (z : ℤ). is_adjustment (z -ℤ o.sem_op) ≡ true) (same o.num)
+        (adjustment-judged (slice_index values o.num) (held o.num) o goes undo)) kept
+    by_undo false undo goes = kept
+
+module _ (sets : Keyed Set) (id : ℕ) (e : KeyedEntry Set) (found : entry_of sets id ≡ Some e) (most : (u : Undo) → AreAt sets u → fin.len u ≤ most_rows) where
   -- for one more there is room: with it all would be at semaphores that are there
   few : (u : Undo) (k : Key) → has_semaphore sets k ≡ true → AreAt sets u → fin.get u k ≡ None → fin.len u < most_rows
   few u k there at none =
@@ -126,7 +139,7 @@ module _ (sets : Keyed Set) (id : ℕ) (e : KeyedEntry Set) (found : entry_of se
       → unless_stopped w at (outcome_from (at + 1) (performed values o) (adjusted held o) rest) ≡ IsDone v a
       → CanNote id (fold (noted id) u (take k (o ∷ rest))) (get_or (o ∷ rest) k d)) [
         | Goes ↦ λ goes later. by_place k low undo goes (noted-each (at + 1) (performed values o) (adjusted held o) rest v a (noted id u o) later
-            (noted-adjusted u held o same) (All-tail (λ (p : Operation). p.num < length e.object.semaphores) o rest within) (noted-at sets id u o has there))
+            (noted-adjusted id u held o same) (All-tail (λ (p : Operation). p.num < length e.object.semaphores) o rest within) (noted-at sets id u o has there))
         | Waits ↦ λ goes later. cc
         | OutOfRange ↦ λ goes later. cc
       ] refl is
@@ -147,16 +160,15 @@ module _ (sets : Keyed Set) (id : ℕ) (e : KeyedEntry Set) (found : entry_of se
       by_place (suc k) low undo goes later = later k d (omega (arith, low)) undo
 
 -- a list that may be performed can be noted
-pub ready-noted : (limits : Limits) (s : State) (pid id : ℕ) (ops : List Operation)
-    → ((u : Undo) (k : Key) (a : ℤ) → adjustment (subtracted u k a) k ≡ adjustment u k -ℤ a)
-    → HasSoundParts limits s → IsReady limits s pid id ops → CanBeNoted s pid id ops
-ready-noted limits s pid id ops subtracted-there sound ready =
+pub ready-noted : (limits : Limits) (s : State) (pid id : ℕ) (ops : List Operation) → HasSoundParts limits s → IsReady limits s pid id ops
+    → CanBeNoted s pid id ops
+ready-noted limits s pid id ops sound ready =
     let there = process-undo limits s pid sound ready.process in
     let e = ready.found.0.0 in
     let p = ready.found.1 in
     let at = each-at (AreAt s.semset) s.undo pid (undo_of s pid) sound.undo.each there in
     record {
       there = there;
-      each = noted-each s.semset id e p.there (room limits s pid sound ready.passed there) subtracted-there
+      each = noted-each s.semset id e p.there (room limits s sound ready.passed)
           0 (values_of e.object) (held_by s pid id) ops ready.found.0.1 p.done.0 (undo_of s pid) p.done.1 (λ n. refl) p.within at;
     }

@@ -14,7 +14,7 @@ use Rattle.sem_undo.specs.Undo.{Key, Undo, adjustment, subtracted}
 use Rattle.sem_undo.proofs.CallerLemmas.{subtracted_others}
 use Rattle.sysv_sem.specs.declared.operation.Operation.{Operation}
 use Rattle.sysv_sem.specs.Operation.{has_undo}
-use Rattle.sysv_sem.specs.Set.{Set, carried}
+use Rattle.sysv_sem.specs.Set.{Set, carried, values_of}
 use Rattle.sysv_sem.proofs.CallerLemmas.{length-carried}
 use Rattle.ipc_state.specs.declared.parked.ObjectKind.TheVariants as kinds
 use Rattle.ipc_state.specs.Bound.{holding}
@@ -22,12 +22,12 @@ use Rattle.ipc_state.specs.Keyed.{KeyedEntry}
 use Rattle.ipc_state.specs.Numbered.{entry_of}
 use Rattle.ipc_state.specs.Sound.{HasSoundParts, has_semaphore}
 use Rattle.ipc_state.specs.State.{State, undo_of, with_semset}
-use Rattle.ipc_state.proofs.CallerLemmas.{AtEnd, after, at-all, carried-sound, content-sound, undo_of-at, with_held-sound, with_undo-sound}
+use Rattle.ipc_state.proofs.CallerLemmas.{AtEnd, after, at-all, carried-sound, content-sound, undo_of-at, undo_of-kept, with_held-sound, with_undo-sound}
 use Rattle.sysv_calls.specs.Access.{read}
 use Rattle.sysv_calls.specs.Semop.{count_stopped, held_by, noted, operated, operations_of, semctl_getcnt, semop}
 use Rattle.sysv_calls.proofs.Ending.{Leaves, read-ends, set, one_set-ends, those}
 use Rattle.sysv_calls.proofs.Reaching.{Operates, operates, semaphore-ends}
-use Rattle.sysv_calls.proofs.Noting.{has-within, noted-all}
+use Rattle.sysv_calls.proofs.Noting.{has-within, noted-all, noted-kept}
 
 -- if a process has the same there as before, all have
 put-apart : (undo : List (ℕ × Undo)) (pid : ℕ) (new : Undo) (k : Key) → adjustment new k ≡ adjustment (those undo pid) k
@@ -74,6 +74,7 @@ module _ (limits : Limits) (s : State) where
       with_undo-sound limits t pid (fold (noted id) (undo_of s pid) ops) whole (noted-all t.semset id (undo_of s pid) ops (undo_of-at limits t pid whole)
       (All-weaker (λ o. o.num < length e.object.semaphores) (λ o. has_semaphore t.semset (id, o.num) ≡ true)
       (λ o is. has-within t.semset id o.num (holding e new) there (omega (arith, is, long))) ops ok.within))
+      (noted-kept id 0 (values_of e.object) held ops found.1 ok.done.0 (undo_of s pid) ok.done.1 (λ n. refl) (undo_of-kept limits s pid h))
 
   pub semop-ends : (cred : Cred) (pid : ℕ) (again : Bool) (id : ℕ) (operations : List ℕ)
       → AtEnd false (Leaves limits s (set id)) (semop limits s cred pid again id operations)

@@ -25,7 +25,6 @@ use ipc_base::{Cred, Errno, Id, Pid, SemFlags};
 use ipc_perm::{Access, Perm, may};
 use ipc_state::{Answer, Halt, ParkedKind, ParkedSysv, State};
 use ipc_wire::{Body, SemBuf, Sixes};
-use sem_undo::subtracted_adds_up;
 use sysv_sem::{Operation, Trial};
 
 /// The most operations of a list, under any limits.
@@ -201,7 +200,6 @@ pub(crate) fn operate(state: &mut State, pid: Pid, id: Id, operations: &Sixes<'_
     let now = state.clock();
     let set = state.semset_mut(id).unwrap();
     set.carry(all, pid, now);
-    subtracted_adds_up();
     note_undo(state, pid, id, all);
 }
 

@@ -1,8 +1,9 @@
 -- Operations on a semaphore set (semop(2)). A list of operations is performed whole or not at all. Its first operation
 -- is judged at the set as it is, and each other as if those before it were performed: it may have to wait, and then so
 -- does the list; it may take a value or an adjustment out of range, and then the list is refused; or it passes.
-use Rattle.std.specs.Prelude.{ℕ, zero, suc, ◌+◌, ◌-◌, ◌==◌, nat_lt, ℤ, pos, negsuc, ◌-ℤ◌, int_le}
+use Rattle.std.specs.Prelude.{ℕ, zero, suc, ◌+◌, ◌-◌, ◌==◌, nat_lt, ℤ, pos, negsuc, ◌-ℤ◌}
 use Rattle.std.specs.Prelude.{Bool, false, not, ◌&&◌, if◌then◌else◌, List, [], ◌∷◌, slice_index, slice_set, bit_and}
+pub use Rattle.ipc_base.specs.Adjustment.{is_adjustment}
 use Rattle.ipc_base.specs.declared.errno.Errno.{Errno}
 use Rattle.ipc_base.specs.declared.errno.Errno.TheVariants.{ERANGE}
 use Rattle.sysv_sem.specs.declared.operation.Operation.{Operation}
@@ -16,10 +17,6 @@ use Rattle.sysv_sem.specs.declared.operation.Verdict.TheVariants.{Passes, Waits,
 -- the most that a value may be
 abbrev pub most_value : ℕ
 most_value = 32767
-
--- whether an adjustment may be so much (negsuc n is -(n + 1))
-abbrev pub is_adjustment : ℤ → Bool
-is_adjustment a = int_le (negsuc 32766) a && int_le a (pos 32767)
 
 -- whether the operation is undone when its process exits: it has SEM_UNDO
 abbrev pub has_undo : Operation → Bool

@@ -49,8 +49,7 @@ note_undo-requires c =
     let s = c.args.state.now.state in
     let found = c.requires.ready.found.0 in
     let x = c.carry.new.self in
-    let can = ready-noted c.args.state.now.limits s c.args.pid.0 c.args.id.0 (operations u) c.subtracted_adds_up.ensures.there
-    c.requires.sound c.requires.ready in
+    let can = ready-noted c.args.state.now.limits s c.args.pid.0 c.args.id.0 (operations u) c.requires.sound c.requires.ready in
     subst (λ (h : Held). CanBeNoted h.state c.args.pid.0 c.args.id.0 (take c.len.result c.put_operations.new.all))
     (sym (c.semset_mut.follows.holds x found.0 c.requires.ready.found.1.there))
     (subst (λ (ops : List Operation). CanBeNoted (with_semset s c.args.id.0 (holding found.0 x)) c.args.pid.0 c.args.id.0 ops) (sym (front u))

@@ -1,6 +1,5 @@
-use Rattle.std.proofs.Common.{List, ℕ, ◌++◌, map, ap, ◌∙◌}
+use Rattle.std.proofs.Common.{List, ℕ, map, ap, ◌∙◌}
 use Rattle.std.specs.FinMap as fin
-use Rattle.std.proofs.lemmas.Result.{on_ok_weaker}
 use Rattle.ipc_base.specs.Table.{seen_as}
 use Rattle.sem_undo.specs.Undo.{Undo}
 use Rattle.ipc_state.specs.Held.{Held}
@@ -13,8 +12,5 @@ use Rattle.ipc_state.proofs.state.State.restore_no_adjustments.Goals as goal
 pub returns-clause-state : goal.returns-clause-state
 returns-clause-state c =
     let with_undo : List (ℕ × Undo) → State = λ (us : List (ℕ × Undo)). record (state_in c.self.inside) { undo = us } in
-    on_ok_weaker c.add_none.result
-    (λ added. ap with_undo added
-    ∙ (λ i. with_undo ((c.clear.ensures i).entries ++ seen_as (λ p. fin.empty) (map item_row (c.items.ensures i))))
-    ∙ ap (λ (m : Held). with_no_adjustments m.state) c.self.view_is)
-    c.add_none.ensures
+    ap with_undo c.in_ok-undo.ensures ∙ (λ i. with_undo (seen_as (λ p. fin.empty) (map item_row (c.items.ensures i))))
+    ∙ ap (λ (m : Held). with_no_adjustments m.state) c.self.view_is
