@@ -74,6 +74,7 @@ module _ {D : Type 0} {medium : D → Medium} {counts : D → Counts} {old new :
       record {
         takes = w.takes;
         stopped = w.commits.stops;
+        unconfirmed = w.commits.unconfirmed;
         matches = λ limits h m. fail-matches limits old.confirmed (hub_view old.machine before) (hub_view new.machine after) h m.hub
             (ap (λ (s : Machine). s.limits) w.commits.machine) (ap (λ (s : Machine). s.state) w.commits.machine) seen;
       }

@@ -1,6 +1,6 @@
 -- The frames of a client, all confirmed or some consumed, and replies that are delivered: the connections match the clients
 -- of the definitions as they did before.
-use Rattle.std.proofs.Common.{◌≡◌, ℕ, ◌+◌, ◌-◌, ◌<◌, ◌≤◌, true, false, List, [], ◌∷◌, ◌++◌}
+use Rattle.std.proofs.Common.{◌≡◌, ℕ, ◌+◌, ◌-◌, ◌<◌, ◌≤◌, Bool, true, false, List, [], ◌∷◌, ◌++◌}
 use Rattle.std.proofs.Common.{length, drop, Option, Some, None, refl, sym, ap, subst, ◌∙◌, arith, inl, inr}
 use Rattle.std.proofs.Common.{append_assoc, append-nil}
 use Rattle.std.specs.Prelude.{nat_le, All, if◌then◌else◌}
@@ -135,10 +135,12 @@ matching-kept confirmed =
       process = λ es v c m. m.process;
       input = λ es v c m. m.input;
       ended = λ es v c m. m.ended;
-      joins = λ es v c pid m.
-          record { process = refl; input = m.input; ended = m.ended; kept = m.kept; visible = m.visible; seen = m.seen; frames = m.frames };
+      joins = λ es v c pid live none m.
+          let process : Some pid ≡ (if c.ended then None else Some pid) = ap (λ (b : Bool). if b then None else Some pid) (sym live) in
+          record { process = process; input = m.input; ended = m.ended; kept = m.kept; visible = m.visible; seen = m.seen; frames = m.frames };
       keeps = λ es v c bytes m.
           record { process = m.process; input = refl; ended = m.ended; kept = m.kept; visible = m.visible; seen = m.seen; frames = m.frames };
+      goes_on = λ c bytes. refl;
       ends = λ es v c m. record { process = refl; input = refl; ended = refl; kept = m.kept; visible = m.visible; seen = m.seen; frames = m.frames };
       later = λ es e v c m.
           let all = frames-later (length es) (length (es ++ e ∷ [])) c.frames (omega (arith, length-append es (e ∷ []))) m.frames in
@@ -148,7 +150,7 @@ matching-kept confirmed =
 -- a reply was put into the outbox: the client has a frame more
 pub matching-push : (confirmed : ℕ) (es : List PlainEvent) (o : PlainOutcome) → confirmed < length es → IsShort o
     → CanPush view_endpoint client_endpoint (Matching confirmed) es o
-matching-push confirmed es o later short mark v c m =
+matching-push confirmed es o later short mark v c mine m =
     let bytes : List ℕ = reply_bytes (reply_of o) in
     let f : Frame = record { mark = length es; bytes = bytes } in
     let here : c.consumed ≤ length (all_bytes c.frames) = omega (arith, m.seen, confirmed-short confirmed c.frames) in

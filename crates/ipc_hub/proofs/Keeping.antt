@@ -139,7 +139,7 @@ length-put : (o : PlainOutcome) (v : ConnectionView)
     → length (kept (put_for o v).outbox) ≡ length (kept v.outbox) + (if is_for o.pid v.process then length (reply_bytes (reply_of o)) else 0)
 length-put o v =
     both_choose (λ (w : ConnectionView) (n : ℕ). length (kept w.outbox) ≡ length (kept v.outbox) + n) (is_for o.pid v.process) (is_for o.pid v.process)
-    (pushed (reply_of o) v) v (length (reply_bytes (reply_of o))) 0 refl (length-pushed (reply_of o) v) (omega arith)
+    (pushed (reply_of o) v) v (length (reply_bytes (reply_of o))) 0 refl (λ _. length-pushed (reply_of o) v) (λ _. omega arith)
 
 pub length-heard : (os : List PlainOutcome) (v : ConnectionView) → length (kept (hears os v).outbox) ≡ length (kept v.outbox) + sent_to os v.process
 length-heard [] v = omega arith

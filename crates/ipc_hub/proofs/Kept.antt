@@ -3,6 +3,7 @@
 use Rattle.std.proofs.Common.{◌≡◌, ℕ, ◌≤◌, Bool, arith, true, false, ◌&&◌, List, [], ◌∷◌, ◌++◌}
 use Rattle.std.proofs.Common.{length, drop, Option, Some, None, refl, sym, ap, subst, ◌∙◌, inl, inr}
 use Rattle.std.specs.Prelude.{nat_eq, if◌then◌else◌, All}
+use Rattle.std.proofs.lemmas.Bool.{eqb-true}
 use Rattle.std.proofs.lemmas.List.{length-append}
 use Rattle.std.proofs.lemmas.List.Elements.{All-head, All-tail}
 use Rattle.ipc_base.specs.declared.errno.Errno.{Errno}
@@ -21,15 +22,16 @@ use Rattle.ipc_engine.specs.Step.{step}
 use Rattle.ipc_hub.specs.Hub.{Endpoint, Hub, accepted, with_client, refusal, is_for, last_reply, event_of, first_of, delivered, heard, deliver_all}
 use Rattle.ipc_hub.specs.Hub.{accept, leave, break_off, refuse, told, welcomed, serve, on_event, on_request, acted, unless_ended, on_requests}
 use Rattle.ipc_hub.specs.Hub.{on_ending, on_stream, take_in}
-use Rattle.ipc_hub.specs.Replies.{IsRefusal}
+use Rattle.ipc_hub.specs.Replies.{IsFor, IsRefusal}
+use Rattle.ipc_hub.proofs.Rows.{for-one}
 
 -- two choices by one test
-pub both_choose : {A B : Type 0} (R : A → B → Type 0) (a b : Bool) (x x' : A) (y y' : B) → a ≡ b → R x y → R x' y'
+pub both_choose : {A B : Type 0} (R : A → B → Type 0) (a b : Bool) (x x' : A) (y y' : B) → a ≡ b → (b ≡ true → R x y) → (b ≡ false → R x' y')
     → R (if a then x else x') (if b then y else y')
-both_choose R true true x x' y y' same first second = first
+both_choose R true true x x' y y' same first second = first refl
 both_choose R true false x x' y y' same first second = cc
 both_choose R false true x x' y y' same first second = cc
-both_choose R false false x x' y y' same first second = second
+both_choose R false false x x' y y' same first second = second refl
 
 -- what all replies are, the last one is
 pub last-of : (P : PlainOutcome → Type 0) (os : List PlainOutcome) (o : PlainOutcome) → All P os → last_reply os ≡ Some o → P o
@@ -51,17 +53,19 @@ comes_of kind limits h conn moment c next (Whole used request) refused =
     on_request kind limits (with_client h conn (kind.keeping c [])) conn (kind.keeping c []) moment request refused
 
 module _ {E F : Type 0} (one : Endpoint E) (two : Endpoint F) (S : List PlainEvent → E → F → Type 0) where
-  -- after so many events this reply may be put into two related endpoints
+  -- after so many events this reply may be put into two related endpoints, if it is for them
   abbrev pub CanPush : List PlainEvent → PlainOutcome → Type 0
-  CanPush es o = (mark : ℕ) (c : E) (d : F) → S es c d → S es (one.push c mark o) (two.push d (length es) o)
+  CanPush es o = (mark : ℕ) (c : E) (d : F) → IsFor (two.process d) o.pid → S es c d → S es (one.push c mark o) (two.push d (length es) o)
 
   -- what else is done to an endpoint keeps the relation, and so does an event
   pub record IsKept : Type 0 where
     pub process : (es : List PlainEvent) (c : E) (d : F) → S es c d → one.process c ≡ two.process d
     pub input : (es : List PlainEvent) (c : E) (d : F) → S es c d → one.input c ≡ two.input d
     pub ended : (es : List PlainEvent) (c : E) (d : F) → S es c d → one.ended c ≡ two.ended d
-    pub joins : (es : List PlainEvent) (c : E) (d : F) (pid : ℕ) → S es c d → S es (one.joined c pid) (two.joined d pid)
+    pub joins : (es : List PlainEvent) (c : E) (d : F) (pid : ℕ) → two.ended d ≡ false → two.process d ≡ None → S es c d
+        → S es (one.joined c pid) (two.joined d pid)
     pub keeps : (es : List PlainEvent) (c : E) (d : F) (bytes : List ℕ) → S es c d → S es (one.keeping c bytes) (two.keeping d bytes)
+    pub goes_on : (d : F) (bytes : List ℕ) → two.ended (two.keeping d bytes) ≡ two.ended d
     pub ends : (es : List PlainEvent) (c : E) (d : F) → S es c d → S es (one.over c) (two.over d)
     pub later : (es : List PlainEvent) (e : PlainEvent) (c : E) (d : F) → S es c d → S (es ++ e ∷ []) c d
 
@@ -90,20 +94,20 @@ module _ {E F : Type 0} (one : Endpoint E) (two : Endpoint F) (S : List PlainEve
     heard-kept es mark (o ∷ os) c d can s =
         heard-kept es mark os (delivered one mark o c) (delivered two (length es) o d) (All-tail (CanPush es) o os can)
         (both_choose (S es) (is_for o.pid (one.process c)) (is_for o.pid (two.process d)) (one.push c mark o) c (two.push d (length es) o) d
-        (ap (is_for o.pid) (k.process es c d s)) (All-head (CanPush es) o os can mark c d s) s)
+        (ap (is_for o.pid) (k.process es c d s)) (λ mine. All-head (CanPush es) o os can mark c d (inl (for-one o (two.process d) mine)) s) (λ _. s))
 
-    welcomed-kept : (es : List PlainEvent) (mark : ℕ) (r : Option PlainOutcome) (c : E) (d : F) → ((o : PlainOutcome) → r ≡ Some o → CanPush es o)
-        → S es c d → S es (welcomed one mark r c) (welcomed two (length es) r d)
-    welcomed-kept es mark r c d can s =
-        subst (λ (p : Option ℕ). S es (told one mark p r c) (welcomed two (length es) r d)) (sym (k.process es c d s)) (by_process (two.process d) r can)
+    welcomed-kept : (es : List PlainEvent) (mark : ℕ) (r : Option PlainOutcome) (c : E) (d : F) → two.ended d ≡ false
+        → ((o : PlainOutcome) → r ≡ Some o → CanPush es o) → S es c d → S es (welcomed one mark r c) (welcomed two (length es) r d)
+    welcomed-kept es mark r c d live can s =
+        subst (λ (p : Option ℕ). S es (told one mark p r c) (welcomed two (length es) r d)) (sym (k.process es c d s)) (by_process (two.process d) refl r can)
       where
-        by_process : (p : Option ℕ) (q : Option PlainOutcome) → ((o : PlainOutcome) → q ≡ Some o → CanPush es o)
+        by_process : (p : Option ℕ) → two.process d ≡ p → (q : Option PlainOutcome) → ((o : PlainOutcome) → q ≡ Some o → CanPush es o)
             → S es (told one mark p q c) (told two (length es) p q d)
-        by_process (Some pid) q can' = s
-        by_process None None can' = s
-        by_process None (Some o) can' =
+        by_process (Some pid) is q can' = s
+        by_process None is None can' = s
+        by_process None is (Some o) can' =
             both_choose (S es) (nat_eq o.pid 0) (nat_eq o.pid 0) (one.push c mark o) (one.joined c o.pid) (two.push d (length es) o) (two.joined d o.pid) refl
-            (can' o refl mark c d s) (k.joins es c d o.pid s)
+            (λ none. can' o refl mark c d (inr (eqb-true o.pid 0 none)) s) (λ _. k.joins es c d o.pid live is s)
 
     module _ (Q : List PlainEvent → State → List PlainEvent → Type 0) (limits : Limits) where
       -- ---- events
@@ -154,8 +158,8 @@ module _ {E F : Type 0} (one : Endpoint E) (two : Endpoint F) (S : List PlainEve
 
       -- ---- requests
 
-      -- two related endpoints, of hubs in which each event would pass, and refusals from now on
-      module _ (conn moment : ℕ) {g : Hub E} {h : Hub F} (c : E) (d : F) (all : (e : PlainEvent) → Passes g h e)
+      -- two related endpoints that go on, of hubs in which each event would pass, and refusals from now on
+      module _ (conn moment : ℕ) {g : Hub E} {h : Hub F} (c : E) (d : F) (live : two.ended d ≡ false) (all : (e : PlainEvent) → Passes g h e)
           (refusals : (es : List PlainEvent) → accepted h ≤ length es → (serial : ℕ) (error : Errno) → IsRefusal error → CanPush es (refusal serial error))
           (r : Related Q g h) (s : S h.events c d) where
         break-kept : (serial : ℕ) → Related Q (break_off one limits g conn c serial moment) (break_off two limits h conn d serial moment)
@@ -169,7 +173,7 @@ module _ {E F : Type 0} (one : Endpoint E) (two : Endpoint F) (S : List PlainEve
             subst (λ (q : Option ℕ). Related Q (with_client (g' q) conn (last q)) (break_off two limits h conn d serial moment))
             (sym (k.process h.events c d s)) (put-kept conn (last p) (two.push (two.over d) (accepted h') (refusal serial EPROTO))
             (leave-kept p moment all (put-kept conn (one.over c) (two.over d) r over))
-            (refusals h'.events (left-more gone p moment) serial EPROTO (inr (inl refl)) (accepted (g' p)) (one.over c) (two.over d)
+            (refusals h'.events (left-more gone p moment) serial EPROTO (inr (inl refl)) (accepted (g' p)) (one.over c) (two.over d) (inr refl)
             (left-later gone p moment (one.over c) (two.over d) over)))
 
         serve-kept : (e : PlainEvent) → Related Q (serve one limits g conn c e) (serve two limits h conn d e)
@@ -183,7 +187,7 @@ module _ {E F : Type 0} (one : Endpoint E) (two : Endpoint F) (S : List PlainEve
             (serve two limits h conn d e)) (sym r.state)
             (accept-with g h (with_value nat_eq g.clients conn c') (with_value nat_eq h.clients conn d') e (all e) r.state
             (paired-with (S es) g.clients h.clients conn c' d' (later-kept e r)
-            (welcomed-kept es mark (last_reply os) c d (λ o is. last-of (CanPush es) os o (all e).1 is) (k.later h.events e c d s))))
+            (welcomed-kept es mark (last_reply os) c d live (λ o is. last-of (CanPush es) os o (all e).1 is) (k.later h.events e c d s))))
 
         event-kept : (serial : ℕ) (refused : Bool) (made : Option PlainEvent)
             → Related Q (on_event one limits g conn c serial moment refused made) (on_event two limits h conn d serial moment refused made)
@@ -192,9 +196,9 @@ module _ {E F : Type 0} (one : Endpoint E) (two : Endpoint F) (S : List PlainEve
             both_choose (Related Q) (refused && event_takes_memory limits g.state e) (refused && event_takes_memory limits h.state e)
             (refuse one g conn c serial) (serve one limits g conn c e) (refuse two h conn d serial) (serve two limits h conn d e)
             (ap (λ (t : State). refused && event_takes_memory limits t e) r.state)
-            (put-kept conn (one.push c (accepted g) (refusal serial ENOMEM)) (two.push d (accepted h) (refusal serial ENOMEM)) r
-            (refusals h.events (omega arith) serial ENOMEM (inl refl) (accepted g) c d s))
-            (serve-kept e)
+            (λ _. put-kept conn (one.push c (accepted g) (refusal serial ENOMEM)) (two.push d (accepted h) (refusal serial ENOMEM)) r
+            (refusals h.events (omega arith) serial ENOMEM (inl refl) (accepted g) c d (inr refl) s))
+            (λ _. serve-kept e)
 
         request-kept : (request : PlainRequest) (refused : Bool)
             → Related Q (on_request one limits g conn c moment request refused) (on_request two limits h conn d moment request refused)
@@ -204,12 +208,16 @@ module _ {E F : Type 0} (one : Endpoint E) (two : Endpoint F) (S : List PlainEve
             (event-kept request.serial refused (event_of (two.process d) request moment))
 
       -- what stands at the front of bytes
-      pub frame-kept : (conn moment : ℕ) {g : Hub E} {h : Hub F} (c : E) (d : F) (next : List ℕ) → ((e : PlainEvent) → Passes g h e)
+      pub frame-kept : (conn moment : ℕ) {g : Hub E} {h : Hub F} (c : E) (d : F) (next : List ℕ) → two.ended d ≡ false
+          → ((e : PlainEvent) → Passes g h e)
           → ((es : List PlainEvent) → accepted h ≤ length es → (serial : ℕ) (error : Errno) → IsRefusal error → CanPush es (refusal serial error))
           → Related Q g h → S h.events c d → (f : PlainFrame) (refused : Bool)
           → Related Q (comes_of one limits g conn moment c next f refused) (comes_of two limits h conn moment d next f refused)
-      frame-kept conn moment {g} {h} c d next all refusals r s f refused = by_frame f
+      frame-kept conn moment {g} {h} c d next live all refusals r s f refused = by_frame f
         where
+          goes : two.ended (two.keeping d []) ≡ false
+          goes = k.goes_on d [] ∙ live
+
           bare : S h.events (one.keeping c []) (two.keeping d [])
           bare = k.keeps h.events c d [] s
 
@@ -221,8 +229,8 @@ module _ {E F : Type 0} (one : Endpoint E) (two : Endpoint F) (S : List PlainEve
               subst (λ (i : List ℕ). Related Q (with_client g conn (one.keeping c (i ++ next))) (comes_of two limits h conn moment d next More refused))
               (sym (k.input h.events c d s))
               (put-kept conn (one.keeping c (two.input d ++ next)) (two.keeping d (two.input d ++ next)) r (k.keeps h.events c d (two.input d ++ next) s))
-          by_frame (Fault serial) = break-kept conn moment (one.keeping c []) (two.keeping d []) all refusals emptied bare serial
-          by_frame (Whole used request) = request-kept conn moment (one.keeping c []) (two.keeping d []) all refusals emptied bare request refused
+          by_frame (Fault serial) = break-kept conn moment (one.keeping c []) (two.keeping d []) goes all refusals emptied bare serial
+          by_frame (Whole used request) = request-kept conn moment (one.keeping c []) (two.keeping d []) goes all refusals emptied bare request refused
 
       -- ---- bytes
 
@@ -238,7 +246,8 @@ module _ {E F : Type 0} (one : Endpoint E) (two : Endpoint F) (S : List PlainEve
 
         module _ (conn moment : ℕ) where
           unless-kept : (g : Hub E) (h : Hub F) (act : E → Hub E) (does : F → Hub F) → Related Q g h
-              → ((c : E) (d : F) → S h.events c d → Related Q (act c) (does d)) → Related Q (unless_ended one g conn act) (unless_ended two h conn does)
+              → ((c : E) (d : F) → two.ended d ≡ false → S h.events c d → Related Q (act c) (does d))
+              → Related Q (unless_ended one g conn act) (unless_ended two h conn does)
           unless-kept g h act does r each = by_value (value_at nat_eq g.clients conn) refl
             where
               by_value : (x : Option E) → value_at nat_eq g.clients conn ≡ x → Related Q (acted one g act x) (unless_ended two h conn does)
@@ -247,7 +256,8 @@ module _ {E F : Type 0} (one : Endpoint E) (two : Endpoint F) (S : List PlainEve
               by_value (Some c) is =
                   let p = paired-at (S h.events) g.clients h.clients conn c r.clients is in
                   subst (λ (y : Option F). Related Q (acted one g act (Some c)) (acted two h does y)) (sym p.1.0)
-                  (both_choose (Related Q) (one.ended c) (two.ended p.0) g (act c) h (does p.0) (k.ended h.events c p.0 p.1.1) r (each c p.0 p.1.1))
+                  (both_choose (Related Q) (one.ended c) (two.ended p.0) g (act c) h (does p.0) (k.ended h.events c p.0 p.1.1) (λ _. r)
+                  (λ live. each c p.0 live p.1.1))
 
           requests-kept : (g : Hub E) (h : Hub F) (rs : List PlainRequest) (refused : List Bool) → Related Q g h
               → Related Q (on_requests one limits g conn moment rs refused) (on_requests two limits h conn moment rs refused)
@@ -256,16 +266,16 @@ module _ {E F : Type 0} (one : Endpoint E) (two : Endpoint F) (S : List PlainEve
               let act : E → Hub E = λ c. on_request one limits g conn c moment q (first_of refused) in
               let does : F → Hub F = λ d. on_request two limits h conn d moment q (first_of refused) in
               requests-kept (unless_ended one g conn act) (unless_ended two h conn does) qs (drop 1 refused)
-              (unless-kept g h act does r (λ c d s. request-kept conn moment c d (passes r) (λ es more. a.refusals es) r s q (first_of refused)))
+              (unless-kept g h act does r (λ c d live s. request-kept conn moment c d live (passes r) (λ es more. a.refusals es) r s q (first_of refused)))
 
           ending-kept : (g : Hub E) (h : Hub F) (ending : Ending) → Related Q g h
               → Related Q (on_ending one limits g conn moment ending) (on_ending two limits h conn moment ending)
           ending-kept g h (Rest bytes) r =
               unless-kept g h (λ c. with_client g conn (one.keeping c bytes)) (λ d. with_client h conn (two.keeping d bytes)) r
-              (λ c d s. put-kept conn (one.keeping c bytes) (two.keeping d bytes) r (k.keeps h.events c d bytes s))
+              (λ c d live s. put-kept conn (one.keeping c bytes) (two.keeping d bytes) r (k.keeps h.events c d bytes s))
           ending-kept g h (Broken serial) r =
               unless-kept g h (λ c. break_off one limits g conn c serial moment) (λ d. break_off two limits h conn d serial moment) r
-              (λ c d s. break-kept conn moment c d (passes r) (λ es more. a.refusals es) r s serial)
+              (λ c d live s. break-kept conn moment c d live (passes r) (λ es more. a.refusals es) r s serial)
 
           pub taken-kept : (g : Hub E) (h : Hub F) (bytes : List ℕ) (refused : List Bool) → Related Q g h
               → Related Q (take_in one limits g conn bytes moment refused) (take_in two limits h conn bytes moment refused)
@@ -273,7 +283,7 @@ module _ {E F : Type 0} (one : Endpoint E) (two : Endpoint F) (S : List PlainEve
               let g' : E → Hub E = λ c. with_client g conn (one.keeping c []) in
               let h' : F → Hub F = λ d. with_client h conn (two.keeping d []) in
               unless-kept g h (λ c. on_stream one limits (g' c) conn moment (stream_of (one.input c ++ bytes)) refused)
-              (λ d. on_stream two limits (h' d) conn moment (stream_of (two.input d ++ bytes)) refused) r (λ c d s.
+              (λ d. on_stream two limits (h' d) conn moment (stream_of (two.input d ++ bytes)) refused) r (λ c d live s.
               let st : Stream = stream_of (two.input d ++ bytes) in
               subst (λ (i : List ℕ). Related Q (on_stream one limits (g' c) conn moment (stream_of (i ++ bytes)) refused)
               (on_stream two limits (h' d) conn moment st refused)) (sym (k.input h.events c d s))

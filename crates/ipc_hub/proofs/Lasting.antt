@@ -1,9 +1,9 @@
 -- Lives of the server: what each leaves, and the history that the machine has after all of them.
 use Rattle.std.proofs.Common.{◌≡◌, ℕ, ◌≤◌, List, [], ◌∷◌, ◌++◌, length, drop, Some, None, inl, inr, refl, sym, ap, subst, ◌∙◌, arith}
 use Rattle.std.proofs.Common.{append-nil, append_assoc}
-use Rattle.std.specs.Prelude.{All, nat_le}
+use Rattle.std.specs.Prelude.{All, nat_le, Option}
 use Rattle.std.proofs.lemmas.List.{length-append, length-drop, append_cancel_left}
-use Rattle.std.proofs.lemmas.List.Elements.{All-nil, All-cons, All-append, All-head, All-tail, All-take, All-weaker}
+use Rattle.std.proofs.lemmas.List.Elements.{All-nil, All-cons, All-append, All-head, All-tail, All-take, All-map, All-weaker}
 use Rattle.std.proofs.lemmas.Bool.Decides.{nat_tests}
 use Rattle.ipc_base.specs.declared.limits.Limits.{Limits}
 use Rattle.ipc_base.proofs.CallerLemmas.{each-at, test_cases}
@@ -17,7 +17,7 @@ use Rattle.ipc_store.specs.Lives.StoppedOpens.{None as no_open}
 use Rattle.ipc_store.specs.View.{StoreView}
 use Rattle.ipc_store.proofs.CallerLemmas.{Takes-none}
 use Rattle.ipc_hub.specs.Clients.{Frame, Client, Clients, all_bytes, confirmed_bytes}
-use Rattle.ipc_hub.specs.Lives.{HubCall, Shows, Serving, Life, life_of, Lives, Rested, IsHistory, RestsAfter, HasHistory}
+use Rattle.ipc_hub.specs.Lives.{HubCall, Seen, Shows, Serving, as_seen, Life, life_of, Lives, Rested, IsHistory, RestsAfter, HasHistory}
 use Rattle.ipc_hub.specs.Lives.HubCall.{Serves, Still, Fails}
 use Rattle.ipc_hub.specs.Lives.Serving.{New, Call, Look}
 use Rattle.ipc_hub.specs.Lives.Rested.{Begun, Stops, Lived as life_over}
@@ -68,36 +68,44 @@ shown-confirmed confirmed accepted v c frames others m first output =
     few-confirmed confirmed accepted frames others (subst (AreFrames accepted) (sym first) m.frames)
     (subst (λ (fs : List Frame). length (all_bytes frames) ≤ length (confirmed_bytes confirmed fs)) (sym first) few)
 
--- frames that an output shows are of confirmed events
-shows-confirmed : (limits : Limits) (confirmed : ℕ) (v : HubView) (h : Clients) (conn : ℕ) (frames : List Frame) → HubMatches limits confirmed v h
-    → Shows v h conn frames → All (IsWithin confirmed) frames
-shows-confirmed limits confirmed v h conn frames m s =
+-- what the frames are that an output shows, those are that are seen
+all-seen : (P : Option ℕ → Frame → Type 0) {v : HubView} {h : Clients} {conn : ℕ} {seen : List Seen} (s : Shows v h conn seen)
+    → All (P s.client.joined_as) s.frames → All (λ (x : Seen). P x.joined_as x.frame) seen
+all-seen P {conn} s all =
+    subst (All (λ (x : Seen). P x.joined_as x.frame)) (sym s.these)
+    (All-map (λ (x : Seen). P x.joined_as x.frame) (as_seen conn s.client) s.frames all)
+
+-- frames that are seen are of confirmed events
+shows-confirmed : (limits : Limits) (confirmed : ℕ) (v : HubView) (h : Clients) (conn : ℕ) (seen : List Seen) → HubMatches limits confirmed v h
+    → Shows v h conn seen → All (λ (x : Seen). IsWithin confirmed x.frame) seen
+shows-confirmed limits confirmed v h conn seen m s =
     elim (pair-at limits confirmed v h conn m) [
       | inl none ↦ absurd (let never : Some s.client ≡ None = sym s.found ∙ none.1 in cc)
       | inr p ↦
-          let output : p.v.outbox.visible ≡ drop s.client.consumed (all_bytes frames) = rw p.at at s.output in
-          shown-confirmed confirmed (length h.events) p.v s.client frames s.others
-          (subst (ClientMatches confirmed (length h.events) p.v) (same_value p.c s.client (sym p.here ∙ s.found)) p.mine) s.first output
+          let output : p.v.outbox.visible ≡ drop s.client.consumed (all_bytes s.frames) = rw p.at at s.output in
+          all-seen (λ _. IsWithin confirmed) s
+          (shown-confirmed confirmed (length h.events) p.v s.client s.frames s.others
+          (subst (ClientMatches confirmed (length h.events) p.v) (same_value p.c s.client (sym p.here ∙ s.found)) p.mine) s.first output)
     ]
 
--- frames that an output shows are answers, as all of the client are
-first-say : (limits : Limits) (base : State) (h : Clients) (frames : List Frame) (conn : ℕ) (v : HubView) → IsTold limits base h
-    → Shows v h conn frames → All (IsAnswer limits base h.events) frames
-first-say limits base h frames conn v told s =
-    let says : All (IsAnswer limits base h.events) s.client.frames =
-    each-at (Says (IsAnswer limits base) h.events) h.clients conn s.client told.each s.found in
-    let split : take (length frames) s.client.frames ≡ frames = ap (take (length frames)) (sym s.first) ∙ take-append_seam frames s.others in
-    subst (All (IsAnswer limits base h.events)) split (All-take (IsAnswer limits base h.events) (length frames) s.client.frames says)
+-- frames that are seen are answers, as all of the client are
+first-say : (limits : Limits) (base : State) (h : Clients) (seen : List Seen) (conn : ℕ) (v : HubView) → IsTold limits base [] h
+    → Shows v h conn seen → All (λ (x : Seen). IsAnswer limits base h.events x.joined_as x.frame) seen
+first-say limits base h seen conn v told s =
+    let Mine : Frame → Type 0 = IsAnswer limits base h.events s.client.joined_as in
+    let says : All Mine s.client.frames = each-at (Says (IsAnswer limits base) h.events) h.clients conn s.client told.each s.found in
+    let split : take (length s.frames) s.client.frames ≡ s.frames = ap (take (length s.frames)) (sym s.first) ∙ take-append_seam s.frames s.others in
+    all-seen (IsAnswer limits base h.events) s (subst (All Mine) split (All-take Mine (length s.frames) s.client.frames says))
 
--- the event of a frame lasts, and the frame is an answer
-abbrev Lasts : Limits → State → ℕ → List PlainEvent → Frame → Type 0
-Lasts limits base confirmed events f = (f.mark ≤ confirmed) × IsAnswer limits base events f
+-- the event of a frame lasts, and the frame is an answer to its connection
+abbrev Lasts : Limits → State → ℕ → List PlainEvent → Seen → Type 0
+Lasts limits base confirmed events s = (s.frame.mark ≤ confirmed) × IsAnswer limits base events s.joined_as s.frame
 
 -- ---- a life
 
 -- A hub after some calls of a life: its store has a history, which begins with what was found; the events of the clients
 -- are those since then; and the frames that were in an output are of events that are confirmed.
-record Lived {D : Type 0} (medium : D → Medium) (past : Past) (v : StoredHub D) (h : Clients) (seen : List Frame) : Type 0 where
+record Lived {D : Type 0} (medium : D → Medium) (past : Past) (v : StoredHub D) (h : Clients) (seen : List Seen) : Type 0 where
   history : History
   keeps : Keeps (medium v.store.disk) v.store history
   base : history.base ≡ past.base
@@ -107,7 +115,7 @@ record Lived {D : Type 0} (medium : D → Medium) (past : Past) (v : StoredHub D
   confirmed : ℕ
   matches : HubMatches past.limits confirmed v.hub h
   within : confirmed ≤ v.store.confirmed
-  told : IsTold past.limits (state_after past) h
+  told : IsTold past.limits (state_after past) [] h
   shown : All (Lasts past.limits (state_after past) v.store.confirmed h.events) seen
 
 module _ {D : Type 0} (medium : D → Medium) (law : (d : D) (image : Image) → (medium d).images_since (medium d).moment image → (medium d).images_now image)
@@ -148,14 +156,14 @@ module _ {D : Type 0} (medium : D → Medium) (law : (d : D) (image : Image) →
   shown-after old new h _ confirmed m within more (Fails takes matches) = (old.store.confirmed, matches, more)
 
   -- the frames are answers after a call as before
-  told-after : (base : State) (old new : StoredHub D) (h next : Clients) → IsTold limits base h → HubCall medium limits old h new next
-      → IsTold limits base next
-  told-after base old new h _ told (Serves next call comes) = told-call limits base h next told call
-  told-after base old new h _ told (Still next call same store matches) = told-call limits base h next told call
-  told-after base old new h _ told (Fails takes matches) = told-fail limits base h old.store.confirmed told
+  told-after : (base : State) (old new : StoredHub D) (h next : Clients) → IsTold limits base [] h → HubCall medium limits old h new next
+      → IsTold limits base [] next
+  told-after base old new h _ told (Serves next call comes) = told-call limits base [] h next told call
+  told-after base old new h _ told (Still next call same store matches) = told-call limits base [] h next told call
+  told-after base old new h _ told (Fails takes matches) = told-fail limits base [] h old.store.confirmed told
 
   -- one call more
-  lived-call : (old new : StoredHub D) (h next : Clients) (seen : List Frame) → Lived medium past old h seen
+  lived-call : (old new : StoredHub D) (h next : Clients) (seen : List Seen) → Lived medium past old h seen
       → HubCall medium limits old h new next → Lived medium past new next seen
   lived-call old new h next seen so_far call =
       let t = took old new h next call in
@@ -184,11 +192,11 @@ module _ {D : Type 0} (medium : D → Medium) (law : (d : D) (image : Image) →
         shown = subst (λ (es : List PlainEvent). All (Lasts limits (state_after past) new.store.confirmed es) seen) (sym t.2)
             (All-weaker (Lasts limits (state_after past) old.store.confirmed h.events)
             (Lasts limits (state_after past) new.store.confirmed (h.events ++ t.0))
-            (λ f is. (omega (arith, is.0, more), answer-more limits (state_after past) h.events t.0 f is.1)) seen so_far.shown);
+            (λ s is. (omega (arith, is.0, more), answer-more limits (state_after past) [] h.events t.0 s.joined_as s.frame is.1)) seen so_far.shown);
       }
 
   -- all calls of a life
-  lived : (opened : StoreView D) (last : StoredHub D) (now : Clients) (seen : List Frame)
+  lived : (opened : StoreView D) (last : StoredHub D) (now : Clients) (seen : List Seen)
       → Keeps (medium opened.disk) opened (reopened past) → opened.machine.limits ≡ limits
       → opened.machine.state ≡ restart (state_after past) → Serving medium limits opened last now seen → Lived medium past last now seen
   lived opened hub _ _ keeps under state (New _ store matches) = record {
@@ -201,15 +209,15 @@ module _ {D : Type 0} (medium : D → Medium) (law : (d : D) (image : Image) →
     confirmed = hub.store.confirmed;
     matches = matches.hub;
     within = omega arith;
-    told = record { state = state ∙ sym (restart-is limits (state_after past)); each = tt };
+    told = record { state = (state ∙ sym (restart-is limits (state_after past)), (Restart ∷ [], refl)); each = tt };
     shown = All-nil (Lasts limits (state_after past) hub.store.confirmed (Restart ∷ []));
   }
   lived opened next then seen keeps under state (Call last _ now _ _ serving call) =
       lived-call last next now then seen (lived opened last now seen keeps under state serving) call
-  lived opened last now _ keeps under state (Look _ _ seen frames conn serving shows) =
+  lived opened last now _ keeps under state (Look _ _ seen more conn serving shows) =
       let so_far = lived opened last now seen keeps under state serving in
-      let within = shows-confirmed limits so_far.confirmed last.hub now conn frames so_far.matches shows in
-      let says = first-say limits (state_after past) now frames conn last.hub so_far.told shows in
+      let within = shows-confirmed limits so_far.confirmed last.hub now conn more so_far.matches shows in
+      let says = first-say limits (state_after past) now more conn last.hub so_far.told shows in
       record {
         history = so_far.history;
         keeps = so_far.keeps;
@@ -221,7 +229,7 @@ module _ {D : Type 0} (medium : D → Medium) (law : (d : D) (image : Image) →
         matches = so_far.matches;
         within = so_far.within;
         told = so_far.told;
-        shown = All-append (Lasts limits (state_after past) last.store.confirmed now.events) frames seen
+        shown = All-append (Lasts limits (state_after past) last.store.confirmed now.events) more seen
             (λ k d inside. let here = within k d inside in (omega (arith, here, so_far.within), says k d inside)) so_far.shown;
       }
 
@@ -278,7 +286,7 @@ module _ {D : Type 0} (medium : D → Medium) (law : (d : D) (image : Image) →
       }
 
   -- one life more
-  one-more : (lives : List Life) (before : D) (opened : StoreView D) (last next : StoredHub D) (now then : Clients) (seen : List Frame) (left : D)
+  one-more : (lives : List Life) (before : D) (opened : StoreView D) (last next : StoredHub D) (now then : Clients) (seen : List Seen) (left : D)
       → HasHistory (medium opened.disk) past lives opened → Serving medium past.limits opened last now seen → HubCall medium past.limits last now next then
       → IsLeft (medium last.store.disk) (medium next.store.disk) (medium left) → RestsAfter past (life_of opened last then seen ∷ lives) (medium left)
   one-more lives before opened last next now then seen left has serving call is_left =
@@ -291,7 +299,7 @@ module _ {D : Type 0} (medium : D → Medium) (law : (d : D) (image : Image) →
       ap (λ (es : List PlainEvent). es ++ h.confirmed) l.found ∙ append_assoc past.events has.history h.confirmed in
       (λ i. record { limits = l.under i; base = l.base i; events = events i }) in
       let rests = leaves last.store next.store h t.0 left l.keeps t.1 is_left in
-      let Says : List PlainEvent → Frame → Type 0 = IsAnswer past.limits (state_after so_far) in
+      let Says : List PlainEvent → Option ℕ → Frame → Type 0 = IsAnswer past.limits (state_after so_far) in
       at-rest (life_of opened last then seen ∷ lives) left (has.history ++ h.confirmed) (h.waiting ++ t.0)
       (subst (λ (p : Past). Rests p (h.waiting ++ t.0) (medium left)) sure rests)
       (λ kept lost prefix.
@@ -302,9 +310,10 @@ module _ {D : Type 0} (medium : D → Medium) (law : (d : D) (image : Image) →
       ∙ sym (append_assoc h.confirmed h.waiting t.0) ∙ ap (λ (es : List PlainEvent). es ++ t.0) l.events ∙ sym t.2)
       most
       (All-weaker (Lasts past.limits (state_after so_far) last.store.confirmed now.events)
-      (Lasts past.limits (state_after so_far) (length (h.confirmed ++ kept)) then.events) (λ f is. (
+      (Lasts past.limits (state_after so_far) (length (h.confirmed ++ kept)) then.events) (λ s is. (
         omega (arith, is.0, most),
-        subst (λ (es : List PlainEvent). Says es f) (sym t.2) (answer-more past.limits (state_after so_far) now.events t.0 f is.1),
+        subst (λ (es : List PlainEvent). Says es s.joined_as s.frame) (sym t.2)
+            (answer-more past.limits (state_after so_far) [] now.events t.0 s.joined_as s.frame is.1),
       )) seen l.shown)))
 
   -- the disk at rest after all of them

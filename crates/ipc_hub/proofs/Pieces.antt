@@ -8,7 +8,7 @@ use Rattle.ipc_wire.specs.Request.{PlainRequest}
 use Rattle.ipc_wire.specs.Stream.{first, Ending, Stream, stream_of, continued}
 use Rattle.ipc_wire.specs.Stream.PlainFrame.{More}
 use Rattle.ipc_wire.specs.Stream.Ending.{Rest, Broken}
-use Rattle.ipc_wire.proofs.CallerLemmas.{stream_begun}
+use Rattle.ipc_wire.proofs.CallerLemmas.{stream_begun, stream_pieces as pieces}
 use Rattle.ipc_base.specs.Table.{value_at, with_value}
 use Rattle.ipc_engine.specs.Event.{PlainEvent, PlainOutcome, Exit}
 use Rattle.ipc_engine.specs.Step.{step}
@@ -16,13 +16,9 @@ use Rattle.ipc_engine.specs.Engine.{event_takes_memory}
 use Rattle.ipc_hub.specs.Hub.{accepted, client_at, with_client, refusal, heard}
 use Rattle.ipc_hub.specs.Hub.{is_for, leave, break_off, refuse, event_of, last_reply, told}
 use Rattle.ipc_hub.specs.Hub.{welcomed, serve, on_event, on_request, unless_ended, on_requests, on_ending, on_stream, first_of, fitted}
-use Rattle.ipc_hub.specs.Clients.{Client, Clients, client_endpoint as kind, with_frame, over, take_in, arriving}
+use Rattle.ipc_hub.specs.Clients.{Client, Clients, client_endpoint as kind, own_process, with_frame, over, take_in, arriving}
 use Rattle.ipc_hub.proofs.Kept.{heard-none}
 use Rattle.ipc_base.proofs.CallerLemmas.{choice, test_cases, at-with, twice, own, at-map}
-
--- the requests of a stream, and of it in two pieces
-abbrev pub InPieces : Type 0
-InPieces = (bytes more : List ℕ) → stream_of (bytes ++ more) ≡ continued (stream_of bytes).requests (stream_of bytes).ending more
 
 -- ---- a connection that has ended, and one that has not
 
@@ -77,7 +73,7 @@ pub heard-same : (mark : ℕ) (os : List PlainOutcome) (c : Client) → ((heard 
 heard-same mark [] c = (refl, refl)
 heard-same mark (o ∷ os) c =
     choice (λ (d : Client). ((heard kind mark os d).input ≡ c.input) × ((heard kind mark os d).ended ≡ c.ended))
-    (is_for o.pid c.process) (with_frame c mark o) c
+    (is_for o.pid (own_process c)) (with_frame c mark o) c
     (λ _. heard-same mark os (with_frame c mark o)) (λ _. heard-same mark os c)
 
 delivers-keep : (mark : ℕ) (os : List PlainOutcome) (r : Option Client) → ((c : Client) → r ≡ Some c → c.input ≡ []) → (d : Client)
@@ -90,7 +86,7 @@ welcome-keeps : (mark : ℕ) (p : Option ℕ) (reply : Option PlainOutcome) (c :
 welcome-keeps mark (Some pid) reply c none = none
 welcome-keeps mark None None c none = none
 welcome-keeps mark None (Some o) c none =
-    choice (λ (x : Client). x.input ≡ []) (nat_eq o.pid 0) (with_frame c mark o) (record c { process = Some o.pid }) (λ _. none) (λ _. none)
+    choice (λ (x : Client). x.input ≡ []) (nat_eq o.pid 0) (with_frame c mark o) (record c { joined_as = Some o.pid }) (λ _. none) (λ _. none)
 
 length-fitted : (n : ℕ) (xs : List Bool) → length (fitted n xs) ≡ n
 length-fitted zero xs = refl
@@ -103,7 +99,7 @@ module _ (limits : Limits) where
       let os : List PlainOutcome = (step limits h.state e).outcomes in
       let w : Client = welcomed kind mark (last_reply os) c in
       delivers-keep mark os (value_at nat_eq (with_value nat_eq h.clients conn w) conn)
-      (put-keeps h.clients conn w (welcome-keeps mark c.process (last_reply os) c none)) d
+      (put-keeps h.clients conn w (welcome-keeps mark (own_process c) (last_reply os) c none)) d
       (sym (at-map (heard kind mark os) (with_value nat_eq h.clients conn w) conn) ∙ is)
 
   event-keeps : (h : Clients) (conn serial moment : ℕ) (c : Client) (refused : Bool) (made : Option PlainEvent) → c.input ≡ []
@@ -115,7 +111,7 @@ module _ (limits : Limits) where
 
   pub request-keeps : (h : Clients) (conn moment : ℕ) (c : Client) (request : PlainRequest) (refused : Bool) → c.input ≡ []
       → KeepsNone (on_request kind limits h conn c moment request refused) conn
-  request-keeps h conn moment c request refused = event-keeps h conn request.serial moment c refused (event_of c.process request moment)
+  request-keeps h conn moment c request refused = event-keeps h conn request.serial moment c refused (event_of (own_process c) request moment)
 
   unless-keeps : (h : Clients) (conn : ℕ) (act : Client → Clients) → KeepsNone h conn
       → ((c : Client) → client_at h conn ≡ Some c → KeepsNone (act c) conn) → KeepsNone (unless_ended kind h conn act) conn
@@ -169,7 +165,7 @@ module _ (limits : Limits) where
   take_in-acts h conn moment c bytes refused here live = search (rules, here, live)
 
   -- a client without a process stays as it is when a process leaves
-  left_at : (h : Clients) (conn moment : ℕ) (c : Client) (p : Option ℕ) → client_at h conn ≡ Some c → c.process ≡ None
+  left_at : (h : Clients) (conn moment : ℕ) (c : Client) (p : Option ℕ) → client_at h conn ≡ Some c → own_process c ≡ None
       → client_at (leave kind limits h p moment) conn ≡ Some c
   left_at h conn moment c None here none = here
   left_at h conn moment c (Some pid) here none =
@@ -184,9 +180,9 @@ module _ (limits : Limits) where
         | inl done ↦ subst (λ (t : Clients). unless_ended kind t conn act ≡ t) (sym (done does)) (done act)
         | inr l ↦
             let gone : Client = over l.c in
-            let left : Clients = leave kind limits (with_client h conn gone) l.c.process moment in
+            let left : Clients = leave kind limits (with_client h conn gone) (own_process l.c) moment in
             let there : client_at left conn ≡ Some gone =
-            left_at (with_client h conn gone) conn moment gone l.c.process (at-with h.clients conn gone l.c l.here) refl in
+            left_at (with_client h conn gone) conn moment gone (own_process l.c) (at-with h.clients conn gone l.c l.here) refl in
             subst (λ (t : Clients). unless_ended kind t conn act ≡ t) (sym (acts h conn does l.c l.here l.live))
             (ended-stays (does l.c) conn act _ (at-with left.clients conn _ gone there) refl)
       ]
@@ -230,10 +226,10 @@ module _ (limits : Limits) where
       ∙ requests-append h conn moment rs [] xs ys same))
 
   -- bytes taken in in two pieces are taken in at once
-  pub take_in-pieces : InPieces → (h : Clients) (conn moment : ℕ) (bytes more : List ℕ) (xs ys : List Bool)
+  pub take_in-pieces : (h : Clients) (conn moment : ℕ) (bytes more : List ℕ) (xs ys : List Bool)
       → take_in limits (take_in limits h conn bytes moment xs) conn more moment ys
       ≡ take_in limits h conn (bytes ++ more) moment (fitted (length (arriving (client_at h conn) bytes)) xs ++ ys)
-  take_in-pieces pieces h conn moment bytes more xs ys =
+  take_in-pieces h conn moment bytes more xs ys =
       elim (over_or_live h conn) [
         | inl done ↦ ap (λ (t : Clients). take_in limits t conn more moment ys) (done _) ∙ done _ ∙ sym (done _)
         | inr l ↦

@@ -93,7 +93,8 @@ module _ {D : Type 0} {medium : D → Medium} {old new : StoreView D} {before af
       let last_of = subst (λ (i : List ℕ). (g : PlainFrame) → first (i ++ next) ≡ g → IsLast (i ++ next) g) p.1.1.input ends in
       let made : Hub ConnectionView = comes_of view_endpoint old.machine.limits was-hub conn moment r.was next f refused in
       let both = frame-kept view_endpoint client_endpoint (Matching confirmed) (matching-kept confirmed) (Since h.events) old.machine.limits conn moment
-      r.was p.0 next (all-pass old.machine.limits confirmed (hub_view old.machine before) h r.passed (rw (sym m.state) r.sound) m.known)
+      r.was p.0 next (sym p.1.1.ended ∙ r.live)
+      (all-pass old.machine.limits confirmed (hub_view old.machine before) h r.passed (rw (sym m.state) r.sound) m.known)
       (λ es more serial error which. matching-push confirmed es (refusal serial error) (omega (arith, ahead.later, more)) (omega arith))
       (as-related m) p.1.1 f refused in (
         refused ∷ [],

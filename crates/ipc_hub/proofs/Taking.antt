@@ -22,7 +22,7 @@ use Rattle.ipc_hub.specs.Relations.Rows.{is_open_in}
 use Rattle.ipc_hub.proofs.Ending.{pair-at}
 use Rattle.ipc_hub.proofs.Kept.{comes_of}
 use Rattle.ipc_hub.proofs.Rows.{same_value}
-use Rattle.ipc_hub.proofs.Pieces.{InPieces, KeepsNone, over_or_live, acts, bare, emptied, ended-stays, take_in-acts, take_in-nothing, take_in-pieces, request-keeps}
+use Rattle.ipc_hub.proofs.Pieces.{KeepsNone, over_or_live, acts, bare, emptied, ended-stays, take_in-acts, take_in-nothing, take_in-pieces, request-keeps}
 
 -- nothing is behind the requests, and nothing is kept
 ending-none : (limits : Limits) (h : Clients) (conn moment : ℕ) → KeepsNone h conn → on_ending kind limits h conn moment (Rest []) ≡ h
@@ -122,16 +122,16 @@ module _ {D : Type 0} (medium : D → Medium) (law : Law medium) where
             elim (test_cases p.v.ended) [ inl t ↦ t | inr f ↦ let never : true ≡ false = rw f at ended in cc ])
       ])
 
-  pub takes-then : InPieces → (one two three : StoredHub D) (conn moment : ℕ) (part more : List ℕ) → TakesIn medium one two conn part moment
+  pub takes-then : (one two three : StoredHub D) (conn moment : ℕ) (part more : List ℕ) → TakesIn medium one two conn part moment
       → TakesIn medium two three conn more moment → TakesIn medium one three conn (part ++ more) moment
-  takes-then pieces one two three conn moment part more first_part second_part limits confirmed h ahead =
+  takes-then one two three conn moment part more first_part second_part limits confirmed h ahead =
       let a = first_part limits confirmed h ahead in
       let h' : Clients = take_in limits h conn part moment a.0 in
       let b = second_part limits confirmed h' a.1.ahead in
       let x = a.1.accepts in
       let y = b.1.accepts in (
         fitted (length (arriving (client_at h conn) part)) a.0 ++ b.0,
-        subst (Follows medium limits confirmed one three h) (take_in-pieces limits pieces h conn moment part more a.0 b.0) (record {
+        subst (Follows medium limits confirmed one three h) (take_in-pieces limits h conn moment part more a.0 b.0) (record {
           ahead = b.1.ahead;
           accepts = record {
             events = x.events ++ y.events;

@@ -16,14 +16,14 @@ use Rattle.ipc_hub.specs.Clients.{Client, Clients, Frame, client_at, client_endp
 use Rattle.ipc_hub.specs.Unmarked.{unmarked}
 use Rattle.ipc_hub.proofs.Framed.{Framed, Says, framed-kept, framed-push, framed-own, framed-self, framed-each}
 use Rattle.ipc_hub.proofs.Kept.{CanPush, Related, Allows, taken-kept}
-use Rattle.ipc_hub.proofs.Pieces.{InPieces, heard-same, take_in-pieces}
+use Rattle.ipc_hub.proofs.Pieces.{heard-same, take_in-pieces}
 
 -- any frame
-abbrev Any : List PlainEvent → Frame → Type 0
-Any es f = Unit {0}
+abbrev Any : List PlainEvent → Option ℕ → Frame → Type 0
+Any es p f = Unit {0}
 
 any-push : (es : List PlainEvent) (o : PlainOutcome) → CanPush client_endpoint client_endpoint (Framed Any) es o
-any-push es o = framed-push Any es o tt
+any-push es o = framed-push Any es o (λ p mine. tt)
 
 any-each : (es : List PlainEvent) (cs : List (ℕ × Client)) → EachValue (Says Any es) cs
 any-each es [] = tt
@@ -63,10 +63,10 @@ module _ (limits : Limits) (step-early : (s : State) (e : PlainEvent) → NoneIs
           known = quiet;
         }
 
-    pub fed-pieces : InPieces → (h : Clients) (conn : ℕ) (bytes more : List ℕ) (xs ys : List Bool)
+    pub fed-pieces : (h : Clients) (conn : ℕ) (bytes more : List ℕ) (xs ys : List Bool)
         → unmarked (feed limits (feed limits h conn bytes moment xs) conn more moment ys)
         ≡ unmarked (feed limits h conn (bytes ++ more) moment (fitted (length (arriving (client_at h conn) bytes)) xs ++ ys))
-    fed-pieces pieces h conn bytes more xs ys =
+    fed-pieces h conn bytes more xs ys =
         let now : Clients = tick limits h moment in
         let part : Clients = feed limits h conn bytes moment xs in
         let mark : ℕ = length (h.events ++ Tick moment ∷ []) in
@@ -79,7 +79,7 @@ module _ (limits : Limits) (step-early : (s : State) (e : PlainEvent) → NoneIs
         let once : Clients = take_in limits part conn more moment ys in
         let bare = framed-each Any once.events last.clients once.clients both.clients in
         (λ i. record { state = both.state i; events = []; clients = bare.1 i })
-        ∙ ap unmarked (take_in-pieces limits pieces now conn moment bytes more xs ys)
+        ∙ ap unmarked (take_in-pieces limits now conn moment bytes more xs ys)
         ∙ ap (λ (rs : List PlainRequest). unmarked (take_in limits now conn (bytes ++ more) moment (fitted (length rs) xs ++ ys)))
         (ap (λ (r : Option Client). arriving r bytes) (at-map (heard client_endpoint mark os) h.clients conn)
         ∙ by_client mark os (value_at nat_eq h.clients conn))

@@ -22,8 +22,8 @@ pub record Frame : Type 0 where
   pub bytes : List ℕ
 
 pub record Client : Type 0 where
-  -- its process, once it has said HELLO and until it ends
-  pub process : Option ℕ
+  -- the process that its HELLO gave, also after the server has ended it
+  pub joined_as : Option ℕ
   -- its bytes that are no whole frame yet
   pub input : List ℕ
   -- its frames that are not wholly consumed, and how many bytes of the first are
@@ -38,17 +38,21 @@ with_frame c mark o =
     let frame : Frame = record { mark = mark; bytes = reply_bytes (reply_of o) } in
     record c { frames = c.frames ++ frame ∷ [] }
 
+-- its process, once it has said HELLO and until it ends
+abbrev pub own_process : Client → Option ℕ
+own_process c = if c.ended then None else c.joined_as
+
 -- the server ends it
 abbrev pub over : Client → Client
-over c = record c { process = None; input = []; ended = true }
+over c = record c { input = []; ended = true }
 
 -- what a hub does with a client
 abbrev pub client_endpoint : Endpoint Client
 client_endpoint = record {
-  process = λ c. c.process;
+  process = own_process;
   input = λ c. c.input;
   ended = λ c. c.ended;
-  joined = λ c pid. record c { process = Some pid };
+  joined = λ c pid. record c { joined_as = Some pid };
   keeping = λ c bytes. record c { input = bytes };
   over = over;
   push = with_frame;
@@ -60,14 +64,14 @@ Clients = Hub Client
 
 -- a client that has just come
 abbrev pub start_client : Client
-start_client = record { process = None; input = []; frames = []; consumed = 0; ended = false }
+start_client = record { joined_as = None; input = []; frames = []; consumed = 0; ended = false }
 
 -- no connection, over a state that is there after these events
 abbrev pub no_clients : State → List PlainEvent → Clients
 no_clients s events = record { state = s; events = events; clients = [] }
 
 abbrev pub process_at : Clients → ℕ → Option ℕ
-process_at h conn = option_and_then (λ c. c.process) (client_at h conn)
+process_at h conn = option_and_then own_process (client_at h conn)
 
 -- ---- the calls
 

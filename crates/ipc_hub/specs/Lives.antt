@@ -1,6 +1,6 @@
 -- What clients may count on, over any number of lives of the server. A life is an open of the device, and calls on a
 -- hub over it. The last of these may be stopped at any moment of it, and so may opens before the one that succeeds.
-use Rattle.std.specs.Prelude.{◌≡◌, ◌≤◌, ℕ, Bool, List, [], ◌∷◌, ◌++◌, length, drop, Some, All}
+use Rattle.std.specs.Prelude.{◌≡◌, ◌≤◌, ℕ, Bool, List, [], ◌∷◌, ◌++◌, length, drop, map, Option, Some, All}
 use Rattle.ipc_base.specs.declared.limits.Limits.{Limits}
 use Rattle.ipc_disk.specs.Medium.{Medium}
 use Rattle.ipc_state.specs.State.{State, restart}
@@ -42,40 +42,52 @@ pub data HubCall {D : Type 0} (medium : D → Medium) (limits : Limits) (old : S
       → HubMatches limits old.store.confirmed new.hub (fail old.store.confirmed h)
       → HubCall medium limits old h new (fail old.store.confirmed h)
 
--- The output of a connection is the bytes of these frames, the first ones of its client, but for those that it has
--- taken.
-pub record Shows (hub : HubView) (h : Clients) (conn : ℕ) (frames : List Frame) : Type 0 where
+-- a frame that was in the output of a connection, and the process that this had joined as, if it had
+pub record Seen : Type 0 where
+  pub conn : ℕ
+  pub joined_as : Option ℕ
+  pub frame : Frame
+
+-- a frame of the client of a connection, as it is seen in the output
+abbrev pub as_seen : ℕ → Client → Frame → Seen
+as_seen conn c f = record { conn = conn; joined_as = c.joined_as; frame = f }
+
+-- The output of a connection is the bytes of frames, the first ones of its client, but for those that it has taken.
+-- These frames are seen then.
+pub record Shows (hub : HubView) (h : Clients) (conn : ℕ) (seen : List Seen) : Type 0 where
   pub client : Client
   pub found : client_at h conn ≡ Some client
+  pub frames : List Frame
   pub others : List Frame
   pub first : frames ++ others ≡ client.frames
+  pub these : seen ≡ map (as_seen conn client) frames
   pub output : output_of hub conn ≡ drop client.consumed (all_bytes frames)
 
 -- Calls on a hub over a store that was just opened, one after another, and all frames that were in an output in
 -- between.
 pub data Serving {D : Type 0} (medium : D → Medium) (limits : Limits) (opened : StoreView D)
-    : StoredHub D → Clients → List Frame → Type 0 where
+    : StoredHub D → Clients → List Seen → Type 0 where
   New : (hub : StoredHub D) → hub.store ≡ opened
       → StoredMatches limits hub (no_clients opened.machine.state (Restart ∷ []))
       → Serving medium limits opened hub (no_clients opened.machine.state (Restart ∷ [])) []
-  Call : (last next : StoredHub D) (now then : Clients) (seen : List Frame)
+  Call : (last next : StoredHub D) (now then : Clients) (seen : List Seen)
       → Serving medium limits opened last now seen → HubCall medium limits last now next then
       → Serving medium limits opened next then seen
-  Look : (last : StoredHub D) (now : Clients) (seen frames : List Frame) (conn : ℕ)
-      → Serving medium limits opened last now seen → Shows last.hub now conn frames
-      → Serving medium limits opened last now (frames ++ seen)
+  Look : (last : StoredHub D) (now : Clients) (seen more : List Seen) (conn : ℕ)
+      → Serving medium limits opened last now seen → Shows last.hub now conn more
+      → Serving medium limits opened last now (more ++ seen)
 
 -- A life: the state that its open gave; the events that it accepted, the restart first, and those of the call in which
 -- it was stopped among them; how many of them were confirmed when that call began; and the frames that were in an
--- output.
+-- output, each with its connection.
 pub record Life : Type 0 where
   pub opened : State
   pub accepted : List PlainEvent
   pub confirmed : ℕ
-  pub seen : List Frame
+  pub seen : List Seen
 
 -- the life of an opened store, whose hub was this one when the last call began, which makes this of the clients
-abbrev pub life_of : {D : Type 0} → StoreView D → StoredHub D → Clients → List Frame → Life
+abbrev pub life_of : {D : Type 0} → StoreView D → StoredHub D → Clients → List Seen → Life
 life_of opened last then seen = record {
   opened = opened.machine.state;
   accepted = then.events;
@@ -90,7 +102,7 @@ pub data Rested {D : Type 0} (medium : D → Medium) (limits : Limits) (disk : D
   Stops : (lives : List Life) (before left : D) → Rested medium limits disk lives before
       → StoppedOpens medium before left → Rested medium limits disk lives left
   Lived : (lives : List Life) (before : D) (opened : StoreView D) (last next : StoredHub D) (now then : Clients)
-      (seen : List Frame) (left : D) → Rested medium limits disk lives before
+      (seen : List Seen) (left : D) → Rested medium limits disk lives before
       → OpensOn (medium before).contents (medium opened.disk) opened → Serving medium limits opened last now seen
       → HubCall medium limits last now next then
       → IsLeft (medium last.store.disk) (medium next.store.disk) (medium left)
@@ -107,15 +119,16 @@ pub record Lives {D : Type 0} (medium : D → Medium) (limits : Limits) (disk : 
 
 -- The machine's history over lives, after what was there before them: of each life some of the events that it accepted,
 -- from the first on. All that were confirmed are among them, and so is the event of each frame that was in an output:
--- the frame is a reply of it, or says that a request was no event or that the connection has ended. The open of each
--- life gave the state after the history so far, and a restart.
+-- the frame is a reply of it to the process that its connection had joined as, or says that a HELLO was refused, that a
+-- request was no event or that the connection has ended. The open of each life gave the state after the history so far,
+-- and a restart.
 pub data IsHistory (past : Past) : List Life → List PlainEvent → Type 0 where
   None : IsHistory past [] []
   More : (lives : List Life) (life : Life) (history kept lost : List PlainEvent)
       → IsHistory past lives history → life.opened ≡ restart (state_after (grown past history))
       → kept ++ lost ≡ life.accepted → life.confirmed ≤ length kept
-      → All (λ f. (f.mark ≤ length kept)
-      × IsAnswer past.limits (state_after (grown past history)) life.accepted f) life.seen
+      → All (λ s. (s.frame.mark ≤ length kept)
+      × IsAnswer past.limits (state_after (grown past history)) life.accepted s.joined_as s.frame) life.seen
       → IsHistory past (life ∷ lives) (history ++ kept)
 
 -- The disk at rest after these lives: what is sure of their history, and the others of the events that the last life

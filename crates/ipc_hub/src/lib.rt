@@ -14,6 +14,6 @@ pub use connection::Connection;
 pub use fault::{ConnectError, ServeError};
 pub use hub::Hub;
 pub use laws::{
-    bytes_come_in_any_pieces, feeds_come_in_any_pieces, no_answer_is_taken_back,
-    released_frames_are_all_shown,
+    bytes_come_in_any_pieces, calls_keep_answers, feeds_come_in_any_pieces,
+    no_answer_is_taken_back, released_frames_are_all_shown,
 };

@@ -30,7 +30,7 @@ use ipc_base::{Errno, Moment, Pid};
 use ipc_disk::SectorDisk;
 use ipc_engine::{Event, Outcome};
 use ipc_store::{StepError, Store};
-use ipc_wire::{Frame, Request, RequestKind, read_frame, stream_in_pieces};
+use ipc_wire::{Frame, Request, RequestKind, read_frame};
 
 /// What came of what stands at the front of a connection.
 #[derive(Clone, Copy)]
@@ -300,8 +300,6 @@ pub(crate) fn take_in<D: SectorDisk>(
     ensures dropped { is_open_in connections.old conn ≡ false → result ≡ length piece.now }
     ensures adds { Adds result store.old store.new }
 {
-    // So bytes may be taken one frame at a time.
-    stream_in_pieces();
     if !connections.is_open(conn) {
         return piece.len();
     }

@@ -1,4 +1,6 @@
 -- What holds of a fault, by whether the world failed, or the disk, or the script is wrong.
+use Rattle.std.proofs.Common.{◌≡◌, sym, subst, ◌∙◌}
+use Rattle.std.specs.Prelude.{Result, Err, IfErr}
 use Rattle.ipc_script.specs.declared.fault.ScriptFault.{ScriptFault}
 use Rattle.ipc_script.specs.declared.fault.ScriptFault.TheVariants.{NoMemory, Input, Output, Device, NotFormatted, Version, Damaged}
 use Rattle.ipc_script.specs.declared.fault.ScriptFault.TheVariants.{TooLong, BadLine, InUse, Unknown}
@@ -69,3 +71,14 @@ by_any W (Unknown number) w = w
 
 pub by_each : (W V P Q : Type 0) (e : ScriptFault) → (W → Q) → (V → Q) → (P → Q) → ByFault e W V P → Q
 by_each W V P Q e f d g x = by_any Q e (by_fault W Q V Q P Q e f d g x)
+
+-- the disk has failed
+pub on-device : (W V P : Type 0) (e : ScriptFault) → e ≡ Device → ByFault e W V P → V
+on-device W V P e is fault = subst (λ (f : ScriptFault). ByFault f W V P) is fault
+
+-- an answer has one fault
+pub fault-is : {A : Type 0} (result : Result A ScriptFault) (e f : ScriptFault) → result ≡ Err e → result ≡ Err f → e ≡ f
+fault-is result e f one two = let both : Err e ≡ Err f = sym one ∙ two in cc
+
+pub device-then : {A : Type 0} (W V P : Type 0) (result : Result A ScriptFault) → result ≡ Err Device → IfErr result (λ e. ByFault e W V P) → V
+device-then W V P result is fault = subst (λ r. IfErr r (λ e. ByFault e W V P)) is fault

@@ -23,10 +23,13 @@ use Rattle.ipc_script.specs.Line.{PlainLine}
 use Rattle.ipc_script.specs.Line.PlainLine.{Data}
 use Rattle.ipc_script.specs.Script.{Run, Progress, Piece, Cut, followed, is_open, fed, fed_in_pieces, report, reported, emptied, line_done, WritesPart}
 use Rattle.ipc_script.specs.Script.{WritesMore}
+use Rattle.ipc_script.specs.Halting.{IsBegun, IsDone}
+use Rattle.ipc_script.specs.Halting.IsBegun.{None as none_begun, Feeds as bytes_begun}
+use Rattle.ipc_script.specs.Halting.IsDone.{None as none_done, Fed as bytes_fed}
 use Rattle.ipc_script.specs.Relations.Faults.{ByFault, IfRefused}
 use Rattle.ipc_script.specs.Relations.Lasts.{LastsAs, FailsWithin}
-use Rattle.ipc_script.specs.Relations.Matches.{RunMatches, RunMatchesBetween, ProgressMatches}
-use Rattle.ipc_script.specs.Relations.Pieces.{SimulatesPiece, PieceBreaksOff, PieceFails, TakesPiece, piece_fed}
+use Rattle.ipc_script.specs.Relations.Matches.{HaltsAt, MatchesFailed, RunMatches, RunMatchesBetween, ProgressMatches}
+use Rattle.ipc_script.specs.Relations.Pieces.{SimulatesPiece, PieceBreaksOff, PieceFails, PieceHalts, TakesPiece, piece_fed}
 use Rattle.ipc_script.specs.Relations.Simulation.{LineStops, SimulatesLine, text_of}
 use Rattle.ipc_base.proofs.CallerLemmas.{test_cases as test, at-map as value_mapped}
 use Rattle.ipc_script.proofs.FaultCases.{by_fault_both}
@@ -56,6 +59,7 @@ pub record PartlyFed {D : Type 0} (medium : D → Medium) (limits : Limits) (r :
       ≡ behind text (fed_in_pieces limits now sender.moment.0 sender.conn others more)
   pub lasts : LastsAs medium r.hub now.hub old.store hub.store
   pub fails : FailsWithin medium limits sender.number r (Data sender.moment.0 sender.conn bytes) old.store hub.store
+  pub done : IsDone limits r (Data sender.moment.0 sender.conn bytes) (length first) (record { text = text; run = now })
 
 -- the first piece of a cut, which leaves some bytes, and the last
 module _ (limits : Limits) (r : Run) (moment conn : ℕ) (some : List ℕ) (refused : List Bool) where
@@ -106,6 +110,7 @@ module _ {D : Type 0} (medium : D → Medium) (limits : Limits) (r : Run) (sende
         runs = λ others more some. refl;
         lasts = lasts-as-none medium r.hub r.hub old.store old.store refl none;
         fails = inl none;
+        done = none_done line;
       }
 
   module _ (hub : StoredHub D) (opened : List Opened) (rest : List ℕ) (w0 w1 : Option (List ℕ))
@@ -150,16 +155,25 @@ module _ {D : Type 0} (medium : D → Medium) (limits : Limits) (r : Run) (sende
       lasts_now : LastsAs medium r.hub step.run.hub old.store new
       lasts_now = lasts-as-both medium r.hub p.now.hub step.run.hub old.store hub.store new p.lasts q.lasts
 
+      -- the first bytes of the line are fed, the last of them in this piece
+      fed_to : fed_so (take (length (p.first ++ front)) bytes) (p.pieces ++ last ∷ []) ≡ behind p.text step
+      fed_to =
+          ap (λ (bs : List ℕ). fed_so bs (p.pieces ++ last ∷ [])) (ap (take (length (p.first ++ front))) (sym whole)
+          ∙ take-append_seam (p.first ++ front) (drop taken rest)) ∙ runs_to
+
+      done_so : IsDone limits r line (length (p.first ++ front)) (behind p.text step)
+      done_so =
+          subst (IsDone limits r line (length (p.first ++ front))) fed_to
+          (bytes_fed sender.moment.0 sender.conn (length (p.first ++ front)) bytes (p.pieces ++ last ∷ []))
+
       pub fails_fed : FailsWithin medium limits sender.number r line old.store new
       fails_fed =
-          let count : ℕ = length (p.first ++ front) in
-          let is : take count bytes ≡ p.first ++ front = ap (take count) (sym whole) ∙ take-append_seam (p.first ++ front) (drop taken rest) in
           inr (record {
             goes = λ stop. cc;
-            count = count;
+            count = length (p.first ++ front);
             cut = p.pieces ++ last ∷ [];
             part = behind p.text step;
-            done = rw open_all (ap (λ (x : Progress). Ok x) (ap (λ (bs : List ℕ). fed_so bs (p.pieces ++ last ∷ [])) is ∙ runs_to));
+            done = rw open_all (ap (λ (x : Progress). Ok x) fed_to);
             lasts = lasts_now;
           })
 
@@ -208,6 +222,7 @@ module _ {D : Type 0} (medium : D → Medium) (limits : Limits) (r : Run) (sende
             runs = runs_on taken next.store s.piece;
             lasts = lasts_now taken next.store s.piece;
             fails = fails_fed taken next.store s.piece;
+            done = done_so taken next.store s.piece;
           }
 
       -- the last piece
@@ -283,6 +298,11 @@ module _ {D : Type 0} (medium : D → Medium) (limits : Limits) (r : Run) (sende
         open_after = open_reported fed_run sender.conn ∙ (same_open r.hub.clients fed_run.hub.clients like sender.conn ∙ was_open);
       }
 
+  -- what these bytes let out is not written
+  pub feeds_halt : (changed : List Opened) → ((limits : Limits) (r : Run) → RunMatches limits mid opened r → MatchesFailed limits next changed r)
+      → PieceHalts limits r sender bytes next changed
+  feeds_halt changed failed = (fed_run, bytes_begun sender.moment.0 sender.conn bytes taken taken_in.0, failed limits fed_run in_line)
+
   pub feeds_part : (w0 w2 : Option (List ℕ)) → ((limits : Limits) (r : Run) → RunMatches limits mid opened r → WritesPart w0 w2 (report r).text)
       → PieceBreaksOff medium limits r sender bytes hub.store next.store w0 w2
   feeds_part w0 w2 part = record { taken = taken; piece = piece_taken; text = part limits fed_run in_line }
@@ -336,3 +356,28 @@ module _ {D : Type 0} (medium : D → Medium) (limits : Limits) (r : Run) (sende
         Appends-trans w0 w1 w2 [] [] (subst (Appends w0 w1) none.0 p.written) a.1,
         a.2 ∙ none.1,
       )) err unknown
+
+-- the disk failed in a piece: of the bytes that are left none is fed, or some are
+module _ {D : Type 0} (medium : D → Medium) (limits : Limits) (r : Run) (sender : Sender) (bytes : List ℕ) (old new hub : StoredHub D)
+    (opened changed : List Opened) (rest : List ℕ) (w0 w1 w2 : Option (List ℕ))
+    (p : PartlyFed medium limits r sender bytes old hub opened rest w0 w1) where
+  begun_on : (now : Run) → IsBegun limits p.now 0 (Data sender.moment.0 sender.conn rest) now
+      → IsBegun limits p.now (length p.first) (Data sender.moment.0 sender.conn bytes) now
+  begun_on _ (none_begun _) = none_begun (Data sender.moment.0 sender.conn bytes)
+  begun_on _ (bytes_begun _ _ _ count refused) =
+      let left : drop (length p.first) bytes ≡ rest = ap (drop (length p.first)) (sym p.all) ∙ drop-append_seam p.first rest in
+      subst (λ (bs : List ℕ). IsBegun limits p.now (length p.first) (Data sender.moment.0 sender.conn bytes)
+      (record p.now { hub = feed limits p.now.hub sender.conn (take count bs) sender.moment.0 refused })) left
+      (bytes_begun sender.moment.0 sender.conn bytes count refused)
+
+  pub fed_halted : PieceHalts limits p.now sender rest new changed → Appends w1 w2 []
+      → HaltsAt limits r (Data sender.moment.0 sender.conn bytes) new changed w0 w2
+  fed_halted halts none = record {
+    place = length p.first;
+    part = record { text = p.text; run = p.now };
+    done = p.done;
+    now = halts.0;
+    begun = begun_on halts.0 halts.1;
+    failed = halts.2;
+    written = subst (Appends w0 w2) (append-nil p.text) (Appends-trans w0 w1 w2 p.text [] p.written none);
+  }

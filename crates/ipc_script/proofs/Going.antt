@@ -1,5 +1,6 @@
 -- The history of a device over lives of it.
-use Rattle.std.proofs.Common.{◌≡◌, ◌++◌, ℕ, true, false, List, [], ◌∷◌, length, inl, inr, refl, sym, ap, subst, ◌∙◌, arith, append_assoc, append-nil}
+use Rattle.std.proofs.Common.{◌≡◌, ◌++◌, ℕ, ◌+◌, Option, true, false, List, [], ◌∷◌, length, inl, inr, refl, sym, ap, subst, ◌∙◌, arith, append_assoc}
+use Rattle.std.proofs.Common.{append-nil}
 use Rattle.ipc_base.specs.declared.limits.Limits.{Limits}
 use Rattle.ipc_disk.specs.Medium.{Medium}
 use Rattle.ipc_disk.specs.Since.{EachImageSince}
@@ -11,9 +12,18 @@ use Rattle.ipc_store.specs.Lives.{StandsAfter}
 use Rattle.ipc_store.specs.View.{StoreView}
 use Rattle.ipc_store.proofs.CallerLemmas.{StoreMatches-stands}
 use Rattle.ipc_hub.specs.Clients.{Clients}
+use Rattle.ipc_state.specs.State.{restart}
+use Rattle.ipc_engine.specs.Step.{run}
+use Rattle.ipc_engine.proofs.CallerLemmas.{restart-is, run-parts}
+use Rattle.ipc_hub.specs.Replies.{IsAnswered}
+use Rattle.ipc_script.specs.Answered.{Answers, TellsLines, TellsOf, joined_at}
+use Rattle.ipc_script.specs.Answered.TellsLines.{None as none_told, Line as told_line}
+use Rattle.ipc_script.specs.Answered.TellsOf.{Nothing}
+use Rattle.ipc_script.specs.Line.{PlainLine, line_of}
+use Rattle.ipc_script.proofs.Answered.{CallsKeepAnswers, answer-after, lines-more, said-text, tells-also}
 use Rattle.ipc_script.specs.ByLines.{HasRunLines, KeepsLines}
 use Rattle.ipc_script.specs.ByLines.HasRunLines.{None as none_run, Line, Again}
-use Rattle.ipc_script.specs.Script.{IsYoung, Run}
+use Rattle.ipc_script.specs.Script.{IsYoung, Progress, Run, stopped, text_done}
 use Rattle.ipc_script.specs.Stops.{ContinuesFrom, IsReopened, LivesOn}
 use Rattle.ipc_script.specs.Stops.LivesOn.{One, Stop}
 use Rattle.ipc_script.specs.Relations.Lasts.{Lasts}
@@ -139,35 +149,89 @@ module _ {D : Type 0} (medium : D → Medium) where
 
       -- the history of the device, of which the events of the run are the last if those of the hub were
       module _ (before : History) (keeps : Keeps (medium old.disk) old before) where
-        abbrev EndsIn : List PlainEvent → Run → Type 0
-        EndsIn all r = (found : List PlainEvent) → accepted before ≡ found ++ h.events → (others : List PlainEvent) × (all ≡ others ++ r.hub.events)
+        abbrev Says : List PlainEvent → ℕ → List (List ℕ) → Run → List ℕ → Type 0
+        Says all number lines r text = TellsLines limits before.base all h number lines r text
+
+        -- and if the hub was answered, so is the run, and its lines have told answers
+        record Tells (all : List PlainEvent) (number : ℕ) (lines : List (List ℕ)) (r : Run) (text : List ℕ) (found : List PlainEvent) : Type 0 where
+          others : List PlainEvent
+          ends : all ≡ others ++ r.hub.events
+          answers : CallsKeepAnswers limits → IsAnswered limits (run limits before.base found).state h
+              → IsAnswered limits (run limits before.base others).state r.hub × Says all number lines r text
+
+        abbrev Told : List PlainEvent → ℕ → List (List ℕ) → Run → List ℕ → Type 0
+        Told all number lines r text = (found : List PlainEvent) → accepted before ≡ found ++ h.events → Tells all number lines r text found
 
         lines-on : (number : ℕ) (lines : List (List ℕ)) (last : StoreView D) (r : Run) (text : List ℕ)
             → HasRunLines medium limits old h number lines last r text
-            → (here : ContinuesFrom medium before last) × EndsIn (accepted here.after) r
+            → (here : ContinuesFrom medium before last) × Told (accepted here.after) number lines r text
         unfolding begun goes-more goes-again
-        lines-on _ _ _ _ _ none_run = (begun old before keeps, λ found is. (found, is))
+        lines-on _ _ _ _ _ none_run =
+            (begun old before keeps, λ found is. record { others = found; ends = is; answers = λ stay answered. (answered, none_told) })
         lines-on _ _ next _ _ (Line number lines line last _ r text cut p so_far goes is took committed on) =
             let was = lines-on number lines last r text so_far in
             let moves = took.takes was.0.after was.0.keeps in (
               goes-more before last next was.0 (took.events, took.takes),
               λ found all.
-                  let named = was.1 found all in (
-                    named.0,
-                    moves.follows.accepts ∙ ap (λ (es : List PlainEvent). es ++ took.events) named.1
-                        ∙ append_assoc named.0 r.hub.events took.events ∙ ap (λ (es : List PlainEvent). named.0 ++ es) (sym took.adds),
-                  ),
+                  let told = was.1 found all in
+                  let ends : accepted moves.after ≡ told.others ++ p.run.hub.events =
+                  moves.follows.accepts ∙ ap (λ (es : List PlainEvent). es ++ took.events) told.ends
+                  ∙ append_assoc told.others r.hub.events took.events ∙ ap (λ (es : List PlainEvent). told.others ++ es) (sym took.adds) in
+                  record {
+                    others = told.others;
+                    ends = ends;
+                    answers = λ stay answered.
+                        let so = told.answers stay answered in
+                        let said = said-text limits (run limits before.base told.others).state (stay (run limits before.base told.others).state)
+                        number r (line_of line) cut p so.0 goes is in (
+                          said.answered,
+                          told_line number lines line r text cut p
+                              (subst (λ (es : List PlainEvent). Says es number lines r text) (sym moves.follows.accepts)
+                              (lines-more limits before.base (accepted was.0.after) took.events h number lines r text so.1)) is
+                              (subst (λ (es : List PlainEvent). TellsOf (Answers limits before.base es p.run.hub) p.text) (sym ends)
+                              (tells-also (Answers limits (run limits before.base told.others).state p.run.hub.events p.run.hub)
+                              (Answers limits before.base (told.others ++ p.run.hub.events) p.run.hub)
+                              (λ conn. answer-after limits before.base told.others p.run.hub.events (joined_at p.run.hub conn)) p.text said.tells)),
+                        );
+                  },
             )
         lines-on _ _ opened _ text (Again number lines line last closed _ r _ so_far is took state again) =
             let was = lines-on number lines last r text so_far in
             let ended = goes-more before last closed was.0 ([], took) in
-            (goes-again before closed opened ended again, λ found all. (accepted ended.after, append-nil (accepted ended.after ++ Restart ∷ [])))
+            let ending : Progress = record { text = []; run = stopped r } in
+            let all : List PlainEvent = accepted ended.after in
+            let same : all ≡ accepted was.0.after = (took was.0.after was.0.keeps).follows.accepts ∙ append-nil (accepted was.0.after) in (
+              goes-again before closed opened ended again,
+              λ found is_found.
+                  let told = was.1 found is_found in
+                  record {
+                    others = all;
+                    ends = append-nil (all ++ Restart ∷ []);
+                    answers = λ stay answered.
+                        let so = told.answers stay answered in
+                        let state : r.hub.state ≡ (run limits before.base all).state =
+                        so.0.state ∙ sym (run-parts limits before.base told.others r.hub.events)
+                        ∙ ap (λ (es : List PlainEvent). (run limits before.base es).state) (sym (same ∙ told.ends)) in (
+                          record {
+                            state = ap restart state ∙ sym (restart-is limits (run limits before.base all).state);
+                            each = tt;
+                          },
+                          subst (λ (es : List PlainEvent). Says es (number + 1) (lines ++ line ∷ []) (stopped r) text)
+                              (sym (append-nil (all ++ Restart ∷ [])))
+                              (subst (Says (all ++ Restart ∷ []) (number + 1) (lines ++ line ∷ []) (stopped r)) (append-nil text)
+                              (told_line number lines line r text [] ending
+                              (subst (λ (es : List PlainEvent). Says (es ++ Restart ∷ []) number lines r text) (sym same)
+                              (lines-more limits before.base (accepted was.0.after) (Restart ∷ []) h number lines r text so.1))
+                              (ap (λ (o : Option PlainLine). text_done limits number r o []) is) Nothing)),
+                        );
+                  },
+            )
 
       pub keeps-lines : (last next : StoreView D) (before : History) (number : ℕ) (lines : List (List ℕ)) (r : Run) (text : List ℕ)
           (events : List PlainEvent) → Keeps (medium old.disk) old before → old.waiting ≡ 0
           → HasRunLines medium limits old h number lines last r text → IsYoung old → Takes medium last events next
-          → KeepsLines medium before h last r events next
-      keeps-lines last next before number lines r text events keeps empty runs young takes =
+          → CallsKeepAnswers limits → KeepsLines medium limits before h number lines last r text events next
+      keeps-lines last next before number lines r text events keeps empty runs young takes stay =
           let running = on-of number lines last r text runs young in
           let lines_on = lines-on before keeps number lines last r text runs in
           let here = lines_on.0 in
@@ -181,5 +245,12 @@ module _ {D : Type 0} (medium : D → Medium) where
             crash = subst (λ (p : Past). EachImageSince (medium last.disk) (medium next.disk) (StandsForPrefix p events)) all
                 (subst (λ (es : List PlainEvent). EachImageSince (medium last.disk) (medium next.disk)
                 (StandsForPrefix (past_of last.machine.limits was) (es ++ events))) none (takes was here.keeps).crash);
-            named = λ found is. let named = lines_on.1 found is in (named.0, sym here.accepts ∙ named.1);
+            named = λ found is.
+                let told = lines_on.1 found is in
+                record {
+                  others = told.others;
+                  ends = sym here.accepts ∙ told.ends;
+                  answers = λ answered. subst (λ (es : List PlainEvent). TellsLines limits before.base es h number lines r text) here.accepts
+                      (told.answers stay answered).1;
+                };
           }

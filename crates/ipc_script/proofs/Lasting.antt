@@ -1,6 +1,6 @@
 -- What calls, one after another, do to the history of a store.
 use Rattle.std.proofs.Common.{◌≡◌, ⊎_elim, inl, inr, ℕ, List, Option, [], ◌++◌, refl, sym, subst, ap, ◌∙◌, append_assoc, append-nil}
-use Rattle.std.specs.Prelude.{⊤, Result, Ok, Err}
+use Rattle.std.specs.Prelude.{◌≢◌, ⊤, Result, Ok, Err}
 use Rattle.std.proofs.KnownBytes.{Appends-nil}
 use Rattle.ipc_base.specs.declared.limits.Limits.{Limits}
 use Rattle.ipc_disk.specs.Counts.{Counts}
@@ -29,7 +29,7 @@ use Rattle.ipc_script.specs.Line.{PlainLine, lines_of}
 use Rattle.ipc_script.specs.Script.{Run, start_run}
 use Rattle.ipc_script.specs.Stops.LivesOn.{One}
 use Rattle.ipc_script.specs.Relations.Lasts.{Lasts, LastsAs, FailsWithin, StaysCommitted, CommitsOrFails, Empties}
-use Rattle.ipc_script.proofs.FaultCases.{by_fault}
+use Rattle.ipc_script.proofs.FaultCases.{by_fault, fault-is}
 
 module _ {D : Type 0} (medium : D → Medium) where
   -- one call, and then another
@@ -175,8 +175,8 @@ ends-any F Q (Unknown number) f q = q
 pub leaves-same : {D : Type 0} (medium : D → Medium)
     (law : (d : D) (image : Image) → (medium d).images_since (medium d).moment image → (medium d).images_now image)
     (limits : Limits) (h : Clients) (script : List ℕ) (w : Option (List ℕ)) (store : StoreView D) (disk : D) (e : ScriptFault)
-    → disk ≡ store.disk → store.machine.state ≡ h.state → Leaves medium limits h script w w store disk (Err e)
-leaves-same medium law limits h script w store disk e same state =
+    → disk ≡ store.disk → store.machine.state ≡ h.state → e ≢ Device → Leaves medium limits h script w w store disk (Err e)
+leaves-same medium law limits h script w store disk e same state other =
     record {
       closed = store;
       lives = One store (lasts-none medium law store);
@@ -192,6 +192,7 @@ leaves-same medium law limits h script w store disk e same state =
         written = ([], Appends-nil w);
         whole = tt;
         ends = ends-any _ _ e (inl (Takes-none medium law store)) (refl, state, Appends-nil w);
+        halted = λ is. absurd (other (fault-is _ e Device refl is));
       };
       handed = ends-any _ _ e (inl same) same;
       one = λ stops. (lasts-none medium law store, same);

@@ -18,7 +18,9 @@ pub mod Lasting
 pub mod LineForms
 pub mod ScriptLines
 pub mod OpenedAgain
+pub mod Halting
 pub mod Stopping
+pub mod Answered
 pub mod Going
 pub mod DumpText
 mod LineLengths

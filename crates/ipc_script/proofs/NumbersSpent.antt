@@ -54,7 +54,7 @@ pub spends-none : {D : Type 0} {counts : D → Counts} {n k : ℕ} {store : Stor
 spends-none has = record { running = has.running; failures = refl; numbers = omega arith }
 
 -- a hub over a store that has numbers left goes on
-goes-on : {D : Type 0} (n : ℕ) (v : StoredHub D) → HasNumbers n v.store → ¬ HasStopped v
+pub goes-on : {D : Type 0} (n : ℕ) (v : StoredHub D) → HasNumbers n v.store → ¬ HasStopped v
 goes-on n v has stopped = by_stop v.store.stopped has.running stopped
   where
     by_stop : (b : Bool) → b ≡ false → (if b then 0 else 2 ^ 64 - 1 - (v.store.confirmed + v.store.waiting)) < most_events → ⊥

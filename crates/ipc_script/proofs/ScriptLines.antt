@@ -22,10 +22,12 @@ use Rattle.ipc_script.specs.declared.fault.ScriptFault.TheVariants.{TooLong, Bad
 use Rattle.ipc_script.specs.Line.{longest_script, PlainLine, Open, Data, End, Tick, Save, Stop, line_of, lines_of}
 use Rattle.ipc_script.specs.Script.{Run, Cut, Progress, Outcome, start_run, text_done, first_cut, then_next, run_lines, is_open, opened, report}
 use Rattle.ipc_script.specs.Script.{after_line, run_after, script_after}
-use Rattle.ipc_script.specs.Script.{MayStop, HasNoStop, stopped, fed_in_pieces, script_run, lines_run, WritesPart, WritesMore, EndsAs, BreaksOff, Halts, Runs}
+use Rattle.ipc_script.specs.Script.{MayStop, HasNoStop, stopped, fed_in_pieces, script_run, lines_run, WritesPart}
+use Rattle.ipc_script.specs.Script.{WritesMore, EndsAs, BreaksOff, Halts, IsYoung, Runs}
 use Rattle.ipc_store.specs.Histories.{Takes}
 use Rattle.ipc_store.specs.View.{StoreView}
 use Rattle.ipc_script.specs.ByLines.{ByEnd, EndsAfter, HasRunLines, TakesNext}
+use Rattle.ipc_script.specs.Halting.{HaltsNext}
 use Rattle.ipc_script.specs.ByLines.HasRunLines.{None as none_run, Again as line_again}
 use Rattle.ipc_script.specs.Stops.{IsReopened}
 use Rattle.ipc_script.specs.Relations.Lasts.{Lasts, FailsWithin}
@@ -162,8 +164,10 @@ module _ {D : Type 0} (limits : Limits) (h : Clients) (script : List ℕ) (mediu
 
     -- what was run so far, and what the store took then
     pub ends_after : (closed : StoreView D) (w2 : Option (List ℕ)) (result : Result ⊤ ScriptFault) → WritesMore w1 w2 [] → OnOk result (lines_of rest ≡ [])
-        → ByEnd result (Failed closed) (AsLeft w2 closed) → EndsAfter medium limits h script w0 w2 old closed result
-    ends_after closed w2 result more whole ends = record {
+        → ByEnd result (Failed closed) (AsLeft w2 closed)
+        → (result ≡ Err Device → IsYoung old → HaltsNext limits p.now (lines_of rest) closed.confirmed p.text w0 w2)
+        → EndsAfter medium limits h script w0 w2 old closed result
+    ends_after closed w2 result more whole ends halted = record {
       number = number;
       lines = p.first;
       rest = lines_of rest;
@@ -175,6 +179,7 @@ module _ {D : Type 0} (limits : Limits) (h : Clients) (script : List ℕ) (mediu
       written = (more.0, Appends-trans w0 w1 w2 p.text more.0 p.written more.1);
       whole = whole;
       ends = ends;
+      halted = halted;
     }
 
     -- the disk failed in a line: what was written goes on

@@ -9,11 +9,16 @@ use Rattle.ipc_disk.specs.Since.{EachImageSince}
 use Rattle.ipc_engine.specs.Event.{PlainEvent}
 use Rattle.ipc_store.specs.Histories.{History, StandsForPrefix, Takes, accepted, full_past_of, grown}
 use Rattle.ipc_store.specs.View.{StoreView}
+use Rattle.ipc_state.specs.State.{State}
+use Rattle.ipc_engine.specs.Step.{run as machine_run}
 use Rattle.ipc_hub.specs.Clients.{Clients}
+use Rattle.ipc_hub.specs.Replies.{IsAnswered}
+use Rattle.ipc_script.specs.Answered.{TellsLines}
 use Rattle.ipc_script.specs.declared.fault.ScriptFault.{ScriptFault}
 use Rattle.ipc_script.specs.declared.fault.ScriptFault.TheVariants.{NoMemory, Input, Output, Device}
 use Rattle.ipc_script.specs.declared.fault.ScriptFault.TheVariants.{NotFormatted, Version, Damaged}
 use Rattle.ipc_script.specs.declared.fault.ScriptFault.TheVariants.{TooLong, BadLine, InUse, Unknown}
+use Rattle.ipc_script.specs.Halting.{HaltsNext}
 use Rattle.ipc_script.specs.Line.{PlainLine, Stop, line_of, lines_of}
 use Rattle.ipc_script.specs.Script.{Cut, IsYoung, Progress, Run, WritesMore, start_run, stopped, text_done}
 use Rattle.ipc_script.specs.Stops.{IsReopened}
@@ -66,7 +71,8 @@ pub record TakesNext {D : Type 0} (medium : D → Medium) (limits : Limits) (num
 -- The first lines of a script were run, and their whole text was written. If the answer is Ok these are all. If it is,
 -- or the next line is wrong, or the script was not read, nothing more was written, and the store that is there at the
 -- end is as these lines left it, in the state of the run. If memory, a write or the disk failed, it took the events of
--- a first part of the next line, or none, and maybe more was written.
+-- a first part of the next line, or none, and maybe more was written: after a failure of the disk, of a store that was
+-- young, what was done of the line, and what the connections then had to say.
 pub record EndsAfter {D : Type 0} (medium : D → Medium) (limits : Limits) (h : Clients) (script : List ℕ)
     (before after : Option (List ℕ)) (store closed : StoreView D) (result : Result ⊤ ScriptFault) : Type 0 where
   pub number : ℕ
@@ -81,15 +87,28 @@ pub record EndsAfter {D : Type 0} (medium : D → Medium) (limits : Limits) (h :
   pub whole : OnOk result (rest ≡ [])
   pub ends : ByEnd result (Takes medium last [] closed ⊎ TakesNext medium limits number run rest last closed)
       ((closed ≡ last) × (closed.machine.state ≡ run.hub.state) × Appends before after text)
+  pub halted : result ≡ Err Device → IsYoung store
+      → HaltsNext limits run rest closed.confirmed text before after
+
+-- The history of a device after lines that were run: these events, and before them others. If what the hub was before
+-- the script was answered, each frame in the text of the lines is an answer of these events and the others: a reply of
+-- one of them to the process that its connection has joined as, or a refusal.
+pub record IsTold (limits : Limits) (base : State) (found : List PlainEvent) (h : Clients) (number : ℕ)
+    (lines : List (List ℕ)) (r : Run) (text : List ℕ) (all : List PlainEvent) : Type 0 where
+  pub others : List PlainEvent
+  pub ends : all ≡ others ++ r.hub.events
+  pub answers : IsAnswered limits (machine_run limits base found).state h
+      → TellsLines limits base all h number lines r text
 
 -- After lines that were run the store takes these events, those of the next line. What was accepted before the script
 -- and in the lines is acknowledged. So what a crash leaves at any moment of the next line stands for the state after
 -- all of that, and some of these events, from the first on. If the events of the hub before the script are the last of
--- those that were accepted then, the events of the run's are the last of all.
-pub record KeepsLines {D : Type 0} (medium : D → Medium) (before : History) (h : Clients) (last : StoreView D)
-    (r : Run) (events : List PlainEvent) (next : StoreView D) : Type 0 where
+-- those that were accepted then, the events of the run's are the last of all, and the lines have told them.
+pub record KeepsLines {D : Type 0} (medium : D → Medium) (limits : Limits) (before : History) (h : Clients)
+    (number : ℕ) (lines : List (List ℕ)) (last : StoreView D) (r : Run) (text : List ℕ) (events : List PlainEvent)
+    (next : StoreView D) : Type 0 where
   pub more : List PlainEvent
   pub crash : EachImageSince (medium last.disk) (medium next.disk)
       (StandsForPrefix (grown (full_past_of last.machine.limits before) more) events)
   pub named : (found : List PlainEvent) → accepted before ≡ found ++ h.events
-      → (others : List PlainEvent) × (accepted before ++ more ≡ others ++ r.hub.events)
+      → IsTold limits before.base found h number lines r text (accepted before ++ more)

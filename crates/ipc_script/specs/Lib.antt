@@ -1,5 +1,7 @@
+pub mod Answered
 pub mod ByLines
 pub mod Fault
+pub mod Halting
 pub mod Leaves
 pub mod Line
 pub mod Script

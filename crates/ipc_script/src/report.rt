@@ -2,7 +2,7 @@
 //! ended.
 
 ghost use Rattle.std.specs.Prelude.{◌≡◌, ⊤, ◌<◌, ◌≤◌, ℕ, List, [], ◌++◌, length, string_bytes};
-ghost use Rattle.std.specs.Prelude.{IfOk, IfErr, IfSome, OnOk};
+ghost use Rattle.std.specs.Prelude.{Err, IfOk, IfErr, IfSome, OnOk};
 ghost use Rattle.std.specs.Io.KnownBytes.{Appends};
 ghost use Rattle.ipc_base.specs.declared.limits.Limits.{Limits};
 ghost use Rattle.ipc_disk.specs.Medium.{IsHonest};
@@ -12,10 +12,10 @@ ghost use Rattle.ipc_hub.specs.Relations.Matches.{IsFrame, HubMatches};
 ghost use Rattle.ipc_script.specs.Script.{Run, WritesPart, WritesMore, conn_text, report as report_of};
 ghost use Rattle.ipc_script.specs.Script.{frame_line as frame_text, end_line as end_text};
 ghost use Rattle.ipc_script.specs.Relations.Faults.{ByFault, WorldFailed};
-ghost use Rattle.ipc_script.specs.Relations.Matches.{RunMatches, ProgressMatches, HasWholeFrames};
-ghost use Rattle.ipc_script.specs.Relations.Matches.{opened_of};
+ghost use Rattle.ipc_script.specs.Relations.Matches.{RunMatches, ProgressMatches, HasWholeFrames, MatchesFailed};
+ghost use Rattle.ipc_script.specs.Relations.Matches.{CanReport, opened_of};
 ghost use Rattle.ipc_script.specs.Relations.Lasts.{Empties};
-ghost use Rattle.ipc_script.specs.Relations.Numbers.{Costs};
+ghost use Rattle.ipc_script.specs.Relations.Numbers.{Costs, HasNumbers};
 ghost use Rattle.ipc_script.specs.Relations.Report.{without_frames, frames_text, SimulatesReportAt};
 
 use crate::fault::ScriptFault;
@@ -48,6 +48,8 @@ pub fn report<D: SectorDisk, W: Write>(
         ((limits : Limits) (r : Run) → RunMatches limits hub.old opened.old r →
         WritesPart (W.contents writer.old) (W.contents writer.new) (report_of r).text)
         (Appends (W.contents writer.old) (W.contents writer.new) []) ⊥) }
+    ensures halted { result ≡ Err ScriptFault.Device → HasNumbers 1 hub.old.store → (limits : Limits) (r : Run) →
+        RunMatches limits hub.old opened.old r → MatchesFailed limits hub.new opened.new r }
     ensures takes { Takes D.medium hub.old.store [] hub.new.store }
     ensures empties { Empties hub.new.store result }
     ensures honest { IsHonest (D.medium hub.old.store.disk)
@@ -71,10 +73,9 @@ pub fn report_all<D: SectorDisk, W: Write>(
     ensures ok { OnOk result ((limits : Limits) (r : Run) → RunMatches limits hub.old opened.old r →
         hub.old.store.confirmed ≡ accepted r.hub → ProgressMatches limits hub.new opened.new
         (W.contents writer.old) (W.contents writer.new) (report_of r)) }
-    ensures err { IfErr result (λ e. WorldFailed e
-        ((limits : Limits) (r : Run) → RunMatches limits hub.old opened.old r →
-        hub.old.store.confirmed ≡ accepted r.hub →
-        WritesPart (W.contents writer.old) (W.contents writer.new) (report_of r).text)) }
+    ensures says { (limits : Limits) (r : Run) → CanReport limits hub.old.hub opened.old r →
+        WritesPart (W.contents writer.old) (W.contents writer.new) (report_of r).text }
+    ensures err { IfErr result (λ e. WorldFailed e ⊤) }
     ensures store { hub.new.store ≡ hub.old.store }
     ensures grows { WritesMore (W.contents writer.old) (W.contents writer.new) [] }
 {

@@ -1,7 +1,7 @@
 //! A script: lines of what connections do and when, run on a hub.
 
 ghost use Rattle.std.specs.Prelude.{◌≡◌, ◌≢◌, ◌<◌, ◌≤◌, ◌+◌, ◌*◌, ℕ, true, false, List, [], length, position};
-ghost use Rattle.std.specs.Prelude.{⊤, nat_eq, nat_lt, IfOk, IfErr, IfSome, OnErr, OnOk};
+ghost use Rattle.std.specs.Prelude.{⊤, nat_eq, nat_lt, Err, IfOk, IfErr, IfSome, OnErr, OnOk};
 ghost use Rattle.std.specs.List.{prefix_len};
 ghost use Rattle.std.specs.Io.KnownBytes.{Appends};
 ghost use Rattle.ipc_base.specs.declared.limits.Limits.{Limits};
@@ -11,18 +11,20 @@ ghost use Rattle.ipc_store.specs.Histories.{Takes};
 ghost use Rattle.ipc_store.specs.View.{Spends};
 ghost use Rattle.ipc_hub.specs.Clients.{Clients, no_clients, hangup};
 ghost use Rattle.ipc_hub.specs.Relations.Matches.{StoredMatches};
+ghost use Rattle.ipc_hub.specs.View.{HasStopped};
 ghost use Rattle.ipc_script.specs.Leaves.{Leaves};
 ghost use Rattle.ipc_script.specs.Line.{longest_script};
 ghost use Rattle.ipc_script.specs.Line.PlainLine.{Data, Stop};
-ghost use Rattle.ipc_script.specs.Script.{Run, Runs, MayStop, WritesMore, IsYoung};
+ghost use Rattle.ipc_script.specs.Halting.{HaltsIn, last_words as words_of};
+ghost use Rattle.ipc_script.specs.Script.{Run, Runs, MayStop, WritesMore, WritesPart, IsYoung};
 ghost use Rattle.ipc_script.specs.Script.{DiskFailed};
 ghost use Rattle.ipc_script.specs.Script.{is_open, opened as opened_run};
 ghost use Rattle.ipc_script.specs.Relations.Lasts.{LastsAs, StaysCommitted, CommitsOrFails};
 ghost use Rattle.ipc_script.specs.Relations.Lines.{plain_line};
 ghost use Rattle.ipc_script.specs.Relations.Faults.{ByFault, IfRefused, of_serve_error};
-ghost use Rattle.ipc_script.specs.Relations.Matches.{RunMatches, RunMatchesBetween};
+ghost use Rattle.ipc_script.specs.Relations.Matches.{RunMatches, RunMatchesBetween, HaltsAt, MatchesFailed};
 ghost use Rattle.ipc_script.specs.Relations.Numbers.{HasNumbers, Costs, line_cost};
-ghost use Rattle.ipc_script.specs.Relations.Pieces.{SimulatesPiece, PieceBreaksOff, PieceFails};
+ghost use Rattle.ipc_script.specs.Relations.Pieces.{SimulatesPiece, PieceBreaksOff, PieceFails, PieceHalts};
 ghost use Rattle.ipc_script.specs.Relations.Simulation.{SimulatesLine, SimulatesScript};
 
 use crate::fault::ScriptFault;
@@ -128,6 +130,10 @@ fn run_line<D: SectorDisk, W: Write>(
         RunMatchesBetween limits hub.old opened.old.items r →
         SimulatesLine D.medium limits number r (plain_line line.entry) hub.old
         hub.new opened.new.items (W.contents writer.old) (W.contents writer.new) result }
+    ensures halted { result ≡ Err ScriptFault.Device → HasNumbers (line_cost (plain_line line.entry)) hub.old.store →
+        (limits : Limits) (r : Run) → RunMatchesBetween limits hub.old opened.old.items r →
+        HaltsIn limits r (plain_line line.entry) hub.new.store.confirmed []
+        (W.contents writer.old) (W.contents writer.new) }
     ensures commits { CommitsOrFails hub.old.store hub.new.store result }
     ensures honest { OnOk result (IsHonest (D.medium hub.old.store.disk)
         → IsHonest (D.medium hub.new.store.disk)) }
@@ -157,6 +163,10 @@ fn serve_line<D: SectorDisk, W: Write>(
         RunMatchesBetween limits hub.old opened.old.items r →
         SimulatesLine D.medium limits number r (plain_line line.entry) hub.old
         hub.new opened.new.items (W.contents writer.old) (W.contents writer.new) result }
+    ensures halted { result ≡ Err ScriptFault.Device → HasNumbers (line_cost (plain_line line.entry)) hub.old.store →
+        (limits : Limits) (r : Run) → RunMatchesBetween limits hub.old opened.old.items r →
+        HaltsAt limits r (plain_line line.entry) hub.new opened.new.items
+        (W.contents writer.old) (W.contents writer.new) }
     ensures commits { CommitsOrFails hub.old.store hub.new.store result }
     ensures honest { IsHonest (D.medium hub.old.store.disk)
         → IsHonest (D.medium hub.new.store.disk) }
@@ -196,6 +206,8 @@ fn last_words<D: SectorDisk, W: Write>(
     opened: &mut [Opened],
     writer: &mut W,
 )
+    ensures says { (limits : Limits) (r : Run) → MatchesFailed limits hub.old opened.old r →
+        WritesPart (W.contents writer.old) (W.contents writer.new) (words_of hub.old.store.confirmed r) }
     ensures grows { WritesMore (W.contents writer.old) (W.contents writer.new) [] }
     ensures store { hub.new.store ≡ hub.old.store }
 {
@@ -218,6 +230,7 @@ fn open<D: SectorDisk>(
         × (hub.new ≡ hub.old))) }
     ensures in_use { IfErr result (λ e. IfRefused e ((limits : Limits) (r : Run) →
         RunMatchesBetween limits hub.old opened.old.items r → is_open r conn ≡ true)) }
+    ensures goes { ¬ HasStopped hub.old → result ≢ Err ScriptFault.Device }
     ensures store { hub.new.store ≡ hub.old.store }
     ensures honest { IsHonest (D.medium hub.old.store.disk)
         → IsHonest (D.medium hub.new.store.disk) }
@@ -259,6 +272,8 @@ fn close<D: SectorDisk>(
     ensures err { IfErr result (λ e. IfRefused e ((e ≡ ScriptFault.Unknown number)
         × (hub.new ≡ hub.old))) }
     ensures takes { OnErr result (Takes D.medium hub.old.store [] hub.new.store) }
+    ensures halted { result ≡ Err ScriptFault.Device → HasNumbers 3 hub.old.store → (limits : Limits) (r : Run) →
+        RunMatches limits hub.old opened.old.items r → MatchesFailed limits hub.new opened.new.items r }
     ensures unknown { IfErr result (λ e. IfRefused e ((limits : Limits) (r : Run) →
         RunMatchesBetween limits hub.old opened.old.items r → is_open r conn ≡ false)) }
     ensures commits { IfErr result (λ e.
@@ -307,6 +322,10 @@ fn feed<D: SectorDisk, W: Write>(
         SimulatesLine D.medium limits sender.number r
         (Data sender.moment.0 sender.conn bytes.now) hub.old
         hub.new opened.new (W.contents writer.old) (W.contents writer.new) result }
+    ensures halted { result ≡ Err ScriptFault.Device → HasNumbers (4 * length bytes.now) hub.old.store →
+        (limits : Limits) (r : Run) → RunMatchesBetween limits hub.old opened.old r →
+        HaltsAt limits r (Data sender.moment.0 sender.conn bytes.now) hub.new opened.new
+        (W.contents writer.old) (W.contents writer.new) }
     ensures commits { CommitsOrFails hub.old.store hub.new.store result }
     ensures honest { IsHonest (D.medium hub.old.store.disk)
         → IsHonest (D.medium hub.new.store.disk) }
@@ -353,6 +372,9 @@ fn feed_some<D: SectorDisk, W: Write>(
     ensures commits { CommitsOrFails hub.old.store hub.new.store result }
     ensures honest { IsHonest (D.medium hub.old.store.disk)
         → IsHonest (D.medium hub.new.store.disk) }
+    ensures halted { result ≡ Err ScriptFault.Device → HasNumbers (3 + length bytes.now) hub.old.store →
+        (limits : Limits) (r : Run) → RunMatchesBetween limits hub.old opened.old r →
+        PieceHalts limits r sender bytes.now hub.new opened.new }
     ensures spends { HasNumbers (3 + length bytes.now) hub.old.store → IfOk result (λ taken.
         Spends D.counts (3 + taken) hub.old.store hub.new.store) }
     ensures disk { HasNumbers (3 + length bytes.now) hub.old.store → IfErr result (λ e.

@@ -12,8 +12,8 @@ use Rattle.ipc_store.specs.Histories.{Takes}
 use Rattle.ipc_store.proofs.CallerLemmas.{Takes-none, Takes-both}
 use Rattle.ipc_hub.specs.declared.fault.ConnectError.{ConnectError}
 use Rattle.ipc_hub.specs.declared.fault.ConnectError.TheVariants.{InUse, Stopped}
-use Rattle.ipc_hub.specs.Clients.{Client, Clients, Frame, client_at, consume, tick}
-use Rattle.ipc_hub.specs.Lives.{ClientCall, HubCall}
+use Rattle.ipc_hub.specs.Clients.{Client, Clients, client_at, consume, tick}
+use Rattle.ipc_hub.specs.Lives.{ClientCall, HubCall, Seen}
 use Rattle.ipc_hub.specs.Lives.ClientCall.{Connects as to_connect, Consumes as to_consume, Ticks as to_tick}
 use Rattle.ipc_hub.specs.Lives.ClientCall.{Feeds as to_feed, HangsUp as to_hang_up, Stays as to_stay}
 use Rattle.ipc_hub.specs.Lives.HubCall.{Serves as call_serves}
@@ -81,7 +81,7 @@ client-call limits h Releases = to_stay
 client-call limits h (Consumes conn bytes) = to_consume conn (length bytes)
 
 module _ {D : Type 0} (medium : D → Medium) (moment : ℕ) (limits : Limits) where
-  pub steps-both : (old mid : StoredHub D) (h : Clients) (acts : List Act) (seen : List Frame) (new : StoredHub D) (others : List Act) (more : List Frame)
+  pub steps-both : (old mid : StoredHub D) (h : Clients) (acts : List Act) (seen : List Seen) (new : StoredHub D) (others : List Act) (more : List Seen)
       → Steps medium moment limits old h mid acts seen → Steps medium moment limits mid (after limits h acts) new others more
       → Steps medium moment limits old h new (acts ++ others) (more ++ seen)
   steps-both old mid h acts seen _ _ _ one no_step =
@@ -89,7 +89,7 @@ module _ {D : Type 0} (medium : D → Medium) (moment : ℕ) (limits : Limits) w
   steps-both old mid h acts seen new _ _ one (one_step last _ others more act frames before is shown sees call) =
       let same : after limits (after limits h acts) others ≡ after limits h (acts ++ others) = sym (after-both limits h acts others) in
       subst (λ (all : List Act). Steps medium moment limits old h new all ((frames ++ more) ++ seen)) (append_assoc acts others (act ∷ []))
-      (subst (λ (all : List Frame). Steps medium moment limits old h new ((acts ++ others) ++ act ∷ []) all) (sym (append_assoc frames more seen))
+      (subst (λ (all : List Seen). Steps medium moment limits old h new ((acts ++ others) ++ act ∷ []) all) (sym (append_assoc frames more seen))
       (one_step last new (acts ++ others) (more ++ seen) act frames (steps-both old mid h acts seen last others more one before) is shown
       (subst (λ (k : Clients). Sees last.hub k act frames) same sees)
       (subst (λ (k : Clients). HubCall medium limits last k new (after_one limits k act)) same call)))
@@ -121,7 +121,7 @@ module _ {D : Type 0} (medium : D → Medium) where
     }
 
     -- one call
-    pub makes-one : (limits : Limits) (old new : StoredHub D) (h : Clients) (act : Act) (frames : List Frame) → IsAt moment act → IsShown old.hub act
+    pub makes-one : (limits : Limits) (old new : StoredHub D) (h : Clients) (act : Act) (frames : List Seen) → IsAt moment act → IsShown old.hub act
         → Sees old.hub h act frames → Comes medium limits old new h (after_one limits h act) → CallsMade medium moment limits old new h (act ∷ [])
     makes-one limits old new h act frames is shown sees comes = record {
       seen = frames ++ [];

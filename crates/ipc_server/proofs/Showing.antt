@@ -1,10 +1,11 @@
 -- The frames that a connection shows.
-use Rattle.std.proofs.Common.{◌≡◌, ℕ, true, List, [], ◌∷◌, ◌++◌, Option, Some, None, is_some, option_map, unwrap_or, refl, sym, ap, ◌∙◌, inl, inr, drop}
-use Rattle.std.specs.Prelude.{nat_le}
+use Rattle.std.proofs.Common.{◌≡◌, ℕ, true, List, [], ◌∷◌, ◌++◌, Option, Some, None, is_some, option_map, unwrap_or, refl, sym, ap, subst, ◌∙◌, inl, inr, drop}
+use Rattle.std.specs.Prelude.{nat_le, All, map}
+use Rattle.std.proofs.lemmas.List.Elements.{All-map}
 use Rattle.ipc_base.proofs.CallerLemmas.{paired-at, test_cases}
 use Rattle.ipc_base.specs.declared.limits.Limits.{Limits}
-use Rattle.ipc_hub.specs.Clients.{Clients, Frame, accepted, all_bytes, confirmed_bytes, confirmed_frames}
-use Rattle.ipc_hub.specs.Lives.{Shows}
+use Rattle.ipc_hub.specs.Clients.{Client, Clients, Frame, accepted, all_bytes, confirmed_bytes, confirmed_frames}
+use Rattle.ipc_hub.specs.Lives.{Seen, Shows, as_seen}
 use Rattle.ipc_hub.specs.Relations.Matches.{ClientMatches, HubMatches}
 use Rattle.ipc_hub.specs.View.{ConnectionView, HubView, connection_of, is_connected, output_of}
 
@@ -23,24 +24,40 @@ confirmed-first confirmed (f ∷ fs) =
       | inr t ↦ (f ∷ fs, rw t refl)
     ]
 
+seen-frames : (conn : ℕ) (c : Client) (frames : List Frame) → map (λ (s : Seen). s.frame) (map (as_seen conn c) frames) ≡ frames
+seen-frames conn c [] = refl
+seen-frames conn c (f ∷ fs) = ap (λ (l : List Frame). f ∷ l) (seen-frames conn c fs)
+
+-- what is seen in the output of a connection is its own, and has the bytes of the frames that it shows
+pub seen-own : (v : HubView) (h : Clients) (conn : ℕ) (seen : List Seen) (s : Shows v h conn seen)
+    → All (λ (x : Seen). x.conn ≡ conn) seen × (all_bytes (map (λ (x : Seen). x.frame) seen) ≡ all_bytes s.frames)
+seen-own v h conn seen s = (
+  subst (All (λ (x : Seen). x.conn ≡ conn)) (sym s.these)
+      (All-map (λ (x : Seen). x.conn ≡ conn) (as_seen conn s.client) s.frames (λ k d within. refl)),
+  ap (λ (l : List Seen). all_bytes (map (λ (x : Seen). x.frame) l)) s.these ∙ ap all_bytes (seen-frames conn s.client s.frames),
+)
+
 -- a connection shows frames of its client
 pub shows-some : (limits : Limits) (confirmed : ℕ) (v : HubView) (h : Clients) (conn : ℕ) → HubMatches limits confirmed v h → is_connected v conn ≡ true
-    → (frames : List Frame) × Shows v h conn frames
+    → (seen : List Seen) × Shows v h conn seen
 shows-some limits confirmed v h conn m there = by (connection_of v conn) refl there
   where
-    by : (found : Option ConnectionView) → connection_of v conn ≡ found → is_some found ≡ true → (frames : List Frame) × Shows v h conn frames
+    by : (found : Option ConnectionView) → connection_of v conn ≡ found → is_some found ≡ true → (seen : List Seen) × Shows v h conn seen
     by None is some = cc
     by (Some r) is some =
         let mine = paired-at (ClientMatches confirmed (accepted h)) v.connections h.clients conn r m.clients is in
         let c = mine.0 in
+        let frames : List Frame = confirmed_frames confirmed c.frames in
         let others = confirmed-first confirmed c.frames in
         let output : output_of v conn ≡ r.outbox.visible = ap (λ (o : Option ConnectionView). unwrap_or (option_map (λ k. k.outbox.visible) o) []) is in (
-          confirmed_frames confirmed c.frames,
+          map (as_seen conn c) frames,
           record {
             client = c;
             found = mine.1.0;
+            frames = frames;
             others = others.0;
             first = others.1;
+            these = refl;
             output = output ∙ mine.1.1.visible ∙ ap (drop c.consumed) (sym (confirmed-all confirmed c.frames));
           },
         )

@@ -55,13 +55,6 @@ appends-both (Some zs) None all xs ys one two = absurd one
 appends-both (Some zs) (Some mid) None xs ys one two = absurd two
 appends-both (Some zs) (Some mid) (Some all) xs ys one two = two ∙ ap (λ ws. ws ++ ys) one ∙ append_assoc zs xs ys
 
--- what is appended is as before, if what is there is kept
-pub appends-kept : (known mid all : Option (List ℕ)) (xs : List ℕ) → Appends known mid xs → Keeps mid all → Appends known all xs
-appends-kept None mid all xs one same = tt
-appends-kept (Some ys) None all xs one same = absurd one
-appends-kept (Some ys) (Some mid) None xs one same = absurd same
-appends-kept (Some ys) (Some mid) (Some all) xs one same = same ∙ one
-
 -- ---- what a client is sent
 
 -- a connection that shows something is there
@@ -92,10 +85,6 @@ module _ {D : Type 0} (conn : ℕ) where
       )
 
   -- a write that took nothing
-  pub tells-kept : (old new : StoredHub D) (known some all : Option (List ℕ)) → WritesOutput conn old new known some → Keeps some all
-      → WritesOutput conn old new known all
-  tells-kept old new known some all one same = (one.0, one.1, one.2, appends-kept known some all (joined one.0) one.3 same)
-
   -- one write, and what it took is consumed
   pub tells-one : (old new : StoredHub D) (count : ℕ) (known all : Option (List ℕ)) → count ≤ length (output_of old.hub conn)
       → is_connected old.hub conn ≡ true → Simulates old.hub new.hub (λ _ h. consume h conn count) → new.store ≡ old.store

@@ -1,5 +1,5 @@
 -- Turns as calls on the hub.
-use Rattle.std.proofs.Common.{◌≡◌, ◌≤◌, ℕ, List, [], ◌∷◌, ◌++◌, All, Contains, length, inl, inr, sym, subst, ◌∙◌, append_assoc, arith}
+use Rattle.std.proofs.Common.{◌≡◌, ◌≤◌, ℕ, List, [], ◌∷◌, ◌++◌, All, Contains, drop, length, inl, inr, sym, ap, subst, ◌∙◌, append_assoc, arith}
 use Rattle.std.proofs.lemmas.List.Elements.{All-contains_itself, All-nil, All-push, All-weaker, Contains-append_left, Contains-append_right}
 use Rattle.ipc_base.specs.declared.limits.Limits.{Limits}
 use Rattle.ipc_disk.specs.Counts.{Counts}
@@ -7,8 +7,8 @@ use Rattle.ipc_disk.specs.Medium.{Medium}
 use Rattle.ipc_store.specs.declared.fault.CommitError.{CommitError}
 use Rattle.ipc_store.specs.declared.fault.CommitError.TheVariants as commit
 use Rattle.ipc_store.specs.View.{StoreView}
-use Rattle.ipc_hub.specs.Clients.{Clients, Frame, consume, fail}
-use Rattle.ipc_hub.specs.Lives.{HubCall, Serving}
+use Rattle.ipc_hub.specs.Clients.{Clients, consume, fail}
+use Rattle.ipc_hub.specs.Lives.{HubCall, Seen, Serving}
 use Rattle.ipc_hub.specs.Lives.ClientCall.{Consumes as to_consume}
 use Rattle.ipc_hub.specs.Lives.HubCall.{Still, Fails as call_fails}
 use Rattle.ipc_hub.specs.Lives.Serving.{New as serving_new, Call, Look as serving_look}
@@ -27,31 +27,33 @@ use Rattle.ipc_server.specs.Served.Served.{None as no_turn, More as one_turn}
 use Rattle.ipc_server.specs.Turns.{GoesOn, SendsFrom, SendsOf, Turns}
 use Rattle.ipc_server.specs.Turns.Turns.{New, Go, Break, Look}
 use Rattle.ipc_server.proofs.Going.{after-both, consume-events}
-use Rattle.ipc_server.proofs.Showing.{shows-some}
+use Rattle.ipc_server.proofs.Showing.{seen-own, shows-some}
 
 -- ---- the bytes that clients were sent
 
 -- they are of more frames too
-of-wider : (frames wider : List Frame) → ((f : Frame) → Contains frames f → Contains wider f) → (acts : List Act) → All (SendsOf frames) acts
+of-wider : (frames wider : List Seen) → ((f : Seen) → Contains frames f → Contains wider f) → (acts : List Act) → All (SendsOf frames) acts
     → All (SendsOf wider) acts
 of-wider frames wider more =
     All-weaker (SendsOf frames) (SendsOf wider) (λ act one. (one.0, All-weaker (Contains frames) (Contains wider) more one.0 one.1, one.2))
 
-contained-left : (frames more : List Frame) → All (Contains (frames ++ more)) frames
+contained-left : (frames more : List Seen) → All (Contains (frames ++ more)) frames
 contained-left frames more =
     All-weaker (Contains frames) (Contains (frames ++ more)) (Contains-append_left frames more) frames (All-contains_itself frames)
 
-of-call : (hub : HubView) (h : Clients) (act : Act) (frames : List Frame) → IsShown hub act → Sees hub h act frames → SendsFrom frames act
+of-call : (hub : HubView) (h : Clients) (act : Act) (frames : List Seen) → IsShown hub act → Sees hub h act frames → SendsFrom frames act
 of-call hub h (Connects conn) frames shown sees = tt
 of-call hub h (Ticks at_moment) frames shown sees = tt
 of-call hub h (Feeds conn bytes at_moment refused) frames shown sees = tt
 of-call hub h (HangsUp conn at_moment) frames shown sees = tt
 of-call hub h Releases frames shown sees = tt
-of-call hub h (Consumes conn bytes) frames shown sees = (sees.client.consumed, shown.rest, sym sees.output ∙ shown.first)
+of-call hub h (Consumes conn bytes) frames shown sees =
+    let own = seen-own hub h conn frames sees in
+    (own.0, sees.client.consumed, shown.rest, ap (drop sees.client.consumed) own.1 ∙ sym sees.output ∙ shown.first)
 
 -- each byte that a client was sent is of a frame that was in an output
 pub sent-of : {D : Type 0} (medium : D → Medium) (limits : Limits) (moment : ℕ) (first : StoredHub D) (h : Clients) (next : StoredHub D) (acts : List Act)
-    (frames : List Frame) → Steps medium moment limits first h next acts frames → All (SendsOf frames) acts
+    (frames : List Seen) → Steps medium moment limits first h next acts frames → All (SendsOf frames) acts
 sent-of medium limits moment first h _ _ _ no_step = All-nil (SendsOf [])
 sent-of medium limits moment first h next _ _ (one_step last _ acts seen act frames before is shown sees call) =
     All-push (SendsOf (frames ++ seen)) acts act
@@ -62,7 +64,7 @@ module _ {D : Type 0} (medium : D → Medium) (limits : Limits) (opened : StoreV
   -- ---- turns as calls
 
   -- the output that a client is sent from is looked at first
-  looks : (last : StoredHub D) (h : Clients) (seen frames : List Frame) (act : Act) → Serving medium limits opened last h seen
+  looks : (last : StoredHub D) (h : Clients) (seen frames : List Seen) (act : Act) → Serving medium limits opened last h seen
       → Sees last.hub h act frames → Serving medium limits opened last h (frames ++ seen)
   looks last h seen frames act serving sees = by act sees
     where
@@ -78,7 +80,7 @@ module _ {D : Type 0} (medium : D → Medium) (limits : Limits) (opened : StoreV
       by (Consumes conn bytes) shows = serving_look last h seen frames conn serving shows
 
   -- the calls of a turn are calls on the hub
-  serving-steps : (moment : ℕ) (first : StoredHub D) (h : Clients) (seen : List Frame) (next : StoredHub D) (acts : List Act) (frames : List Frame)
+  serving-steps : (moment : ℕ) (first : StoredHub D) (h : Clients) (seen : List Seen) (next : StoredHub D) (acts : List Act) (frames : List Seen)
       → Serving medium limits opened first h seen → Steps medium moment limits first h next acts frames
       → Serving medium limits opened next (after limits h acts) (frames ++ seen)
   serving-steps moment first h seen _ _ _ serving no_step = serving
@@ -89,7 +91,7 @@ module _ {D : Type 0} (medium : D → Medium) (limits : Limits) (opened : StoreV
       (Call last next now (after_one limits now act) (frames ++ (more ++ seen)) (looks last now (more ++ seen) frames act so_far sees) call)
 
   -- so are those of all turns
-  pub serving : (moment : ℕ) (last : StoredHub D) (now : Clients) (seen : List Frame) → Turns medium limits opened moment last now seen
+  pub serving : (moment : ℕ) (last : StoredHub D) (now : Clients) (seen : List Seen) → Turns medium limits opened moment last now seen
       → Serving medium limits opened last now seen
   serving _ hub _ _ (New _ store matches) = serving_new hub store matches
   serving moment next _ _ (Go before _ last _ now seen sent acts turns later steps) =
@@ -102,7 +104,7 @@ module _ {D : Type 0} (medium : D → Medium) (limits : Limits) (opened : StoreV
   -- ---- turns that go on
 
   -- from a turn on, and from there
-  abbrev goes-further : (mid moment : ℕ) (hub next : StoredHub D) (seen : List Frame) (one : GoesOn medium limits opened mid hub seen)
+  abbrev goes-further : (mid moment : ℕ) (hub next : StoredHub D) (seen : List Seen) (one : GoesOn medium limits opened mid hub seen)
       → GoesOn medium limits opened moment next (one.sent ++ seen) → GoesOn medium limits opened moment next seen
   goes-further mid moment hub next seen one two = record {
     clients = two.clients;
@@ -111,19 +113,19 @@ module _ {D : Type 0} (medium : D → Medium) (limits : Limits) (opened : StoreV
   }
 
   -- nothing more was done
-  abbrev goes-nowhere : (moment : ℕ) (hub : StoredHub D) (now : Clients) (seen : List Frame) → Turns medium limits opened moment hub now seen
+  abbrev goes-nowhere : (moment : ℕ) (hub : StoredHub D) (now : Clients) (seen : List Seen) → Turns medium limits opened moment hub now seen
       → GoesOn medium limits opened moment hub seen
   goes-nowhere moment hub now seen turns = record { clients = now; sent = []; turns = turns }
 
   -- calls at one moment
-  abbrev goes-steps : (before moment : ℕ) (last next : StoredHub D) (now : Clients) (seen sent : List Frame) (acts : List Act)
+  abbrev goes-steps : (before moment : ℕ) (last next : StoredHub D) (now : Clients) (seen sent : List Seen) (acts : List Act)
       → Turns medium limits opened before last now seen → before ≤ moment → Steps medium moment limits last now next acts sent
       → GoesOn medium limits opened moment next seen
   goes-steps before moment last next now seen sent acts turns later steps =
       record { clients = after limits now acts; sent = sent; turns = Go before moment last next now seen sent acts turns later steps }
 
   -- clients were sent something after a turn was broken off
-  sent-on : (moment : ℕ) (first : StoredHub D) (h : Clients) (seen : List Frame) (confirmed : ℕ) → HubMatches limits confirmed first.hub h
+  sent-on : (moment : ℕ) (first : StoredHub D) (h : Clients) (seen : List Seen) (confirmed : ℕ) → HubMatches limits confirmed first.hub h
       → (next : StoredHub D) (told : List Act) → Turns medium limits opened moment first h seen → Sends first next told
       → (goes : GoesOn medium limits opened moment next seen) × HubMatches limits confirmed next.hub goes.clients
   sent-on moment first h seen confirmed m _ _ turns no_send = (goes-nowhere moment first h seen turns, m)
@@ -141,7 +143,7 @@ module _ {D : Type 0} (medium : D → Medium) (limits : Limits) (opened : StoreV
       )
 
   -- one turn more
-  pub turned : (before moment : ℕ) (last next : StoredHub D) (now : Clients) (seen : List Frame) → StoredMatches limits last now
+  pub turned : (before moment : ℕ) (last next : StoredHub D) (now : Clients) (seen : List Seen) → StoredMatches limits last now
       → Turns medium limits opened before last now seen → before ≤ moment → RunsRound medium moment last next
       → (goes : GoesOn medium limits opened moment next seen) × StoredMatches limits next goes.clients
   turned before moment last next now seen m turns later goes =
@@ -149,7 +151,7 @@ module _ {D : Type 0} (medium : D → Medium) (limits : Limits) (opened : StoreV
       (goes-steps before moment last next now seen a.1.seen (Ticks moment ∷ a.0) turns later a.1.steps, a.1.comes.matches)
 
   -- as many as a server has served for
-  pub all-served : (since : ℕ) (last : StoredHub D) (now : Clients) (seen : List Frame) → StoredMatches limits last now
+  pub all-served : (since : ℕ) (last : StoredHub D) (now : Clients) (seen : List Seen) → StoredMatches limits last now
       → Turns medium limits opened since last now seen → (turns moment : ℕ) (next : StoredHub D) → Served medium since last turns moment next
       → (goes : GoesOn medium limits opened moment next seen) × StoredMatches limits next goes.clients
   all-served since last now seen m so_far _ _ _ no_turn = (goes-nowhere since last now seen so_far, m)
@@ -159,7 +161,7 @@ module _ {D : Type 0} (medium : D → Medium) (limits : Limits) (opened : StoreV
       (goes-further before moment mid next seen went.0 more.0, more.1)
 
   -- a turn that did nothing
-  stays : (before moment : ℕ) (last next : StoredHub D) (now : Clients) (seen : List Frame) → Turns medium limits opened before last now seen
+  stays : (before moment : ℕ) (last next : StoredHub D) (now : Clients) (seen : List Seen) → Turns medium limits opened before last now seen
       → before ≤ moment → next ≡ last → GoesOn medium limits opened moment next seen
   stays before moment last next now seen turns later same =
       subst (λ (v : StoredHub D). GoesOn medium limits opened moment v seen) (sym same)
@@ -167,7 +169,7 @@ module _ {D : Type 0} (medium : D → Medium) (limits : Limits) (opened : StoreV
 
   module _ (counts : D → Counts) where
     -- the call that broke off a turn, and what clients were sent after it
-    broke-off : (moment : ℕ) (last halted next : StoredHub D) (now : Clients) (seen : List Frame) (error : CommitError) (told : List Act)
+    broke-off : (moment : ℕ) (last halted next : StoredHub D) (now : Clients) (seen : List Seen) (error : CommitError) (told : List Act)
         → StoredMatches limits last now → Turns medium limits opened moment last now seen → Halts medium counts last halted error
         → Sends halted next told → GoesOn medium limits opened moment next seen
     broke-off moment last halted next now seen error told m turns halts sends = by error halts
@@ -186,7 +188,7 @@ module _ {D : Type 0} (medium : D → Medium) (limits : Limits) (opened : StoreV
         by commit.Stopped (inr fails) = failed fails.0
 
     -- a turn that was broken off
-    pub broken : (before moment : ℕ) (last next : StoredHub D) (now : Clients) (seen : List Frame) (error : CommitError) → StoredMatches limits last now
+    pub broken : (before moment : ℕ) (last next : StoredHub D) (now : Clients) (seen : List Seen) (error : CommitError) → StoredMatches limits last now
         → Turns medium limits opened before last now seen → before ≤ moment → StopsAt medium counts moment last next error
         → GoesOn medium limits opened moment next seen
     broken before moment last next now seen error m turns later breaks =
@@ -196,7 +198,7 @@ module _ {D : Type 0} (medium : D → Medium) (limits : Limits) (opened : StoreV
         (broke-off moment b.before b.halted next gone.clients (b.makes.seen ++ seen) error b.told b.makes.comes.matches gone.turns b.halts b.sends)
 
     -- a turn that was broken off, by any fault
-    off : (fault : ServeFault) (before moment : ℕ) (last next : StoredHub D) (now : Clients) (seen : List Frame) → StoredMatches limits last now
+    off : (fault : ServeFault) (before moment : ℕ) (last next : StoredHub D) (now : Clients) (seen : List Seen) → StoredMatches limits last now
         → Turns medium limits opened before last now seen → before ≤ moment → BreaksOff medium counts moment last next fault
         → GoesOn medium limits opened moment next seen
     off Socket before moment last next now seen m turns later same = stays before moment last next now seen turns later same
@@ -205,7 +207,7 @@ module _ {D : Type 0} (medium : D → Medium) (limits : Limits) (opened : StoreV
     off Stopped before moment last next now seen m turns later (inr breaks) = broken before moment last next now seen commit.Stopped m turns later breaks
 
     -- as many as a server has served for until a fault
-    pub short : (since turns : ℕ) (last next : StoredHub D) (now : Clients) (seen : List Frame) (fault : ServeFault) → StoredMatches limits last now
+    pub short : (since turns : ℕ) (last next : StoredHub D) (now : Clients) (seen : List Seen) (fault : ServeFault) → StoredMatches limits last now
         → Turns medium limits opened since last now seen → StopsShort medium counts since last turns next fault
         → (moment : ℕ) × GoesOn medium limits opened moment next seen
     short since turns last next now seen fault m so_far stops =

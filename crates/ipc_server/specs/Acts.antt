@@ -2,8 +2,8 @@
 use Rattle.std.specs.Prelude.{◌≡◌, ◌≢◌, ℕ, nat_eq, ⊤, Bool, true, if◌then◌else◌, List, [], ◌∷◌, ◌++◌, length, map}
 use Rattle.std.specs.List.{flat_map}
 use Rattle.ipc_base.specs.declared.limits.Limits.{Limits}
-use Rattle.ipc_hub.specs.Clients.{Clients, Frame, connect, consume, feed, hangup, tick}
-use Rattle.ipc_hub.specs.Lives.{Shows}
+use Rattle.ipc_hub.specs.Clients.{Clients, connect, consume, feed, hangup, tick}
+use Rattle.ipc_hub.specs.Lives.{Seen, Shows}
 use Rattle.ipc_hub.specs.View.{HubView, is_connected, output_of}
 
 pub data Act : Type 0 where
@@ -55,7 +55,7 @@ IsShown hub Releases = ⊤
 IsShown hub (Consumes conn bytes) = BeginsOutput hub conn bytes
 
 -- the frames that were in the output of a client when it was sent something; none at another call
-abbrev pub Sees : HubView → Clients → Act → List Frame → Type 0
+abbrev pub Sees : HubView → Clients → Act → List Seen → Type 0
 Sees hub h (Connects conn) frames = frames ≡ []
 Sees hub h (Ticks moment) frames = frames ≡ []
 Sees hub h (Feeds conn bytes moment refused) frames = frames ≡ []

@@ -6,8 +6,8 @@ use Rattle.ipc_disk.specs.Counts.{Counts}
 use Rattle.ipc_disk.specs.Medium.{Medium}
 use Rattle.ipc_store.specs.declared.fault.CommitError.{CommitError}
 use Rattle.ipc_store.specs.declared.fault.CommitError.TheVariants as commit
-use Rattle.ipc_hub.specs.Clients.{Clients, Frame, consume}
-use Rattle.ipc_hub.specs.Lives.{HubCall}
+use Rattle.ipc_hub.specs.Clients.{Clients, consume}
+use Rattle.ipc_hub.specs.Lives.{HubCall, Seen}
 use Rattle.ipc_hub.specs.View.{StoredHub, HasStopped, output_of}
 use Rattle.ipc_hub.specs.Relations.Matches.{Comes, Simulates, StoredMatches}
 use Rattle.ipc_hub.specs.Relations.Faults.{Halts}
@@ -20,9 +20,9 @@ use Rattle.ipc_server.specs.Acts.Act.{Consumes as to_consume, Ticks}
 -- Calls on a hub at one moment, one after another, and what they make of the clients: each is a call of the hub, to
 -- which no other comes in between. The frames are those that were in an output from which a client was sent something.
 pub data Steps {D : Type 0} (medium : D → Medium) (moment : ℕ) (limits : Limits) (old : StoredHub D) (h : Clients)
-    : StoredHub D → List Act → List Frame → Type 0 where
+    : StoredHub D → List Act → List Seen → Type 0 where
   None : Steps medium moment limits old h old [] []
-  More : (last next : StoredHub D) (acts : List Act) (seen : List Frame) (act : Act) (frames : List Frame)
+  More : (last next : StoredHub D) (acts : List Act) (seen : List Seen) (act : Act) (frames : List Seen)
       → Steps medium moment limits old h last acts seen
       → IsAt moment act → IsShown last.hub act → Sees last.hub (after limits h acts) act frames
       → HubCall medium limits last (after limits h acts) next (after_one limits (after limits h acts) act)
@@ -32,7 +32,7 @@ pub data Steps {D : Type 0} (medium : D → Medium) (moment : ℕ) (limits : Lim
 -- they accept.
 pub record CallsMade {D : Type 0} (medium : D → Medium) (moment : ℕ) (limits : Limits) (old new : StoredHub D)
     (h : Clients) (acts : List Act) : Type 0 where
-  pub seen : List Frame
+  pub seen : List Seen
   pub steps : Steps medium moment limits old h new acts seen
   pub comes : Comes medium limits old new h (after limits h acts)
 

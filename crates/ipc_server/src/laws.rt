@@ -4,8 +4,8 @@ ghost use Rattle.std.specs.Prelude.{◌≤◌, ℕ, All, List};
 ghost use Rattle.ipc_base.specs.declared.limits.Limits.{Limits};
 ghost use Rattle.ipc_store.specs.View.{StoreView};
 ghost use Rattle.ipc_store.specs.declared.fault.CommitError.{CommitError};
-ghost use Rattle.ipc_hub.specs.Clients.{Clients, Frame};
-ghost use Rattle.ipc_hub.specs.Lives.{Serving};
+ghost use Rattle.ipc_hub.specs.Clients.{Clients};
+ghost use Rattle.ipc_hub.specs.Lives.{Seen, Serving};
 ghost use Rattle.ipc_hub.specs.View.{StoredHub};
 ghost use Rattle.ipc_hub.specs.Relations.Matches.{StoredMatches};
 ghost use Rattle.ipc_server.specs.declared.fault.ServeFault.{ServeFault};
@@ -23,32 +23,33 @@ use ipc_disk::SectorDisk;
 /// if it was written in the same turn.
 pub fn turns_are_calls_on_a_hub<D: SectorDisk>()
     ensures calls { (limits : Limits) (opened : StoreView D) (moment : ℕ) (last : StoredHub D) (now : Clients)
-        (seen : List Frame) → Turns D.medium limits opened moment last now seen
+        (seen : List Seen) → Turns D.medium limits opened moment last now seen
         → Serving D.medium limits opened last now seen }
-    // Each byte that a client is sent in calls of a turn is of one of the frames that they add.
+    // Each byte that a client is sent in calls of a turn is of one of the frames that they add, which was seen in the
+    // output of its own connection.
     ensures sent { (limits : Limits) (moment : ℕ) (last next : StoredHub D) (now : Clients) (acts : List Act)
-        (sent : List Frame) → Steps D.medium moment limits last now next acts sent → All (SendsOf sent) acts }
+        (sent : List Seen) → Steps D.medium moment limits last now next acts sent → All (SendsOf sent) acts }
     // A turn that went on, as its clause says, is one more of these.
     ensures turn { (limits : Limits) (opened : StoreView D) (before moment : ℕ) (last next : StoredHub D)
-        (now : Clients) (seen : List Frame)
+        (now : Clients) (seen : List Seen)
         → Turns D.medium limits opened before last now seen
         → StoredMatches limits last now → before ≤ moment → RunsRound D.medium moment last next
         → (goes : GoesOn D.medium limits opened moment next seen) × StoredMatches limits next goes.clients }
     // So is one that the disk has broken off.
     ensures broken { (limits : Limits) (opened : StoreView D) (before moment : ℕ) (last next : StoredHub D)
-        (now : Clients) (seen : List Frame) (error : CommitError)
+        (now : Clients) (seen : List Seen) (error : CommitError)
         → Turns D.medium limits opened before last now seen → StoredMatches limits last now
         → before ≤ moment → StopsAt D.medium D.counts moment last next error
         → GoesOn D.medium limits opened moment next seen }
     // As many as a server serves for are so many more.
     ensures served { (limits : Limits) (opened : StoreView D) (since moment turns : ℕ) (last next : StoredHub D)
-        (now : Clients) (seen : List Frame)
+        (now : Clients) (seen : List Seen)
         → Turns D.medium limits opened since last now seen
         → StoredMatches limits last now → Served D.medium since last turns moment next
         → (goes : GoesOn D.medium limits opened moment next seen) × StoredMatches limits next goes.clients }
     // So are those that it serves for until a fault.
     ensures stops_short { (limits : Limits) (opened : StoreView D) (since turns : ℕ) (last next : StoredHub D)
-        (now : Clients) (seen : List Frame) (fault : ServeFault)
+        (now : Clients) (seen : List Seen) (fault : ServeFault)
         → Turns D.medium limits opened since last now seen
         → StoredMatches limits last now → StopsShort D.medium D.counts since last turns next fault
         → (moment : ℕ) × GoesOn D.medium limits opened moment next seen }

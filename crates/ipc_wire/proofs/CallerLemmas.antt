@@ -36,6 +36,10 @@ stream_step = streams.stream_step
 pub stream_begun : (bytes : List ℕ) (f : PlainFrame) → first bytes ≡ f → stream_of bytes ≡ begins_with f bytes (λ used. stream_of (drop used bytes))
 stream_begun bytes f e = streams.stream_step bytes ∙ ap (λ (g : PlainFrame). begins_with g bytes (λ used. stream_of (drop used bytes))) e
 
+-- a stream in two pieces
+pub stream_pieces : (bytes more : List ℕ) → stream_of (bytes ++ more) ≡ continued (stream_of bytes).requests (stream_of bytes).ending more
+stream_pieces = streams.pieces
+
 -- the bytes of a reply are ten and its body
 pub length-reply_bytes : (r : PlainReply) → length (reply_bytes r) ≡ 10 + length (body_bytes r.body)
 unfolding reply_bytes

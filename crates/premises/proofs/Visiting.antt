@@ -1,6 +1,6 @@
 -- A client that says HELLO and sees what it is answered, and a release that is stopped, from the clauses of the calls.
 use Rattle.std.proofs.Common.{◌≡◌, ℕ, ◌+◌, ◌≤◌, List, [], ◌∷◌, ◌++◌, drop, Option, Some, None, inl, inr, refl, sym, ap, subst, ◌∙◌, append-nil, arith}
-use Rattle.std.specs.Prelude.{nat_le}
+use Rattle.std.specs.Prelude.{nat_le, map}
 use Rattle.std.proofs.lemmas.Bool.{cases_Bool}
 use Rattle.ipc_base.specs.declared.limits.Limits.{Limits}
 use Rattle.ipc_disk.specs.Counts.{Counts}
@@ -12,7 +12,7 @@ use Rattle.ipc_store.specs.Histories.{History, Keeps, OpensOn, Takes}
 use Rattle.ipc_store.specs.Lives.{IsLeft}
 use Rattle.ipc_store.specs.View.{StoreView}
 use Rattle.ipc_hub.specs.Clients.{Client, Clients, Frame, all_bytes, client_at, confirmed_bytes, confirmed_frames, connect, fail, feed, shown_at}
-use Rattle.ipc_hub.specs.Lives.{HubCall, Life, Lives, Serving, Shows, life_of}
+use Rattle.ipc_hub.specs.Lives.{HubCall, Life, Lives, Seen, Serving, Shows, as_seen, life_of}
 use Rattle.ipc_hub.specs.Lives.ClientCall.{Connects, Feeds, Stays}
 use Rattle.ipc_hub.specs.Lives.HubCall.{Serves, Still, Fails}
 use Rattle.ipc_hub.specs.Lives.Rested.{Begun, Lived}
@@ -37,9 +37,13 @@ confirmed-first confirmed (f ∷ fs) =
       | inr t ↦ (f ∷ fs, rw t refl)
     ]
 
+seen-frames : (conn : ℕ) (c : Client) (frames : List Frame) → map (λ (s : Seen). s.frame) (map (as_seen conn c) frames) ≡ frames
+seen-frames conn c [] = refl
+seen-frames conn c (f ∷ fs) = ap (λ (l : List Frame). f ∷ l) (seen-frames conn c fs)
+
 module _ {D : Type 0} (medium : D → Medium) (limits : Limits) (opened : StoreView D) where
   -- a connection comes
-  goes-connect : (old new : StoredHub D) (h : Clients) (seen : List Frame) (conn : ℕ) → Goes medium limits opened old h seen
+  goes-connect : (old new : StoredHub D) (h : Clients) (seen : List Seen) (conn : ℕ) → Goes medium limits opened old h seen
       → Simulates old.hub new.hub (λ _ h. connect h conn) → new.store ≡ old.store → Goes medium limits opened new (connect h conn) seen
   goes-connect old new h seen conn goes comes same = record {
     serving = Call old new h (connect h conn) seen goes.serving
@@ -52,7 +56,7 @@ module _ {D : Type 0} (medium : D → Medium) (limits : Limits) (opened : StoreV
   }
 
   -- bytes of it are taken
-  goes-feed : (old new : StoredHub D) (h : Clients) (seen : List Frame) (conn moment : ℕ) (bytes : List ℕ) → Goes medium limits opened old h seen
+  goes-feed : (old new : StoredHub D) (h : Clients) (seen : List Seen) (conn moment : ℕ) (bytes : List ℕ) → Goes medium limits opened old h seen
       → ServesFeed medium old new conn bytes moment → (then : Clients) × Goes medium limits opened new then seen
   goes-feed old new h seen conn moment bytes goes serves =
       let came = serves limits h goes.matches in
@@ -68,7 +72,7 @@ module _ {D : Type 0} (medium : D → Medium) (limits : Limits) (opened : StoreV
   releases old new h matches still takes =
       Serves h Stays (record { matches = still limits h matches; events = []; adds = sym (append-nil h.events); takes = takes })
 
-  goes-release : (old new : StoredHub D) (h : Clients) (seen : List Frame) → Goes medium limits opened old h seen
+  goes-release : (old new : StoredHub D) (h : Clients) (seen : List Seen) → Goes medium limits opened old h seen
       → ((l : Limits) (h : Clients) → StoredMatches l old h → StoredMatches l new h) → Takes medium old.store [] new.store
       → Goes medium limits opened new h seen
   goes-release old new h seen goes still takes =
@@ -77,25 +81,28 @@ module _ {D : Type 0} (medium : D → Medium) (limits : Limits) (opened : StoreV
   -- its output is looked at
   looks : (hub : StoredHub D) (h : Clients) (conn : ℕ) (out : List ℕ) → Goes medium limits opened hub h [] → out ≡ shown_at hub.store.confirmed h conn
       → out ≡ output_of hub.hub conn → (client : Option Client) → client_at h conn ≡ client
-      → (frames : List Frame) × AreSeen out frames × Goes medium limits opened hub h frames
+      → (seen : List Seen) × AreSeen out seen × Goes medium limits opened hub h seen
   looks hub h conn out goes shown is None none = let bytes : out ≡ [] = rw none at shown in ([], (0, bytes), goes)
   looks hub h conn out goes shown is (Some c) found =
       let frames : List Frame = confirmed_frames hub.store.confirmed c.frames in
       let others = confirmed-first hub.store.confirmed c.frames in
       let visible : out ≡ drop c.consumed (confirmed_bytes hub.store.confirmed c.frames) = rw found at shown in
       let bytes : out ≡ drop c.consumed (all_bytes frames) = visible ∙ ap (drop c.consumed) (sym (confirmed-all hub.store.confirmed c.frames)) in
-      let shows : Shows hub.hub h conn frames =
-      record { client = c; found = found; others = others.0; first = others.1; output = sym is ∙ bytes } in (
-        frames ++ [],
-        (c.consumed, bytes ∙ ap (λ (fs : List Frame). drop c.consumed (all_bytes fs)) (sym (append-nil frames))),
-        record { serving = Look hub h [] frames conn goes.serving shows; matches = goes.matches },
+      let seen : List Seen = map (as_seen conn c) frames in
+      let shows : Shows hub.hub h conn seen =
+      record { client = c; found = found; frames = frames; others = others.0; first = others.1; these = refl; output = sym is ∙ bytes } in
+      let whole : map (λ (s : Seen). s.frame) (seen ++ []) ≡ frames =
+      ap (λ (l : List Seen). map (λ (s : Seen). s.frame) l) (append-nil seen) ∙ seen-frames conn c frames in (
+        seen ++ [],
+        (c.consumed, bytes ∙ ap (λ (fs : List Frame). drop c.consumed (all_bytes fs)) (sym whole)),
+        record { serving = Look hub h [] seen conn goes.serving shows; matches = goes.matches },
       )
 
   pub greets : (old joined fed new : StoredHub D) (h : Clients) (conn moment : ℕ) (bytes out : List ℕ) → Goes medium limits opened old h []
       → Simulates old.hub joined.hub (λ _ h. connect h conn) → joined.store ≡ old.store → ServesFeed medium joined fed conn bytes moment
       → ((l : Limits) (h : Clients) → StoredMatches l fed h → StoredMatches l new h) → Takes medium fed.store [] new.store
       → ((l : Limits) (confirmed : ℕ) (h : Clients) → HubMatches l confirmed new.hub h → out ≡ shown_at confirmed h conn) → out ≡ output_of new.hub conn
-      → (then : Clients) × ((frames : List Frame) × AreSeen out frames × Goes medium limits opened new then frames)
+      → (then : Clients) × ((seen : List Seen) × AreSeen out seen × Goes medium limits opened new then seen)
   greets old joined fed new h conn moment bytes out goes comes same serves still takes see is =
       let first = goes-connect old joined h [] conn goes comes same in
       let then = goes-feed joined fed (connect h conn) [] conn moment bytes first serves in
@@ -103,14 +110,14 @@ module _ {D : Type 0} (medium : D → Medium) (limits : Limits) (opened : StoreV
       (then.0, looks new then.0 conn out last (see limits new.store.confirmed then.0 last.matches.hub) is (client_at then.0 conn) refl)
 
   -- more bytes of it are taken, and the release that follows is the last call: it went well, or the disk failed
-  pub asks-well : (old fed new : StoredHub D) (h : Clients) (seen : List Frame) (conn moment : ℕ) (bytes : List ℕ) → Goes medium limits opened old h seen
+  pub asks-well : (old fed new : StoredHub D) (h : Clients) (seen : List Seen) (conn moment : ℕ) (bytes : List ℕ) → Goes medium limits opened old h seen
       → ServesFeed medium old fed conn bytes moment → ((l : Limits) (h : Clients) → StoredMatches l fed h → StoredMatches l new h)
       → Takes medium fed.store [] new.store → Ends medium limits opened new seen
   asks-well old fed new h seen conn moment bytes goes serves still takes =
       let then = goes-feed old fed h seen conn moment bytes goes serves in
       record { last = fed; now = then.0; then = then.0; serving = then.1.serving; call = releases fed new then.0 then.1.matches still takes }
 
-  pub asks-ill : (counts : D → Counts) (old fed new : StoredHub D) (h : Clients) (seen : List Frame) (conn moment : ℕ) (bytes : List ℕ) (e : CommitError)
+  pub asks-ill : (counts : D → Counts) (old fed new : StoredHub D) (h : Clients) (seen : List Seen) (conn moment : ℕ) (bytes : List ℕ) (e : CommitError)
       → Goes medium limits opened old h seen → ServesFeed medium old fed conn bytes moment → e ≡ Device → Halts medium counts fed new e
       → Ends medium limits opened new seen
   asks-ill counts old fed new h seen conn moment bytes e goes serves is halts =
@@ -135,12 +142,12 @@ module _ {D : Type 0} (medium : D → Medium) (limits : Limits) (opened : StoreV
       (omega arith, (before, keeps))
   goes-on old new h _ before (Fails takes matches) keeps = let moves = takes before keeps in (moves.crash.later, (moves.after, moves.keeps))
 
-  keeps-on : (last : StoredHub D) (now : Clients) (seen : List Frame) (before : History) → Keeps (medium opened.disk) opened before
+  keeps-on : (last : StoredHub D) (now : Clients) (seen : List Seen) (before : History) → Keeps (medium opened.disk) opened before
       → Serving medium limits opened last now seen → (after : History) × Keeps (medium last.store.disk) last.store after
   keeps-on hub _ _ before keeps (New _ store matches) = (before, subst (λ (s : StoreView D). Keeps (medium s.disk) s before) (sym store) keeps)
   keeps-on next then seen before keeps (Call last _ now _ _ serving call) =
       let so_far = keeps-on last now seen before keeps serving in (goes-on last next now then so_far.0 call so_far.1).1
-  keeps-on last now _ before keeps (Look _ _ seen frames conn serving shows) = keeps-on last now seen before keeps serving
+  keeps-on last now _ before keeps (Look _ _ seen more conn serving shows) = keeps-on last now seen before keeps serving
 
   -- the events are those of before and more; the restart is the first
   adds : (old new : StoredHub D) (h next : Clients) → HubCall medium limits old h new next → (more : List PlainEvent) × (next.events ≡ h.events ++ more)
@@ -154,14 +161,14 @@ module _ {D : Type 0} (medium : D → Medium) (limits : Limits) (opened : StoreV
       let added = adds old new h next call in
       (so_far.0 ++ added.0, added.1 ∙ ap (λ (es : List PlainEvent). es ++ added.0) so_far.1)
 
-  begins : (last : StoredHub D) (now : Clients) (seen : List Frame) → Serving medium limits opened last now seen
+  begins : (last : StoredHub D) (now : Clients) (seen : List Seen) → Serving medium limits opened last now seen
       → (more : List PlainEvent) × (now.events ≡ Restart ∷ more)
   begins hub _ _ (New _ store matches) = ([], refl)
   begins next then seen (Call last _ now _ _ serving call) = begins-call last next now then call (begins last now seen serving)
-  begins last now _ (Look _ _ seen frames conn serving shows) = begins last now seen serving
+  begins last now _ (Look _ _ seen more conn serving shows) = begins last now seen serving
 
   -- the whole life
-  pub one-life-with-a-crash : (disk end left : D) (store : StoreView D) (hub : StoredHub D) (out : List ℕ) (frames : List Frame) (before : History) (at : ℕ)
+  pub one-life-with-a-crash : (disk end left : D) (store : StoreView D) (hub : StoredHub D) (out : List ℕ) (frames : List Seen) (before : History) (at : ℕ)
       → OpensOn (medium disk).contents (medium opened.disk) opened → Keeps (medium opened.disk) opened before → AreSeen out frames
       → Ends medium limits opened hub frames → end ≡ hub.store.disk → at ≡ (medium end).moment → IsHonest (medium left)
       → ((t : ℕ) (image : Image) → t ≤ at → (medium left).images_now image → (medium end).images_since t image)

@@ -8,8 +8,8 @@ ghost use Rattle.ipc_disk.specs.declared.memory.MemoryDisk.{MemoryDisk};
 ghost use Rattle.ipc_store.specs.Histories.{Past, new_past, state_after};
 ghost use Rattle.ipc_store.specs.Image.{StandsFor};
 ghost use Rattle.ipc_store.specs.View.{StoreView};
-ghost use Rattle.ipc_hub.specs.Clients.{Clients, Frame};
-ghost use Rattle.ipc_hub.specs.Lives.{HasHistory, Life, Lives};
+ghost use Rattle.ipc_hub.specs.Clients.{Clients};
+ghost use Rattle.ipc_hub.specs.Lives.{HasHistory, Life, Lives, Seen};
 ghost use Rattle.premises.specs.Remembering.{remembering_medium};
 ghost use Rattle.premises.specs.Visits.{AreSeen, Saw, Goes, Ends};
 
@@ -120,7 +120,7 @@ fn greet(
     moment: Moment,
 ) -> Option<Vec<u8>>
     ensures { IfSome result (λ seen. (limits : Limits) (opened : StoreView RememberingDisk) (h : Clients)
-        → Goes remembering_medium limits opened hub.old h [] → (then : Clients) × ((frames : List Frame)
+        → Goes remembering_medium limits opened hub.old h [] → (then : Clients) × ((frames : List Seen)
         × AreSeen seen.items frames × Goes remembering_medium limits opened hub.new then frames)) }
 {
     let Ok(()) = hub.connect(1) else {
@@ -141,7 +141,7 @@ fn greet(
 // It sends more bytes, and what they do is released, in which the disk may fail.
 fn ask(hub: &mut Hub<RememberingDisk>, requests: &[u8], moment: Moment) -> Option<()>
     ensures { IfSome result (λ _. (limits : Limits) (opened : StoreView RememberingDisk) (h : Clients)
-        (seen : List Frame) → Goes remembering_medium limits opened hub.old h seen
+        (seen : List Seen) → Goes remembering_medium limits opened hub.old h seen
         → Ends remembering_medium limits opened hub.new seen) }
 {
     let Ok(_) = hub.feed(1, requests, moment) else {

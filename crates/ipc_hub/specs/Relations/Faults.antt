@@ -21,6 +21,7 @@ use Rattle.ipc_hub.specs.Relations.Matches.{HubMatches, StoredMatches, Serves, S
 pub record Fails {D : Type 0} (medium : D → Medium) (old new : StoredHub D) : Type 0 where
   pub takes : Takes medium old.store [] new.store
   pub stopped : IsStopped new.store
+  pub unconfirmed : new.store.confirmed ≡ old.store.confirmed
   pub matches : (limits : Limits) (h : Clients) → StoredMatches limits old h
       → HubMatches limits old.store.confirmed new.hub (fail old.store.confirmed h)
 

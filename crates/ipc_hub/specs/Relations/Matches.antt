@@ -9,7 +9,7 @@ use Rattle.ipc_disk.specs.Medium.{Medium}
 use Rattle.ipc_engine.specs.Event.{PlainEvent}
 use Rattle.ipc_store.specs.Histories.{Takes}
 use Rattle.ipc_store.specs.View.{StoreView}
-use Rattle.ipc_hub.specs.Clients.{Frame, Client, Clients, accepted, all_bytes, confirmed_bytes, shown}
+use Rattle.ipc_hub.specs.Clients.{Frame, Client, Clients, accepted, all_bytes, confirmed_bytes, own_process, shown}
 use Rattle.ipc_hub.specs.Clients.{take_in, feed}
 use Rattle.ipc_hub.specs.View.{ConnectionView, HubView, StoredHub, kept}
 
@@ -23,7 +23,7 @@ AreFrames accepted frames = All (λ f. (f.mark ≤ accepted) × IsFrame f.bytes)
 
 -- a connection has the process, the bytes and the frames of a client, and shows those that are confirmed
 pub record ClientMatches (confirmed accepted : ℕ) (v : ConnectionView) (c : Client) : Type 0 where
-  pub process : v.process ≡ c.process
+  pub process : v.process ≡ own_process c
   pub input : v.input ≡ c.input
   pub ended : v.ended ≡ c.ended
   pub kept : kept v.outbox ≡ drop c.consumed (all_bytes c.frames)

@@ -5,10 +5,12 @@ use Rattle.std.specs.Prelude.{◌≡◌, ◌^◌, ℕ, Bool, List, [], map, Opti
 use Rattle.std.specs.Io.KnownBytes.{Appends}
 use Rattle.ipc_base.specs.Table.{keys_of, IsRising}
 use Rattle.ipc_base.specs.declared.limits.Limits.{Limits}
-use Rattle.ipc_hub.specs.View.{StoredHub}
-use Rattle.ipc_hub.specs.Clients.{Client, client_at}
-use Rattle.ipc_hub.specs.Relations.Matches.{StoredMatches}
+use Rattle.ipc_hub.specs.View.{HubView, StoredHub}
+use Rattle.ipc_hub.specs.Clients.{Client, accepted, client_at, fail}
+use Rattle.ipc_hub.specs.Relations.Matches.{HubMatches, StoredMatches}
 use Rattle.ipc_script.specs.declared.report.Opened.{Opened}
+use Rattle.ipc_script.specs.Halting.{IsBegun, IsDone}
+use Rattle.ipc_script.specs.Line.{PlainLine}
 use Rattle.ipc_script.specs.Script.{Run, Progress}
 
 -- an open connection, as the program keeps it
@@ -42,3 +44,29 @@ abbrev pub ProgressMatches : {D : Type 0} → Limits → StoredHub D → List Op
     → Option (List ℕ) → Option (List ℕ) → Progress → Type 0
 ProgressMatches limits hub opened before after p =
     RunMatchesBetween limits hub opened p.run × Appends before after p.text
+
+-- a run matches so that all its frames can be written: all its events are confirmed
+pub record CanReport (limits : Limits) (hub : HubView) (opened : List Opened) (r : Run) : Type 0 where
+  pub matches : HubMatches limits (accepted r.hub) hub r.hub
+  pub kept : OpenedMatches opened r
+  pub whole : (conn : ℕ) → IfSome (client_at r.hub conn) HasWholeFrames
+  pub rising : IsRising 0 (keys_of r.hub.clients) (2 ^ 32)
+
+-- the disk has failed: the run as it was then matches, when its hub has failed
+pub record MatchesFailed {D : Type 0} (limits : Limits) (hub : StoredHub D) (opened : List Opened) (r : Run)
+    : Type 0 where
+  pub matches : HubMatches limits hub.store.confirmed hub.hub (fail hub.store.confirmed r.hub)
+  pub kept : OpenedMatches opened r
+  pub whole : (conn : ℕ) → IfSome (client_at r.hub conn) HasWholeFrames
+  pub rising : IsRising 0 (keys_of r.hub.clients) (2 ^ 32)
+
+-- it has failed within a line: what was done of the line and written, and what was begun
+pub record HaltsAt {D : Type 0} (limits : Limits) (r : Run) (line : PlainLine) (hub : StoredHub D)
+    (opened : List Opened) (before after : Option (List ℕ)) : Type 0 where
+  pub place : ℕ
+  pub part : Progress
+  pub done : IsDone limits r line place part
+  pub now : Run
+  pub begun : IsBegun limits part.run place line now
+  pub failed : MatchesFailed limits hub opened now
+  pub written : Appends before after part.text

@@ -7,9 +7,11 @@ use Rattle.ipc_store.specs.View.{StoreView}
 use Rattle.ipc_hub.specs.View.{StoredHub}
 use Rattle.ipc_script.specs.declared.report.Opened.{Opened}
 use Rattle.ipc_script.specs.declared.script.Sender.{Sender}
+use Rattle.ipc_script.specs.Halting.{IsBegun}
+use Rattle.ipc_script.specs.Line.PlainLine.{Data}
 use Rattle.ipc_script.specs.Script.{Progress, Run, is_open, fed, WritesPart}
 use Rattle.ipc_script.specs.Relations.Lasts.{LastsAs}
-use Rattle.ipc_script.specs.Relations.Matches.{ProgressMatches}
+use Rattle.ipc_script.specs.Relations.Matches.{MatchesFailed, ProgressMatches}
 
 -- so many of these bytes are fed
 abbrev pub piece_fed : Limits → Run → Sender → List ℕ → ℕ → List Bool → Progress
@@ -45,3 +47,9 @@ abbrev pub PieceFails : {D : Type 0} → (D → Medium) → Limits → Run → S
     → Type 0
 PieceFails medium limits r sender bytes old new =
     Takes medium old [] new ⊎ ((taken : ℕ) × TakesPiece medium limits r sender bytes taken old new)
+
+-- none is fed, or some are and nothing of what they let out is written
+abbrev pub PieceHalts : {D : Type 0} → Limits → Run → Sender → List ℕ → StoredHub D → List Opened → Type 0
+PieceHalts limits r sender bytes hub opened =
+    (now : Run) × IsBegun limits r 0 (Data sender.moment.0 sender.conn bytes) now
+    × MatchesFailed limits hub opened now

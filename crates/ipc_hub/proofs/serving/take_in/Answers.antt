@@ -66,7 +66,7 @@ loop-taken-preserved g c =
       continues = goes-further old.hub mid.hub new.hub held.continues.limits held.continues.numbers took.continues;
       bytes = subst (λ (bs : List ℕ). TakesIn med old new conn bs c.args.moment.0)
           (sym (take-add i n piece ∙ ap (λ (r : List ℕ). take i piece ++ take n r) (sym whole)))
-          (takes-then med g.met.D.SectorDisk.only_now c.stream_in_pieces.ensures old mid new conn c.args.moment.0 (take i piece) (take n rest) held.bytes took.bytes);
+          (takes-then med g.met.D.SectorDisk.only_now old mid new conn c.args.moment.0 (take i piece) (take n rest) held.bytes took.bytes);
       first = λ none. absurd (omega (arith, none, some));
       adds = adds-both (i + n) held.adds took.adds (omega (arith, some));
       ready = λ none.

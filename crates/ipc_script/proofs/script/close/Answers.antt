@@ -1,11 +1,13 @@
-use Rattle.std.proofs.Common.{map, sym, ap, ◌∙◌}
+use Rattle.std.proofs.Common.{◌≡◌, map, refl, sym, ap, ◌∙◌}
 use Rattle.std.specs.Prelude.{nat_eq, position}
 use Rattle.ipc_base.proofs.CallerLemmas.{remove_at_place, without_nowhere}
 use Rattle.ipc_script.specs.declared.report.Opened.{Opened}
 use Rattle.ipc_script.proofs.HubAndClients.{connected, is_known, is_unknown, is_its_fault}
 use Rattle.std.specs.Prelude.{⊤}
 use Rattle.ipc_script.specs.Relations.Faults.{of_serve_error}
-use Rattle.ipc_script.proofs.FaultCases.{by_fault}
+use Rattle.ipc_script.proofs.FaultCases.{by_fault, fault-is}
+use Rattle.ipc_script.proofs.Halting.{matches-failed, refuses-fails}
+use Rattle.ipc_script.specs.declared.fault.ScriptFault.TheVariants.{Device}
 use Rattle.ipc_script.proofs.OpenConnections.{by_number, close_in}
 use Rattle.ipc_script.proofs.Lasting.{takes-refused}
 use Rattle.ipc_script.proofs.script.close.Goals as goal
@@ -45,3 +47,10 @@ pub returns-in-Err-clause-takes : goal.returns-in-Err-clause-takes
 returns-in-Err-clause-takes g c =
     takes-refused g.D.SectorDisk.medium g.met.D.SectorDisk.only_now g.D.SectorDisk.counts c.args.hub.now c.hangup.new.self c.args.conn c.in-Err.error
     c.in-Err.ensures.refused
+
+pub returns-in-Err-clause-halted : goal.returns-in-Err-clause-halted
+returns-in-Err-clause-halted g c is has limits r i =
+    let device : of_serve_error c.in-Err.error c.args.number ≡ Device = sym c.fault_of.ensures ∙ fault-is _ _ Device refl is in
+    matches-failed g.D.SectorDisk.medium limits c.args.hub.now c.hangup.new.self c.args.opened.now.items r
+    (refuses-fails g.D.SectorDisk.medium g.D.SectorDisk.counts 3 c.args.hub.now c.hangup.new.self has c.args.conn c.in-Err.error c.args.number device
+    c.in-Err.ensures.refused) i

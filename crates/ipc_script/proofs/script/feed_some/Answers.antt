@@ -1,9 +1,15 @@
-use Rattle.std.proofs.Common.{sym, ◌∙◌, inl, inr}
+use Rattle.std.proofs.Common.{◌≡◌, refl, sym, ap, ◌∙◌, inl, inr, arith}
+use Rattle.std.specs.Prelude.{Err}
 use Rattle.std.proofs.KnownBytes.{Appends-nil}
 use Rattle.std.proofs.lemmas.Result.{err_from_is_err_and}
 use Rattle.ipc_script.proofs.HubAndClients.{connected, is_known, is_unknown, is_its_fault}
-use Rattle.ipc_script.proofs.FedPieces.{feeds_some, feeds_part, piece_taken}
-use Rattle.ipc_script.proofs.FaultCases.{by_fault}
+use Rattle.ipc_script.proofs.FedPieces.{feeds_some, feeds_part, feeds_halt, piece_taken}
+use Rattle.ipc_script.proofs.FaultCases.{by_fault, fault-is}
+use Rattle.ipc_script.proofs.Halting.{matches-failed, refuses-fails}
+use Rattle.ipc_script.proofs.NumbersSpent.{left-behind}
+use Rattle.ipc_script.specs.declared.fault.ScriptFault.TheVariants.{Device}
+use Rattle.ipc_script.specs.Halting.IsBegun.{None as none_begun}
+use Rattle.ipc_script.specs.Relations.Faults.{of_serve_error}
 use Rattle.ipc_script.proofs.Lasting.{takes-refused, commits-empty}
 use Rattle.ipc_script.proofs.script.feed_some.Goals as goal
 
@@ -56,3 +62,25 @@ returns-in_err-report-in-Ok-clause-commits g c =
 
 pub returns-in_ok-report-in-Ok-clause-commits : goal.returns-in_ok-report-in-Ok-clause-commits
 returns-in_ok-report-in-Ok-clause-commits g c = λ _. c.in_ok-report-in-Ok.ensures.empties
+
+-- what was fed is not written, or nothing is fed
+pub returns-in_err-report-in-Ok-clause-halted : goal.returns-in_err-report-in-Ok-clause-halted
+returns-in_err-report-in-Ok-clause-halted g c is has limits r b =
+    let q = err_from_is_err_and c.from_residual.result c.from_residual.ensures.1 in
+    let device : c.in_err-report-in-Ok.field-0.0 ≡ Device = sym q.2 ∙ fault-is c.from_residual.result q.0 Device q.1 is in
+    let conn = c.args.sender.conn in
+    let left = left-behind 1 has c.in-Ok.ensures.spends (omega (arith, c.in-Ok.ensures.within)) in
+    feeds_halt g.D.SectorDisk.medium limits r c.args.sender c.args.bytes.now c.in-Ok.taken
+    c.args.hub.now c.feed.new.self c.report.new.hub c.args.opened.now b c.in-Ok.ensures.ok c.in-Ok.ensures.starts
+    (is_known c.args.hub.now conn c.feed.result _ c.in-Ok.is c.feed.ensures.stopped c.feed.ensures.unknown) c.report.ensures.takes
+    c.report.new.opened (c.in_err-report-in-Ok.ensures.halted (ap (λ e. Err e) device) left)
+
+pub returns-in-Err-clause-halted : goal.returns-in-Err-clause-halted
+returns-in-Err-clause-halted g c is has limits r b =
+    let device : of_serve_error c.in-Err.error c.args.sender.number ≡ Device = sym c.fault_of.ensures ∙ fault-is _ _ Device refl is in (
+      r,
+      none_begun _,
+      matches-failed g.D.SectorDisk.medium limits c.args.hub.now c.feed.new.self c.args.opened.now r
+          (refuses-fails g.D.SectorDisk.medium g.D.SectorDisk.counts _ c.args.hub.now c.feed.new.self has c.args.sender.conn c.in-Err.error
+          c.args.sender.number device c.in-Err.ensures.refused) b.run,
+    )

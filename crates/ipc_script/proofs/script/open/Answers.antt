@@ -1,5 +1,5 @@
 use Rattle.std.proofs.Common.{◌≡◌, ℕ, true, false, List, refl, sym, ap, subst, ◌∙◌, inl, inr, rules}
-use Rattle.std.specs.Prelude.{nat_lt}
+use Rattle.std.specs.Prelude.{nat_lt, Err}
 use Rattle.std.specs.List.{insert, prefix_len}
 use Rattle.ipc_hub.specs.View.{HasStopped, is_connected}
 use Rattle.ipc_script.specs.declared.report.Opened.{Opened}
@@ -34,3 +34,6 @@ pub returns-in-Err-InUse-clause-in_use : goal.returns-in-Err-InUse-clause-in_use
 returns-in-Err-InUse-clause-in_use g c limits r b =
     let there : is_connected c.args.hub.now.hub c.args.conn ≡ true = (c.connect.ensures.in_use.0 (search rules)).1 in
     sym (connected limits c.args.hub.now.store.confirmed c.args.hub.now.hub r.hub c.args.conn b.run.matches.hub) ∙ there
+
+pub returns-in-Err-Stopped-clause-goes : goal.returns-in-Err-Stopped-clause-goes
+returns-in-Err-Stopped-clause-goes g c running is = running (c.in-Err-Stopped.ensures.stopped.0 (ap (λ e. Err e) c.in-Err-Stopped.field-0-is))

@@ -17,6 +17,7 @@ use Rattle.ipc_hub.specs.Clients.{Clients}
 use Rattle.ipc_script.specs.Relations.Lasts.{FailsWithin}
 use Rattle.ipc_script.proofs.Lasting.{lasts-none, lasts-both, commits-after, committed-unless, ends-any, ends-by}
 use Rattle.ipc_script.proofs.Stopping.{unless, lives-none, lives-more, lives-stop}
+use Rattle.ipc_script.proofs.Halting.{halts-behind, halts-none}
 use Rattle.ipc_script.proofs.WrittenText.{part_none, grown_none}
 use Rattle.ipc_script.proofs.LineLengths.{cost-fits}
 use Rattle.ipc_script.proofs.NumbersSpent.{young-has, spends-none, spends-both, left-behind, failed-behind}
@@ -198,7 +199,7 @@ returns-in_default-clause-leaves g c = λ limits h matches none may.
       by_lines = ends_after limits h c.args.script.now g.D.SectorDisk.medium c.args.hub.store n c.lines.hub
           c.lines.opened.items c.lines.rest.now _ _ p c.lines.hub.store _ (Err (BadLine n)) (grown_none _) tt
           (as_left limits h c.args.script.now g.D.SectorDisk.medium c.args.hub.store n c.lines.hub c.lines.opened.items c.lines.rest.now _ _ p _
-          c.lines.hub.store (Appends-nil _) refl (ap (λ s. s.machine.state) (sym c.close.ensures.store) ∙ c.close.ensures.state));
+          c.lines.hub.store (Appends-nil _) refl (ap (λ s. s.machine.state) (sym c.close.ensures.store) ∙ c.close.ensures.state)) (λ is. cc);
       handed = handed;
       one = λ stops. (c.lines.invariant.lasts limits h matches none stops, handed);
       committed = c.lines.invariant.committed may;
@@ -220,7 +221,15 @@ returns-in-Err-clause-leaves g c = λ limits h matches none may.
           ([], left.1);
       by_lines = ends_after limits h c.args.script.now g.D.SectorDisk.medium c.args.hub.store (c.lines.number + 1) c.lines.hub
           c.lines.opened.items rest _ _ (c.lines.invariant.runs limits h matches none may) left.0 _ (Err c.in-Err.fault) (grown_none _) tt
-          (ends-by ⊤ ⊤ ⊥ _ _ c.in-Err.fault (λ _. inl left.1) (λ _. inl left.1) (λ never. absurd never) c.in-Err.ensures.err);
+          (ends-by ⊤ ⊤ ⊥ _ _ c.in-Err.fault (λ _. inl left.1) (λ _. inl left.1) (λ never. absurd never) c.in-Err.ensures.err)
+          (λ is young. record {
+            line = text;
+            behind = lines_of behind;
+            next = c.first_line.ensures.lines;
+            form = Stop;
+            is = stop;
+            halts = halts-none limits _ Stop left.0.confirmed _ _ _ (c.lines.invariant.runs limits h matches none may).written;
+          });
       handed = ends-by ⊤ ⊤ ⊥ _ _ c.in-Err.fault (λ _. left.2) (λ _. left.2) (λ never. absurd never) c.in-Err.ensures.err;
       one = λ stops. absurd (no-stop-here rest text behind c.first_line.ensures.lines (c.lines.invariant.none stops) stop);
       committed = unless c.in-Err.fault _ _ (λ empty _. empty) left.3;
@@ -251,7 +260,20 @@ returns-in-Err-run_line-clause-leaves g c = λ limits h matches none may.
           (ends-by _ _ _ _ _ e (λ part. broke part.0) (λ more. broke more.0)
           (λ a. as_left limits h c.args.script.now med c.args.hub.store n c.lines.hub c.lines.opened.items c.lines.rest.now _ _ p _ closed a.1
           (ap (λ h. h.store) a.2) (ap (λ s. s.machine.state) (sym c.close-in-Err-run_line.ensures.store) ∙ c.close-in-Err-run_line.ensures.state
-          ∙ ap (λ h. h.hub.state) a.2)) stops);
+          ∙ ap (λ h. h.hub.state) a.2)) stops)
+          (λ failed young.
+          let cost = cost-fits c.first_line.result.0.now form is c.first_line.ensures.parts c.first_line.ensures.shorter in
+          let before = c.lines.invariant.spends (young-has c.args.hub.store c.args.script.now young c.requires) may in
+          let here = left-behind _ (young-has c.args.hub.store c.args.script.now young c.requires) before
+          (omega (arith, c.lines.invariant.left, cost)) in record {
+            line = c.first_line.result.0.now;
+            behind = lines_of c.first_line.result.1.now;
+            next = c.first_line.ensures.lines;
+            form = form;
+            is = is;
+            halts = halts-behind limits p.now form closed.confirmed p.text _ _ _ p.written
+                (c.in-Err-run_line.ensures.halted failed here limits p.now p.at);
+          });
       handed = ends-any _ _ e (inl handed) handed;
       one = λ none_stops. (
         lasts-both med c.args.hub.store c.lines.hub.store closed (c.lines.invariant.lasts limits h matches none none_stops) lasts,
@@ -275,7 +297,7 @@ returns-clause-leaves g c = λ limits h matches none may.
       by_lines = ends_after limits h c.args.script.now g.D.SectorDisk.medium c.args.hub.store n c.lines.hub
           c.lines.opened.items c.lines.rest.now _ _ p c.lines.hub.store _ (Ok tt) (grown_none _) empty
           (as_left limits h c.args.script.now g.D.SectorDisk.medium c.args.hub.store n c.lines.hub c.lines.opened.items c.lines.rest.now _ _ p _
-          c.lines.hub.store (Appends-nil _) refl state);
+          c.lines.hub.store (Appends-nil _) refl state) (λ is. cc);
       handed = handed;
       one = λ stops. (c.lines.invariant.lasts limits h matches none stops, handed);
       committed = c.lines.invariant.committed may;

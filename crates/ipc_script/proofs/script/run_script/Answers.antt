@@ -2,6 +2,7 @@ use Rattle.std.proofs.Common.{length, refl, sym, ap, subst, Err, arith}
 use Rattle.ipc_hub.specs.Clients.{no_clients}
 use Rattle.ipc_script.specs.declared.fault.ScriptFault.{ScriptFault}
 use Rattle.ipc_script.specs.Script.{MayStop}
+use Rattle.ipc_script.specs.Relations.Input.{IsReadFault}
 use Rattle.ipc_script.proofs.Lasting.{leaves-same}
 use Rattle.ipc_script.proofs.NumbersSpent.{not-the-readers}
 use Rattle.ipc_script.proofs.ScriptLines.{script_done, not_read}
@@ -17,7 +18,7 @@ returns-in-Err g c =
       λ events _ _. is.2 machine.limits (no_clients machine.state events),
       λ _ _. not-the-readers _ _ c.in-Err.fault c.in-Err.ensures.faults,
       λ events _ _. leaves-same g.D.SectorDisk.medium g.met.D.SectorDisk.only_now machine.limits (no_clients machine.state events) is.0 _ c.args.store _
-          c.in-Err.fault c.close.ensures.disk refl,
+          c.in-Err.fault c.close.ensures.disk refl (λ device. subst IsReadFault device c.in-Err.ensures.faults),
     )
 
 pub returns-in-Ok : goal.returns-in-Ok

@@ -1,23 +1,30 @@
-use Rattle.std.proofs.Common.{◌≡◌, true, false, List, length, refl, ap, ◌∙◌, inl}
-use Rattle.std.specs.Prelude.{◌≢◌, Ok}
+use Rattle.std.proofs.Common.{◌≡◌, ◌*◌, ℕ, true, false, List, length, refl, sym, ap, ◌∙◌, inl, arith}
+use Rattle.std.specs.Prelude.{◌≢◌, Ok, Err}
+use Rattle.std.proofs.KnownBytes.{Appends-nil}
 use Rattle.std.proofs.lemmas.Result.{err_from_is_err_and}
 use Rattle.ipc_hub.specs.Clients.{tick}
 use Rattle.ipc_script.specs.declared.report.Opened.{Opened}
 use Rattle.ipc_script.specs.Relations.Lines.{hex_bytes, plain_line}
 use Rattle.ipc_script.specs.Line.{PlainLine, Open, End, Tick, Save, Stop}
 use Rattle.ipc_base.specs.declared.limits.Limits.{Limits}
-use Rattle.ipc_script.specs.declared.fault.ScriptFault.TheVariants.{InUse, Unknown}
+use Rattle.ipc_script.specs.declared.fault.ScriptFault.TheVariants.{Device, InUse, NoMemory, Unknown}
 use Rattle.ipc_script.specs.Script.{Cut, Run, first_part, is_open, line_done, opened, report}
 use Rattle.ipc_script.specs.Relations.Lasts.{LastsAs}
 use Rattle.ipc_script.specs.Relations.Simulation.{SimulatesLine}
-use Rattle.ipc_script.specs.Relations.Matches.{RunMatches, RunMatchesBetween}
+use Rattle.ipc_script.specs.Relations.Matches.{HaltsAt, RunMatches, RunMatchesBetween}
+use Rattle.ipc_script.specs.Relations.Numbers.{HasNumbers}
 use Rattle.ipc_script.proofs.UnchangedHeads.{heads_tick, steady}
 use Rattle.ipc_script.proofs.HexBytes.{hex_nonempty}
 use Rattle.ipc_script.proofs.LineForms.{written_back, still_matches, line_unwritten, line_reported, line_refused}
 use Rattle.ipc_script.proofs.LineForms.{open_done, open_refused, end_done, end_refused}
 use Rattle.ipc_script.proofs.script.serve_line.Goals.{in-Open+in_ok-open-in-Open, in-End+in_ok-close-in-End, in-Tick+in-Ok, in-Save+in-Ok-save}
 use Rattle.ipc_script.proofs.Lasting.{lasts-as-none, lasts-as-come, takes-same, takes-halted, commits-all}
+use Rattle.ipc_script.proofs.FaultCases.{device-then, fault-is}
+use Rattle.ipc_script.proofs.Halting.{halted-at, halts-fails, matches-failed}
+use Rattle.ipc_script.proofs.NumbersSpent.{goes-on, left-behind}
 use Rattle.ipc_script.proofs.WrittenText.{grown_none}
+use Rattle.ipc_script.specs.Halting.{IsBegun}
+use Rattle.ipc_script.specs.Halting.IsBegun.{None as none_begun, Opens as open_begun, Ends as end_begun, Ticks as tick_begun}
 use Rattle.ipc_store.proofs.CallerLemmas.{Takes-none}
 use Rattle.ipc_script.proofs.script.serve_line.Goals as goal
 
@@ -117,3 +124,91 @@ returns-clause-line g c = λ limits r b.
 
 pub returns-clause-commits : goal.returns-clause-commits
 returns-clause-commits g c = commits-all c.args.hub.now.store c.report.new.hub.store c.report.result c.report.ensures.empties
+
+-- ---- where the disk has failed
+
+pub returns-in_err-open-in-Open-clause-halted : goal.returns-in_err-open-in-Open-clause-halted
+returns-in_err-open-in-Open-clause-halted g c is has limits r b =
+    let q = err_from_is_err_and c.from_residual.result c.from_residual.ensures.1 in
+    let device : c.in_err-open-in-Open.field-0.0 ≡ Device = sym q.2 ∙ fault-is c.from_residual.result q.0 Device q.1 is in
+    absurd (c.in_err-open-in-Open.ensures.goes (goes-on _ c.args.hub.now has) (ap (λ e. Err e) device))
+
+pub returns-in_err-bytes-in-Data-clause-halted : goal.returns-in_err-bytes-in-Data-clause-halted
+returns-in_err-bytes-in-Data-clause-halted g c is has limits r b =
+    let q = err_from_is_err_and c.from_residual-in_err-bytes-in-Data.result c.from_residual-in_err-bytes-in-Data.ensures.1 in
+    let device : NoMemory ≡ Device = sym q.2 ∙ fault-is c.from_residual-in_err-bytes-in-Data.result q.0 Device q.1 is in
+    cc
+
+pub returns-in-Data-clause-halted : goal.returns-in-Data-clause-halted
+returns-in-Data-clause-halted g c is has limits r b =
+    let back =
+    written_back c.args.opened.now.len c.feed.new.opened c.args.opened.now.items c.args.opened.now.ok.0 (c.feed.auto.opened
+    ∙ ap (λ (xs : List Opened). length xs) c.deref_mut.ensures.value) in
+    let bytes : c.deref.result.now ≡ hex_bytes c.in-Data.hex = c.deref.ensures.value ∙ c.in_ok-bytes-in-Data.ensures in
+    let all = rw c.in-Data.is at has in
+    let few : HasNumbers (4 * length c.deref.result.now) c.args.hub.now.store = record {
+      running = all.running;
+      left = omega (arith, all.left, ap (λ (bs : List ℕ). length bs) bytes);
+    } in
+    let halts = c.feed.ensures.halted is few limits r (rw (← c.deref_mut.ensures.value) at b) in
+    rw (back, c.in-Data.is) (rw bytes at halts)
+
+pub returns-in_err-close-in-End-clause-halted : goal.returns-in_err-close-in-End-clause-halted
+returns-in_err-close-in-End-clause-halted g c is has limits r b =
+    let q = err_from_is_err_and c.from_residual-in_err-close-in-End.result c.from_residual-in_err-close-in-End.ensures.1 in
+    let device : c.in_err-close-in-End.field-0.0 ≡ Device =
+    sym q.2 ∙ fault-is c.from_residual-in_err-close-in-End.result q.0 Device q.1 is in
+    let few : HasNumbers 3 c.args.hub.now.store = record { running = has.running; left = omega (arith, has.left) } in
+    halted-at limits r (plain_line c.args.line) c.close.new.hub c.close.new.opened.items _ _ r (Appends-nil _) (none_begun _)
+    (c.in_err-close-in-End.ensures.halted (ap (λ e. Err e) device) few limits r b.run)
+
+pub returns-in-Err-clause-halted : goal.returns-in-Err-clause-halted
+returns-in-Err-clause-halted g c is has limits r b =
+    halted-at limits r (plain_line c.args.line) c.tick.new.self c.args.opened.now.items _ _ r (Appends-nil _) (none_begun _)
+    (matches-failed g.D.SectorDisk.medium limits c.args.hub.now c.tick.new.self c.args.opened.now.items r
+    (halts-fails g.D.SectorDisk.medium g.D.SectorDisk.counts _ c.args.hub.now c.tick.new.self has c.in-Err.field-0 c.in-Err.ensures.refused) b.run)
+
+pub returns-in-Err-save-clause-halted : goal.returns-in-Err-save-clause-halted
+returns-in-Err-save-clause-halted g c is has limits r b =
+    halted-at limits r (plain_line c.args.line) c.save.new.self c.args.opened.now.items _ _ r (Appends-nil _) (none_begun _)
+    (matches-failed g.D.SectorDisk.medium limits c.args.hub.now c.save.new.self c.args.opened.now.items r
+    (halts-fails g.D.SectorDisk.medium g.D.SectorDisk.counts _ c.args.hub.now c.save.new.self has c.in-Err-save.field-0 c.in-Err-save.ensures.refused) b.run)
+
+-- what was done is not written
+pub returns-clause-halted : goal.returns-clause-halted
+returns-clause-halted g c is has limits r b =
+    let back =
+    written_back c.match-line.opened.len c.report.new.opened c.match-line.opened.items c.match-line.opened.ok.0 (c.report.auto.opened
+    ∙ ap (λ (xs : List Opened). length xs) c.deref_mut-2.ensures.value) in
+    let hub = c.match-line.hub in
+    let items = c.match-line.opened.items in
+    let none = device-then _ _ _ c.report.result is c.report.ensures.err in
+    let halted : (line : PlainLine) (now : Run) → RunMatches limits hub items now → HasNumbers 1 hub.store → IsBegun limits r 0 line now
+    → HaltsAt limits r line c.report.new.hub c.report.new.opened (g.W.Write.contents c.args.writer.now) (g.W.Write.contents c.report.new.writer) =
+    λ line now i few begun. halted-at limits r line c.report.new.hub c.report.new.opened _ _ now none begun
+    (c.report.ensures.halted is few limits now (rw (← c.deref_mut-2.ensures.value) at i)) in
+    rw back (elim c.match-line.branch [
+      | in-Open+in_ok-open-in-Open w ↦
+          let few : HasNumbers 1 w.open.new.hub.store = rw w.open.ensures.store (record { running = has.running; left = omega (arith, has.left) }) in
+          rw w.in-Open.is (halted (Open w.in-Open.conn) (opened r w.in-Open.conn)
+          (rw (← w.hub-is, ← w.opened-is) at (w.in_ok-open-in-Open.ensures.ok limits r b).1) (rw w.hub-is few) (open_begun w.in-Open.conn))
+      | in-End+in_ok-close-in-End w ↦
+          let some : HasNumbers 3 c.args.hub.now.store = record { running = has.running; left = omega (arith, has.left) } in
+          let all : HasNumbers 4 c.args.hub.now.store = record { running = has.running; left = omega (arith, has.left) } in
+          let few = left-behind 1 all (w.in_ok-close-in-End.ensures.costs some) (omega arith) in
+          rw w.in-End.is (halted (End w.in-End.moment w.in-End.conn) _
+          (rw (← w.hub-is, ← w.opened-is) at (w.in_ok-close-in-End.ensures.ok limits r b).1) (rw w.hub-is few)
+          (end_begun w.in-End.moment w.in-End.conn))
+      | in-Tick+in-Ok w ↦
+          let all : HasNumbers 4 c.args.hub.now.store = record { running = has.running; left = omega (arith, has.left) } in
+          let few = left-behind 1 all w.in-Ok.ensures.spends (omega arith) in
+          let come = w.in-Ok.ensures.ok limits r.hub b.run.matches in
+          let i = steady limits c.args.hub.now w.tick.new.self c.args.opened.now.items r (tick limits r.hub w.in-Tick.moment) b.run
+          (heads_tick limits 0 w.in-Tick.moment r.hub) come.matches in
+          rw w.in-Tick.is (halted (Tick w.in-Tick.moment) _ (rw (← w.hub-is, ← w.opened-is) at i) (rw w.hub-is few) (tick_begun w.in-Tick.moment))
+      | in-Save+in-Ok-save w ↦
+          let all : HasNumbers 4 c.args.hub.now.store = record { running = has.running; left = omega (arith, has.left) } in
+          let few = left-behind 1 all w.in-Ok-save.ensures.spends (omega arith) in
+          let i = still_matches limits c.args.hub.now w.save.new.self c.args.opened.now.items r (w.in-Ok-save.ensures.ok limits r.hub) b.run in
+          rw w.in-Save.is (halted Save r (rw (← w.hub-is, ← w.opened-is) at i) (rw w.hub-is few) (none_begun Save))
+    ])
