@@ -1,0 +1,16 @@
+-- Lemmas on the words and the sectors of a heap, and on the images that hold one.
+mod Changes
+mod Damages
+mod Distinct
+mod Edits
+mod Flips
+mod Images
+mod Opened
+mod Opens
+mod Parts
+mod Placed
+mod Roots
+mod Runs
+mod Sectors
+mod Stands
+mod Writes

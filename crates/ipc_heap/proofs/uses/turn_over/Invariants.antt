@@ -1,0 +1,7 @@
+-- Those so far are turned over.
+use Rattle.std.proofs.Common.{◌≡◌, ◌++◌, map, take, drop}
+use Rattle.ipc_heap.specs.View.{turned}
+use Rattle.ipc_heap.proofs.uses.turn_over.Given as goal
+
+abbrev pub invariant-loop-each : goal.invariant-loop-each
+invariant-loop-each l = l.each-items ≡ map turned (take l.each-index l.fn.uses) ++ drop l.each-index l.fn.uses

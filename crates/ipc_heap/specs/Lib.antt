@@ -1,0 +1,5 @@
+pub mod Heap
+pub mod Damage
+pub mod View
+pub mod Matches
+pub mod Relations

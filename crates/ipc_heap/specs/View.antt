@@ -1,0 +1,50 @@
+-- What is seen of a heap: where it lies, its epoch, where its objects stand, and which sectors are free.
+use Rattle.std.specs.Prelude.{◌≡◌, ℕ, Bool, not, ◌||◌, List, ◌++◌, map, nat_eq, count_by}
+use Rattle.ipc_base.specs.Objects.{PlainObjects}
+use Rattle.ipc_base.specs.Table.{with_entry, without}
+use Rattle.ipc_disk.specs.Medium.{Medium}
+use Rattle.ipc_disk.specs.declared.range.Range.{Range}
+use Rattle.ipc_heap.specs.declared.uses.Use.{Use}
+use Rattle.ipc_heap.specs.Heap.{Placed, object_on, object_sectors}
+
+pub record HeapView : Type 0 where
+  pub range : Range
+  pub root : ℕ
+  pub epoch : ℕ
+  -- the objects, by rising number, with the puts and removals so far
+  pub placed : List Placed
+  -- the sectors of the table that is on the disk
+  pub table : List ℕ
+  -- of each sector of the range, in order, who uses it
+  pub uses : List Use
+
+-- neither what stands on the disk nor what will be there uses it
+abbrev pub is_free : Use → Bool
+is_free u = not (u.saved || u.next)
+
+-- how many sectors are free
+abbrev pub free : HeapView → ℕ
+free heap = count_by is_free heap.uses
+
+-- the map: what the heap will be, with the puts and removals so far
+abbrev pub map_of : HeapView → Medium → PlainObjects
+map_of heap medium = map (object_on medium.contents) heap.placed
+
+-- a map with this object, in the place of the one of its number
+abbrev pub with_object : PlainObjects → ℕ → List ℕ → PlainObjects
+with_object objects number bytes = with_entry (without nat_eq objects number) number bytes
+
+-- the sectors that a heap uses once nothing but the map is saved
+abbrev pub used_by : HeapView → List ℕ
+used_by heap = object_sectors heap.placed ++ heap.table
+
+-- where it lies, its epoch and the table that is on the disk are the same
+pub record StaysInPlace (old new : HeapView) : Type 0 where
+  pub range : new.range ≡ old.range
+  pub root : new.root ≡ old.root
+  pub epoch : new.epoch ≡ old.epoch
+  pub table : new.table ≡ old.table
+
+-- what was to be saved next is saved
+abbrev pub turned : Use → Use
+turned u = record u { saved = u.next }

@@ -1,0 +1,339 @@
+//! The heap: its value, and the calls on it.
+
+ghost use Rattle.std.specs.Prelude.{◌≡◌, ◌≢◌, ◌<◌, ◌≤◌, ◌+◌, ◌*◌, ◌/◌, ◌^◌};
+ghost use Rattle.std.specs.Prelude.{ℕ, IfOk, IfSome, OnOk, IsErr, IsErrOf, length, map};
+ghost use Rattle.std.specs.Prelude.{Some, None, true, nat_eq, is_some, option_map, slice_get};
+ghost use Rattle.ipc_base.specs.Objects.{PlainObjects, Fit, object_sectors, table_bytes, window};
+ghost use Rattle.ipc_base.specs.Table.{value_at};
+ghost use Rattle.ipc_disk.specs.Calls.{IsSameDisk, CountsCalls, CountsFaultIf, OnlyReads};
+ghost use Rattle.ipc_disk.specs.Counts.{with_calls};
+ghost use Rattle.ipc_disk.specs.Medium.{IsHonest, IsDurable};
+ghost use Rattle.ipc_disk.specs.Since.{EachImageSince, LeavesAlone};
+ghost use Rattle.ipc_disk.specs.Standing.{sectors_for};
+
+use crate::objects::{Laid, put_in, take_back, write_object, write_objects};
+use crate::opening::{read_parts, read_root, room_for};
+use crate::reading::{read_window, words_of};
+use crate::root::{Root, root_sector};
+use crate::table::{Table, WORDS, write_table};
+use crate::turning::{take_table, turn};
+use crate::uses::{Use, give_back, turn_over};
+use crate::words::{object_len, place_of, push_wide, sectors_in, take_out, wide};
+use crate::{HeapError, OpenError};
+use ipc_base::Objects;
+use ipc_disk::{DiskFault, Range, SectorDisk, write_durably};
+use std::alloc::Global;
+use std::marker::Model;
+
+/// A map from numbers to bytes on a disk. It keeps the table of the objects as it stands there, with the puts and
+/// removals so far, and who uses which sector. All memory that it will ever need is taken where it is opened.
+#[derive(Drop)]
+pub struct Heap {
+    range: Range,
+    root: u32,
+    epoch: u64,
+    /// The table, word by word.
+    words: Vec<u32>,
+    /// The sectors in which the saved table stands.
+    table: Vec<u32>,
+    /// Who uses each sector of the range.
+    uses: Vec<Use>,
+    /// Where the next search for a free sector begins. It means nothing.
+    hint: usize,
+}
+
+impl Model for Heap {
+    ghost use Rattle.ipc_heap.specs.View.{HeapView};
+
+    ghost Value = { HeapView };
+
+    ghost use Rattle.ipc_heap.specs.Relations.Words.{placed_in, IsHeap};
+
+    ghost view = { λ h. record {
+      range = h.range;
+      root = h.root;
+      epoch = h.epoch;
+      placed = placed_in h.words.items;
+      table = h.table.items;
+      uses = h.uses.items;
+    } };
+
+    ghost invariant = { λ h. IsHeap h.range h.words h.table h.uses };
+}
+
+impl Heap {
+    ghost use Rattle.ipc_heap.specs.Heap.{IsLaidOut, IsElsewhere, IsOwn, Holds};
+    ghost use Rattle.ipc_heap.specs.Heap.{HoldsEither, table_words, table_sectors_for};
+    ghost use Rattle.ipc_heap.specs.View.{free, map_of, with_object, used_by, StaysInPlace};
+    ghost use Rattle.ipc_heap.specs.Matches.{HeapMatches, IsKept, Removes};
+    ghost use Rattle.ipc_heap.specs.Damage.{IsFirstDamage};
+
+    /// Makes the first heap, at epoch 1, with one sync. Until then, and after an `Err`, its sectors may be anything.
+    pub fn create<D: SectorDisk, O: Objects>(
+        disk: &mut D,
+        range: Range,
+        root: u32,
+        objects: &O,
+    ) -> Result<(), DiskFault>
+        requires laid_out { IsLaidOut range root (D.size disk.old) }
+        requires fits { Fit range.count (O.objects objects.now) }
+        requires counted { table_bytes (O.objects objects.now) < 2 ^ 32 }
+        // What is there then.
+        ensures holds { OnOk result (IsHonest (D.medium disk.old)
+            → Holds range root 1 (O.objects objects.now) (D.medium disk.new).contents) }
+        ensures durable { OnOk result (IsDurable (D.medium disk.new)) }
+        // A crash at any moment: no other sector is touched.
+        ensures others { IsHonest (D.medium disk.old)
+            → LeavesAlone (IsElsewhere range root) (D.medium disk.old) (D.medium disk.new) }
+        // Failures and counts.
+        ensures same { IsSameDisk D.size D.medium disk.old disk.new }
+        ensures counts { CountsCalls D.counts result (with_calls (object_sectors (O.objects objects.now)
+            + (table_bytes (O.objects objects.now) + 507) / 508 + 1) 1) disk.old disk.new }
+    {
+        let behind = write_objects(disk, range.first, objects)?;
+        let table = Laid {
+            objects,
+            first: range.first,
+            behind,
+        };
+        write_table(disk, &table)?;
+        let numbers = Root {
+            epoch: 1,
+            first: behind,
+            len: 4 * table.len() as u32,
+        };
+        write_durably(disk, root, &root_sector(numbers))?;
+        Ok(())
+    }
+
+    /// The heap that stands there. It only reads, each sector of the root and the table once, and takes the memory for
+    /// all objects and sectors that the range can hold.
+    pub fn open<D: SectorDisk>(
+        alloc: Global,
+        disk: &mut D,
+        range: Range,
+        root: u32,
+    ) -> Result<Heap, OpenError>
+        requires laid_out { IsLaidOut range root (D.size disk.old) }
+        // What is opened, and when it is damaged.
+        ensures range { IfOk result (λ heap. heap.range ≡ range) }
+        ensures root { IfOk result (λ heap. heap.root ≡ root) }
+        ensures holds { IfOk result (λ heap. IsHonest (D.medium disk.old)
+            → Holds range root heap.epoch (map_of heap (D.medium disk.old)) (D.medium disk.old).contents) }
+        ensures matches { IfOk result (λ heap. IsHonest (D.medium disk.old) → IsDurable (D.medium disk.old)
+            → HeapMatches heap (map_of heap (D.medium disk.new)) (D.medium disk.new)) }
+        ensures damaged { (sector : ℕ) → IsErrOf result (OpenError.Damaged sector)
+            → IsHonest (D.medium disk.old) → (epoch : ℕ) (objects : PlainObjects)
+            → ¬ Holds range root epoch objects (D.medium disk.old).contents }
+        ensures named { (sector : ℕ) → IsErrOf result (OpenError.Damaged sector)
+            → IsHonest (D.medium disk.old) → IsFirstDamage range root (D.medium disk.old).contents sector }
+        // How many sectors are free.
+        ensures free { IfOk result (λ heap. free heap + length (used_by heap) ≡ range.count) }
+        // Failures.
+        ensures reads { OnlyReads D.size D.medium D.counts (IsErrOf result OpenError.Device) disk.old disk.new }
+    {
+        let found = read_root(disk, range, root)?;
+        let mut parts = room_for(alloc, range, found.len)?;
+        read_parts(disk, range, root, found, &mut parts)?;
+        Ok(Heap {
+            range,
+            root,
+            epoch: found.epoch,
+            words: parts.words,
+            table: parts.table,
+            uses: parts.uses,
+            hint: 0,
+        })
+    }
+
+    /// Its epoch.
+    pub fn epoch(&self) -> u64
+        ensures { result ≡ self.now.epoch }
+    {
+        self.epoch
+    }
+
+    /// How many objects there are, with the puts and removals so far.
+    pub fn count(&self) -> u32
+        ensures { result ≡ length self.now.placed }
+    {
+        self.words[0]
+    }
+
+    /// The number of the i-th object and how many bytes it has. The numbers rise.
+    pub fn object_at(&self, i: u32) -> Option<(u64, u64)>
+        ensures { result ≡ option_map (λ p. (p.number, p.len)) (slice_get self.now.placed i) }
+    {
+        if i >= self.words[0] {
+            return None;
+        }
+        let mut at = 1;
+        for _ in 0..i {
+            at += object_len(&self.words, at);
+        }
+        Some((wide(&self.words, at), wide(&self.words, at + 2)))
+    }
+
+    /// 512 bytes of an object from a place on, with zeros past its end.
+    pub fn read<D: SectorDisk>(
+        &self,
+        disk: &mut D,
+        object: u64,
+        place: u64,
+        into: &mut [u8; 512],
+    ) -> Result<(), DiskFault>
+        requires laid_out { IsLaidOut self.now.range self.now.root (D.size disk.old) }
+        requires object { is_some (value_at nat_eq (map_of self.now (D.medium disk.old)) object) ≡ true }
+        ensures bytes { OnOk result ((saved : PlainObjects) → HeapMatches self.now saved (D.medium disk.old)
+            → option_map (window place) (value_at nat_eq (map_of self.now (D.medium disk.old)) object)
+            ≡ Some into.new) }
+        ensures reads { OnlyReads D.size D.medium D.counts (IsErr result) disk.old disk.new }
+    {
+        let words = words_of(&self.words, object);
+        read_window(disk, &words[4..], wide(words, 2), place, into)
+    }
+
+    /// Puts the i-th of some objects into the map, in the place of the one of its number, if there is one. What is
+    /// saved stays as it is until the heap is turned over. It takes no memory. After an `Err` the heap has to be opened
+    /// again.
+    pub fn put<D: SectorDisk, O: Objects>(
+        &mut self,
+        disk: &mut D,
+        objects: &O,
+        i: u32,
+    ) -> Result<(), HeapError>
+        requires laid_out { IsLaidOut self.old.range self.old.root (D.size disk.old) }
+        requires object { i < length (O.objects objects.now) }
+        // What the map is then.
+        ensures map { OnOk result ((saved : PlainObjects) → HeapMatches self.old saved (D.medium disk.old)
+            → IfSome (slice_get (O.objects objects.now) i) (λ o. map_of self.new (D.medium disk.new)
+            ≡ with_object (map_of self.old (D.medium disk.old)) o.0 o.1)) }
+        ensures matches { OnOk result ((saved : PlainObjects) → HeapMatches self.old saved (D.medium disk.old)
+            → HeapMatches self.new saved (D.medium disk.new)) }
+        // A crash at any moment of the call, also of one that fails: what is saved is there, and no sector is touched
+        // but those that were free.
+        ensures any_moment { (saved : PlainObjects) → HeapMatches self.old saved (D.medium disk.old)
+            → EachImageSince (D.medium disk.old) (D.medium disk.new)
+            (Holds self.old.range self.old.root self.old.epoch saved) }
+        ensures others { IsHonest (D.medium disk.old)
+            → LeavesAlone (IsKept self.old) (D.medium disk.old) (D.medium disk.new) }
+        // Where it lies, and its epoch, stay.
+        ensures stays { StaysInPlace self.old self.new }
+        // How many sectors are free, and when it is full.
+        ensures spends { OnOk result (IfSome (slice_get (O.objects objects.now) i) (λ o.
+            free self.old ≤ free self.new + sectors_for (length o.1))) }
+        ensures full { IsErrOf result HeapError.Full → IfSome (slice_get (O.objects objects.now) i) (λ o.
+            free self.old < sectors_for (length o.1)) }
+        // Failures and counts.
+        ensures same { IsSameDisk D.size D.medium disk.old disk.new }
+        ensures fault { CountsFaultIf D.counts (IsErrOf result HeapError.Device) disk.old disk.new }
+        ensures counts { OnOk result (IfSome (slice_get (O.objects objects.now) i) (λ o.
+            D.counts disk.new ≡ with_calls (sectors_for (length o.1)) 0 (D.counts disk.old))) }
+    {
+        // None of the objects is empty, as their count tells.
+        let _count = objects.count();
+        let number = objects.number(i);
+        let end = self.words.len();
+        push_wide(&mut self.words, number);
+        push_wide(&mut self.words, objects.len(i));
+        match write_object(
+            disk,
+            self.range,
+            objects,
+            i,
+            &mut self.uses,
+            &mut self.hint,
+            &mut self.words,
+        ) {
+            Ok(()) => {
+                put_in(
+                    &mut self.words,
+                    &mut self.uses,
+                    self.range.first,
+                    end,
+                    number,
+                );
+                Ok(())
+            }
+            Err(error) => {
+                take_back(&mut self.words, &mut self.uses, self.range.first, end);
+                Err(error)
+            }
+        }
+    }
+
+    /// Takes an object out of the map, if it is there. What is saved stays as it is until the heap is turned over.
+    pub fn remove(&mut self, object: u64)
+        ensures removes { Removes object self.old self.new }
+        ensures free { free self.old ≤ free self.new }
+    {
+        let place = place_of(&self.words, object);
+        // What is saved uses these sectors as long as it did.
+        give_back(
+            &mut self.uses,
+            self.range.first,
+            sectors_in(&self.words, place),
+        );
+        take_out(&mut self.words, place);
+    }
+
+    /// Turns the heap over: the map is what is saved, at a later epoch. A crash at any moment leaves all of what was
+    /// saved at the old epoch, or all of the map at the new one. The sectors that nothing uses any more are free then,
+    /// and not before. It takes no memory. After an `Err` the heap has to be opened again.
+    pub fn flip<D: SectorDisk>(&mut self, disk: &mut D, epoch: u64) -> Result<(), HeapError>
+        requires laid_out { IsLaidOut self.old.range self.old.root (D.size disk.old) }
+        requires later { self.old.epoch < epoch }
+        requires counted { 4 * length (table_words self.old.placed) < 2 ^ 32 }
+        // What is there then.
+        ensures matches { OnOk result ((saved : PlainObjects) → HeapMatches self.old saved (D.medium disk.old)
+            → HeapMatches self.new (map_of self.old (D.medium disk.old)) (D.medium disk.new)) }
+        ensures map { OnOk result ((saved : PlainObjects) → HeapMatches self.old saved (D.medium disk.old)
+            → map_of self.new (D.medium disk.new) ≡ map_of self.old (D.medium disk.old)) }
+        ensures durable { OnOk result (IsDurable (D.medium disk.new)) }
+        ensures epoch { OnOk result (self.new.epoch ≡ epoch) }
+        // A crash at any moment of the call, also of one that fails.
+        ensures any_moment { (saved : PlainObjects) → HeapMatches self.old saved (D.medium disk.old)
+            → EachImageSince (D.medium disk.old) (D.medium disk.new)
+            (HoldsEither self.old.range self.old.root self.old.epoch saved epoch
+            (map_of self.old (D.medium disk.old))) }
+        ensures others { IsHonest (D.medium disk.old)
+            → LeavesAlone (λ i. IsKept self.old i × (i ≢ self.old.root)) (D.medium disk.old) (D.medium disk.new) }
+        ensures range { self.new.range ≡ self.old.range }
+        ensures root { self.new.root ≡ self.old.root }
+        // How many sectors are free, and when it is full.
+        ensures free { OnOk result (free self.new + length (used_by self.new) ≡ self.new.range.count) }
+        ensures full { IsErrOf result HeapError.Full
+            → free self.old < table_sectors_for (length (table_words self.old.placed)) }
+        // Failures and counts.
+        ensures same { IsSameDisk D.size D.medium disk.old disk.new }
+        ensures fault { CountsFaultIf D.counts (IsErrOf result HeapError.Device) disk.old disk.new }
+        ensures counts { OnOk result (D.counts disk.new
+            ≡ with_calls (table_sectors_for (length (table_words self.old.placed)) + 1) 2 (D.counts disk.old)) }
+    {
+        let count = self.words.len().div_ceil(WORDS);
+        if !take_table(
+            &mut self.uses,
+            &mut self.hint,
+            self.range.first,
+            count,
+            &mut self.table,
+        ) {
+            give_back(&mut self.uses, self.range.first, &self.table);
+            return Err(HeapError::Full);
+        }
+        match turn(disk, &self.words, &self.table, self.root, epoch) {
+            Ok(()) => {
+                // What was to be saved next is saved, and the table's sectors are none of the map's.
+                turn_over(&mut self.uses);
+                give_back(&mut self.uses, self.range.first, &self.table);
+                self.epoch = epoch;
+                self.hint = 0;
+                Ok(())
+            }
+            Err(DiskFault) => {
+                give_back(&mut self.uses, self.range.first, &self.table);
+                Err(HeapError::Device)
+            }
+        }
+    }
+}
