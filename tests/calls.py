@@ -114,7 +114,7 @@ def kept_device(full: bool) -> tuple[bytes, str]:
     """A device that has a queue with a message, and what `dump` prints of it. With a full journal an open saves."""
     texts = ((5, b"kept"),)
     objects = state(clock(9, 2, 2), processes((1, 1000, 100)), {1: Queue(1, texts)})
-    device = Device().save(1, 0, objects)
+    device = Device().save(1, objects, range(OBJECTS, OBJECTS + 6))
     device.journal(1, *(256 if full else 2) * [batch(RESTART)])
     return bytes(device.image), listing({1: [b"kept"]})
 
@@ -296,7 +296,8 @@ SAVES = [
 
 def failing_saves() -> None:
     """Each call of a save in turn. Texts of 8192 bytes fill the journal with 15 commits, and the objects of 12 to 15 of
-    them are 193 to 256 sectors: four writes of 64 at most, a sync, the root, and a sync."""
+    them in eight queues are 206 to 255 sectors with their table: four writes of 64 at most, a sync, the root, and a
+    sync."""
     printed("format", "fresh")
     fresh = Path("fresh").read_bytes()
     for name, number, error, done in SAVES:
@@ -305,7 +306,7 @@ def failing_saves() -> None:
             server = Server()
         try:
             clients = [process(), Client(), process()]
-            queues = [clients[0].msgget(key, IPC_CREAT | 0o600) for key in range(1, 17)]
+            queues = [clients[0].msgget(key, IPC_CREAT | 0o600) for key in range(1, 9)]
             sent: dict[int, list[bytes]] = {queue: [] for queue in queues}
             for queue in 2 * queues:
                 text = bytes([65 + queue]) * 8192

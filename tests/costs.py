@@ -16,6 +16,7 @@ import signal
 import subprocess
 import sys
 import time
+from itertools import count
 from pathlib import Path
 
 sys.dont_write_bytecode = True
@@ -23,15 +24,14 @@ sys.dont_write_bytecode = True
 from device_layout import (  # noqa: E402
     BODY,
     OBJECTS,
+    ONE,
     QUEUE_KIND,
     RESTART,
-    ROOT,
     SECTOR,
     STANDARD,
     Device,
+    Heap,
     Queue,
-    area,
-    area_of,
     batch,
     clock,
     processes,
@@ -219,12 +219,13 @@ BOUNDS = {number: LONG if number < 12 else 16384 * (EMPTY if number < 23 else BY
 
 
 def full_device(messages: dict[int, tuple[tuple[int, bytes], ...]]) -> tuple[bytes, int]:
-    """A device that has these queues and a full journal, so that its open saves; and how many sectors they take."""
+    """A device that has these queues and a full journal, so that its open saves; and how many sectors they take, with
+    their table. They take the first ones of the object area, and those after them are free."""
     queues = {number: Queue(number, them, qbytes=16384) for number, them in messages.items()}
     objects = state(clock(9, 2, len(queues) + 1), processes(), queues)
-    device = Device(STANDARD).save(1, 0, objects)
+    device = Device(STANDARD).save(1, objects, count(OBJECTS))
     device.journal(1, *256 * [batch(RESTART)])
-    return bytes(device.image), sectors_of(len(area(objects)))
+    return bytes(device.image), device.chain[-1] + 1 - OBJECTS
 
 
 def rows_of(messages: dict[int, tuple[tuple[int, bytes], ...]]) -> str:
@@ -246,7 +247,7 @@ def open_and_save(them: list[Call], sectors: int) -> None:
     wanted = [0, 1, 3, *range(BODY, BODY + 256), *range(OBJECTS, OBJECTS + sectors)]
     check(places == wanted, f"an open reads {len(places)} sectors, and not {len(wanted)} once each")
     writes = [call for call in them if call.name == "pwrite" and call.sector >= OBJECTS]
-    saves_in_pieces(writes, OBJECTS + area_of(STANDARD), sectors)
+    saves_in_pieces(writes, OBJECTS + sectors, sectors)
 
 
 def queues_at_their_bounds() -> None:
@@ -277,10 +278,10 @@ def queues_at_their_bounds() -> None:
     check(printed("dump", "device") == rows_of(BOUNDS), "the queues hold something else")
 
 
-def cost_of_a_save(count: int) -> float:
+def cost_of_a_save(each: int) -> float:
     """Of 32 queues of so many messages: the calls are as they should be. Answers the least seconds of the processor
     for an open and a save, of three."""
-    messages = {number: count * EMPTY for number in range(1, 33)}
+    messages = {number: each * EMPTY for number in range(1, 33)}
     image, sectors = full_device(messages)
     Path("device").write_bytes(image)
     with watched(most=0):
@@ -320,10 +321,10 @@ def asks(connection: int, *requests: bytes) -> str:
     return f"0 data {connection} " + b"".join(frame(1, asked) for asked in requests).hex()
 
 
-def connected(count: int) -> list[str]:
+def connected(many: int) -> list[str]:
     """Processes, each by the connection of its pid."""
     return [
-        line for number in range(1, count + 1) for line in (f"0 open {number}", asks(number, hello_request(1000, 100)))
+        line for number in range(1, many + 1) for line in (f"0 open {number}", asks(number, hello_request(1000, 100)))
     ]
 
 
@@ -333,8 +334,8 @@ def messages(parts: int) -> list[str]:
     return [*connected(1), make, *(asks(1, *2048 * parts * [msgsnd_request(number, 1, b"x")]) for number in (1, 2))]
 
 
-def sets(count: int, semaphores: int) -> str:
-    return asks(1, *count * [semget_request(0, semaphores, IPC_CREAT | 0o600)])
+def sets(many: int, semaphores: int) -> str:
+    return asks(1, *many * [semget_request(0, semaphores, IPC_CREAT | 0o600)])
 
 
 def undone(number: int, first: int) -> bytes:
@@ -419,9 +420,7 @@ def length_of(lines: list[str]) -> int:
     _, output = run_script(lines, "run", "device")
     answers = [line.split()[1] for line in output.splitlines()]
     check(all(answer[16:20] == "0000" for answer in answers), f"a script is answered {answers[:3]}..")
-    with open("device", "rb") as device:
-        device.seek(SECTOR * ROOT)
-        return int.from_bytes(device.read(16)[12:], "big")
+    return sum(one.length for one in Heap(memoryview(Path("device").read_bytes()), ONE).placed)
 
 
 class Times:

@@ -37,14 +37,15 @@ from device_damage import (  # noqa: E402
     damages,
     each_byte,
     free_bytes,
-    long_objects,
     longest,
     no_states,
     order,
     other_records,
     record_cuts,
+    scattered,
     sizes,
     superblocks,
+    tables,
     turned,
 )
 from device_layout import (  # noqa: E402
@@ -64,7 +65,6 @@ from device_layout import (  # noqa: E402
     Queue,
     Set,
     Waiting,
-    area,
     area_of,
     batch,
     clock,
@@ -103,13 +103,14 @@ from device_runs import (  # noqa: E402
     INTERRUPT_RECORD,
     LATE,
     NEW_HEADER,
-    NEW_OBJECTS,
     NEW_ROOT,
+    NEW_SECTORS,
     NUMBERS,
     PROGRAM,
     RESTART_RECORD,
-    SAVED_OBJECTS,
     SAVED_QUEUE,
+    SAVED_ROOT,
+    SAVED_SECTORS,
     SEND_RECORD,
     SMALL_SUPERBLOCK,
     STANDARD_SUPERBLOCK,
@@ -128,6 +129,7 @@ from device_runs import (  # noqa: E402
     row,
     row_of_set,
     runs,
+    saved,
     sector,
     sends,
     stops_at,
@@ -146,8 +148,8 @@ def spelled() -> None:
         (superblock(STANDARD, 45830), STANDARD_SUPERBLOCK),
         (sector(Device().image, 1), NEW_ROOT.ljust(SECTOR, b"\0")),
         (sector(Device().image, 3), NEW_HEADER.ljust(SECTOR, b"\0")),
-        (area(START), NEW_OBJECTS),
-        (area(one), SAVED_OBJECTS),
+        *((sector(Device().image, at), data.ljust(SECTOR, b"\0")) for at, data in NEW_SECTORS.items()),
+        (bytes(good().save(2, one).image), bytes(saved().image)),
         (connect(7, 1, 1000, 100), HELLO_RECORD),
         (request(LATE, 1, msgsnd(3, 1, 5, b"hi")), SEND_RECORD),
         (interrupted(258, 3, 7), INTERRUPT_RECORD),
@@ -169,7 +171,7 @@ def spelled() -> None:
 
 
 def formatted(limits: Limits, sectors: int, *words: str) -> None:
-    """A format of a file that is not zeros leaves its bytes, but for four sectors."""
+    """A format of a file that is not zeros leaves its bytes, but for eight sectors."""
     before = sectors * SECTOR * b"\xee"
     ended = ipcd(before, "format", "", *words)
     wanted = (0, "", f"formatted {sectors} sectors\n")
@@ -177,7 +179,7 @@ def formatted(limits: Limits, sectors: int, *words: str) -> None:
     named = SMALL_SUPERBLOCK if limits == SMALL else STANDARD_SUPERBLOCK
     if sectors != need_of(limits):
         named = superblock(limits, sectors)
-    parts = {0: named, 1: NEW_ROOT, 3: NEW_HEADER, 260: NEW_OBJECTS}
+    parts = {0: named, 1: NEW_ROOT, 3: NEW_HEADER, **NEW_SECTORS}
     image = bytearray(before)
     for at, data in parts.items():
         image[SECTOR * at : SECTOR * (at + 1)] = data.ljust(SECTOR, b"\0")
@@ -203,22 +205,23 @@ def formats() -> Iterator[Check]:
 
 
 def largest() -> None:
-    """A device of 4294967295 sectors, most of them a hole; and with another superblock there."""
-    path, sectors = f"device{next(NUMBERS)}", 2**32 - 1
-    parts = {0: superblock(STANDARD, sectors), 1: NEW_ROOT, 3: NEW_HEADER, 260: NEW_OBJECTS}
+    """A device of 4194304 sectors, most of them a hole; and one of 4294967295, whose superblock names others. An open
+    takes memory for each sector that a device has, so none of so many is opened."""
+    path, sectors = f"device{next(NUMBERS)}", 2**22
+    parts = {0: superblock(STANDARD, sectors), 1: NEW_ROOT, 3: NEW_HEADER, **NEW_SECTORS}
     with open(path, "xb") as file:
-        try:
-            file.truncate(SECTOR * sectors)
-        except OSError:
-            # A file system without files of two TiB.
-            return
+        file.truncate(SECTOR * sectors)
         for at, data in parts.items():
             file.seek(SECTOR * at)
             file.write(data)
     ended = subprocess.run([PROGRAM, "dump", path], capture_output=True, timeout=120)
     check((ended.returncode, ended.stdout, ended.stderr) == (0, b"", b""), f"{ended}")
     with open(path, "r+b") as file:
-        file.write(SMALL_SUPERBLOCK)
+        try:
+            file.truncate(SECTOR * (2**32 - 1))
+        except OSError:
+            # A file system without files of two TiB.
+            return
     ended = subprocess.run([PROGRAM, "dump", path], capture_output=True, timeout=120)
     wanted = (1, b"", b"ipcd: damaged sector 0\n")
     check((ended.returncode, ended.stdout, ended.stderr) == wanted, f"{ended}")
@@ -229,7 +232,7 @@ def largest() -> None:
 
 
 def held() -> Device:
-    """Epoch 7 in area 0, with two queues and a process, and a journal of two batches."""
+    """Epoch 7, with two queues and a process, and a journal of two batches."""
     three = ((3, b"three"), (1, b""), (3, b"more"))
     queues = {
         2: Queue(-2, three, (7, 8), (9, 10), 0o777, (4, 5, 6), (11, 12), 99),
@@ -239,7 +242,7 @@ def held() -> Device:
     first = batch(request(60, 20, msgrcv(1, 2)), tick(70))
     sent = request(80, 20, msgsnd(2, 5, 2, b"two"))
     second = batch(sent, connect(80, 1, 3, 4), leave(90, 20))
-    return Device().save(7, 0, objects).journal(7, first, second)
+    return Device().save(7, objects).journal(7, first, second)
 
 
 HELD_LISTED = (
@@ -265,7 +268,7 @@ def shows() -> None:
     }
     objects = state(clock(100, 23, 6), processes((22, 1000, 100)), queues)
     wanted = held().put(BODY + 2, 0, batch(RESTART)).put(BODY + 3, 0, line)
-    wanted.put(JOURNAL, 0, header(7, 4)).save(8, 1, objects)
+    wanted.put(JOURNAL, 0, header(7, 4)).save(8, objects)
     runs(held(), script, printed, wanted, "a script on a device that was written by hand")
     opens(wanted.image, row(2, queues[2]) + row(5, queues[5]), "what it has saved")
 
@@ -298,7 +301,7 @@ def sets() -> None:
     asked = [request(60, 20, semctl_setval(1, 2, 1, 9)), request(61, 20, semctl_setall(2, 5, 1))]
     # A third set, and the removal of one that is another user's: both are refused.
     asked += [request(62, 20, semget(3, 77, 1)), request(63, 20, semctl_rmid(4, 5))]
-    device = Device().save(7, 0, objects).journal(7, batch(*asked))
+    device = Device().save(7, objects).journal(7, batch(*asked))
     mine = mine._replace(semaphores=((3, 11), (9, 20)), times=(4, 60))
     other = other._replace(semaphores=((1, 20),), times=(0, 61))
     opens(device.image, row_of_set(2, mine) + row_of_set(5, other), "sets that were written by hand")
@@ -313,7 +316,7 @@ def sets() -> None:
     four = Set(77, ((1, 21), (2, 21), (3, 21), (32767, 21)), (0, 0), (0, 0), times=(0, 100))
     objects = state(clock(100, 22, 1, 7), processes((21, 0, 0)), {}, {2: mine, 6: four})
     wanted = device.copy().put(BODY + 1, 0, batch(RESTART)).put(BODY + 2, 0, line)
-    wanted.put(JOURNAL, 0, header(7, 3)).save(8, 1, objects)
+    wanted.put(JOURNAL, 0, header(7, 3)).save(8, objects)
     runs(device, script, printed, wanted, "a script on sets that were written by hand")
     opens(wanted.image, row_of_set(2, mine) + row_of_set(6, four), "what it has saved")
 
@@ -365,12 +368,15 @@ def first_queue(*more: bytes) -> list[bytes]:
 
 
 def save() -> None:
-    """A save writes the objects into the other area, and the root. Then the journal begins anew."""
+    """A save writes the objects and their table into free sectors, and the root. Then the journal begins anew."""
     script = [*FIRST_QUEUE, sends(9, 1, msgsnd(4, 1, 5, b"hi")), "save"]
     printed = [*FIRST_REPLIES, errored(1, 4, 0)]
     sent = batch(tick(9), request(9, 1, msgsnd(4, 1, 5, b"hi")))
     wanted = Device().journal(1, *first_queue(sent))
-    wanted.put(354, 0, SAVED_OBJECTS).put(ROOT, 0, root(2, 1, 222))
+    objects = state(clock(9, 2, 2), processes((1, 1000, 100)), {1: SAVED_QUEUE})
+    wanted.save(2, objects)
+    for at, data in {ROOT: SAVED_ROOT, **SAVED_SECTORS}.items():
+        check(sector(wanted.image, at) == data.ljust(SECTOR, b"\0"), f"sector {at} after a save")
     runs(Device(), script, printed, wanted, "a save")
 
     script = ["9 open 1", sends(9, 1, hello(1), msgrcv(4, 1)), "9 end 1", "save", "10 tick"]
@@ -380,15 +386,16 @@ def save() -> None:
     after.put(BODY + 1, 0, batch(tick(9), *asked).ljust(SECTOR, b"\0"))
     after.put(BODY + 2, 0, batch(tick(9), leave(9, 2)).ljust(SECTOR, b"\0"))
     queue = Queue(1234, times=(9, 9, 3), pids=(1, 2))
-    after.save(3, 0, state(clock(9, 3, 2), processes(), {1: queue}))
+    after.save(3, state(clock(9, 3, 2), processes(), {1: queue}))
     after.put(BODY, 0, batch(tick(10)).ljust(SECTOR, b"\0")).put(JOURNAL, 0, header(3, 1))
     runs(wanted, script, [numbered(1, 1, 2), received(1, 4, 5, b"hi")], after, "a second save")
     opens(after.image, GOOD_LISTED, "a device that was saved twice")
 
 
 def save_of_nothing() -> None:
-    """Four saves turn the areas: the fifth epoch is in area 0."""
-    wanted = Device().journal(1, batch(RESTART)).save(4, 1, START).save(5, 0, START)
+    """Each of four saves takes the sectors that the one before has freed: epoch 5 is where epoch 1 was."""
+    wanted = Device().journal(1, batch(RESTART)).save(4, START).save(5, START)
+    check(wanted.image[SECTOR * ROOT :][:16] == root(5, 264, 84), "the table is in sector 264 again")
     runs(Device(), 4 * ["save"], [], wanted, "four saves of nothing")
 
 
@@ -409,8 +416,9 @@ def save_of_much() -> None:
     objects = state(clock(9, 2, 3), processes((1, 1000, 100)), {1: one, 2: two})
     new = Device(STANDARD)
     wanted = new.copy().journal(1, *first_queue(*(batch(tick(9), one) for one in asked)))
-    wanted.save(2, 1, objects).save(3, 0, objects)
-    check(wanted.image[SECTOR * 23045 :][:4] == b"\0\0\0\6", "area 1 begins at sector 23045")
+    wanted.save(2, objects).save(3, objects)
+    # 39 sectors of objects and one of their table: first from 265 to 304, and then from 260 to 264 and from 305 on.
+    check(wanted.image[SECTOR * ROOT :][:16] == root(3, 339, 256), "the table is in sector 339")
     runs(new, script, printed, wanted, "saves under standard limits")
     opens(wanted.image, row(1, one) + row(2, two), "what they have saved")
 
@@ -433,9 +441,9 @@ def last_commit(length: int, fits: bool) -> None:
         wanted.put(BODY + 255, 0, data).put(JOURNAL, 0, header(1, 256))
     else:
         objects = state(clock(0, 2, 1), processes((1, 1000, 100)), {})
-        wanted.save(2, 1, objects).put(JOURNAL, 0, header(2, 1))
+        wanted.save(2, objects).put(JOURNAL, 0, header(2, 1))
         wanted.put(BODY, 0, batch(tick(0)).ljust(SECTOR, b"\0"))
-        check(wanted.image[SECTOR:][:16] == root(2, 1, 128), "128 bytes of objects")
+        check(wanted.image[SECTOR:][:16] == root(2, 269, 84), "a table of 84 bytes")
     printed = [numbered(1, 1, 1), errored(1, 2, 22)]
     runs(full(used=253), script, printed, wanted, f"a last commit of {length} bytes")
 
@@ -444,10 +452,10 @@ def many_ticks() -> None:
     """The restart and 255 ticks fill the journal, the next one is saved, and 44 begin a new one."""
     ticks = [batch(tick(moment)) for moment in range(300)]
     wanted = Device().journal(1, batch(RESTART), *ticks[:255]).journal(2, *ticks[256:])
-    wanted.save(2, 1, state(clock(255, 1, 1), processes(), {}))
+    wanted.save(2, state(clock(255, 1, 1), processes(), {}))
     runs(Device(), [f"{moment} tick" for moment in range(300)], [], wanted, "300 ticks")
     after = wanted.copy().put(BODY + 44, 0, batch(RESTART)).put(JOURNAL, 0, header(2, 45))
-    after.save(3, 0, state(clock(299, 1, 1), processes(), {}))
+    after.save(3, state(clock(299, 1, 1), processes(), {}))
     runs(wanted, ["save"], [], after, "a save after 300 ticks")
 
 
@@ -455,7 +463,7 @@ def many_opens(opens_made: int) -> None:
     """Each open takes a sector of the journal, and the one after 256 saves."""
     wanted = Device().journal(1, *min(opens_made, 256) * [batch(RESTART)])
     if opens_made > 256:
-        wanted.save(2, 1, START)
+        wanted.save(2, START)
     if opens_made > 257:
         wanted.put(JOURNAL, 0, header(2, opens_made - 257))
     name = f"{opens_made} opens"
@@ -466,7 +474,7 @@ def open_that_saves() -> None:
     """An open on a full journal saves what the restart leaves: no process, and the queue."""
     asked = (request(3, 1, msgget(2, 1234)), request(9, 1, msgsnd(3, 1, 5, b"hi")))
     device = full(batch(connect(0, 1, 1000, 100), *asked))
-    wanted = device.copy().save(2, 1, state(clock(9, 2, 2), processes(), {1: SAVED_QUEUE}))
+    wanted = device.copy().save(2, state(clock(9, 2, 2), processes(), {1: SAVED_QUEUE}))
     runs(device, [], [], wanted, "an open that saves")
 
 
@@ -474,7 +482,7 @@ def open_with_calls() -> None:
     """No call waits after an open, and the queue is as it was."""
     device = holding(with_calls(waits(SENDING, TAKING)))
     wanted = device.copy().journal(1, batch(RESTART))
-    wanted.save(2, 1, state(clock(9, 5, 2), processes(), {1: FULL}))
+    wanted.save(2, state(clock(9, 5, 2), processes(), {1: FULL}))
     runs(device, ["save"], [], wanted, "an open with calls that wait")
 
 
@@ -491,7 +499,7 @@ def journal_with_calls() -> None:
     queue = Queue(1234, ((8, b"a"), (6, b"b")), times=(40, 20, 0), pids=(1, 1), qbytes=2)
     opens(device.image, row(1, queue), "a journal with calls that wait")
     wanted = device.copy().journal(1, first, second, third, batch(RESTART))
-    wanted.save(2, 1, state(clock(41, 6, 2), processes(), {1: queue}))
+    wanted.save(2, state(clock(41, 6, 2), processes(), {1: queue}))
     runs(device, ["save"], [], wanted, "a journal with calls that wait, and a save")
 
 
@@ -520,11 +528,11 @@ def save_with_calls() -> None:
     queue = Queue(1234, ((5, 64 * b"x"), (5, 64 * b"y")), times=(2, 0, 1), pids=(1, 0))
     three = processes(*((pid, 1000, 100) for pid in (1, 2, 3)))
     wanted = Device().journal(1, *batches)
-    wanted.save(2, 1, state(clock(6, 5, 2), three, {1: queue}, {}, waits(*waiting[:2])))
+    wanted.save(2, state(clock(6, 5, 2), three, {1: queue}, {}, waits(*waiting[:2])))
     last = Waiting(2, msgrcv(11, 1, 64, 9, 0))
     wanted.put(BODY, 0, batch(tick(7), request(7, 2, last.frame)).ljust(SECTOR, b"\0"))
     wanted.put(JOURNAL, 0, header(2, 1))
-    wanted.save(3, 0, state(clock(7, 5, 2), three, {1: queue}, {}, waits(*waiting[:2], last)))
+    wanted.save(3, state(clock(7, 5, 2), three, {1: queue}, {}, waits(*waiting[:2], last)))
     runs(Device(), script, printed, wanted, "saves while calls wait")
     opens(wanted.image, row(1, queue), "calls that were saved")
 
@@ -533,8 +541,8 @@ def journal_of_all() -> None:
     """All sectors of the body count: those after the batches are batches without records."""
     device = good().put(JOURNAL, 8, b"\0\0\1\0")
     objects = state(clock(0, 2, 2), processes(), {1: GOOD_QUEUE})
-    wanted = device.copy().save(2, 1, objects)
-    check(wanted.image[SECTOR:][:16] == root(2, 1, 192), "192 bytes of objects")
+    wanted = device.copy().save(2, objects)
+    check(wanted.image[SECTOR:][:16] == root(2, 270, 104), "a table of 104 bytes")
     runs(device, [], [], wanted, "a journal that counts all its sectors")
     image = device.put(259, 3, b"\1").image
     refuses(image, "damaged sector 259", "a byte in the last sector of the body")
@@ -544,7 +552,7 @@ def journal_of_all() -> None:
 
 
 def at_epoch(epoch: int, used: int) -> Device:
-    return full(used=used, epoch=epoch).put(ROOT, 0, root(epoch, 0, 112))
+    return full(used=used, epoch=epoch).put(ROOT, 0, root(epoch, 264, 84))
 
 
 def last_save() -> None:
@@ -571,8 +579,8 @@ def last_sector() -> None:
 def last_turn() -> None:
     """An open saves at the last epoch but one; at the last one a journal of that one is empty."""
     device = at_epoch(LAST_EPOCH - 1, 256)
-    runs(device, [], [], device.copy().save(LAST_EPOCH, 1, START), "the last epoch but one")
-    device = at_epoch(LAST_EPOCH - 1, 256).save(LAST_EPOCH, 1, START)
+    runs(device, [], [], device.copy().save(LAST_EPOCH, START), "the last epoch but one")
+    device = at_epoch(LAST_EPOCH - 1, 256).save(LAST_EPOCH, START)
     wanted = device.copy().put(BODY, 0, batch(RESTART).ljust(SECTOR, b"\0"))
     runs(device, [], [], wanted.put(JOURNAL, 0, header(LAST_EPOCH, 1)), "the last epoch")
 
@@ -597,6 +605,7 @@ def checks() -> Generator[Check, None, None]:
     yield from superblocks()
     yield from sizes()
     yield from damages()
+    yield from tables()
     yield from order()
     yield from free_bytes()
     yield from turned()
@@ -605,7 +614,7 @@ def checks() -> Generator[Check, None, None]:
     yield from undo()
     yield from posix()
     yield from named()
-    yield from long_objects()
+    yield from scattered()
     yield from record_cuts()
     yield from other_records()
     yield from longest()

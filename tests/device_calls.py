@@ -40,7 +40,7 @@ Objects = list[tuple[int, bytes]]
 
 
 def holding(objects: Objects) -> Device:
-    return Device().save(1, 0, objects)
+    return Device().save(1, objects)
 
 
 # A queue that is full, and a send and a receive that wait for it, in the order in which they came. The one would go
@@ -286,8 +286,8 @@ def as_many_calls_as_may_be() -> None:
     queue = Queue(1234, qbytes=8191)
     objects = state(clock(9, 65, 2), processes(*((pid, 1000, 100) for pid in range(1, 65))), {1: queue})
     objects[2] = (2, waits(*them))
-    image = Device(STANDARD).save(1, 0, objects).image
+    image = Device(STANDARD).save(1, objects).image
     opens(image, row(1, queue), "64 calls")
     them.append(Waiting(65, them[0].frame))
     objects[2] = (2, waits(*them))
-    refuses(Device(STANDARD).save(1, 0, objects).image, "damaged sector 1", "65 calls")
+    refuses(Device(STANDARD).save(1, objects).image, "damaged sector 1", "65 calls")

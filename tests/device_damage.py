@@ -6,11 +6,14 @@ Where no fault stands beside a wrong byte, it is what the checker of device_layo
 from __future__ import annotations
 
 import itertools
+import random
+import struct
 from functools import partial
 from typing import Iterator
 
 from device_calls import Objects, holding
 from device_layout import (
+    BODY,
     JOURNAL,
     LAST_NUMBER,
     NONE,
@@ -23,11 +26,15 @@ from device_layout import (
     START,
     Device,
     Limits,
+    Placed,
     Queue,
+    Segment,
     Set,
+    Waiting,
     batch,
     clock,
     connect,
+    header,
     hello,
     interrupt,
     interrupted,
@@ -40,7 +47,7 @@ from device_layout import (
     read,
     record,
     request,
-    root,
+    sectors_of,
     semctl_getncnt,
     semctl_getzcnt,
     semctl_rmid,
@@ -51,7 +58,9 @@ from device_layout import (
     semop,
     state,
     superblock,
+    table,
     tick,
+    waits,
 )
 from device_runs import (
     EXIT_RECORD,
@@ -60,8 +69,8 @@ from device_runs import (
     HELLO_RECORD,
     INTERRUPT_RECORD,
     NEW_HEADER,
-    NEW_OBJECTS,
     NEW_ROOT,
+    NEW_SECTORS,
     RESTART_RECORD,
     SAVED_LISTED,
     SAVED_QUEUE,
@@ -74,12 +83,17 @@ from device_runs import (
     good,
     ipcd,
     is_image,
+    numbered,
     opens,
+    received,
     refuses,
     restarted,
     row,
+    row_of_named,
     row_of_set,
+    runs,
     saved,
+    sends,
 )
 
 # ---- the superblock
@@ -88,9 +102,10 @@ from device_runs import (
 SUPERBLOCKS: tuple[tuple[int, str, str], ...] = (
     (0, "69", "not formatted"),
     (7, "00", "not formatted"),
-    (11, "01", "version 1"),
+    (11, "00", "version 0"),
+    (11, "02", "version 2"),
     (11, "07", "version 7"),
-    (8, "01", "version 16777216"),
+    (8, "01", "version 16777217"),
     (15, "c1", "damaged sector 0"),  # 449 sectors
     (15, "bf", "damaged sector 0"),  # 447
     (19, "02", "damaged sector 0"),  # the journal one sector earlier
@@ -149,31 +164,71 @@ def sizes() -> Iterator[Check]:
 
 # Of the good device: a sector, a place in it, other bytes there, and the sector that is named.
 DAMAGES: tuple[tuple[int, int, str, int], ...] = (
-    # The root: epoch 0, a third area, the other area, which is zeros, and lengths below 4 and past
-    # the area.
+    # The root: epoch 0, a table before the object area, after its end, far out, or in sector 0, and one of three bytes,
+    # of none, and of more than the object area has.
     (1, 7, "00", 1),
-    (1, 11, "02", 1),
-    (1, 8, "01", 1),
-    (1, 11, "01", 354),
+    (1, 8, "00000103", 1),
+    (1, 8, "000001c0", 1),
+    (1, 8, "ffffffff", 1),
+    (1, 8, "00000000", 1),
     (1, 15, "03", 1),
-    (1, 12, "0000bc01", 1),
+    (1, 15, "00", 1),
+    (1, 12, "00017511", 1),
     (1, 12, "ffffffff", 1),
-    # It counts all bytes of the area, one byte more than the objects have, one less, and those of
-    # their count.
-    (1, 12, "0000bc00", 260),
-    (1, 15, "71", 260),
-    (1, 15, "6f", 260),
-    (1, 15, "04", 260),
-    # The objects: one fewer, one more, a number that comes twice, a clock of 31 bytes.
-    (260, 3, "03", 260),
-    (260, 3, "05", 260),
-    (260, 11, "01", 260),
-    (260, 19, "1f", 260),
-    # They stand for no state: the next pid is 0, a process that is not there, and another number
-    # for the adjustments.
-    (260, 31, "00", 1),
-    (260, 71, "01", 1),
-    (260, 99, "04", 1),
+    # As many bytes as the area has, and one more than a sector has: the table's sector names no other. Bytes that are
+    # left over: up to the end of the sector, four, three, one. Bytes that are missing: one, all but the count.
+    (1, 12, "00017510", 264),
+    (1, 12, "000001fd", 264),
+    (1, 12, "000001fc", 1),
+    (1, 15, "58", 1),
+    (1, 15, "57", 1),
+    (1, 15, "55", 1),
+    (1, 15, "53", 264),
+    (1, 15, "50", 264),
+    (1, 15, "04", 264),
+    # A table in an object's sector and in a free one, where zeros are: no object is counted, and bytes are left over;
+    # or they are not, and no object stands for no state.
+    (1, 8, "00000105", 1),
+    (1, 8, "0000012c", 1),
+    (1, 8, "0000012c00000004", 1),
+    # The last sector of the table names another: outside, free, and itself.
+    (264, 3, "01", 264),
+    (264, 2, "0109", 264),
+    (264, 2, "0108", 264),
+    # The objects: one fewer, one more, as many as can be counted; a number that comes twice, two above the next one.
+    (264, 7, "03", 1),
+    (264, 7, "05", 264),
+    (264, 4, "ffffffff", 264),
+    (264, 35, "00", 264),
+    (264, 15, "01", 264),
+    (264, 28, "80", 264),
+    # A length of 544 takes another sector, which is the next number, 0; that of the last object another one, too. A
+    # length of more sectors than there are numbers. One of 0, of the last and of the first.
+    (264, 22, "02", 264),
+    (264, 82, "02", 264),
+    (264, 16, "ff", 264),
+    (264, 83, "00", 1),
+    (264, 23, "00", 264),
+    # A sector outside: before the area, at its end, far out, 0, and of the journal; of the last object, too.
+    (264, 24, "00000103", 264),
+    (264, 24, "000001c0", 264),
+    (264, 24, "ffffffff", 264),
+    (264, 24, "00000000", 264),
+    (264, 24, "00000005", 264),
+    (264, 84, "000001c0", 264),
+    # One that is used twice: by an object and one that comes later, by one and the one before, by the table.
+    (264, 27, "05", 264),
+    (264, 47, "04", 264),
+    (264, 87, "04", 264),
+    (264, 27, "08", 264),
+    # They stand for no state: a clock of 31 bytes, of 33, of all 512; the next pid is 0, a process that is not there,
+    # and another number for the adjustments.
+    (264, 23, "1f", 1),
+    (264, 23, "21", 1),
+    (264, 22, "0200", 1),
+    (260, 11, "00", 1),
+    (261, 3, "01", 1),
+    (264, 75, "04", 1),
     # The header: a later epoch, and more sectors than there are.
     (3, 7, "02", 3),
     (3, 0, "80", 3),
@@ -218,8 +273,8 @@ DAMAGES: tuple[tuple[int, int, str, int], ...] = (
 
 # A sector of the good device, a place in it, other bytes there with which it opens, and whether the
 # queue is there then: a later epoch of the objects; an earlier one of the journal, whatever it
-# counts; a count without the last batch, or with a batch of no records; a batch emptied; and bytes
-# that mean nothing.
+# counts; a count without the last batch, or with a batch of no records; a batch emptied; bytes
+# that mean nothing; and an object in another sector, in which the same bytes are.
 FREE: tuple[tuple[int, int, str, bool], ...] = (
     (1, 7, "02", False),
     (1, 0, "ffffffffffffffff", False),
@@ -238,9 +293,12 @@ FREE: tuple[tuple[int, int, str, bool], ...] = (
     (8, 34, "01", True),
     (9, 0, "01", True),
     (1, 16, "01", True),
-    (260, 112, "01", True),
-    (261, 0, "01", True),
-    (354, 0, "01", True),
+    (260, 32, "01", True),
+    (261, 4, "01", True),
+    (264, 88, "01", True),
+    (265, 0, "01", True),
+    (447, 511, "01", True),
+    (264, 47, "09", True),
 )
 
 # A sector, a place in it, and what is said if this byte is wrong, and those of the rows before.
@@ -248,11 +306,11 @@ ORDER: tuple[tuple[int, int, str], ...] = (
     (8, 8, "damaged sector 8"),
     (5, 8, "damaged sector 5"),
     (3, 0, "damaged sector 3"),
-    (260, 48, "damaged sector 1"),
-    (260, 3, "damaged sector 260"),
+    (260, 8, "damaged sector 1"),
+    (264, 24, "damaged sector 264"),
     (1, 8, "damaged sector 1"),
     (0, 99, "damaged sector 0"),
-    (0, 8, "version 4278190080"),
+    (0, 8, "version 4278190081"),
     (0, 0, "not formatted"),
 )
 
@@ -317,7 +375,7 @@ def places(parts: dict[int, bytes]) -> Iterator[tuple[int, int]]:
 
 def each_byte() -> Iterator[Check]:
     """Each byte with a meaning, with one bit wrong; in the journal, also with all bits wrong."""
-    parts = {0: SMALL_SUPERBLOCK, 1: NEW_ROOT, 260: NEW_OBJECTS}
+    parts = {0: SMALL_SUPERBLOCK, 1: NEW_ROOT, **NEW_SECTORS}
     for at, offset in places(parts):
         yield with_bits(at, offset, 0x01)
     parts = {3: NEW_HEADER} | {at: data for at, data in GOOD_BATCHES.items() if at != 6}
@@ -340,58 +398,77 @@ def with_bits(at: int, offset: int, bits: int) -> Check:
 # named if one of them is turned over. With 0 it opens.
 TURNED: tuple[tuple[int, int, int, int], ...] = (
     (1, 0, 7, 0),  # the epoch, which is later then
-    (1, 8, 14, 1),  # the area, and the length: past the area
-    (1, 15, 15, 354),  # 33 bytes of objects
-    (354, 0, 3, 354),  # the count
-    (354, 4, 19, 354),  # the number and the length of the clock
-    (354, 20, 27, 0),  # the moment
-    (354, 28, 28, 1),  # the next pid: past the last, or another one
-    (354, 29, 31, 0),
-    (354, 32, 32, 1),  # the next number of a queue
-    (354, 33, 35, 0),
-    (354, 36, 36, 1),  # the next number of a semaphore set
-    (354, 37, 39, 0),
-    (354, 40, 40, 1),  # the next number of a POSIX queue
-    (354, 41, 43, 0),
-    (354, 44, 44, 1),  # the next number of a named semaphore
-    (354, 45, 47, 0),
-    (354, 48, 48, 1),  # the next number of a segment
-    (354, 49, 51, 0),
-    (354, 52, 67, 354),  # the number and the length of the processes
-    (354, 68, 71, 1),  # how many there are
-    (354, 72, 75, 1),  # the pid: not below the next one
-    (354, 76, 83, 0),  # uid and gid
-    (354, 84, 87, 1),  # descriptors
-    (354, 88, 103, 354),  # the number and the length of the waiting calls
-    (354, 104, 107, 1),  # how many there are
-    (354, 108, 111, 354),  # the number of the adjustments: above the queue's
-    (354, 112, 115, 1),  # or not
-    (354, 116, 123, 354),  # their length
-    (354, 124, 127, 1),  # how many there are
-    (354, 128, 135, 1),  # the number of the queue: past the next one
-    (354, 136, 143, 354),  # its length
-    (354, 144, 147, 0),  # the key
-    (354, 148, 163, 0),  # uid, gid, cuid and cgid
-    (354, 164, 166, 1),  # the mode: more than nine bits
-    (354, 167, 167, 0),
-    (354, 168, 191, 0),  # stime, rtime and ctime
-    (354, 192, 199, 0),  # lspid and lrpid
-    (354, 200, 202, 1),  # qbytes: above the limit
-    (354, 203, 203, 0),
-    (354, 204, 207, 1),  # how many messages there are
-    (354, 208, 208, 1),  # the type: below 0
-    (354, 209, 215, 0),
-    (354, 216, 219, 1),  # the length of the text
-    (354, 220, 221, 0),  # the text
-    (354, 222, 231, 0),  # nothing
-    (1, 16, 23, 0),
+    (1, 8, 11, 1),  # the table's first sector
+    (1, 12, 13, 1),  # its bytes: more than there is room for
+    (1, 14, 14, 270),  # 65384 of them: more sectors than the one
+    (1, 15, 15, 1),  # 151 of them
+    (1, 16, 23, 0),  # nothing
+    (270, 0, 3, 270),  # the next sector of the table
+    (270, 4, 7, 270),  # the count
+    (270, 8, 15, 270),  # the number of the clock: not below the next one
+    (270, 16, 22, 270),  # its length: more sectors than one
+    (270, 23, 23, 1),  # or not
+    (270, 24, 27, 270),  # its sector: outside
+    (270, 28, 42, 270),  # number and length of the processes
+    (270, 43, 43, 1),
+    (270, 44, 47, 270),
+    (270, 48, 62, 270),  # number and length of the calls that wait
+    (270, 63, 63, 1),
+    (270, 64, 67, 270),
+    (270, 68, 71, 270),  # the number of the adjustments: above the queue's
+    (270, 72, 75, 1),  # or not
+    (270, 76, 82, 270),  # their length
+    (270, 83, 83, 1),
+    (270, 84, 87, 270),
+    (270, 88, 95, 1),  # the number of the queue: past the next one
+    (270, 96, 102, 270),  # its length
+    (270, 103, 103, 1),
+    (270, 104, 107, 270),
+    (270, 108, 115, 0),  # nothing
+    (265, 0, 7, 0),  # the moment
+    (265, 8, 8, 1),  # the next pid: past the last, or another one
+    (265, 9, 11, 0),
+    (265, 12, 12, 1),  # the next number of a queue
+    (265, 13, 15, 0),
+    (265, 16, 16, 1),  # the next number of a semaphore set
+    (265, 17, 19, 0),
+    (265, 20, 20, 1),  # the next number of a POSIX queue
+    (265, 21, 23, 0),
+    (265, 24, 24, 1),  # the next number of a named semaphore
+    (265, 25, 27, 0),
+    (265, 28, 28, 1),  # the next number of a segment
+    (265, 29, 31, 0),
+    (265, 32, 39, 0),  # nothing
+    (266, 0, 3, 1),  # how many processes there are
+    (266, 4, 7, 1),  # the pid: not below the next one
+    (266, 8, 15, 0),  # uid and gid
+    (266, 16, 19, 1),  # descriptors
+    (266, 20, 27, 0),  # nothing
+    (267, 0, 3, 1),  # how many calls wait
+    (267, 4, 11, 0),  # nothing
+    (268, 0, 3, 1),  # how many adjustments there are
+    (268, 4, 11, 0),  # nothing
+    (269, 0, 3, 0),  # the key
+    (269, 4, 19, 0),  # uid, gid, cuid and cgid
+    (269, 20, 22, 1),  # the mode: more than nine bits
+    (269, 23, 23, 0),
+    (269, 24, 47, 0),  # stime, rtime and ctime
+    (269, 48, 55, 0),  # lspid and lrpid
+    (269, 56, 58, 1),  # qbytes: above the limit
+    (269, 59, 59, 0),
+    (269, 60, 63, 1),  # how many messages there are
+    (269, 64, 64, 1),  # the type: below 0
+    (269, 65, 71, 0),
+    (269, 72, 75, 1),  # the length of the text
+    (269, 76, 77, 0),  # the text
+    (269, 78, 85, 0),  # nothing
     (3, 0, 7, 3),  # the epoch of the journal: later
     (3, 8, 11, 0),  # how many sectors it counts, at an earlier epoch
 )
 
 
 def turned() -> Iterator[Check]:
-    """Each byte of the root and of the objects, and some of those after them."""
+    """Each byte of the root, the table and the objects, and some of those after them."""
     yield partial(opens, saved().image, SAVED_LISTED, "the saved device")
     for at, first, last, named in TURNED:
         for offset in range(first, last + 1):
@@ -518,20 +595,177 @@ def no_states() -> Iterator[Check]:
         yield partial(refuses, holding(objects).image, "damaged sector 1", name)
 
 
-def long_objects() -> Iterator[Check]:
-    """592 bytes of objects, 80 of them in a second sector, which is named if more are counted."""
-    texts = ((5, 64 * b"\7"), (5, 64 * b"\7"))
-    queues = {1: Queue(1, texts, pids=(1, 0)), 2: Queue(2, texts, pids=(1, 0))}
-    objects = state(clock(0, 2, 3), processes((1, 1000, 100)), queues)
-    device = Device().save(2, 1, objects)
-    check(device.image[SECTOR : SECTOR + 16] == root(2, 1, 592), "592 bytes of objects")
-    listed = row(1, queues[1]) + row(2, queues[2])
-    yield partial(opens, device.image, listed, "two queues")
-    for at, offset, byte in ((1, 15, 0x51), (354, 3, 7)):
-        image = device.copy().put(at, offset, bytes([byte])).image
-        yield partial(refuses, image, "damaged sector 355", f"two queues, {at}, {offset}: {byte}")
-    image = device.copy().put(355, 3, b"\x08").image
-    yield partial(opens, image, listed, "two queues with another text")
+# ---- tables of several sectors, and objects in any order
+
+# Forty objects of four sectors each have a table of 321 numbers, in these three sectors. Object k, from 0 on, has the
+# number k + 1. Its eight numbers begin at place 8 * k + 1: two of its number, two of its length, and its sectors. The
+# second sector of the table begins with number 127, the third with 254: so object 15, whose numbers are 121 to 128, and
+# object 31, whose are 249 to 256, stand in two.
+CHAIN = (400, 270, 350)
+FORTY = [(number, 1537 * bytes([number])) for number in range(1, 41)]
+
+# A sector of the table, the next one that it names then, and the sector that is named.
+CHAINS: tuple[tuple[int, int, int], ...] = (
+    (400, 259, 400),  # outside
+    (400, 448, 400),
+    (400, 0, 400),
+    (400, 2**32 - 1, 400),
+    (400, 400, 400),  # itself
+    (270, 400, 270),  # one before
+    (270, 270, 270),
+    (270, 0, 270),
+    (350, 400, 350),  # the last one names one: before, free, outside
+    (350, 447, 350),
+    (350, 1, 350),
+    (400, 350, 350),  # the second one is left out, so the last one comes too early
+    (400, 260, 260),  # an object's, which names one outside by its bytes
+)
+
+# A place in the table, the number there then, and the sector that is named.
+NUMBERS_OF_TABLE: tuple[tuple[int, int, int], ...] = (
+    (0, 39, 1),  # one object fewer: eight numbers are left over
+    (0, 41, 350),  # one more, and none left
+    (0, 2**32 - 1, 350),
+    (1, 1, 400),  # the first number is 2^32 and 1, so the second does not rise
+    (122, 15, 400),  # a number as the one before; the object begins in the first sector
+    (130, 16, 270),  # in the second
+    (258, 32, 350),  # in the third
+    (123, 1, 400),  # more sectors than are left
+    (124, 2049, 270),  # five sectors: the fifth is the next number's first half, 0, at place 129
+    (252, 2049, 350),  # at place 257
+    (316, 2049, 350),  # a fifth sector of the last object: none is left
+    (316, 1536, 1),  # three: one number is left over
+    (125, 259, 400),  # a sector outside, held by the first sector
+    (127, 448, 270),  # by the second
+    (128, 5, 270),
+    (254, 2**32 - 1, 350),  # by the third
+    (253, 0, 270),
+    (320, 0, 350),
+)
+
+
+def table_number(device: Device, place: int, number: int) -> Device:
+    """The device with another number at a place of its table."""
+    return device.put(CHAIN[place // 127], 4 + 4 * (place % 127), number.to_bytes(4, "big"))
+
+
+def forty() -> Device:
+    """The forty objects in sectors from 260 on, but for those of the table."""
+    device = Device()
+    places = [sector for sector in range(260, 448) if sector not in CHAIN]
+    return device.save(2, FORTY, [*places[:160], *CHAIN])
+
+
+def tables() -> Iterator[Check]:
+    """What is wrong with a table of three sectors, and with its objects. Without a fault they stand for no state."""
+    base = forty()
+    sectors = [sector for one in base.placed for sector in one.sectors]
+    yield partial(refuses, base.image, "damaged sector 1", "forty objects")
+    for at, then, named in CHAINS:
+        image = base.copy().put(at, 0, then.to_bytes(4, "big")).image
+        yield partial(refuses, image, f"damaged sector {named}", f"sector {at} of the table names {then}")
+    for place, number, named in NUMBERS_OF_TABLE:
+        image = table_number(base.copy(), place, number).image
+        yield partial(refuses, image, f"damaged sector {named}", f"number {place} of the table is {number}")
+    # A sector twice: where the object begins that has it last, in whichever sector it is named.
+    for place, sector, named in (
+        (127, sectors[0], 400),  # another object's
+        (128, sectors[60], 400),  # its own
+        (127, 350, 400),  # the table's
+        (254, 400, 270),
+        (255, sectors[124], 270),
+        (127, sectors[159], 350),  # the last object's
+        (128, sectors[64], 270),  # the next object's, which begins in the second sector
+    ):
+        image = table_number(base.copy(), place, sector).image
+        yield partial(refuses, image, f"damaged sector {named}", f"sector {sector} is at place {place}, too")
+    yield from first_of_two(base, sectors)
+    yield from odd_tables()
+
+
+def first_of_two(base: Device, sectors: list[int]) -> Iterator[Check]:
+    """Of two faults the one that comes first: the chain's, then an object's number and length, then its sectors."""
+    for (one, number), (two, other), named in (
+        ((125, sectors[0]), (127, 5), 400),  # twice, and then outside
+        ((127, 5), (128, sectors[0]), 270),  # outside, and then twice
+        ((122, 15), (127, 5), 400),  # a number that does not rise, and a sector outside
+        ((123, 1), (127, 5), 400),  # too long, and a sector outside
+        ((127, 5), (130, 16), 270),  # a sector of one object, and the number of the next one
+        ((0, 39), (320, 5), 1),  # the last object is not counted
+        ((0, 41), (130, 16), 270),
+    ):
+        image = table_number(table_number(base.copy(), one, number), two, other).image
+        yield partial(refuses, image, f"damaged sector {named}", f"numbers {one} and {two} are {number} and {other}")
+    image = table_number(base.copy(), 2, 0).put(350, 0, b"\1").image
+    yield partial(refuses, image, "damaged sector 350", "the chain's fault, and an object's")
+
+
+def odd_tables() -> Iterator[Check]:
+    """Tables of which a sector has nothing to read, and objects of no bytes."""
+    device = Device()
+    one, two, three = 300, 301, 302
+    # Fourteen objects of five sectors have 127 numbers, which are 508 bytes.
+    fourteen = [Placed(number, 2500, tuple(range(5 * number + 305, 5 * number + 310))) for number in range(1, 15)]
+    full = table(*fourteen)
+    check(len(full) == 508, "a table of 508 bytes")
+    for name, data, named in (
+        ("508 bytes", full, 1),
+        ("508 bytes, one object more", b"\0\0\0\x0f" + full[4:], one),
+        ("509 bytes", full + b"\0", 1),
+        ("509 bytes, one object more", b"\0\0\0\x0f" + full[4:] + b"\0", one),
+        ("512 bytes", full + bytes(4), 1),
+        ("512 bytes, one object more", b"\0\0\0\x0f" + full[4:] + bytes(4), two),
+        ("1017 bytes of zeros", bytes(1017), 1),
+        ("an object of no bytes", table(Placed(7, 0, ())), 1),
+        ("an object of no bytes, and a number that does not rise", table(Placed(7, 0, ()), Placed(7, 1, (400,))), one),
+        ("an object of no bytes, and a sector outside", table(Placed(7, 0, ()), Placed(8, 1, (2,))), one),
+        ("the last number there is", table(Placed(2**64 - 1, 1, (400,))), 1),
+        ("more bytes than there are", struct.pack(">IQQ", 1, 7, 2**64 - 1), one),
+    ):
+        image = device.copy().point(2, data, (one, two, three)).image
+        yield partial(refuses, image, f"damaged sector {named}", f"a table of {name}")
+
+
+def scattered() -> Iterator[Check]:
+    """Objects of several sectors in no order, in the first and the last sectors that there are, with a table of two; a
+    script finds all of their bytes, and saves them into the free sectors that are lowest."""
+    texts = tuple((1 + number % 7, bytes([number])) for number in range(128))
+    queues = {1: Queue(1, texts, pids=(1, 0)), 2: Queue(2, texts[::-1], pids=(1, 0))}
+    segments = {1: Segment(b"/s", bytes(number % 256 for number in range(2048)))}
+    waiting = [Waiting(pid, msgrcv(pid, 1, 64, 9, 0)) for pid in range(1, 5)]
+    them = processes(*((pid, 1000, 100) for pid in range(1, 5)))
+    objects = state(clock(0, 5, 3, 1, 1, 1, 2), them, queues, {}, waits(*waiting), segments=segments)
+    listed = row(1, queues[1]) + row(2, queues[2]) + row_of_named(segments[1])
+    for seed in range(4):
+        device = Device()
+        places = device.free()
+        random.Random(seed).shuffle(places)
+        places.remove(447)
+        device.save(2, objects, [447, 260 + seed, *(place for place in places if place != 260 + seed)])
+        yield partial(opens, device.image, listed, f"objects in no order, {seed}")
+        yield partial(reads_all, device, queues, segments, f"objects in no order, {seed}")
+
+
+def reads_all(device: Device, queues: dict[int, Queue], segments: dict[int, Segment], name: str) -> None:
+    """All messages are received, 64 in a line, and then the state is saved."""
+    frames = [msgrcv(2 + at, number, 64) for number in queues for at in range(128)]
+    lines = [frames[first : first + 64] for first in range(0, 256, 64)]
+    script = ["0 open 1", sends(0, 1, hello(1)), *(sends(0, 1, *line) for line in lines), "save"]
+    printed = [numbered(1, 1, 5)]
+    for queue in queues.values():
+        printed += [received(1, 2 + at, *message) for at, message in enumerate(queue.messages)]
+    batches = [batch(RESTART), batch(tick(0), connect(0, 1, 1000, 100))]
+    batches += [batch(tick(0), *(request(0, 5, frame) for frame in line)) for line in lines]
+    wanted = device.copy()
+    used = 0
+    for data in batches:
+        wanted.put(BODY + used, 0, data)
+        used += sectors_of(len(data))
+    wanted.put(JOURNAL, 0, header(2, used))
+    after = {number: queue._replace(messages=(), pids=(1, 5)) for number, queue in queues.items()}
+    them = processes((5, 1000, 100))
+    wanted.save(3, state(clock(0, 6, 3, 1, 1, 1, 2), them, after, segments=segments))
+    runs(device, script, printed, wanted, name)
 
 
 # ---- records

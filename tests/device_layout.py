@@ -1,18 +1,22 @@
 """A device of ipcd: its bytes are written and read here as docs/DEVICE.md has them.
 
-`Device` writes one from its parts. `read` is a checker of devices: it goes through one as an open
-does, and gives what stands there, or raises the first fault. Both were made from that page alone.
+`Device` writes one from its parts, with the objects and their table in any sectors. `read` is a
+checker of devices: it goes through one as an open does, and gives what stands there, or raises the
+first fault, with its sector. Both were made from that page alone. What a version of devices has of
+its own is an argument.
 """
 
 from __future__ import annotations
 
 import struct
+from collections.abc import Iterable
 from typing import NamedTuple
 
 SECTOR = 512
 ROOT, JOURNAL, BODY, OBJECTS = 1, 3, 4, 260
 BODY_COUNT = 256
-BATCH_MOST = 32768
+# How many bytes of the table are in a sector of it, and how many numbers.
+TABLE_BYTES, TABLE_NUMBERS = 508, 127
 LAST_NUMBER = 2147483647
 LAST_EPOCH = 2**64 - 1
 QUEUE_KIND = 4294967296
@@ -28,6 +32,17 @@ SEM_VALUE_MAX = 2147483647
 SEM_UNDO = 0x1000
 # A user and a group.
 Cred = tuple[int, int]
+
+
+class Version(NamedTuple):
+    """What devices of a version have of their own: its number, the root's sector, and the most bytes of a batch."""
+
+    number: int
+    root: int
+    batch: int
+
+
+ONE = Version(1, ROOT, 32768)
 
 # ---- limits and sizes
 
@@ -61,6 +76,11 @@ def sectors_of(length: int) -> int:
     return -(-length // SECTOR)
 
 
+def table_sectors(length: int) -> int:
+    """How many sectors a table of so many bytes takes."""
+    return -(-length // TABLE_BYTES)
+
+
 def area_of(limits: Limits) -> int:
     """How many sectors a state takes."""
     of = limits
@@ -77,7 +97,7 @@ def area_of(limits: Limits) -> int:
         + sectors_of(of.segment_bytes)
     )
     entries = 4 + of.msgmni + of.semmni + of.posix_queues + of.named + of.segments
-    return total + -(-(4 + 16 * entries + 4 * total) // 508)
+    return total + table_sectors(4 + 16 * entries + 4 * total)
 
 
 def need_of(limits: Limits) -> int:
@@ -87,22 +107,38 @@ def need_of(limits: Limits) -> int:
 # ---- the parts of a device, as bytes
 
 
-def superblock(limits: Limits, sectors: int) -> bytes:
-    places = (0, sectors, JOURNAL, 1 + BODY_COUNT, OBJECTS, max(sectors - OBJECTS, 0), ROOT)
-    return b"IPCSTORE" + struct.pack(">7I16I", *places, *limits)
+def superblock(limits: Limits, sectors: int, version: Version = ONE) -> bytes:
+    places = (sectors, JOURNAL, 1 + BODY_COUNT, OBJECTS, max(sectors - OBJECTS, 0), version.root)
+    return b"IPCSTORE" + struct.pack(">7I16I", version.number, *places, *limits)
 
 
-def root(epoch: int, area: int, length: int) -> bytes:
-    return struct.pack(">QII", epoch, area, length)
+def root(epoch: int, first: int, length: int) -> bytes:
+    """Of a table that begins in this sector and has so many bytes."""
+    return struct.pack(">QII", epoch, first, length)
 
 
 def header(epoch: int, used: int) -> bytes:
     return struct.pack(">QI", epoch, used)
 
 
-def area(objects: list[tuple[int, bytes]]) -> bytes:
-    parts = [struct.pack(">QQ", number, len(data)) + data for number, data in objects]
-    return struct.pack(">I", len(objects)) + b"".join(parts)
+class Placed(NamedTuple):
+    """An object in the table: its number, how many bytes it has, and its sectors in their order."""
+
+    number: int
+    length: int
+    sectors: tuple[int, ...]
+
+
+def table(*placed: Placed) -> bytes:
+    parts = [struct.pack(f">QQ{len(one.sectors)}I", one.number, one.length, *one.sectors) for one in placed]
+    return struct.pack(">I", len(placed)) + b"".join(parts)
+
+
+def chained(data: bytes, sectors: Iterable[int]) -> dict[int, bytes]:
+    """The bytes of a table as they stand in these sectors."""
+    chain = list(sectors)
+    parts = [data[at : at + TABLE_BYTES] for at in range(0, len(data), TABLE_BYTES)]
+    return {at: struct.pack(">I", then) + part for at, then, part in zip(chain, [*chain[1:], 0], parts)}
 
 
 def record(kind: int, moment: int, rest: bytes = b"") -> bytes:
@@ -395,11 +431,14 @@ START = state(clock(0, 1, 1), processes(), {})
 class Device:
     """A new device, of as many sectors as its limits need; and what is put there."""
 
-    def __init__(self, limits: Limits = SMALL, sectors: int = 0) -> None:
-        self.limits = limits
+    def __init__(self, limits: Limits = SMALL, sectors: int = 0, version: Version = ONE) -> None:
+        self.limits, self.version = limits, version
         self.image = bytearray(SECTOR * (sectors or need_of(limits)))
-        self.put(0, 0, superblock(limits, len(self.image) // SECTOR))
-        self.save(1, 0, START)
+        # The objects of the last save, and the sectors of its table.
+        self.placed: list[Placed] = []
+        self.chain: list[int] = []
+        self.put(0, 0, superblock(limits, len(self.image) // SECTOR, version))
+        self.save(1, START)
         self.journal(1)
 
     def put(self, sector: int, offset: int, data: bytes) -> Device:
@@ -407,10 +446,33 @@ class Device:
         self.image[at : at + len(data)] = data
         return self
 
-    def save(self, epoch: int, which: int, objects: list[tuple[int, bytes]]) -> Device:
-        data = area(objects)
-        self.put(OBJECTS + which * area_of(self.limits), 0, data)
-        return self.put(ROOT, 0, root(epoch, which, len(data)))
+    def fill(self, sector: int, data: bytes) -> Device:
+        """A whole sector: these bytes, and zeros."""
+        return self.put(sector, 0, data.ljust(SECTOR, b"\0"))
+
+    def free(self) -> list[int]:
+        """The sectors of the object area that the last save has not used, the lowest first."""
+        used = {*self.chain, *(sector for one in self.placed for sector in one.sectors)}
+        return [sector for sector in range(OBJECTS, len(self.image) // SECTOR) if sector not in used]
+
+    def save(self, epoch: int, objects: list[tuple[int, bytes]], places: Iterable[int] | None = None) -> Device:
+        """Takes free sectors for one object after another, and then for the table; or these, if they are given."""
+        places = iter(self.free() if places is None else places)
+        self.placed = []
+        for number, data in objects:
+            mine = tuple(next(places) for _ in range(sectors_of(len(data))))
+            for at, sector in enumerate(mine):
+                self.fill(sector, data[SECTOR * at : SECTOR * (at + 1)])
+            self.placed.append(Placed(number, len(data), mine))
+        return self.point(epoch, table(*self.placed), places)
+
+    def point(self, epoch: int, data: bytes, places: Iterable[int]) -> Device:
+        """The root, and these bytes as its table in the first of these sectors."""
+        places = iter(places)
+        self.chain = [next(places) for _ in range(table_sectors(len(data)))]
+        for sector, part in chained(data, self.chain).items():
+            self.fill(sector, part)
+        return self.put(self.version.root, 0, root(epoch, self.chain[0], len(data)))
 
     def journal(self, epoch: int, *batches: bytes) -> Device:
         """Batches one after another from the first sector of the body on."""
@@ -422,8 +484,8 @@ class Device:
 
     def copy(self) -> Device:
         other = Device.__new__(Device)
-        other.limits = self.limits
-        other.image = self.image[:]
+        other.limits, other.version = self.limits, self.version
+        other.image, other.placed, other.chain = self.image[:], self.placed, self.chain
         return other
 
 
@@ -434,10 +496,15 @@ class Fault(Exception):
     """What an open says of a device."""
 
 
+class Unsound(Exception):
+    """Objects that stand for no state."""
+
+
 class Content(NamedTuple):
     limits: Limits
     epoch: int
-    area: int
+    chain: list[int]
+    placed: list[Placed]
     objects: list[tuple[int, bytes]]
     batches: list[list[bytes]]
 
@@ -447,45 +514,92 @@ def demand(holds: bool, sector: int) -> None:
         raise Fault(f"damaged sector {sector}")
 
 
-def read_superblock(image: bytes) -> Limits:
+def demand_sound(holds: bool) -> None:
+    if not holds:
+        raise Unsound
+
+
+def read_superblock(image: bytes, version: Version) -> Limits:
     if image[:8] != b"IPCSTORE":
         raise Fault("not formatted")
-    (version,) = struct.unpack(">I", image[8:12])
-    if version:
-        raise Fault(f"version {version}")
+    (found,) = struct.unpack(">I", image[8:12])
+    if found != version.number:
+        raise Fault(f"version {found}")
     sectors = len(image) // SECTOR
     limits = Limits(*struct.unpack(">16I", image[36:100]))
-    demand(image[:100] == superblock(limits, sectors), 0)
+    demand(image[:100] == superblock(limits, sectors, version), 0)
     demand(all(0 < here <= most for here, most in zip(limits, STANDARD)), 0)
     demand(limits.msgmax <= limits.msgmnb and limits.semmsl <= limits.semmns, 0)
     demand(sectors >= need_of(limits), 0)
     return limits
 
 
-def read_objects(image: bytes, limits: Limits) -> tuple[int, int, list[tuple[int, bytes]]]:
-    """The epoch, the live area, and the objects there."""
-    epoch, which, length = struct.unpack(">QII", image[SECTOR : SECTOR + 16])
-    demand(epoch > 0 and which < 2 and 4 <= length <= SECTOR * area_of(limits), ROOT)
-    first = OBJECTS + which * area_of(limits)
-    data = image[SECTOR * first :][:length]
-    (count,) = struct.unpack(">I", data[:4])
-    at, before, objects = 4, -1, []
-    while len(objects) < count:
-        sector = first + at // SECTOR
-        demand(at + 16 <= length, sector)
-        number, size = struct.unpack(">QQ", data[at : at + 16])
-        demand(number > before and 0 < size <= length - at - 16, sector)
-        objects.append((number, bytes(data[at + 16 : at + 16 + size])))
-        at, before = at + 16 + size, number
-    demand(at == length, first + at // SECTOR)
-    return epoch, which, objects
+class Heap:
+    """The objects of a device, and where they stand."""
+
+    def __init__(self, image: bytes, version: Version) -> None:
+        self.image, self.root = image, version.root
+        self.epoch, first, self.length = struct.unpack(">QII", self.at(self.root)[:16])
+        most = TABLE_BYTES * (len(image) // SECTOR - OBJECTS)
+        demand(self.epoch > 0 and 4 <= self.length <= most and self.is_inside(first), self.root)
+        self.chain = self.read_chain(first)
+        data = b"".join(self.at(sector)[4:] for sector in self.chain)
+        # What is left over of the last number is none.
+        count = self.length // 4
+        self.numbers: tuple[int, ...] = struct.unpack(f">{count}I", data[: 4 * count])
+        self.placed = self.read_placed()
+
+    def at(self, sector: int) -> bytes:
+        return bytes(self.image[SECTOR * sector : SECTOR * (sector + 1)])
+
+    def is_inside(self, sector: int) -> bool:
+        return OBJECTS <= sector < len(self.image) // SECTOR
+
+    def read_chain(self, first: int) -> list[int]:
+        chain = {first: None}
+        while True:
+            last = next(reversed(chain))
+            (then,) = struct.unpack(">I", self.at(last)[:4])
+            if len(chain) == table_sectors(self.length):
+                demand(then == 0, last)
+                return list(chain)
+            demand(self.is_inside(then) and then not in chain, last)
+            chain[then] = None
+
+    def holder(self, place: int) -> int:
+        """The sector of the table with the number at this place; past the end, with the last one."""
+        return self.chain[min(place, len(self.numbers) - 1) // TABLE_NUMBERS]
+
+    def read_placed(self) -> list[Placed]:
+        placed: list[Placed] = []
+        used, place, before = set(self.chain), 1, -1
+        for _ in range(self.numbers[0]):
+            here, begin = self.numbers[place : place + 4], self.holder(place)
+            demand(len(here) == 4, begin)
+            number, length = here[0] << 32 | here[1], here[2] << 32 | here[3]
+            first, place = place + 4, place + 4 + sectors_of(length)
+            demand(place <= len(self.numbers) and number > before, begin)
+            sectors = self.numbers[first:place]
+            for at, sector in enumerate(sectors, first):
+                demand(self.is_inside(sector), self.holder(at))
+                demand(sector not in used, begin)
+                used.add(sector)
+            placed.append(Placed(number, length, sectors))
+            before = number
+        demand(4 * place == self.length and all(one.length for one in placed), self.root)
+        return placed
+
+    def objects(self) -> list[tuple[int, bytes]]:
+        return [
+            (one.number, b"".join(self.at(sector) for sector in one.sectors)[: one.length]) for one in self.placed
+        ]
 
 
 def read_clock(data: bytes) -> tuple[int, int, list[int]]:
     """The clock, the next pid, and the next number of each kind of objects."""
-    demand(len(data) == 32, ROOT)
+    demand_sound(len(data) == 32)
     moment, next_pid, *numbers = struct.unpack(">QIIIIII", data)
-    demand(all(0 < number <= LAST_NUMBER + 1 for number in (next_pid, *numbers)), ROOT)
+    demand_sound(all(0 < number <= LAST_NUMBER + 1 for number in (next_pid, *numbers)))
     return moment, next_pid, numbers
 
 
@@ -497,71 +611,71 @@ class Process(NamedTuple):
 def read_processes(data: bytes, limits: Limits, next_pid: int) -> dict[int, Process]:
     """The processes by pid, with what they have open."""
     (count,) = struct.unpack(">I", data[:4].ljust(4, b"\0"))
-    demand(count <= limits.processes, ROOT)
+    demand_sound(count <= limits.processes)
     at, before = 4, 0
     them = {}
     for _ in range(count):
-        demand(at + 16 <= len(data), ROOT)
+        demand_sound(at + 16 <= len(data))
         pid, uid, gid, descriptors = struct.unpack(">IIII", data[at : at + 16])
-        demand(before < pid < next_pid and at + 16 + 16 * descriptors <= len(data), ROOT)
+        demand_sound(before < pid < next_pid and at + 16 + 16 * descriptors <= len(data))
         at, before, last = at + 16, pid, -1
         opened = {}
         for fd, kind, number, flags in struct.iter_unpack(">IIII", data[at : at + 16 * descriptors]):
             # A queue is open to read, to write or both, a segment to read or both.
             accesses = {3: (0, 1, 2), 4: (0, 1, 2, 3), 5: (0, 2)}.get(kind, ())
-            demand(last < fd < limits.descriptors and flags & 3 in accesses, ROOT)
+            demand_sound(last < fd < limits.descriptors and flags & 3 in accesses)
             opened[fd] = Open(fd, number, flags, kind)
             last = fd
         at += 16 * descriptors
         them[pid] = Process((uid, gid), opened)
-    demand(at == len(data), ROOT)
+    demand_sound(at == len(data))
     return them
 
 
 def read_waits(data: bytes, limits: Limits, moment: int) -> dict[int, bytes]:
     """The frames of the calls that wait, by pid. Those of message queues have no deadline; no other's has come."""
-    demand(len(data) >= 4, ROOT)
+    demand_sound(len(data) >= 4)
     (count,) = struct.unpack(">I", data[:4])
-    demand(count <= limits.processes, ROOT)
+    demand_sound(count <= limits.processes)
     at = 4
     them: dict[int, bytes] = {}
     for _ in range(count):
-        demand(at + 16 <= len(data), ROOT)
+        demand_sound(at + 16 <= len(data))
         pid, deadline, length = struct.unpack(">IQI", data[at : at + 16])
         frame = data[at + 16 : at + 16 + length]
-        demand(len(frame) == length and is_request(frame), ROOT)
-        demand(frame[4] in (0x0B, 0x0C, 0x15, 0x2A, 0x2B, 0x35) and pid not in them, ROOT)
-        demand(deadline == NO_DEADLINE or (frame[4] >= 0x15 and moment < deadline), ROOT)
+        demand_sound(len(frame) == length and is_request(frame))
+        demand_sound(frame[4] in (0x0B, 0x0C, 0x15, 0x2A, 0x2B, 0x35) and pid not in them)
+        demand_sound(deadline == NO_DEADLINE or (frame[4] >= 0x15 and moment < deadline))
         them[pid] = frame
         at += 16 + length
-    demand(at == len(data), ROOT)
+    demand_sound(at == len(data))
     return them
 
 
 def read_queue(data: bytes, limits: Limits) -> Queue:
-    demand(len(data) >= 64, ROOT)
+    demand_sound(len(data) >= 64)
     key, uid, gid, cuid, cgid, mode, *times = struct.unpack(">iIIIIIQQQ", data[:48])
     *pids, qbytes, count = struct.unpack(">IIII", data[48:64])
-    demand(mode < 0o1000 and max(qbytes, count) <= limits.msgmnb, ROOT)
+    demand_sound(mode < 0o1000 and max(qbytes, count) <= limits.msgmnb)
     at, messages = 64, []
     for _ in range(count):
-        demand(at + 12 <= len(data), ROOT)
+        demand_sound(at + 12 <= len(data))
         mtype, length = struct.unpack(">qI", data[at : at + 12])
         text = data[at + 12 : at + 12 + length]
-        demand(mtype > 0 and len(text) == length <= limits.msgmax, ROOT)
+        demand_sound(mtype > 0 and len(text) == length <= limits.msgmax)
         messages.append((mtype, text))
         at += 12 + length
     queue = Queue(key, tuple(messages), (uid, gid), (cuid, cgid), mode, tuple(times), tuple(pids), qbytes)
-    demand(at == len(data) and queue.held() <= limits.msgmnb, ROOT)
+    demand_sound(at == len(data) and queue.held() <= limits.msgmnb)
     return queue
 
 
 def read_set(data: bytes, limits: Limits) -> Set:
-    demand(len(data) >= 44, ROOT)
+    demand_sound(len(data) >= 44)
     key, uid, gid, cuid, cgid, mode, *times, count = struct.unpack(">iIIIIIQQI", data[:44])
-    demand(mode < 0o1000 and 0 < count <= limits.semmsl and len(data) == 44 + 6 * count, ROOT)
+    demand_sound(mode < 0o1000 and 0 < count <= limits.semmsl and len(data) == 44 + 6 * count)
     semaphores = tuple(struct.iter_unpack(">HI", data[44:]))
-    demand(max(value for value, _ in semaphores) <= 32767, ROOT)
+    demand_sound(max(value for value, _ in semaphores) <= 32767)
     return Set(key, semaphores, (uid, gid), (cuid, cgid), mode, tuple(times))
 
 
@@ -571,36 +685,36 @@ def is_name(name: bytes, most: int = 255) -> bool:
 
 
 def read_posix(data: bytes, limits: Limits) -> Posix:
-    demand(len(data) >= 44, ROOT)
+    demand_sound(len(data) >= 44)
     uid, gid, mode, maxmsg, msgsize, *registration, count, named = struct.unpack(">11I", data[:44])
     name, at, messages = data[44 : 44 + named], 44 + named, []
-    demand(mode < 0o1000 and 0 < maxmsg <= limits.posix_messages and 0 < msgsize <= limits.posix_bytes, ROOT)
-    demand(count <= maxmsg and len(name) == named and is_name(name), ROOT)
-    demand(registration[0] <= 2 and (registration[0] or registration == [0, 0, 0, 0]), ROOT)
+    demand_sound(mode < 0o1000 and 0 < maxmsg <= limits.posix_messages and 0 < msgsize <= limits.posix_bytes)
+    demand_sound(count <= maxmsg and len(name) == named and is_name(name))
+    demand_sound(registration[0] <= 2 and (registration[0] or registration == [0, 0, 0, 0]))
     for _ in range(count):
-        demand(at + 8 <= len(data), ROOT)
+        demand_sound(at + 8 <= len(data))
         priority, length = struct.unpack(">II", data[at : at + 8])
         text = data[at + 8 : at + 8 + length]
-        demand(priority < 32768 and len(text) == length <= msgsize, ROOT)
+        demand_sound(priority < 32768 and len(text) == length <= msgsize)
         messages.append((priority, text))
         at += 8 + length
-    demand(at == len(data), ROOT)
+    demand_sound(at == len(data))
     return Posix(name, tuple(messages), (uid, gid), mode, maxmsg, msgsize, tuple(registration))
 
 
 def read_named(data: bytes) -> NamedSem:
-    demand(len(data) >= 20, ROOT)
+    demand_sound(len(data) >= 20)
     uid, gid, mode, value, named = struct.unpack(">5I", data[:20])
     name = data[20:]
-    demand(mode < 0o1000 and value <= SEM_VALUE_MAX and len(name) == named and is_name(name, 251), ROOT)
+    demand_sound(mode < 0o1000 and value <= SEM_VALUE_MAX and len(name) == named and is_name(name, 251))
     return NamedSem(name, value, (uid, gid), mode)
 
 
 def read_segment(data: bytes) -> Segment:
-    demand(len(data) >= 24, ROOT)
+    demand_sound(len(data) >= 24)
     uid, gid, mode, named, length = struct.unpack(">4IQ", data[:24])
     name, content = data[24 : 24 + named], data[24 + named :]
-    demand(mode < 0o1000 and len(name) == named and len(content) == length and is_name(name), ROOT)
+    demand_sound(mode < 0o1000 and len(name) == named and len(content) == length and is_name(name))
     return Segment(name, content, (uid, gid), mode)
 
 
@@ -622,12 +736,12 @@ def are_opened(them: dict[int, Process], objects: Opened) -> bool:
 def read_adjustments(data: bytes, pids: set[int], sets: dict[int, Set]) -> dict[tuple[int, int, int], int]:
     """They rise by pid, set and number; each is of a process, at a semaphore that is there, and not 0."""
     (count,) = struct.unpack(">I", data[:4].ljust(4, b"\0"))
-    demand(len(data) == 4 + 12 * count, ROOT)
+    demand_sound(len(data) == 4 + 12 * count)
     before = (0, 0, -1)
     them = {}
     for pid, semid, number, amount in struct.iter_unpack(">IIHh", data[4:]):
-        demand(before < (pid, semid, number) and amount not in (0, -32768), ROOT)
-        demand(pid in pids and semid in sets and number < len(sets[semid].semaphores), ROOT)
+        demand_sound(before < (pid, semid, number) and amount not in (0, -32768))
+        demand_sound(pid in pids and semid in sets and number < len(sets[semid].semaphores))
         before = (pid, semid, number)
         them[before] = amount
     return them
@@ -704,33 +818,33 @@ class State(NamedTuple):
 
 def read_state(objects: list[tuple[int, bytes]], limits: Limits) -> tuple[int, set[int]]:
     """The next pid, and the processes that are connected."""
-    demand([number for number, _ in objects[:4]] == [0, 1, 2, 3], ROOT)
+    demand_sound([number for number, _ in objects[:4]] == [0, 1, 2, 3])
     moment, next_pid, next_numbers = read_clock(objects[0][1])
     them = read_processes(objects[1][1], limits, next_pid)
     calls = read_waits(objects[2][1], limits, moment)
     kinds: list[dict[int, bytes]] = [{} for _ in range(5)]
     for number, data in objects[4:]:
         kind, number = divmod(number, QUEUE_KIND)
-        demand(0 < kind <= 5 and 0 < number < next_numbers[kind - 1], ROOT)
+        demand_sound(0 < kind <= 5 and 0 < number < next_numbers[kind - 1])
         kinds[kind - 1][number] = data
     most = (limits.msgmni, limits.semmni, limits.posix_queues, limits.named, limits.segments)
-    demand(all(len(kind) <= here for kind, here in zip(kinds, most)), ROOT)
+    demand_sound(all(len(kind) <= here for kind, here in zip(kinds, most)))
     queues = {number: read_queue(data, limits) for number, data in kinds[0].items()}
     sets = {number: read_set(data, limits) for number, data in kinds[1].items()}
     opened: Opened = {(3, number): read_posix(data, limits) for number, data in kinds[2].items()}
     opened |= {(4, number): read_named(data) for number, data in kinds[3].items()}
     opened |= {(5, number): read_segment(data) for number, data in kinds[4].items()}
     names = [(kind, one.name) for (kind, _), one in opened.items() if one.name]
-    demand(len(names) == len(set(names)) and are_opened(them, opened), ROOT)
+    demand_sound(len(names) == len(set(names)) and are_opened(them, opened))
     total = sum(len(one.content) for one in opened.values() if isinstance(one, Segment))
-    demand(total <= limits.segment_bytes, ROOT)
+    demand_sound(total <= limits.segment_bytes)
     for kind in (queues, sets):
         keys = [one.key for one in kind.values() if one.key]
-        demand(len(keys) == len(set(keys)), ROOT)
-    demand(sum(len(one.semaphores) for one in sets.values()) <= limits.semmns, ROOT)
+        demand_sound(len(keys) == len(set(keys)))
+    demand_sound(sum(len(one.semaphores) for one in sets.values()) <= limits.semmns)
     adjustments = read_adjustments(objects[3][1], set(them), sets)
     found = State(them, opened, queues, sets, adjustments, limits)
-    demand(all(found.has_to_wait(pid, frame) for pid, frame in calls.items()), ROOT)
+    demand_sound(all(found.has_to_wait(pid, frame) for pid, frame in calls.items()))
     return next_pid, set(them)
 
 
@@ -796,7 +910,7 @@ class Connected:
         return True
 
 
-def read_journal(image: bytes, epoch: int, connected: Connected) -> list[list[bytes]]:
+def read_journal(image: bytes, epoch: int, connected: Connected, version: Version) -> list[list[bytes]]:
     journal_epoch, used = struct.unpack(">QI", image[SECTOR * JOURNAL :][:12])
     if journal_epoch < epoch:
         return []
@@ -804,21 +918,26 @@ def read_journal(image: bytes, epoch: int, connected: Connected) -> list[list[by
     at, end, batches = BODY, BODY + used, []
     while at < end:
         (length,) = struct.unpack(">I", image[SECTOR * at :][:4])
-        demand(length + 4 <= min(BATCH_MOST, SECTOR * (end - at)), at)
+        demand(length + 4 <= min(version.batch, SECTOR * (end - at)), at)
         records = read_batch(bytes(image[SECTOR * at + 4 :][:length]), at)
         demand(all(connected.takes(here) for here in records), at)
         batches.append(records)
         at += sectors_of(length + 4)
-    demand(used < BODY_COUNT or epoch < LAST_EPOCH, ROOT)
+    demand(used < BODY_COUNT or epoch < LAST_EPOCH, version.root)
     return batches
 
 
-def read(image: bytes) -> Content:
+def read(image: bytes, version: Version = ONE) -> Content:
     image = memoryview(image)
     if len(image) < 3 * SECTOR:
         raise Fault("not formatted")
-    limits = read_superblock(image)
-    epoch, which, objects = read_objects(image, limits)
-    next_pid, pids = read_state(objects, limits)
+    limits = read_superblock(image, version)
+    heap = Heap(image, version)
+    objects = heap.objects()
+    try:
+        next_pid, pids = read_state(objects, limits)
+    except Unsound:
+        raise Fault(f"damaged sector {version.root}") from None
     connected = Connected(next_pid, pids, limits.processes)
-    return Content(limits, epoch, which, objects, read_journal(image, epoch, connected))
+    batches = read_journal(image, heap.epoch, connected, version)
+    return Content(limits, heap.epoch, heap.chain, heap.placed, objects, batches)

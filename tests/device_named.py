@@ -3,6 +3,7 @@ restart make of them, what a save keeps, and what stands for no state."""
 
 from __future__ import annotations
 
+import random
 import struct
 from functools import partial
 from typing import Iterator
@@ -63,7 +64,7 @@ def objects_of(
 
 def after(name: str, events: list[bytes], calls: bytes) -> None:
     """After these events and a restart, what has a name is left as it was. A save keeps it by its number."""
-    device = Device().save(7, 0, objects_of(SEMS, SEGMENTS, FDS, calls=calls))
+    device = Device().save(7, objects_of(SEMS, SEGMENTS, FDS, calls=calls))
     device.journal(7, *([batch(*events)] if events else []))
     sems, segments = {2: SEMS[2]}, {1: SEGMENTS[1]}
     listed = row_of_named(SEMS[2]) + row_of_named(SEGMENTS[1])
@@ -74,7 +75,7 @@ def after(name: str, events: list[bytes], calls: bytes) -> None:
     wanted.put(BODY + used + 1, 0, batch(tick(100), connect(100, 1, 1000, 100)))
     numbers = clock(100, 31, 1, 1, 1, 5, 8)
     objects = state(numbers, processes((30, 1000, 100)), {}, {}, NONE, NONE, {}, sems, segments)
-    wanted.put(JOURNAL, 0, header(7, used + 2)).save(8, 1, objects)
+    wanted.put(JOURNAL, 0, header(7, used + 2)).save(8, objects)
     runs(device, script, [numbered(1, 1, 30)], wanted, name)
     opens(wanted.image, listed, f"{name}, saved")
 
@@ -97,14 +98,18 @@ def names_in_order() -> None:
     segments = {number: Segment(name, number * b"x") for number, name in enumerate((*names, b"/" + 254 * b"a"), 1)}
     in_order = [one for them in (sems, segments) for one in sorted(them.values(), key=lambda one: one.name)]
     text = "".join(map(row_of_named, in_order))
-    opens(Device(STANDARD).save(7, 0, objects_of(sems, segments, numbers=(9, 9))).image, text, "names")
+    opens(Device(STANDARD).save(7, objects_of(sems, segments, numbers=(9, 9))).image, text, "names")
 
 
 ONE_OF_ALL = Segment(b"/all", STANDARD.segment_bytes * b"\xa5")
 
 
 def largest() -> Device:
-    return Device(STANDARD).save(7, 0, objects_of({}, {1: ONE_OF_ALL}))
+    """2049 sectors of the segment and 17 of the table, in no order."""
+    device = Device(STANDARD)
+    places = device.free()
+    random.Random(1).shuffle(places)
+    return device.save(7, objects_of({}, {1: ONE_OF_ALL}), places)
 
 
 def no_states() -> Iterator[Check]:
@@ -176,7 +181,7 @@ def cut_short() -> Iterator[Check]:
 
 
 def no_state(name: str, objects: Objects) -> Check:
-    return partial(refuses, Device().save(7, 0, objects).image, "damaged sector 1", name)
+    return partial(refuses, Device().save(7, objects).image, "damaged sector 1", name)
 
 
 def named() -> Iterator[Check]:

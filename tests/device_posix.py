@@ -54,7 +54,7 @@ def objects_of(
 
 def after(name: str, posix: dict[int, Posix], events: list[bytes], left: dict[int, Posix]) -> None:
     """What these events and a restart leave: a listing has it by the bytes of the names, a save keeps it by number."""
-    device = Device().save(7, 0, objects_of(posix, FDS))
+    device = Device().save(7, objects_of(posix, FDS))
     device.journal(7, *([batch(*events)] if events else []))
     in_order = sorted(left.values(), key=lambda one: one.name)
     opens(device.image, "".join(map(row_of_posix, in_order)), name)
@@ -66,7 +66,7 @@ def after(name: str, posix: dict[int, Posix], events: list[bytes], left: dict[in
     wanted = device.copy().put(BODY + used, 0, batch(RESTART)).put(BODY + used + 1, 0, line)
     queue, one = Queue(9, times=(0, 0, 100), qbytes=device.limits.msgmnb), Set(8, times=(0, 100))
     objects = state(clock(100, 31, 2, 2, 6), processes((30, 1000, 100)), {1: queue}, {1: one}, posix=left)
-    wanted.put(JOURNAL, 0, header(7, used + 2)).save(8, 1, objects)
+    wanted.put(JOURNAL, 0, header(7, used + 2)).save(8, objects)
     runs(device, script, printed, wanted, name)
     opens(wanted.image, row(1, queue) + row_of_set(1, one) + "".join(map(row_of_posix, in_order)), f"{name}, saved")
 
@@ -99,7 +99,7 @@ def names_in_order(many: dict[int, Posix]) -> None:
     in_order = sorted(many.values(), key=lambda one: one.name)
     text = "".join(map(row_of_posix, in_order))
     assert "\\x01" in text and "\\x5c" in text and "\\xff" in text and "~" in text
-    opens(Device(STANDARD).save(7, 0, objects).image, text, "names")
+    opens(Device(STANDARD).save(7, objects).image, text, "names")
 
 
 def no_states() -> Iterator[Check]:
@@ -177,7 +177,7 @@ def cut_short(free: Posix) -> Iterator[Check]:
 
 
 def no_state(name: str, objects: Objects) -> Check:
-    return partial(refuses, Device().save(7, 0, objects).image, "damaged sector 1", name)
+    return partial(refuses, Device().save(7, objects).image, "damaged sector 1", name)
 
 
 def posix() -> Iterator[Check]:

@@ -53,7 +53,7 @@ def with_adjustments(undo: bytes, pids: tuple[int, ...] = (20, 21), two: Set = T
 
 def after(name: str, events: list[bytes], two: Set | None, one: Set) -> None:
     """The sets after these events and a restart: what a script finds, and what a save then keeps of them."""
-    device = Device().save(7, 0, with_adjustments(adjustments(*THEM)))
+    device = Device().save(7, with_adjustments(adjustments(*THEM)))
     device.journal(7, *([batch(*events)] if events else []))
     there = {} if two is None else {2: two}
     listed = "".join(row_of_set(number, found) for number, found in {**there, 5: one}.items())
@@ -67,7 +67,7 @@ def after(name: str, events: list[bytes], two: Set | None, one: Set) -> None:
     used = 1 if events else 0
     wanted = device.copy().put(BODY + used, 0, batch(RESTART)).put(BODY + used + 1, 0, line)
     objects = state(clock(100, 31, 1, 6), processes((30, 0, 0)), {}, {**there, 5: one})
-    runs(device, script, printed, wanted.put(JOURNAL, 0, header(7, used + 2)).save(8, 1, objects), name)
+    runs(device, script, printed, wanted.put(JOURNAL, 0, header(7, used + 2)).save(8, objects), name)
 
 
 def restarts() -> Iterator[Check]:
@@ -122,7 +122,7 @@ def no_states() -> Iterator[Check]:
         "pids that do not rise": (others[1], first),
     }.items():
         objects = with_adjustments(adjustments(*them))
-        yield partial(refuses, Device().save(7, 0, objects).image, "damaged sector 1", name)
+        yield partial(refuses, Device().save(7, objects).image, "damaged sector 1", name)
     data = adjustments(*THEM)
     for name, wrong in {
         "a byte less than four adjustments": data[:-1],
@@ -131,9 +131,9 @@ def no_states() -> Iterator[Check]:
         "a count of five": b"\0\0\0\5" + data[4:],
         "three bytes": data[:3],
     }.items():
-        yield partial(refuses, Device().save(7, 0, with_adjustments(wrong)).image, "damaged sector 1", name)
+        yield partial(refuses, Device().save(7, with_adjustments(wrong)).image, "damaged sector 1", name)
     gone = with_adjustments(adjustments(*THEM), (21,))
-    yield partial(refuses, Device().save(7, 0, gone).image, "damaged sector 1", "one who has left")
+    yield partial(refuses, Device().save(7, gone).image, "damaged sector 1", "one who has left")
 
 
 def as_many_as_may_be() -> None:
@@ -142,7 +142,7 @@ def as_many_as_may_be() -> None:
     them = [Adjustment(pid, semid, number, 1) for pid in pids for semid in semids for number in range(64)]
     sets = {semid: Set(0, 64 * ((0, 0),)) for semid in semids}
     objects = state(clock(9, 65, 1, 9), processes(*((pid, 0, 0) for pid in pids)), {}, sets, NONE, adjustments(*them))
-    device = Device(STANDARD).save(1, 0, objects)
+    device = Device(STANDARD).save(1, objects)
     after = {semid: Set(0, 64 * ((64, 64),)) for semid in semids}
     opens(device.image, "".join(row_of_set(semid, one) for semid, one in after.items()), "32768 adjustments")
     script = ["0 open 1", sends(0, 1, hello(1, 0, 0), semctl_getall(2, 8))]

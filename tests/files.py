@@ -16,8 +16,8 @@ from pathlib import Path
 
 sys.dont_write_bytecode = True
 
-from device_layout import JOURNAL, OBJECTS, ROOT, SECTOR, SMALL, superblock  # noqa: E402
-from device_runs import GOOD_LISTED, NEW_HEADER, NEW_OBJECTS, NEW_ROOT, good, is_image  # noqa: E402
+from device_layout import JOURNAL, ROOT, SECTOR, SMALL, superblock  # noqa: E402
+from device_runs import GOOD_LISTED, NEW_HEADER, NEW_ROOT, NEW_SECTORS, good, is_image  # noqa: E402
 from scripts import Run, rows  # noqa: E402
 from server import check, in_a_folder, printed, run, run_tests  # noqa: E402
 
@@ -50,7 +50,7 @@ def a_file_gets_its_length() -> None:
         said = printed("format", "device", "--small", "--sectors", str(sectors))
         check(said == f"formatted {sectors} sectors\n", f"{said!r} is printed")
         wanted = bytearray(before[: SECTOR * sectors].ljust(SECTOR * sectors, b"\0"))
-        parts = {0: superblock(SMALL, sectors), ROOT: NEW_ROOT, JOURNAL: NEW_HEADER, OBJECTS: NEW_OBJECTS}
+        parts = {0: superblock(SMALL, sectors), ROOT: NEW_ROOT, JOURNAL: NEW_HEADER, **NEW_SECTORS}
         for at, data in parts.items():
             wanted[SECTOR * at : SECTOR * (at + 1)] = data.ljust(SECTOR, b"\0")
         is_image(Path("device").read_bytes(), bytes(wanted), f"{sectors} sectors in a file of {length} bytes")

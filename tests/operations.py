@@ -29,6 +29,7 @@ from server import (  # noqa: E402
     TIMEOUT,
     Client,
     Server,
+    as_user,
     check,
     in_a_folder,
     listing,
@@ -39,9 +40,17 @@ from server import (  # noqa: E402
     serving,
     until,
 )
-from client import IPC_CREAT, hello_request  # noqa: E402
+from client import (  # noqa: E402
+    IPC_CREAT,
+    O_CREAT,
+    O_RDONLY,
+    O_RDWR,
+    MqAttr,
+    hello_request,
+)
 
 PAGE = Path(__file__).resolve().parent.parent / "docs" / "OPERATIONS.md"
+MOVE = Path(__file__).resolve().parent.parent / "examples" / "move_objects.py"
 TEXTS = [b"first", b"second"]
 
 
@@ -100,6 +109,81 @@ def backups() -> None:
     printed("format", "device", "--small")
     check(shell(restore) == 0, "the copy is not restored")
     check(printed("dump", "device") == wanted, "the device has other queues")
+    os.remove("copy")
+
+
+# ---- a device of an earlier version
+
+
+def an_earlier_version() -> None:
+    """It is named, and the file is left as it was."""
+    printed("format", "device", "--small")
+    device = bytearray(Path("device").read_bytes())
+    device[8:12] = bytes(4)
+    Path("device").write_bytes(device)
+    for words in (("dump", "device"), ("run", "device"), ("serve", "device", "socket")):
+        ended = run(*words)
+        check((ended.returncode, ended.stdout, ended.stderr) == (1, "", "ipcd: version 0\n"), f"{words}: {ended}")
+        check(Path("device").read_bytes() == device, f"{words}: the device has changed")
+
+
+def make_one_of_each() -> None:
+    """An object of each kind; the queue has another owner than maker."""
+    with process() as client:
+        queue = client.msgget(7, IPC_CREAT | 0o640)
+        for number, text in enumerate((b"first", b"", b"third"), 1):
+            client.msgsnd(queue, number, text)
+        client.msgctl_set(queue, 3000, 300, 0o600, 100)
+        client.semctl_setall(client.semget(8, 3, IPC_CREAT | 0o600), [1, 0, 32767])
+        jobs = client.mq_open("/q \\", O_CREAT | O_RDWR, 0, MqAttr(maxmsg=2, msgsize=9))
+        client.mq_send(jobs, b"low", 1)
+        client.mq_send(jobs, b"high", 32767)
+        client.sem_open("/s", O_CREAT, 0o640, value=3)
+        segment = client.shm_open("/m", O_CREAT | O_RDWR, 0o600)
+        client.ftruncate(segment, 1000)
+        client.shm_write(segment, 936, bytes(range(64)))
+
+
+def has_one_of_each() -> None:
+    """The first is of user 0, who may do all; no queue is left full or empty by who looks."""
+    with as_user(0, 0) as client:
+        stat = client.msgctl_stat(client.msgget(7, 0))
+        check((*stat[:6], stat.qbytes) == (7, 3000, 300, 1000, 100, 0o600, 100), f"the queue is {stat}")
+        texts = [client.msgrcv(1, 64) for _ in range(3)]
+        check(texts == [(1, b"first"), (2, b""), (3, b"third")], f"its messages are {texts}")
+        check(client.semctl_getall(client.semget(8, 0, 0)) == [1, 0, 32767], "the values are others")
+        jobs = client.mq_open("/q \\", O_RDONLY)
+        texts = [client.mq_receive(jobs, 9) for _ in range(2)]
+        check(texts == [(32767, b"high"), (1, b"low")], f"the messages by priority are {texts}")
+        check(client.sem_getvalue(client.sem_open("/s", 0)) == 3, "the value is another one")
+        segment = client.shm_open("/m", O_RDONLY)
+        check(client.shm_read(segment, 936, 64) == bytes(range(64)), "the segment has other bytes")
+        check(not any(client.shm_read(segment, 64 * at, 64)[0] for at in range(14)), "the segment has other bytes")
+
+
+def objects_that_move() -> None:
+    """From one server to another, by the example."""
+    printed("format", "device", "--small")
+    with serving(limits="small"):
+        make_one_of_each()
+    shutil.copy("device", "copy")
+    listed = printed("dump", "copy")
+    check(len(listed.splitlines()) == 5, f"{listed} is listed")
+    os.mkdir("new")
+    with serving(limits="small"):
+        os.chdir("new")
+        printed("format", "device", "--small")
+        with serving(limits="small"):
+            words = [sys.executable, str(MOVE), "../socket", "socket"]
+            ended = subprocess.run(words, input=listed, capture_output=True, text=True, timeout=TIMEOUT)
+            check((ended.returncode, ended.stdout, ended.stderr) == (0, "5 objects\n", ""), f"{ended}")
+        check(printed("dump", "device") == listed, "something else is listed")
+        with serving(limits="small"):
+            has_one_of_each()
+        os.chdir("..")
+    left = [line.split()[-1] for line in printed("dump", "device").splitlines() if line.startswith("msg")]
+    check(left == ["0"], "the messages are on both servers")
+    shutil.rmtree("new")
     os.remove("copy")
 
 
@@ -228,6 +312,8 @@ def clients_that_come_and_go() -> None:
 
 TESTS = [
     backups,
+    an_earlier_version,
+    objects_that_move,
     removed_and_replaced,
     cut,
     a_limit_of_files,

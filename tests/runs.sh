@@ -646,6 +646,6 @@ tells "^ *--small " replay --help
 name "help of format"
 tells "^ *--sectors <N> " format --help
 name "the version"
-tells "^ipcd [0-9]*\.[0-9]*\.[0-9]*, devices of version 0$" --version
+tells "^ipcd [0-9]*\.[0-9]*\.[0-9]*, devices of version 1$" --version
 
 echo "runs: $runs runs of the program, each as it should be"

@@ -9,6 +9,7 @@ nothing. What is expected was reckoned from docs/PROTOCOL.md and docs/DEVICE.md.
 from __future__ import annotations
 
 import errno
+import re
 import subprocess
 import sys
 from itertools import accumulate
@@ -17,7 +18,7 @@ from typing import NamedTuple
 
 sys.dont_write_bytecode = True
 
-from device_layout import BODY, SECTOR  # noqa: E402
+from device_layout import BODY, OBJECTS, ROOT, SECTOR  # noqa: E402
 from server import PROGRAM, TIMEOUT, check, frame, in_a_folder, printed, run_tests  # noqa: E402
 from client import msgsnd_request  # noqa: E402
 from watch import ALL, ENDS, Disk, build, calls, order, refused_once, watched  # noqa: E402
@@ -302,6 +303,27 @@ def writes_and_syncs() -> None:
     makes("300 opens", 299 * "stop\n", 256 * "SBSHS" + "SOSRS" + 43 * "SBSHS")
 
 
+def sectors_of_saves() -> None:
+    """A save writes each object, the table and the root: of a process and its queue seven sectors, and again seven, and
+    of a second queue one more. Each save syncs before the root and after it."""
+    printed("format", "device", "--small")
+    lines = SCRIPT.splitlines(keepends=True)[:4]
+    lines += ["save\n", "save\n", "0 data 1 0000000d000000060a0000162e00000380\n", "save\n"]
+    with watched():
+        printed_of("three saves", "".join(lines))
+    written, saves = 0, []
+    for call in calls():
+        if call.name == "pwrite" and call.sector >= OBJECTS:
+            written += call.size // SECTOR
+        if call.name == "pwrite" and call.sector == ROOT:
+            saves.append(written + call.size // SECTOR)
+            written = 0
+    check(saves == [7, 7, 8], f"{saves} sectors are written")
+    found = re.sub("O+", "O", "".join(letter for letter in order(calls()) if letter not in "iPc"))
+    wanted = "SBSHS" + 3 * "BSHS" + 2 * "OSRS" + "BSHS" + "OSRS"
+    check(found == wanted, f"three saves: the calls are {found}, and not {wanted}")
+
+
 # The lengths of the texts in a line, the bytes of their batch, and its sectors. A batch has 4 bytes of its length, the
 # tick of the line, 13, and 38 and the text for each.
 BATCHES = [((2,), 57, 1), ((457,), 512, 1), ((458,), 513, 2), ((457, 474), 1024, 2), ((457, 475), 1025, 3)]
@@ -330,6 +352,7 @@ TESTS = [
     a_thousand_requests_in_a_line,
     a_crash_leaves_the_message_or_not,
     writes_and_syncs,
+    sectors_of_saves,
     batches,
 ]
 

@@ -25,6 +25,7 @@ from pathlib import Path
 
 sys.dont_write_bytecode = True
 
+from device_layout import LAST_EPOCH, RESTART, ROOT, Device, batch, root  # noqa: E402
 from server import (  # noqa: E402
     PROGRAM,
     SEED,
@@ -85,7 +86,7 @@ def command_lines() -> None:
     refused(1, "ipcd: not formatted", "serve", "empty", "socket")
     printed("format", "changed", "--small")
     device = Path("changed").read_bytes()
-    for place, said in ((11, "ipcd: version 1"), (12, "ipcd: damaged sector 0")):
+    for place, said in ((11, "ipcd: version 0"), (12, "ipcd: damaged sector 0")):
         changed = device[:place] + bytes([device[place] ^ 1]) + device[place + 1 :]
         Path("changed").write_bytes(changed)
         refused(1, said, "serve", "changed", "socket")
@@ -627,6 +628,31 @@ def failing_device() -> None:
     check(printed("dump", "device") == listing({queue: [b"x"] * sent}), f"not {sent} are kept")
 
 
+def the_last_epoch() -> None:
+    """Its journal gets full, and a save would need another epoch: each client is told EIO as its last, and the server
+    ends. The device does not open any more."""
+    device = Device().put(ROOT, 0, root(LAST_EPOCH, 264, 84))
+    Path("device").write_bytes(device.journal(LAST_EPOCH, *200 * [batch(RESTART)]).image)
+    server = Server(limits="small")
+    try:
+        clients = [process(), process(), Client()]
+        last, answers = (0, errno.EIO, b""), []
+        while len(answers) < 100 and last not in answers:
+            serial = clients[0].send(msgget_request(1, 0))
+            answers.append(clients[0].receive())
+            check(answers[-1] in ((serial, errno.ENOENT, b""), last), f"{answers[-1]} is answered")
+        for client in clients[1:]:
+            check(client.receive() == last, "the last frame is another one")
+        for client in clients:
+            client.is_ended()
+            client.close()
+        server.ends(1, "ipcd: device fault\n")
+    finally:
+        server.process.kill()
+    ended = run("dump", "device")
+    check((ended.returncode, ended.stderr) == (1, "ipcd: damaged sector 1\n"), f"{ended}")
+
+
 TESTS = [
     command_lines,
     device_in_use,
@@ -644,6 +670,7 @@ TESTS = [
     sixty_clients,
     crashes,
     failing_device,
+    the_last_epoch,
 ]
 
 

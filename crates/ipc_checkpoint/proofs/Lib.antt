@@ -1,8 +1,7 @@
--- Lemmas on the bytes of a checkpoint, and on the images that hold one.
-mod Areas
+-- Lemmas on the objects of a checkpoint, and on the images that hold one.
 pub mod CallerLemmas
+mod Keeping
 mod Loads
-mod Objects
-mod Roots
+mod Putting
 mod Saves
-mod Writing
+mod Tables

@@ -1,175 +1,216 @@
--- The images of a save: while the other area is written, at the sync, and while the root is written.
-use Rattle.std.proofs.Common.{◌≡◌, ◌≢◌, inl, inr, ⊎_elim, ℕ, zero, suc, ◌+◌, ◌-◌, ◌*◌, ◌<◌, ◌≤◌, List, [], ◌∷◌, length, take, sym, ◌∙◌, ap, subst, arith}
-use Rattle.std.specs.Prelude.{slice_set}
-use Rattle.std.specs.List.{flat_map}
-use Rattle.std.proofs.lemmas.Bool.{cases_lt}
-use Rattle.std.proofs.lemmas.List.{length-append}
+-- A save: the heap while objects are taken out, put in and turned over, how many sectors that takes, and its images.
+use Rattle.std.proofs.Common.{◌≡◌, ◌≢◌, inl, ℕ, ◌+◌, ◌*◌, ◌^◌, ◌<◌, ◌≤◌, Bool, List, [], ◌∷◌, length, map, Option}
+use Rattle.std.proofs.Common.{refl, sym, ap, subst, ◌∙◌, arith}
+use Rattle.std.specs.Prelude.{All, is_some, nat_eq, sum_by}
+use Rattle.std.specs.List.{filter}
+use Rattle.std.proofs.lemmas.List.{length-append, length-map}
+use Rattle.std.proofs.lemmas.List.Elements.{All-head, All-tail}
 use Rattle.std.proofs.lemmas.List.Sums.{sum_by-cons}
-use Rattle.ipc_base.specs.Objects.{PlainObjects, AreObjects}
+use Rattle.ipc_base.specs.Objects.{PlainObjects, AreObjects, Fit, object_sectors}
+use Rattle.ipc_base.specs.Table.{seen_as, value_at}
 use Rattle.ipc_disk.specs.declared.range.Range.{Range}
-use Rattle.ipc_disk.specs.Medium.{Image, Medium, IsHonest, IsDurable, SetOrNot, Stays}
-use Rattle.ipc_disk.specs.Range.{IsOutside}
+use Rattle.ipc_disk.specs.Counts.{Counts, InRange, with_calls}
+use Rattle.ipc_disk.specs.Medium.{Image, Medium, IsHonest}
+use Rattle.ipc_disk.specs.Range.{IsInside, IsOutside}
 use Rattle.ipc_disk.specs.Since.{EachImageSince, LeavesAlone}
-use Rattle.ipc_disk.specs.Standing.{sectors_for, sector_at, StandsAt, IsWrittenAt, piece}
-use Rattle.ipc_disk.proofs.CallerLemmas.{EachImageSince-join, EachImageSince-now, EachImageSince-sync}
-use Rattle.ipc_disk.proofs.CallerLemmas.{EachImageSince-weaken, LeavesAlone-fewer, LeavesAlone-join}
-use Rattle.ipc_disk.proofs.CallerLemmas.{LeavesAlone-keeps, LeavesAlone-stays, sector_at-same}
-use Rattle.ipc_disk.proofs.CallerLemmas.{sector_at-set_same, sector_at-set_other, StandsAt-written}
-use Rattle.ipc_checkpoint.specs.declared.layout.Layout.{Layout}
-use Rattle.ipc_checkpoint.specs.declared.checkpoint.Checkpoint.{Checkpoint}
-use Rattle.ipc_checkpoint.specs.Area.{area_bytes, entry_bytes}
-use Rattle.ipc_checkpoint.specs.Checkpoint.{first_of, sectors_of, epoch_in, area_in, length_in, IsLaidOut, IsElsewhere, HoldsIn}
-use Rattle.ipc_checkpoint.specs.Matches.{CheckpointMatches, HoldsEither}
-use Rattle.ipc_base.specs.Objects.{object_sectors, Fit}
-use Rattle.ipc_checkpoint.proofs.CallerLemmas.{area-within, HoldsIn-same}
-use Rattle.ipc_checkpoint.proofs.Objects.{length-area}
+use Rattle.ipc_disk.specs.Standing.{sectors_for}
+use Rattle.ipc_disk.proofs.CallerLemmas.{EachImageSince-join, EachImageSince-weaken, LeavesAlone-fewer, LeavesAlone-join}
+use Rattle.ipc_heap.specs.Heap.{Placed, table_sectors_for, table_words}
+use Rattle.ipc_heap.specs.Heap as heap
+use Rattle.ipc_heap.specs.Matches.{HeapMatches, IsKept, Keeps}
+use Rattle.ipc_heap.specs.View.{ArePlaced, HeapView, StaysInPlace, free, map_of, sizes_of, used_by}
+use Rattle.ipc_heap.proofs.CallerLemmas.{Keeps-map, Keeps-matches, Keeps-sizes, words_for-is}
+use Rattle.ipc_checkpoint.specs.Checkpoint.{Holds, IsElsewhere, IsLaidOut}
+use Rattle.ipc_checkpoint.specs.Matches.{CheckpointMatches, HoldsEither, OthersAreThere, changed_sectors, sectors_of, table_sectors}
+use Rattle.ipc_checkpoint.specs.Saving.{AreThere, HasNoOthers}
+use Rattle.ipc_checkpoint.specs.View.{CheckpointView, HasSpare, epoch_of, layout_of}
+use Rattle.ipc_checkpoint.proofs.Putting.{calls-more, own-value}
+use Rattle.ipc_checkpoint.proofs.Tables.{filter-at, filter-only}
 
--- objects that fit, with their table, have no more bytes than the area
-length-entries : (objects : PlainObjects) → length (flat_map entry_bytes objects) ≤ 16 * length objects + 512 * object_sectors objects
-length-entries [] = omega arith
-length-entries (o ∷ objects) =
+-- ---- how many sectors objects take in a heap
+
+abbrev HasSize : Placed → Type 0
+HasSize p = (0 < p.len) × (p.len < 2 ^ 64) × (length p.sectors ≡ sectors_for p.len)
+
+abbrev sized : List (ℕ × ℕ) → ℕ
+sized sizes = sum_by (λ s. sectors_for s.1) sizes
+
+sectors-sized : (ps : List Placed) → All HasSize ps → length (heap.object_sectors ps) ≡ sized (map (λ p. (p.number, p.len)) ps)
+sectors-sized [] sizes = refl
+sectors-sized (p ∷ ps) sizes =
+    let size : ℕ × ℕ → ℕ = λ s. sectors_for s.1 in
+    let e : ℕ × ℕ = (p.number, p.len) in
+    let es : List (ℕ × ℕ) = map (λ p. (p.number, p.len)) ps in
+    let here = All-head HasSize p ps sizes in
     omega (
       arith,
-      length-append o.1 (flat_map entry_bytes objects),
-      sum_by-cons (λ p. sectors_for (length p.1)) o objects,
-      length-entries objects,
+      length-append p.sectors (heap.object_sectors ps),
+      sectors-sized ps (All-tail HasSize p ps sizes),
+      here.2,
+      sum_by-cons size e es,
     )
 
-pub Fit-bytes : (area : ℕ) (objects : PlainObjects) → Fit area objects → length (area_bytes objects) ≤ 512 * area
-Fit-bytes area objects fit = omega (arith, length-area objects, length-entries objects, fit)
+sized-seen : (os : PlainObjects) → sized (seen_as (λ bytes. length bytes) os) ≡ object_sectors os
+sized-seen [] = refl
+sized-seen (o ∷ os) =
+    let size : ℕ × ℕ → ℕ = λ s. sectors_for s.1 in
+    let own : ℕ × List ℕ → ℕ = λ p. sectors_for (length p.1) in
+    let e : ℕ × ℕ = (o.0, length o.1) in
+    let es : List (ℕ × ℕ) = seen_as (λ bytes. length bytes) os in
+    omega (arith, sum_by-cons size e es, sum_by-cons own o os, sized-seen os)
 
-module _ (layout : Layout) (size : ℕ) (laid : IsLaidOut layout size) where
-  -- what is elsewhere is outside each area and is not the root
-  elsewhere-area : (area i : ℕ) → area < 2 → IsElsewhere layout i → IsOutside (sectors_of layout area) i
-  elsewhere-area area i lt (other, inl low) = inl (omega (arith, low))
-  elsewhere-area area i lt (other, inr high) = inr (omega (arith, high, area-within area layout.area lt, laid.room))
+module _ (h : HeapView) (os : PlainObjects) (placed : ArePlaced h.range h.placed) (sizes : sizes_of h ≡ seen_as (λ bytes. length bytes) os) where
+  its-sectors : length (heap.object_sectors h.placed) ≡ object_sectors os
+  its-sectors = sectors-sized h.placed placed.sizes ∙ ap (λ (s : List (ℕ × ℕ)). sized s) sizes ∙ sized-seen os
 
-  elsewhere-root : (i : ℕ) → IsElsewhere layout i → IsOutside (record { first = layout.root; count = 1 }) i
-  elsewhere-root i (other, out) = elim (cases_lt i layout.root) [ inl low ↦ inl low | inr high ↦ inr (omega (arith, high, other)) ]
+  pub its-words : length (table_words h.placed) ≡ 1 + (4 * length os + object_sectors os)
+  its-words =
+      let size : Placed → ℕ × ℕ = λ p. (p.number, p.len) in
+      let own : ℕ × List ℕ → ℕ × ℕ = λ o. (o.0, length o.1) in
+      omega (arith, words_for-is h.placed, its-sectors, length-map h.placed size, length-map os own, ap length sizes)
 
-  others-area : (area : ℕ) (old mid : Medium) → area < 2 → LeavesAlone (IsOutside (sectors_of layout area)) old mid
-      → LeavesAlone (IsElsewhere layout) old mid
-  others-area area old mid lt run =
-      LeavesAlone-fewer (IsElsewhere layout) (IsOutside (sectors_of layout area)) old mid (λ i here. elsewhere-area area i lt here) run
+  pub its-table : table_sectors_for (length (table_words h.placed)) ≡ table_sectors os
+  its-table = omega (arith, its-words)
 
-  pub others-written : (area : ℕ) (range : Range) (old mid : Medium) → area < 2 → range ≡ sectors_of layout area
-      → LeavesAlone (IsOutside range) old mid → LeavesAlone (IsElsewhere layout) old mid
-  others-written area range old mid lt is run = others-area area old mid lt (subst (λ (r : Range). LeavesAlone (IsOutside r) old mid) is run)
+  -- what is free once nothing else is saved
+  pub its-free : (x : HeapView) (n : ℕ) → x.placed ≡ h.placed → length x.table ≡ table_sectors_for (length (table_words h.placed))
+      → free x + length (used_by x) ≡ n → free x + sectors_of os ≡ n
+  its-free x n same table all =
+      omega (
+        arith,
+        all,
+        length-append (heap.object_sectors x.placed) x.table,
+        ap (λ (l : List Placed). length (heap.object_sectors l)) same,
+        its-sectors,
+        table,
+        its-table,
+      )
 
-  others-root : (old new : Medium) → LeavesAlone (IsOutside (record { first = layout.root; count = 1 })) old new
-      → LeavesAlone (IsElsewhere layout) old new
-  others-root old new run =
-      LeavesAlone-fewer (IsElsewhere layout) (IsOutside (record { first = layout.root; count = 1 })) old new elsewhere-root run
+-- ---- a save
 
-  -- an area is written, and after a read, a sync or nothing the root
-  pub others-both : (area : ℕ) (range : Range) (old mid kept new : Medium) → area < 2 → range ≡ sectors_of layout area
-      → LeavesAlone (IsOutside range) old mid → Stays mid kept → LeavesAlone (IsOutside (record { first = layout.root; count = 1 })) kept new
-      → LeavesAlone (IsElsewhere layout) old new
-  others-both area range old mid kept new lt is run call last =
-      LeavesAlone-join (IsElsewhere layout) old kept new
-      (LeavesAlone-stays (IsElsewhere layout) old mid kept (others-written area range old mid lt is run) call) (others-root kept new last)
+module _ (size : ℕ) (c : CheckpointView) (os : PlainObjects) (differs : ℕ → Bool) (are : AreObjects os) (laid : IsLaidOut (layout_of c) size)
+    (fits : Fit c.area os) (spare : HasSpare c) (one : HeapView) (keeps : Keeps (λ n. is_some (value_at nat_eq os n)) c.heap one)
+    (more : free c.heap ≤ free one) where
+  abbrev kept : ℕ → Bool
+  kept n = is_some (value_at nat_eq os n)
 
-  -- the root is outside each area
-  pub root-outside : (area : ℕ) → area < 2 → IsOutside (sectors_of layout area) layout.root
-  root-outside area lt =
-      ⊎_elim (λ low. inl (omega (arith, low))) (λ high. inr (omega (arith, high, area-within area layout.area lt, laid.room))) laid.apart
+  pub laid-one : heap.IsLaidOut one.range one.root size
+  laid-one =
+      subst (λ (r : ℕ). heap.IsLaidOut one.range r size) (sym keeps.stays.root)
+      (subst (λ (r : Range). heap.IsLaidOut r c.heap.root size) (sym keeps.stays.range)
+      (record { within = laid.within; root_there = laid.root; apart = laid.apart; not_first = laid.not_first }))
 
-  root-other : (area i : ℕ) → area < 2 → i < layout.area → first_of layout area + i ≢ layout.root
-  root-other area i lt less = λ same. ⊎_elim
-      (λ low. absurd (omega (arith, low, same)))
-      (λ high. absurd (omega (arith, high, same, less))) (root-outside area lt)
+  pub only-one : HasNoOthers (sizes_of one) os
+  only-one n some =
+      filter-only kept (sizes_of c.heap) n
+      (ap (λ (t : List (ℕ × ℕ)). is_some (value_at nat_eq t n)) (sym (Keeps-sizes kept c.heap one keeps)) ∙ some)
 
-  -- the other area is outside the live one
-  pub other-outside : (area i : ℕ) → area < 2 → i < layout.area → IsOutside (sectors_of layout (1 - area)) (first_of layout area + i)
-  other-outside zero i lt less = inl (omega (arith, less))
-  other-outside (suc zero) i lt less = inr (omega arith)
-  other-outside (suc (suc area)) i lt less = absurd (omega (arith, lt))
+  pub room-one : object_sectors os ≤ free one
+  room-one = omega (arith, more, spare, fits, laid.room)
 
-  -- objects that stand in an area are there from the moment that the root says so
-  pub HoldsIn-root : (area epoch : ℕ) (objects : PlainObjects) (image : Image) (sector : List ℕ) → length image ≡ size → AreObjects objects
-      → Fit layout.area objects → area < 2 → 0 < epoch → epoch_in sector ≡ epoch → area_in sector ≡ area
-      → length_in sector ≡ length (area_bytes objects) → StandsAt (first_of layout area) (area_bytes objects) image
-      → HoldsIn layout area epoch objects (slice_set image layout.root sector)
-  HoldsIn-root area epoch objects image sector long are fit lt some e a n stands =
-      let new = slice_set image layout.root sector in
-      let root : sector_at new layout.root ≡ sector = sector_at-set_same image layout.root sector (omega (arith, long, laid.root)) in
-      let room : sectors_for (length (area_bytes objects)) ≤ layout.area = omega (arith, Fit-bytes layout.area objects fit) in
-      record {
-        are = are;
-        areas = lt;
-        positive = some;
-        current = ap epoch_in root ∙ e;
-        live = ap area_in root ∙ a;
-        long = ap length_in root ∙ n;
-        room = room;
-        stands = λ i less. ap (λ (s : List ℕ). take (length (piece i (area_bytes objects))) s)
-            (sector_at-set_other image layout.root (first_of layout area + i) sector (root-other area i lt (omega (arith, less, room)))) ∙ stands i less;
-      }
+  module _ (old : Medium) (saved : PlainObjects) (at : CheckpointMatches c saved old) where
+    pub matches-one : HeapMatches one saved old
+    matches-one = Keeps-matches kept c.heap one keeps saved old at.matches
 
--- a save
-module _ (checkpoint : Checkpoint) (size : ℕ) (laid : IsLaidOut checkpoint.layout size) (saved : PlainObjects) (old : Medium)
-    (at : CheckpointMatches checkpoint saved old) (next : ℕ) (others : PlainObjects) (range : Range)
-    (is : range ≡ sectors_of checkpoint.layout (1 - checkpoint.live)) where
-  abbrev Before : Image → Type 0
-  Before = HoldsIn checkpoint.layout checkpoint.live checkpoint.epoch saved
+    pub were-one : OthersAreThere differs os saved → AreThere differs os (map_of one old)
+    were-one others i o is off =
+        let found = others i o is off in
+        let saved-are : AreObjects saved = subst AreObjects at.map at.matches.are in
+        ap (λ (t : PlainObjects). value_at nat_eq t o.0)
+        (Keeps-map kept c.heap one keeps old ∙ ap (λ (t : PlainObjects). filter (λ p. kept p.0) t) at.map)
+        ∙ filter-at kept saved o.0 (ap (λ (r : Option (List ℕ)). is_some r) (own-value os are i o is))
+        ∙ own-value saved saved-are found.0 o found.1
 
-  abbrev Either : Image → Type 0
-  Either = HoldsEither checkpoint.layout checkpoint.epoch saved next others
+  -- while objects are put in
+  module _ (old mid : Medium)
+      (moment : (saved : PlainObjects) → HeapMatches one saved old → EachImageSince old mid (heap.Holds one.range one.root one.epoch saved))
+      (others : IsHonest old → LeavesAlone (heap.IsElsewhere one.range one.root) old mid) where
+    pub moment-mid : (saved : PlainObjects) → CheckpointMatches c saved old → (epoch : ℕ)
+        → EachImageSince old mid (HoldsEither (layout_of c) (epoch_of c) saved epoch os)
+    moment-mid saved at epoch =
+        let P : Image → Type 0 = Holds (layout_of c) (epoch_of c) saved in
+        let stays = keeps.stays in
+        let here : EachImageSince old mid P =
+        subst (λ (e : ℕ). EachImageSince old mid (heap.Holds c.heap.range c.heap.root e saved)) stays.epoch
+        (subst (λ (r : ℕ). EachImageSince old mid (heap.Holds c.heap.range r one.epoch saved)) stays.root
+        (subst (λ (r : Range). EachImageSince old mid (heap.Holds r one.root one.epoch saved)) stays.range (moment saved (matches-one old saved at)))) in
+        EachImageSince-weaken old mid P (HoldsEither (layout_of c) (epoch_of c) saved epoch os) here (λ image holds. inl holds)
 
-  abbrev run_of : Range
-  run_of = sectors_of checkpoint.layout (1 - checkpoint.live)
+    pub others-mid : IsHonest old → LeavesAlone (IsElsewhere (layout_of c)) old mid
+    others-mid honest =
+        subst (λ (r : ℕ). LeavesAlone (heap.IsElsewhere c.heap.range r) old mid) keeps.stays.root
+        (subst (λ (r : Range). LeavesAlone (heap.IsElsewhere r one.root) old mid) keeps.stays.range (others honest))
 
-  -- a write to the other area leaves the objects
-  body : (mid : Medium) → LeavesAlone (IsOutside range) old mid → EachImageSince old mid Before
-  body mid run =
-      LeavesAlone-keeps (IsOutside run_of) old mid Before (subst (λ (r : Range). LeavesAlone (IsOutside r) old mid) is run) at.images
-      (λ a b same holds. HoldsIn-same checkpoint.layout checkpoint.live checkpoint.epoch saved a b
-      (sector_at-same (IsOutside run_of) a b checkpoint.layout.root same (root-outside checkpoint.layout size laid (1 - checkpoint.live) (omega arith)))
-      (λ i lt. sector_at-same (IsOutside run_of) a b (first_of checkpoint.layout checkpoint.live + i) same
-      (other-outside checkpoint.layout size laid checkpoint.live i checkpoint.areas lt))
-      holds)
+    -- and then the heap is turned over
+    module _ (two : HeapView) (stays : StaysInPlace one two) (placed : ArePlaced two.range two.placed)
+        (sizes : sizes_of two ≡ seen_as (λ bytes. length bytes) os) (spends : free one ≤ free two + object_sectors os) where
+      abbrev words : ℕ
+      words = length (table_words two.placed)
 
-  early : (image : Image) → Before image → Either image
-  early image holds = inl (record { area = checkpoint.live; there = holds })
+      pub counted-two : 4 * words < 2 ^ 32
+      counted-two = omega (arith, its-words two os placed sizes, fits, laid.counted)
 
-  pub moment-body : (mid : Medium) → LeavesAlone (IsOutside range) old mid → EachImageSince old mid Either
-  moment-body mid run = EachImageSince-weaken old mid Before Either (body mid run) early
+      pub not-full : free two < table_sectors_for words → ⊥
+      not-full full = omega (arith, full, its-table two os placed sizes, spends, more, spare, fits, laid.room)
 
-  pub moment-sync : (mid new : Medium) → LeavesAlone (IsOutside range) old mid → Stays mid new → EachImageSince old new Either
-  moment-sync mid new run call = EachImageSince-sync old mid new Either (moment-body mid run) run.honest call
+      range-two : two.range ≡ c.heap.range
+      range-two = stays.range ∙ keeps.stays.range
 
-  module _ (mid kept : Medium) (run : LeavesAlone (IsOutside range) old mid) (call : Stays mid kept) (durable : IsDurable kept)
-      (long : length kept.contents ≡ size) (are : AreObjects others) (fit : Fit checkpoint.layout.area others) (some : 0 < next)
-      (written : IsWrittenAt range.first (area_bytes others) mid.contents)
-      (sector : List ℕ) (e : epoch_in sector ≡ next) (a : area_in sector ≡ 1 - checkpoint.live)
-      (n : length_in sector ≡ length (area_bytes others)) where
-    -- after the sync there is one image, in which the new objects stand already
-    honest : IsHonest kept
-    honest = call.time.honest.0 run.honest
+      module _ (new : Medium) (epoch : ℕ) (three : HeapView)
+          (matches : (saved : PlainObjects) → HeapMatches one saved old → HeapMatches two saved mid)
+          (map-is : (saved : PlainObjects) → HeapMatches one saved old → AreThere differs os (map_of one old) → map_of two mid ≡ os)
+          (unchanged : (saved : PlainObjects) → CheckpointMatches c saved old → OthersAreThere differs os saved) where
+        map-two : (saved : PlainObjects) → CheckpointMatches c saved old → map_of two mid ≡ os
+        map-two saved at = map-is saved (matches-one old saved at) (were-one old saved at (unchanged saved at))
 
-    before : Before kept.contents
-    before = EachImageSince-now old kept Before (EachImageSince-sync old mid kept Before (body mid run) run.honest call) honest kept.contents honest.reads
+        pub moment-new : ((saved : PlainObjects) → HeapMatches two saved mid
+            → EachImageSince mid new (heap.HoldsEither two.range two.root two.epoch saved epoch (map_of two mid)))
+            → (saved : PlainObjects) → CheckpointMatches c saved old → EachImageSince old new (HoldsEither (layout_of c) (epoch_of c) saved epoch os)
+        moment-new flips saved at =
+            let E : Range → ℕ → ℕ → PlainObjects → Type 0 = λ r n e l. EachImageSince mid new (heap.HoldsEither r n e saved epoch l) in
+            EachImageSince-join old mid new (HoldsEither (layout_of c) (epoch_of c) saved epoch os) (moment-mid saved at epoch)
+            (subst (E c.heap.range c.heap.root c.heap.epoch) (map-two saved at)
+            (subst (λ (e : ℕ). E c.heap.range c.heap.root e (map_of two mid)) (stays.epoch ∙ keeps.stays.epoch)
+            (subst (λ (r : ℕ). E c.heap.range r two.epoch (map_of two mid)) (stays.root ∙ keeps.stays.root)
+            (subst (λ (r : Range). E r two.root two.epoch (map_of two mid)) range-two (flips saved (matches saved (matches-one old saved at)))))))
 
-    pub saved-there : HoldsIn checkpoint.layout (1 - checkpoint.live) next others (slice_set kept.contents checkpoint.layout.root sector)
-    saved-there =
-        HoldsIn-root checkpoint.layout size laid (1 - checkpoint.live) next others kept.contents sector long are fit (omega arith) some e a n
-        (subst (StandsAt (first_of checkpoint.layout (1 - checkpoint.live)) (area_bytes others)) (sym (call.contents run.honest))
-        (StandsAt-written (first_of checkpoint.layout (1 - checkpoint.live)) (area_bytes others) mid.contents
-        (subst (λ (r : Range). IsWrittenAt r.first (area_bytes others) mid.contents) is written)))
+        pub others-new : (IsHonest mid → LeavesAlone (λ i. IsKept two i × (i ≢ two.root)) mid new)
+            → IsHonest old → LeavesAlone (IsElsewhere (layout_of c)) old new
+        others-new flips honest =
+            let run = others-mid honest in
+            LeavesAlone-join (IsElsewhere (layout_of c)) old mid new run
+            (LeavesAlone-fewer (IsElsewhere (layout_of c)) (λ i. IsKept two i × (i ≢ two.root)) mid new
+            (λ i out. (
+              inl (subst (λ (r : Range). IsOutside r i) (sym range-two) out.1),
+              λ same. out.0 (same ∙ stays.root ∙ keeps.stays.root),
+            )) (flips run.honest))
 
-    root : (image : Image) → SetOrNot checkpoint.layout.root sector kept image → Either image
-    root image from =
-        let one : from.0 ≡ kept.contents = durable from.0 from.1 in
-        ⊎_elim
-        (λ same. early image (subst Before (sym (same ∙ one)) before))
-        (λ set. inr (record {
-          area = 1 - checkpoint.live;
-          there = subst (HoldsIn checkpoint.layout (1 - checkpoint.live) next others)
-              (sym (set ∙ ap (λ (c : Image). slice_set c checkpoint.layout.root sector) one)) saved-there;
-        }))
-        from.2
+        module _ (same : three.placed ≡ two.placed) (range : three.range ≡ two.range) (table : length three.table ≡ table_sectors_for words)
+            (all : free three + length (used_by three) ≡ three.range.count) where
+          pub free-new : free three + sectors_of os ≡ c.heap.range.count
+          free-new = its-free two os placed sizes three three.range.count same table all ∙ ap (λ (r : Range). r.count) (range ∙ range-two)
 
-    pub moment-root : (new : Medium) → EachImageSince kept new (SetOrNot checkpoint.layout.root sector kept) → EachImageSince old new Either
-    moment-root new last =
-        EachImageSince-join old kept new Either (moment-sync mid kept run call)
-        (EachImageSince-weaken kept new (SetOrNot checkpoint.layout.root sector kept) Either last root)
+          pub matches-new : ((saved : PlainObjects) → HeapMatches two saved mid → HeapMatches three (map_of two mid) new)
+              → ((saved : PlainObjects) → HeapMatches two saved mid → map_of three new ≡ map_of two mid)
+              → (area : ℕ) (saved : PlainObjects) → CheckpointMatches c saved old → CheckpointMatches (record { area = area; heap = three }) os new
+          matches-new flips keeps-map area saved at =
+              let here = matches saved (matches-one old saved at) in
+              record {
+                matches = subst (λ (l : PlainObjects). HeapMatches three l new) (map-two saved at) (flips saved here);
+                map = keeps-map saved here ∙ map-two saved at;
+                inside = subst (λ (r : Range). All (IsInside r) (heap.object_sectors three.placed)) (sym range)
+                    (subst (λ (l : List Placed). All (IsInside two.range) (heap.object_sectors l)) (sym same) placed.inside);
+                free = its-free two os placed sizes three three.range.count same table all;
+              }
+
+        pub writes-new : (first second third : Counts) → InRange first
+            → ((saved : PlainObjects) → HeapMatches one saved old → AreThere differs os (map_of one old)
+            → second ≡ with_calls (changed_sectors differs os) 0 first)
+            → third ≡ with_calls (table_sectors_for words + 1) 2 second → (saved : PlainObjects) → CheckpointMatches c saved old
+            → third ≡ with_calls (changed_sectors differs os + table_sectors os + 1) 2 first
+        writes-new first second third in_range puts flips saved at =
+            let sum : changed_sectors differs os + (table_sectors_for words + 1) ≡ changed_sectors differs os + table_sectors os + 1 =
+            omega (arith, its-table two os placed sizes) in
+            calls-more (changed_sectors differs os) (table_sectors_for words + 1) 2 first second third in_range
+            (puts saved (matches-one old saved at) (were-one old saved at (unchanged saved at))) flips
+            ∙ ap (λ (n : ℕ). with_calls n 2 first) sum

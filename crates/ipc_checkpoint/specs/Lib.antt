@@ -1,6 +1,5 @@
 -- What a checkpoint on a disk means, what the value that stands for it shows, and when the two match.
-pub mod Area
 pub mod Checkpoint
 pub mod Matches
-pub mod Relations
+pub mod Saving
 pub mod View

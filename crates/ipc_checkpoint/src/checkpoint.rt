@@ -1,34 +1,43 @@
 //! The checkpoint: its value, and the calls on it.
 
-ghost use Rattle.std.specs.Prelude.{◌≡◌, ◌<◌, ℕ, IfOk, OnOk, OnErr, IsErrOf};
+ghost use Rattle.std.specs.Prelude.{◌≡◌, ◌<◌, ◌+◌, ℕ, IfOk, OnOk, OnErr, IsErrOf};
 ghost use Rattle.ipc_base.specs.Objects.{PlainObjects};
-ghost use Rattle.ipc_disk.specs.Calls.{IsSameDisk, CountsFault, OnlyReads};
+ghost use Rattle.ipc_disk.specs.Calls.{IsSameDisk, CountsCalls, CountsFault, OnlyReads};
+ghost use Rattle.ipc_disk.specs.Counts.{with_calls};
 ghost use Rattle.ipc_disk.specs.Medium.{IsHonest, IsDurable};
 ghost use Rattle.ipc_disk.specs.Since.{EachImageSince, LeavesAlone};
 
-use crate::area::{AreaFault, read_objects};
-use crate::loading::{read_area, read_root, sector_of};
-use crate::root::{Root, root_sector};
-use crate::saving::write_objects;
+use crate::loading::read_objects;
+use crate::saving::{keep_those_of, put_changed};
 use crate::{Layout, LoadError};
 use ipc_base::{ObjectMap, Objects};
-use ipc_disk::{DiskFault, SectorDisk, write_durably};
+use ipc_disk::{DiskFault, SectorDisk};
+use ipc_heap::Heap;
 use std::alloc::Global;
+use std::marker::Model;
 
-/// What is known of a checkpoint on a disk: where it lies, its epoch, and which of its sectors count.
-#[derive(Clone, Copy, Debug, PartialEq, Eq)]
+/// What is known of a checkpoint on a disk: where it lies, its epoch, and where its objects are. A contract sees it as
+/// `CheckpointView`.
+#[derive(Drop)]
 pub struct Checkpoint {
-    layout: Layout,
-    live: u32,
-    epoch: u64,
-    ghost areas: { live < 2 },
+    area: u32,
+    heap: Heap,
+}
+
+impl Model for Checkpoint {
+    ghost use Rattle.ipc_checkpoint.specs.View.{CheckpointView};
+
+    ghost Value = { CheckpointView };
+
+    ghost view = { λ c. record { area = c.area; heap = c.heap } };
 }
 
 impl Checkpoint {
-    ghost use Rattle.ipc_checkpoint.specs.Checkpoint.{Holds, IsLaidOut, IsOwn, IsElsewhere};
+    ghost use Rattle.ipc_checkpoint.specs.Checkpoint.{Holds, IsLaidOut, IsElsewhere, IsOwn, IsFirstDamage};
     ghost use Rattle.ipc_checkpoint.specs.Matches.{CheckpointMatches, HoldsEither, OthersAreThere};
+    ghost use Rattle.ipc_checkpoint.specs.Matches.{sectors_of, table_sectors, changed_sectors};
     ghost use Rattle.ipc_base.specs.Objects.{Fit};
-    ghost use Rattle.ipc_checkpoint.specs.View.{layout_of, epoch_of};
+    ghost use Rattle.ipc_checkpoint.specs.View.{layout_of, epoch_of, free_of, HasSpare};
 
     /// Makes the first checkpoint, at epoch 1, with one sync. Until then, and after an `Err`, its sectors may be
     /// anything.
@@ -46,21 +55,15 @@ impl Checkpoint {
         // A crash at any moment: no other sector is touched.
         ensures others { IsHonest (D.medium disk.old)
             → LeavesAlone (IsElsewhere layout) (D.medium disk.old) (D.medium disk.new) }
-        // Failures.
+        // Failures and counts.
         ensures same { IsSameDisk D.size D.medium disk.old disk.new }
-        ensures counts { CountsFault D.counts result disk.old disk.new }
+        ensures counts { CountsCalls D.counts result (with_calls (sectors_of (O.objects objects.now) + 1) 1)
+            disk.old disk.new }
     {
-        let len = write_objects(disk, layout.sectors(0), objects)?;
-        let root = Root {
-            epoch: 1,
-            live: 0,
-            len,
-        };
-        write_durably(disk, layout.root, &root_sector(root))?;
-        Ok(())
+        Heap::create(disk, layout.range, layout.root, objects)
     }
 
-    /// The checkpoint that stands there, and its objects. It only reads.
+    /// The checkpoint that stands there, and its objects. It only reads, each sector once.
     pub fn load<D: SectorDisk>(
         alloc: Global,
         disk: &mut D,
@@ -77,36 +80,32 @@ impl Checkpoint {
             → IsHonest (D.medium disk.old) → (epoch : ℕ) (objects : PlainObjects)
             → ¬ Holds layout epoch objects (D.medium disk.old).contents }
         ensures named { (sector : ℕ) → IsErrOf result (LoadError.Damaged sector) → IsOwn layout sector }
+        ensures first { (sector : ℕ) → IsErrOf result (LoadError.Damaged sector) → IsHonest (D.medium disk.old)
+            → IsFirstDamage layout (D.medium disk.old).contents sector }
+        // How many sectors are free.
+        ensures free { IfOk result (λ found. free_of found.0 + sectors_of found.1 ≡ layout.range.count) }
+        // Failures.
         ensures reads { OnlyReads D.size D.medium D.counts (IsErrOf result LoadError.Device) disk.old disk.new }
     {
-        let root = read_root(disk, layout)?;
-        let range = layout.sectors(root.live);
-        let bytes = read_area(alloc, disk, range.first, root.len as usize)?;
-        match read_objects(alloc, &bytes) {
-            Ok(objects) => {
-                let checkpoint = Checkpoint {
-                    layout,
-                    live: root.live,
-                    epoch: root.epoch,
-                };
-                Ok((checkpoint, objects))
-            }
-            Err(AreaFault::Damaged { place }) => Err(LoadError::Damaged {
-                sector: range.first + sector_of(place, bytes.len()),
-            }),
-            Err(AreaFault::NoMemory) => Err(LoadError::NoMemory),
-        }
+        let heap = Heap::open(alloc, disk, layout.range, layout.root)?;
+        let objects = read_objects(alloc, disk, &heap)?;
+        let checkpoint = Checkpoint {
+            area: layout.area,
+            heap,
+        };
+        Ok((checkpoint, objects))
     }
 
     /// Its epoch.
     pub fn epoch(&self) -> u64
         ensures { result ≡ epoch_of self.now }
     {
-        self.epoch
+        self.heap.epoch()
     }
 
-    /// Replaces the objects, at a later epoch. A crash at any moment leaves all of the old ones at the old epoch, or
-    /// all of the new ones at the new. It takes no memory. After an `Err` the checkpoint has to be loaded again.
+    /// Replaces the objects, at a later epoch. Those that have changed are written, and the table. A crash at any
+    /// moment leaves all of the old ones at the old epoch, or all of the new ones at the new. It takes no memory. After
+    /// an `Err` the checkpoint has to be loaded again.
     pub fn save<D: SectorDisk, O: Objects>(
         &mut self,
         disk: &mut D,
@@ -116,8 +115,7 @@ impl Checkpoint {
         requires laid_out { IsLaidOut (layout_of self.old) (D.size disk.old) }
         requires later { epoch_of self.old < epoch }
         requires fits { Fit (layout_of self.old).area (O.objects objects.now) }
-        requires old_fits { (saved : PlainObjects) → CheckpointMatches self.old saved (D.medium disk.old)
-            → Fit (layout_of self.old).area saved }
+        requires old_fits { HasSpare self.old }
         requires unchanged { (saved : PlainObjects) → CheckpointMatches self.old saved (D.medium disk.old)
             → OthersAreThere (O.differs objects.now) (O.objects objects.now) saved }
         // What is there then.
@@ -126,26 +124,31 @@ impl Checkpoint {
             → CheckpointMatches self.new (O.objects objects.now) (D.medium disk.new)) }
         ensures durable { OnOk result (IsDurable (D.medium disk.new)) }
         ensures epoch { OnOk result (epoch_of self.new ≡ epoch) }
+        ensures err_epoch { OnErr result (epoch_of self.new ≡ epoch_of self.old) }
         ensures layout { layout_of self.new ≡ layout_of self.old }
-        ensures err { OnErr result (self.new ≡ self.old) }
+        ensures free { OnOk result (free_of self.new + sectors_of (O.objects objects.now)
+            ≡ (layout_of self.old).range.count) }
         // A crash at any moment of the call, also of one that fails.
         ensures any_moment { (saved : PlainObjects) → CheckpointMatches self.old saved (D.medium disk.old)
             → EachImageSince (D.medium disk.old) (D.medium disk.new)
             (HoldsEither (layout_of self.old) (epoch_of self.old) saved epoch (O.objects objects.now)) }
         ensures others { IsHonest (D.medium disk.old)
             → LeavesAlone (IsElsewhere (layout_of self.old)) (D.medium disk.old) (D.medium disk.new) }
-        // Failures.
+        // Failures and counts: what is written is what has changed, the table and the root.
         ensures same { IsSameDisk D.size D.medium disk.old disk.new }
         ensures counts { CountsFault D.counts result disk.old disk.new }
+        ensures writes { OnOk result ((saved : PlainObjects) → CheckpointMatches self.old saved (D.medium disk.old)
+            → D.counts disk.new ≡ with_calls (changed_sectors (O.differs objects.now) (O.objects objects.now)
+            + table_sectors (O.objects objects.now) + 1) 2 (D.counts disk.old)) }
     {
-        let live = 1 - self.live;
-        let len = write_objects(disk, self.layout.sectors(live), objects)?;
-        // The objects have to be on the disk before a root that tells of them may be.
-        disk.sync()?;
-        let root = Root { epoch, live, len };
-        write_durably(disk, self.layout.root, &root_sector(root))?;
-        self.live = live;
-        self.epoch = epoch;
-        Ok(())
+        // None of the objects is empty, as their count tells.
+        let _count = objects.count();
+        keep_those_of(&mut self.heap, objects);
+        put_changed(&mut self.heap, disk, objects)?;
+        match self.heap.flip(disk, epoch) {
+            Ok(()) => Ok(()),
+            // It cannot be full: all but an area was free, and there was room for another.
+            Err(_) => Err(DiskFault),
+        }
     }
 }

@@ -1,9 +1,11 @@
 //! What can go wrong where a checkpoint is read.
 
 ghost use Rattle.std.specs.Prelude.{◌≡◌};
+ghost use Rattle.ipc_checkpoint.specs.View.{of_open_error};
 ghost use Rattle.ipc_checkpoint.specs.declared.error.LoadError.TheVariants.{Device, NoMemory};
 
 use ipc_disk::DiskFault;
+use ipc_heap::OpenError;
 use std::alloc::AllocError;
 use thiserror::Error;
 
@@ -37,5 +39,17 @@ impl From<AllocError> for LoadError {
 
     fn from(_: AllocError) -> Self {
         LoadError::NoMemory
+    }
+}
+
+impl From<OpenError> for LoadError {
+    ghost from_gives = { λ error e. e ≡ of_open_error error };
+
+    fn from(error: OpenError) -> Self {
+        match error {
+            OpenError::Device => LoadError::Device,
+            OpenError::Damaged { sector } => LoadError::Damaged { sector },
+            OpenError::NoMemory => LoadError::NoMemory,
+        }
     }
 }

@@ -1,15 +1,13 @@
-//! Checkpoints: objects and an epoch on a disk, which a save replaces whole or not at all.
+//! Checkpoints: objects and an epoch on a disk, which a save replaces whole or not at all. Only what has changed is
+//! written.
 #![tactic(auto)]
 
-mod area;
 mod checkpoint;
 mod error;
 mod laws;
 mod layout;
 mod loading;
-mod root;
 mod saving;
-mod writer;
 
 pub use checkpoint::Checkpoint;
 pub use error::LoadError;

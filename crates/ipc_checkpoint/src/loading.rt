@@ -1,67 +1,69 @@
-//! What is read of a checkpoint before its bytes are looked into.
+//! The objects of a checkpoint, read from its heap.
 
-ghost use Rattle.std.specs.Prelude.{◌≡◌, ◌<◌, ◌+◌, ◌-◌, ◌/◌, ◌^◌, ◌≤◌, ℕ, length, min, IfOk, IsErrOf};
-ghost use Rattle.ipc_base.specs.Objects.{PlainObjects};
+ghost use Rattle.std.specs.Prelude.{◌≡◌, ◌<◌, ℕ, length, nat_eq, IfOk, IsErrOf, Some};
+ghost use Rattle.ipc_base.specs.Table.{seen_as, value_at};
 ghost use Rattle.ipc_disk.specs.Calls.{OnlyReads};
 ghost use Rattle.ipc_disk.specs.Medium.{IsHonest};
-ghost use Rattle.ipc_disk.specs.Standing.{sectors_for, sector_at, StandsAt};
-ghost use Rattle.ipc_checkpoint.specs.Checkpoint.{Holds};
-ghost use Rattle.ipc_checkpoint.specs.Relations.Root.{IsRead};
+ghost use Rattle.ipc_heap.specs.Heap.{IsLaidOut};
+ghost use Rattle.ipc_heap.specs.View.{map_of, sizes_of, ArePlaced};
 
-use crate::root::{Root, root_in};
-use crate::{Layout, LoadError};
-use ipc_disk::{Range, SectorDisk, read_bytes};
+use crate::LoadError;
+use ipc_base::ObjectMap;
+use ipc_disk::SectorDisk;
+use ipc_heap::Heap;
 use std::alloc::Global;
 
-// The root that stands there.
-pub(crate) fn read_root<D: SectorDisk>(disk: &mut D, layout: Layout) -> Result<Root, LoadError>
-    requires { layout.root < D.size disk.old }
-    ensures read { IfOk result (λ root. IsHonest (D.medium disk.old)
-        → IsRead layout (sector_at (D.medium disk.old).contents layout.root) root) }
-    ensures sound { IfOk result (λ root. (root.live < 2) × (4 ≤ root.len) × (sectors_for root.len ≤ layout.area)) }
-    ensures damaged { (sector : ℕ) → IsErrOf result (LoadError.Damaged sector)
-        → IsHonest (D.medium disk.old) → (epoch : ℕ) (objects : PlainObjects)
-        → ¬ Holds layout epoch objects (D.medium disk.old).contents }
-    ensures named { (sector : ℕ) → IsErrOf result (LoadError.Damaged sector) → sector ≡ layout.root }
-    ensures reads { OnlyReads D.size D.medium D.counts (IsErrOf result LoadError.Device) disk.old disk.new }
-{
-    let mut sector = [0; 512];
-    disk.read(layout.root, &mut sector)?;
-    match root_in(&sector, layout) {
-        Some(root) => Ok(root),
-        None => Err(LoadError::Damaged {
-            sector: layout.root,
-        }),
-    }
-}
-
-// The bytes that stand from the first sector of a range on, so many of them.
-pub(crate) fn read_area<D: SectorDisk>(
+/// All objects of a heap. Each of their sectors is read once.
+pub(crate) fn read_objects<D: SectorDisk>(
     alloc: Global,
     disk: &mut D,
-    first: u32,
-    len: usize,
-) -> Result<Vec<u8>, LoadError>
-    requires some { 0 < len }
-    requires within { first + sectors_for len ≤ D.size disk.old }
-    ensures stands { IfOk result (λ bytes. IsHonest (D.medium disk.old)
-        → StandsAt first bytes.items (D.medium disk.old).contents) }
-    ensures long { IfOk result (λ bytes. length bytes.items ≡ len) }
+    heap: &Heap,
+) -> Result<ObjectMap, LoadError>
+    requires laid_out { IsLaidOut heap.now.range heap.now.root (D.size disk.old) }
+    ensures placed { IfOk result (λ _. ArePlaced heap.now.range heap.now.placed) }
+    ensures sizes { IfOk result (λ found. seen_as (λ bytes. length bytes) found ≡ sizes_of heap.now) }
+    ensures objects { IfOk result (λ found. IsHonest (D.medium disk.old)
+        → found ≡ map_of heap.now (D.medium disk.old)) }
     ensures not_damaged { (sector : ℕ) → IsErrOf result (LoadError.Damaged sector) → ⊥ }
     ensures reads { OnlyReads D.size D.medium D.counts (IsErrOf result LoadError.Device) disk.old disk.new }
 {
-    let mut bytes = vec![in alloc; 0; len]?;
-    let mut sector = [0; 512];
-    disk.read(first, &mut sector)?;
-    read_bytes(disk, first, &sector, &mut bytes)?;
-    Ok(bytes)
+    // A law, and that four bytes can count them.
+    heap.objects_have_their_bytes(disk);
+    let _count = heap.count();
+    let mut objects = ObjectMap::new(alloc);
+    let mut i = 0;
+    while let Some((number, len)) = heap.object_at(i) {
+        let bytes = read_object(alloc, disk, heap, number, len)?;
+        objects.push(number, &bytes)?;
+        i += 1;
+    }
+    Ok(objects)
 }
 
-// In which of the sectors of so many bytes a place lies, or the last of them.
-pub(crate) fn sector_of(place: usize, len: usize) -> u32
-    requires some { 0 < len }
-    requires counted { len < 2 ^ 32 }
-    ensures { result ≡ min place (len - 1) / 512 }
+// The object of a number, which has so many bytes.
+fn read_object<D: SectorDisk>(
+    alloc: Global,
+    disk: &mut D,
+    heap: &Heap,
+    number: u64,
+    len: u64,
+) -> Result<Vec<u8>, LoadError>
+    requires laid_out { IsLaidOut heap.now.range heap.now.root (D.size disk.old) }
+    requires object { value_at nat_eq (sizes_of heap.now) number ≡ Some len }
+    ensures long { IfOk result (λ bytes. length bytes.items ≡ len) }
+    ensures bytes { IfOk result (λ bytes. IsHonest (D.medium disk.old)
+        → value_at nat_eq (map_of heap.now (D.medium disk.old)) number ≡ Some bytes.items) }
+    ensures not_damaged { (sector : ℕ) → IsErrOf result (LoadError.Damaged sector) → ⊥ }
+    ensures reads { OnlyReads D.size D.medium D.counts (IsErrOf result LoadError.Device) disk.old disk.new }
 {
-    (place.min(len - 1) / 512) as u32
+    // A law.
+    heap.objects_have_their_bytes(disk);
+    let mut bytes = Vec::with_capacity(alloc, len as usize)?;
+    for k in 0..len.div_ceil(512) {
+        let mut window = [0; 512];
+        heap.read(disk, number, 512 * k, &mut window)?;
+        let count = (len - 512 * k).min(512) as usize;
+        bytes.extend_from_slice(&window[..count])?;
+    }
+    Ok(bytes)
 }

@@ -1,109 +1,113 @@
-//! Objects as bytes on their way to a disk.
+//! Objects on their way into the heap of a checkpoint.
 
-ghost use Rattle.std.specs.Prelude.{◌≡◌, ◌<◌, ◌++◌, ◌+◌, ◌*◌, ◌^◌, ◌≤◌, List, ℕ, length};
-ghost use Rattle.std.specs.Prelude.{OnOk, IfOk};
-ghost use Rattle.ipc_base.specs.Objects.{AreObjects};
+ghost use Rattle.std.specs.Prelude.{◌≡◌, ◌≢◌, ◌≤◌, ◌<◌, ◌+◌, length, nat_eq, is_some, slice_get, true, false, Some};
+ghost use Rattle.std.specs.Prelude.{IfSome, OnOk};
+ghost use Rattle.ipc_base.specs.Objects.{PlainObjects, object_sectors};
+ghost use Rattle.ipc_base.specs.Table.{seen_as, value_at};
 ghost use Rattle.ipc_disk.specs.Calls.{IsSameDisk, CountsFault};
+ghost use Rattle.ipc_disk.specs.Counts.{with_calls};
 ghost use Rattle.ipc_disk.specs.Medium.{IsHonest};
-ghost use Rattle.ipc_disk.specs.Range.{IsWithin, IsOutside};
-ghost use Rattle.ipc_disk.specs.Since.{LeavesAlone};
-ghost use Rattle.ipc_disk.specs.Standing.{IsWrittenAt};
-ghost use Rattle.ipc_checkpoint.specs.Area.{area_bytes, entry_bytes};
-ghost use Rattle.ipc_checkpoint.specs.Relations.Writer.{HasPut, range_of, length_of, object_at};
+ghost use Rattle.ipc_disk.specs.Since.{EachImageSince, LeavesAlone};
+ghost use Rattle.ipc_heap.specs.Heap.{IsLaidOut, IsElsewhere, Holds};
+ghost use Rattle.ipc_heap.specs.Matches.{HeapMatches, Keeps};
+ghost use Rattle.ipc_heap.specs.View.{free, map_of, sizes_of, ArePlaced, StaysInPlace};
+ghost use Rattle.ipc_checkpoint.specs.Matches.{changed_sectors};
+ghost use Rattle.ipc_checkpoint.specs.Saving.{AreThere, HasNoOthers};
 
-use crate::writer::Writer;
 use ipc_base::Objects;
-use ipc_disk::{DiskFault, Range, SectorDisk};
+use ipc_disk::{DiskFault, SectorDisk};
+use ipc_heap::Heap;
 
-// Writes the objects and their number from the first sector of a range on. No sync. How many bytes they are.
-pub(crate) fn write_objects<D: SectorDisk, O: Objects>(
-    disk: &mut D,
-    range: Range,
-    objects: &O,
-) -> Result<u32, DiskFault>
-    requires within { IsWithin range (D.size disk.old) }
-    requires room { length (area_bytes (O.objects objects.now)) ≤ 512 * range.count }
-    requires counted { length (area_bytes (O.objects objects.now)) < 2 ^ 32 }
-    ensures written { OnOk result (IsHonest (D.medium disk.old)
-        → IsWrittenAt range.first (area_bytes (O.objects objects.now)) (D.medium disk.new).contents) }
-    ensures len { IfOk result (λ len. len ≡ length (area_bytes (O.objects objects.now))) }
-    ensures objects { OnOk result (AreObjects (O.objects objects.now)) }
-    ensures others { IsHonest (D.medium disk.old)
-        → LeavesAlone (IsOutside range) (D.medium disk.old) (D.medium disk.new) }
-    ensures same { IsSameDisk D.size D.medium disk.old disk.new }
-    ensures counts { CountsFault D.counts result disk.old disk.new }
+/// Takes out of a heap what some objects lack.
+pub(crate) fn keep_those_of<O: Objects>(heap: &mut Heap, objects: &O)
+    ensures keeps { Keeps (λ number. is_some (value_at nat_eq (O.objects objects.now) number)) heap.old heap.new }
+    ensures free { free heap.old ≤ free heap.new }
 {
-    let mut writer = Writer::new(range);
-    writer.put(disk, &objects.count().to_be_bytes())?;
+    // Four bytes can count them.
+    let _count = heap.count();
+    let mut i = 0;
+    while let Some((number, _)) = heap.object_at(i) {
+        if has(objects, number) {
+            i += 1;
+        } else {
+            heap.remove(number);
+        }
+    }
+}
+
+// Whether there is an object of a number.
+fn has<O: Objects>(objects: &O, number: u64) -> bool
+    ensures { result ≡ is_some (value_at nat_eq (O.objects objects.now) number) }
+{
     for i in 0..objects.count() {
-        put_object(&mut writer, disk, objects, i)?;
+        if objects.number(i) == number {
+            return true;
+        }
     }
-    let len = writer.finish(disk)?;
-    Ok(len)
+    false
 }
 
-// Puts the i-th object: its number, its length and its bytes.
-fn put_object<D: SectorDisk, O: Objects>(
-    writer: &mut Writer,
+/// Puts all objects into a heap that have changed, or that it has not in this length.
+pub(crate) fn put_changed<D: SectorDisk, O: Objects>(
+    heap: &mut Heap,
     disk: &mut D,
     objects: &O,
-    i: u32,
 ) -> Result<(), DiskFault>
-    requires object { i < length (O.objects objects.now) }
-    requires within { IsWithin (range_of writer.old) (D.size disk.old) }
-    requires room { length_of writer.old + length (entry_bytes (object_at (O.objects objects.now) i))
-        ≤ 512 * (range_of writer.old).count }
-    requires counted { length_of writer.old + length (entry_bytes (object_at (O.objects objects.now) i))
-        < 2 ^ 32 }
-    ensures put { OnOk result (IsHonest (D.medium disk.old) → (before : List ℕ)
-        → HasPut writer.old before (D.medium disk.old).contents
-        → HasPut writer.new (before ++ entry_bytes (object_at (O.objects objects.now) i))
-        (D.medium disk.new).contents) }
-    ensures range { range_of writer.new ≡ range_of writer.old }
-    ensures len { OnOk result (length_of writer.new
-        ≡ length_of writer.old + length (entry_bytes (object_at (O.objects objects.now) i))) }
+    requires laid_out { IsLaidOut heap.old.range heap.old.root (D.size disk.old) }
+    requires no_others { HasNoOthers (sizes_of heap.old) (O.objects objects.now) }
+    requires room { object_sectors (O.objects objects.now) ≤ free heap.old }
+    // What the map is then.
+    ensures sizes { OnOk result (sizes_of heap.new ≡ seen_as (λ bytes. length bytes) (O.objects objects.now)) }
+    ensures map { OnOk result ((saved : PlainObjects) → HeapMatches heap.old saved (D.medium disk.old)
+        → AreThere (O.differs objects.now) (O.objects objects.now) (map_of heap.old (D.medium disk.old))
+        → map_of heap.new (D.medium disk.new) ≡ O.objects objects.now) }
+    ensures matches { OnOk result ((saved : PlainObjects) → HeapMatches heap.old saved (D.medium disk.old)
+        → HeapMatches heap.new saved (D.medium disk.new)) }
+    // A crash at any moment of the call, also of one that fails.
+    ensures any_moment { (saved : PlainObjects) → HeapMatches heap.old saved (D.medium disk.old)
+        → EachImageSince (D.medium disk.old) (D.medium disk.new)
+        (Holds heap.old.range heap.old.root heap.old.epoch saved) }
     ensures others { IsHonest (D.medium disk.old)
-        → LeavesAlone (IsOutside (range_of writer.old)) (D.medium disk.old) (D.medium disk.new) }
+        → LeavesAlone (IsElsewhere heap.old.range heap.old.root) (D.medium disk.old) (D.medium disk.new) }
+    ensures stays { StaysInPlace heap.old heap.new }
+    ensures placed { OnOk result (ArePlaced heap.new.range heap.new.placed) }
+    ensures spends { OnOk result (free heap.old ≤ free heap.new + object_sectors (O.objects objects.now)) }
+    // Failures and counts.
     ensures same { IsSameDisk D.size D.medium disk.old disk.new }
     ensures counts { CountsFault D.counts result disk.old disk.new }
+    ensures writes { OnOk result ((saved : PlainObjects) → HeapMatches heap.old saved (D.medium disk.old)
+        → AreThere (O.differs objects.now) (O.objects objects.now) (map_of heap.old (D.medium disk.old))
+        → D.counts disk.new
+        ≡ with_calls (changed_sectors (O.differs objects.now) (O.objects objects.now)) 0 (D.counts disk.old)) }
 {
-    writer.put(disk, &objects.number(i).to_be_bytes())?;
-    writer.put(disk, &objects.len(i).to_be_bytes())?;
-    put_content(writer, disk, objects, i)?;
+    // A law, here and after each put.
+    heap.objects_have_their_bytes(disk);
+    for i in 0..objects.count() {
+        if !is_kept(heap, objects, i) {
+            if let Err(_) = heap.put(disk, objects, i) {
+                return Err(DiskFault);
+            }
+            heap.objects_have_their_bytes(disk);
+        }
+    }
     Ok(())
 }
 
-// Puts the bytes of the i-th object.
-fn put_content<D: SectorDisk, O: Objects>(
-    writer: &mut Writer,
-    disk: &mut D,
-    objects: &O,
-    i: u32,
-) -> Result<(), DiskFault>
-    requires object { i < length (O.objects objects.now) }
-    requires within { IsWithin (range_of writer.old) (D.size disk.old) }
-    requires room { length_of writer.old + length (object_at (O.objects objects.now) i).1
-        ≤ 512 * (range_of writer.old).count }
-    requires counted { length_of writer.old + length (object_at (O.objects objects.now) i).1 < 2 ^ 32 }
-    ensures put { OnOk result (IsHonest (D.medium disk.old) → (before : List ℕ)
-        → HasPut writer.old before (D.medium disk.old).contents
-        → HasPut writer.new (before ++ (object_at (O.objects objects.now) i).1)
-        (D.medium disk.new).contents) }
-    ensures range { range_of writer.new ≡ range_of writer.old }
-    ensures len { OnOk result (length_of writer.new
-        ≡ length_of writer.old + length (object_at (O.objects objects.now) i).1) }
-    ensures others { IsHonest (D.medium disk.old)
-        → LeavesAlone (IsOutside (range_of writer.old)) (D.medium disk.old) (D.medium disk.new) }
-    ensures same { IsSameDisk D.size D.medium disk.old disk.new }
-    ensures counts { CountsFault D.counts result disk.old disk.new }
+// Whether a heap keeps the i-th object as it is: it has not changed, and has this length there.
+fn is_kept<O: Objects>(heap: &Heap, objects: &O, i: u32) -> bool
+    requires { i < length (O.objects objects.now) }
+    ensures kept { result ≡ true → (O.differs objects.now i ≡ false)
+        × IfSome (slice_get (O.objects objects.now) i) (λ o.
+        value_at nat_eq (sizes_of heap.now) o.0 ≡ Some (length o.1)) }
+    ensures other { result ≡ false → O.differs objects.now i ≡ false
+        → IfSome (slice_get (O.objects objects.now) i) (λ o.
+        value_at nat_eq (sizes_of heap.now) o.0 ≢ Some (length o.1)) }
 {
-    let len = objects.len(i);
-    let mut mark = objects.start(i);
-    for k in 0..len.div_ceil(512) {
-        let mut window = [0; 512];
-        objects.bytes(i, 512 * k, &mut mark, &mut window);
-        let count = (len - 512 * k).min(512) as usize;
-        writer.put(disk, &window[..count])?;
+    if objects.changed(i) {
+        return false;
     }
-    Ok(())
+    match heap.len_of(objects.number(i)) {
+        Some(len) => len == objects.len(i),
+        None => false,
+    }
 }

@@ -133,43 +133,58 @@ module _ (heap : HeapView) (saved : PlainObjects) (medium : Medium) (size : ℕ)
 
 -- ---- a map with an object in its place
 
-module _ (n : ℕ) (bytes : List ℕ) where
-  without-before : (es rest : PlainObjects) → All (λ e. e.0 < n) es → without nat_eq (es ++ rest) n ≡ es ++ without nat_eq rest n
+module _ {X : Type 0} (n : ℕ) (x : X) where
+  without-before : (es rest : List (ℕ × X)) → All (λ e. e.0 < n) es → without nat_eq (es ++ rest) n ≡ es ++ without nat_eq rest n
   without-before [] rest lower = refl
   without-before (e ∷ es) rest lower =
       let other : nat_eq e.0 n ≡ false = let less = All-head (λ d. d.0 < n) e es lower in grind (arith, nat_tests, less) in
-      rw other (ap (λ (l : PlainObjects). e ∷ l) (without-before es rest (All-tail (λ d. d.0 < n) e es lower)))
+      rw other (ap (λ (l : List (ℕ × X)). e ∷ l) (without-before es rest (All-tail (λ d. d.0 < n) e es lower)))
 
-  without-after : (es : PlainObjects) → All (λ e. n < e.0) es → without nat_eq es n ≡ es
+  without-after : (es : List (ℕ × X)) → All (λ e. n < e.0) es → without nat_eq es n ≡ es
   without-after [] higher = refl
   without-after (e ∷ es) higher =
       let other : nat_eq e.0 n ≡ false = let more = All-head (λ d. n < d.0) e es higher in grind (arith, nat_tests, more) in
-      rw other (ap (λ (l : PlainObjects). e ∷ l) (without-after es (All-tail (λ d. n < d.0) e es higher)))
+      rw other (ap (λ (l : List (ℕ × X)). e ∷ l) (without-after es (All-tail (λ d. n < d.0) e es higher)))
 
-  without-here : (here after : PlainObjects) → length here ≤ 1 → All (λ e. e.0 ≡ n) here → All (λ e. n < e.0) after → without nat_eq (here ++ after) n ≡ after
+  without-here : (here after : List (ℕ × X)) → length here ≤ 1 → All (λ e. e.0 ≡ n) here → All (λ e. n < e.0) after → without nat_eq (here ++ after) n ≡ after
   without-here [] after one same higher = without-after after higher
   without-here (e ∷ []) after one same higher =
       let is : nat_eq e.0 n ≡ true = let key = All-head (λ d. d.0 ≡ n) e [] same in grind (arith, nat_tests, key) in rw is refl
   without-here (e ∷ d ∷ here) after one same higher = absurd (omega (arith, one))
 
-  entry-after : (after : PlainObjects) → All (λ e. n < e.0) after → with_entry after n bytes ≡ (n, bytes) ∷ after
+  entry-after : (after : List (ℕ × X)) → All (λ e. n < e.0) after → with_entry after n x ≡ (n, x) ∷ after
   entry-after [] higher = refl
   entry-after (e ∷ after) higher =
       let before : nat_lt n e.0 ≡ true = let more = All-head (λ d. n < d.0) e after higher in grind (arith, nat_tests, more) in rw before refl
 
-  entry-before : (es after : PlainObjects) → All (λ e. e.0 < n) es → All (λ e. n < e.0) after → with_entry (es ++ after) n bytes ≡ es ++ (n, bytes) ∷ after
+  entry-before : (es after : List (ℕ × X)) → All (λ e. e.0 < n) es → All (λ e. n < e.0) after → with_entry (es ++ after) n x ≡ es ++ (n, x) ∷ after
   entry-before [] after lower higher = entry-after after higher
   entry-before (e ∷ es) after lower higher =
       let behind : nat_lt n e.0 ≡ false = let less = All-head (λ d. d.0 < n) e es lower in grind (arith, nat_tests, less) in
-      rw behind (ap (λ (l : PlainObjects). e ∷ l) (entry-before es after (All-tail (λ d. d.0 < n) e es lower) higher))
+      rw behind (ap (λ (l : List (ℕ × X)). e ∷ l) (entry-before es after (All-tail (λ d. d.0 < n) e es lower) higher))
 
-  pub with_object-place : (es here after : PlainObjects) → length here ≤ 1 → All (λ e. e.0 < n) es → All (λ e. e.0 ≡ n) here → All (λ e. n < e.0) after
-      → with_object (es ++ (here ++ after)) n bytes ≡ es ++ (n, bytes) ∷ after
+  pub with_object-place : (es here after : List (ℕ × X)) → length here ≤ 1 → All (λ e. e.0 < n) es → All (λ e. e.0 ≡ n) here → All (λ e. n < e.0) after
+      → with_object (es ++ (here ++ after)) n x ≡ es ++ (n, x) ∷ after
   with_object-place es here after one lower same higher =
-      ap (λ (l : PlainObjects). with_entry l n bytes) (without-before es (here ++ after) lower
-      ∙ ap (λ (l : PlainObjects). es ++ l) (without-here here after one same higher)) ∙ entry-before es after lower higher
+      ap (λ (l : List (ℕ × X)). with_entry l n x) (without-before es (here ++ after) lower
+      ∙ ap (λ (l : List (ℕ × X)). es ++ l) (without-here here after one same higher)) ∙ entry-before es after lower higher
 
 -- ---- the map after a put
+
+-- whatever is seen of its objects
+module _ {X : Type 0} (see : Placed → X) (before here after : List Placed) (p : Placed) (found_lower : All (λ q. q.number < p.number) before)
+    (found_same : All (λ q. q.number ≡ p.number) here) (found_one : length here ≤ 1) (found_higher : All (λ q. p.number < q.number) after) where
+  pub put-seen : map (λ q. (q.number, see q)) (before ++ p ∷ after)
+      ≡ with_object (map (λ q. (q.number, see q)) (before ++ (here ++ after))) p.number (see p)
+  put-seen =
+      let f : Placed → ℕ × X = λ q. (q.number, see q) in
+      let parts : map f (before ++ (here ++ after)) ≡ map f before ++ (map f here ++ map f after) =
+      map-append f before (here ++ after) ∙ ap (λ (l : List (ℕ × X)). map f before ++ l) (map-append f here after) in
+      map-append f before (p ∷ after)
+      ∙ sym (ap (λ (l : List (ℕ × X)). with_object l p.number (see p)) parts
+      ∙ with_object-place p.number (see p) (map f before) (map f here) (map f after) (omega (arith, length-map here f, found_one))
+      (All-map (λ e. e.0 < p.number) f before found_lower) (All-map (λ e. e.0 ≡ p.number) f here found_same)
+      (All-map (λ e. p.number < e.0) f after found_higher))
 
 keys-on : (image : Image) (ps : List Placed) → keys_of (map (object_on image) ps) ≡ map (λ p. p.number) ps
 keys-on image [] = refl
@@ -180,14 +195,8 @@ module _ (image : Image) (before here after : List Placed) (p : Placed) (bytes :
     (stands : take p.len (flat_map (sector_at image) p.sectors) ≡ bytes) where
   pub put-map : map (object_on image) (before ++ p ∷ after) ≡ with_object (map (object_on image) (before ++ (here ++ after))) p.number bytes
   put-map =
-      let f : Placed → ℕ × List ℕ = object_on image in
-      let parts : map f (before ++ (here ++ after)) ≡ map f before ++ (map f here ++ map f after) =
-      map-append f before (here ++ after) ∙ ap (λ (l : PlainObjects). map f before ++ l) (map-append f here after) in
-      map-append f before (p ∷ after) ∙ ap (λ (b : List ℕ). map f before ++ (p.number, b) ∷ map f after) stands
-      ∙ sym (ap (λ (l : PlainObjects). with_object l p.number bytes) parts
-      ∙ with_object-place p.number bytes (map f before) (map f here) (map f after) (omega (arith, length-map here f, found_one))
-      (All-map (λ e. e.0 < p.number) f before found_lower) (All-map (λ e. e.0 ≡ p.number) f here found_same)
-      (All-map (λ e. p.number < e.0) f after found_higher))
+      put-seen (λ q. take q.len (flat_map (sector_at image) q.sectors)) before here after p found_lower found_same found_one found_higher
+      ∙ ap (with_object (map (object_on image) (before ++ (here ++ after))) p.number) stands
 
   -- they are objects
   pub put-are : AreObjects (map (object_on image) (before ++ (here ++ after))) → IsRising 0 (map (λ q. q.number) (before ++ p ∷ after)) (2 ^ 64)

@@ -1,4 +1,5 @@
 -- Lemmas on the words and the sectors of a heap, and on the images that hold one.
+pub mod CallerLemmas
 mod Changes
 mod Damages
 mod Distinct

@@ -16,7 +16,7 @@ use Rattle.ipc_disk.specs.Range.{IsInside, IsWithin}
 use Rattle.ipc_disk.specs.Standing.{sector_at, sectors_for}
 use Rattle.ipc_heap.specs.declared.root.Root.{Root}
 use Rattle.ipc_heap.specs.declared.uses.Use.{Use}
-use Rattle.ipc_heap.specs.Damage.{AreFirstObjects, IsTable, IsFirstDamage, words_of_table}
+use Rattle.ipc_heap.specs.Damage.{AreFirstObjects, IsTable, IsFirstDamage, chain_for, words_of_table}
 use Rattle.ipc_heap.specs.Damage.IsFirstDamage.{Rest}
 use Rattle.ipc_heap.specs.Heap.{Placed, Allocation, Holds, HoldsIn, IsChained, len_in, next_in}
 use Rattle.ipc_heap.specs.Heap.{object_on, object_sectors, object_words, table_sectors_for, table_words, words_at}
@@ -29,7 +29,7 @@ use Rattle.ipc_heap.specs.Relations.Root.{IsRead}
 use Rattle.ipc_heap.specs.Relations.Words.{placed_in, IsHeap}
 use Rattle.ipc_heap.proofs.Distinct.{in-none, distinct-left}
 use Rattle.ipc_heap.proofs.Placed.{IsSized, placed_in-table}
-use Rattle.ipc_heap.proofs.Stands.{among-at, keys-seen}
+use Rattle.ipc_heap.proofs.Stands.{bytes-on, keys-seen}
 
 -- ---- before anything is noted
 
@@ -61,19 +61,6 @@ unused-noted range uses is =
     }
 
 -- ---- after all of it is
-
--- how many bytes stand in so many sectors
-length-sectors : (image : Image) (sectors : List ℕ) → All (λ i. length (sector_at image i) ≡ 512) sectors
-    → length (flat_map (sector_at image) sectors) ≡ 512 * length sectors
-length-sectors image [] long = refl
-length-sectors image (s ∷ sectors) long =
-    let first : length (sector_at image s) ≡ 512 = long 0 0 (omega arith) in
-    omega (
-      arith,
-      first,
-      length-append (sector_at image s) (flat_map (sector_at image) sectors),
-      length-sectors image sectors (All-tail (λ i. length (sector_at image i) ≡ 512) s sectors long),
-    )
 
 module _ (range : Range) (table words : List ℕ) (uses : List Use) (noted : AreAllNoted range table words uses true) (some : 0 < length words) where
   abbrev placed : List Placed
@@ -173,6 +160,12 @@ module _ (range : Range) (at : ℕ) (root : Root) (image : Image) (parts : Parts
       subst (λ (l : List Placed). count_by is_free parts.uses.items + length (object_sectors l ++ parts.table.items) ≡ range.count) (sym its-objects)
       noted.noted.free
 
+  pub kept-table : length parts.table.items ≡ chain_for root.len → length kept.table ≡ table_sectors_for (length (table_words kept.placed))
+  kept-table long =
+      let words : length parts.words.items ≡ length (table_words kept.placed) =
+      ap length its-words ∙ ap (λ (l : List Placed). length (table_words l)) (sym its-objects) in
+      omega (arith, long, all, words)
+
   module _ (read : IsRead (sector_at image at) root) (there : AreThere range at image parts) (size : ℕ) (shaped : IsShaped size image)
       (within : IsWithin range size)
       (fits : root.len < 2 ^ 32) where
@@ -180,15 +173,8 @@ module _ (range : Range) (at : ℕ) (root : Root) (image : Image) (parts : Parts
     allocated = record { placed = objects; table = parts.table.items }
 
     -- as many bytes stand there as an object has
-    bytes-long : (k : ℕ) (d : Placed) → k < length objects → length (object_on image (get_or objects k d)).1 ≡ (get_or objects k d).len
-    bytes-long k d lt =
-        let p : Placed = get_or objects k d in
-        let long : All (λ i. length (sector_at image i) ≡ 512) p.sectors = λ j e less.
-        let x : ℕ = get_or p.sectors j e in
-        let inside : IsInside range x = All-contains (IsInside range) (object_sectors objects) x noted.are.inside (among-at objects k d lt j e less) in
-        (shaped.sectors x [] (omega (arith, inside, within, shaped.count))).size in
-        length-take-le p.len (flat_map (sector_at image) p.sectors)
-        (omega (arith, length-sectors image p.sectors long, (its-sizes k d lt).2))
+    bytes-long : All (λ p. length (object_on image p).1 ≡ p.len) objects
+    bytes-long = bytes-on range image size shaped within objects noted.are.inside its-sizes
 
     chained : IsChained image parts.table.items
     chained k lt =

@@ -613,3 +613,19 @@ reads-more {D} {size} {medium} {counts} {old} {mid} {new} so_far long count stay
       failure = λ never. absurd never;
       no_failure = inr count;
     })
+
+-- ---- which sectors are named
+
+-- a word of the table stands in a sector of the range
+pub word-inside : (range : Range) (used table : List ℕ) (words at : ℕ) → All (IsInside range) (used ++ table) → 0 < words
+    → words ≤ 127 * length table → IsInside range (sector_of_word words table at)
+word-inside range used table words at inside some fits =
+    let place : ℕ = min at (words - 1) / 127 in
+    All-contains (IsInside range) (used ++ table) (get_or table place 0) inside
+    (Contains-append_right used table (get_or table place 0) (Contains-get_or table place 0 (omega (arith, some, fits))))
+
+pub stops-inside : (range : Range) (used table found : List ℕ) (words at sector : ℕ) → All (IsInside range) (used ++ table) → 0 < words
+    → words ≤ 127 * length table → StopsAt range used table found words at sector → IsInside range sector
+stops-inside range used table found words at sector inside some fits stops = ⊎_elim
+    (λ twice. subst (IsInside range) (sym twice.2) (word-inside range used table words at inside some fits))
+    (λ outside. subst (IsInside range) (sym outside.1) (word-inside range used table words (at + 4 + length stops.before) inside some fits)) stops.stops

@@ -6,22 +6,24 @@ use Rattle.std.specs.Prelude.{Result, Ok, Err, IsErr, All, Contains, true, false
 use Rattle.std.proofs.lemmas.List.{take_more, drop_more, drop_at, get_or-drop, get_or-take}
 use Rattle.std.proofs.lemmas.List.{get_or-replicate, get_or_past, get_or_append_left, get_or-append_right}
 use Rattle.std.proofs.lemmas.List.{take_at, take_all, take-take, take-append-le, drop_all, drop-drop}
-use Rattle.std.proofs.lemmas.List.{drop-take, length-append, length-drop, length-take, length-replicate, append-nil}
+use Rattle.std.proofs.lemmas.List.{drop-take, length-append, length-drop, length-take, length-take-le, length-replicate, append-nil}
 use Rattle.std.proofs.lemmas.Bool.{cases_lt}
 use Rattle.std.proofs.lemmas.Nat.{shr_split}
 use Rattle.std.proofs.lemmas.Grind.{same_number_lists}
 use Rattle.std.proofs.lemmas.List.Concat.{flat_map-append}
-use Rattle.std.proofs.lemmas.List.Elements.{All-tail, Contains-get_or, Contains-append_left, Contains-append_right}
+use Rattle.std.proofs.lemmas.List.Elements.{All-contains, All-tail, Contains-get_or, Contains-append_left, Contains-append_right}
 use Rattle.std.proofs.lemmas.Option.{slice_get-get_or}
 use Rattle.std.specs.Global.{Vec}
 use Rattle.ipc_base.specs.Objects.{window}
 use Rattle.ipc_base.proofs.CallerLemmas.{same_key, other_key, same_keys}
-use Rattle.ipc_base.specs.Table.{keys_of}
+use Rattle.ipc_base.specs.Table.{keys_of, seen_as}
 use Rattle.ipc_disk.specs.declared.range.Range.{Range}
-use Rattle.ipc_disk.specs.Standing.{sectors_for}
+use Rattle.ipc_disk.specs.Medium.{Image, IsShaped}
+use Rattle.ipc_disk.specs.Range.{IsInside, IsWithin}
+use Rattle.ipc_disk.specs.Standing.{sector_at, sectors_for}
 use Rattle.ipc_heap.specs.declared.uses.Use.{Use}
 use Rattle.ipc_heap.specs.declared.words.Place.{Place}
-use Rattle.ipc_heap.specs.Heap.{Placed, object_sectors, object_words, table_words}
+use Rattle.ipc_heap.specs.Heap.{Placed, object_on, object_sectors, object_words, table_words}
 use Rattle.ipc_heap.specs.Relations.Found.{seen_at, IsFound}
 use Rattle.ipc_heap.specs.Relations.Words.{wide_at, object_len_at, placed_in, AreWords, IsPlace, IsHeap}
 use Rattle.ipc_heap.proofs.Placed.{words_for, words_for-append, number-at, len-at, object_len-at, words-within, table-from, all-at}
@@ -193,7 +195,7 @@ written-both skip first second old one two le long room is also =
 
 -- ---- the object of a number
 
-module _ (see : Placed → List ℕ) (number : ℕ) where
+module _ {X : Type 0} (see : Placed → X) (number : ℕ) where
   -- it is none of those with lower numbers
   seen-later : (before after : List Placed) → All (λ (p : Placed). p.number < number) before → seen_at see (before ++ after) number ≡ seen_at see after number
   seen-later [] after lower = refl
@@ -223,6 +225,39 @@ among-at (p ∷ placed) zero d less = among-all [] p placed
 among-at (p ∷ placed) (suc k) d less = λ j e lt.
     let x : ℕ = get_or (get_or placed k d).sectors j e in
     Contains-append_right p.sectors (object_sectors placed) x (among-at placed k d (omega (arith, less)) j e lt)
+
+-- how many bytes stand in so many sectors, and of an object
+length-sectors : (image : Image) (sectors : List ℕ) → All (λ i. length (sector_at image i) ≡ 512) sectors
+    → length (flat_map (sector_at image) sectors) ≡ 512 * length sectors
+length-sectors image [] long = refl
+length-sectors image (s ∷ sectors) long =
+    let first : length (sector_at image s) ≡ 512 = long 0 0 (omega arith) in
+    omega (
+      arith,
+      first,
+      length-append (sector_at image s) (flat_map (sector_at image) sectors),
+      length-sectors image sectors (All-tail (λ i. length (sector_at image i) ≡ 512) s sectors long),
+    )
+
+pub bytes-on : (range : Range) (image : Image) (size : ℕ) → IsShaped size image → IsWithin range size → (placed : List Placed)
+    → All (IsInside range) (object_sectors placed) → All (λ p. (0 < p.len) × (p.len < 2 ^ 64) × (length p.sectors ≡ sectors_for p.len)) placed
+    → All (λ p. length (object_on image p).1 ≡ p.len) placed
+bytes-on range image size shaped within placed inside sizes k d lt =
+    let p : Placed = get_or placed k d in
+    let long : All (λ i. length (sector_at image i) ≡ 512) p.sectors = λ j e less.
+    let x : ℕ = get_or p.sectors j e in
+    let here : IsInside range x = All-contains (IsInside range) (object_sectors placed) x inside (among-at placed k d lt j e less) in
+    (shaped.sectors x [] (omega (arith, here, within, shaped.count))).size in
+    length-take-le p.len (flat_map (sector_at image) p.sectors) (omega (arith, length-sectors image p.sectors long, (sizes k d lt).2))
+
+-- the lengths that are noted are those of the bytes
+pub sizes-on : (image : Image) (placed : List Placed) → All (λ p. length (object_on image p).1 ≡ p.len) placed
+    → map (λ p. (p.number, p.len)) placed ≡ seen_as (λ bytes. length bytes) (map (object_on image) placed)
+sizes-on image [] long = refl
+sizes-on image (p ∷ placed) long =
+    ap (λ (n : ℕ). (p.number, n) ∷ map (λ (q : Placed). (q.number, q.len)) placed) (sym (long 0 p (omega arith)))
+    ∙ ap (λ (l : List (ℕ × ℕ)). (p.number, length (object_on image p).1) ∷ l)
+    (sizes-on image placed (All-tail (λ q. length (object_on image q).1 ≡ q.len) p placed long))
 
 module _ (words : List ℕ) (placed : List Placed) (number : ℕ) (place : Place) (are : AreWords words placed) (at : IsPlace placed number place) where
   found-one : (here : List Placed) → placed ≡ at.before ++ (here ++ at.after) → All (λ (p : Placed). p.number ≡ number) here → length here ≤ 1
@@ -256,6 +291,32 @@ module _ (words : List ℕ) (placed : List Placed) (number : ℕ) (place : Place
   pub found-at : is_some (seen_at (λ p. p.sectors) placed number) ≡ true
       → IsFound placed number (take place.len (drop place.at words)) × (4 ≤ place.len) × (place.at + place.len ≤ length words)
   found-at = found-one at.here at.are at.same at.one at.len
+
+  len-one : (here : List Placed) → placed ≡ at.before ++ (here ++ at.after) → All (λ (p : Placed). p.number ≡ number) here → length here ≤ 1
+      → place.len ≡ words_for here → (place.len ≡ 0 → None ≡ seen_at (λ p. p.len) placed number)
+      × (0 < place.len → (place.at + 3 < length words) × (Some (wide_at words (place.at + 2)) ≡ seen_at (λ p. p.len) placed number))
+  len-one [] split same one len = (
+    λ none. sym (ap (λ (l : List Placed). seen_at (λ p. p.len) l number) split
+        ∙ seen-later (λ p. p.len) number at.before at.after at.lower ∙ seen-none (λ p. p.len) number at.after at.higher),
+    λ some. absurd (omega (arith, some, len)),
+  )
+  len-one (p ∷ []) split same one len =
+      let long : place.len ≡ length (object_words p) = len ∙ ap length (append-nil (object_words p)) in
+      let words-are : words ≡ table_words (at.before ++ p ∷ at.after) = are.are ∙ ap table_words split in (
+        λ none. absurd (omega (arith, none, long)),
+        λ some. (
+          omega (arith, words-within words at.before p at.after place.at words-are at.at),
+          ap (λ (n : ℕ). Some n) (len-at words at.before p at.after place.at words-are at.at)
+              ∙ sym (ap (λ (l : List Placed). seen_at (λ q. q.len) l number) split ∙ seen-later (λ q. q.len) number at.before (p ∷ at.after) at.lower
+              ∙ seen-first (λ q. q.len) number p at.after (same 0 p (omega arith))),
+        ),
+      )
+  len-one (p ∷ q ∷ here) split same one len = absurd (omega (arith, one))
+
+  -- how many bytes it has, if it is there
+  pub len-found : (place.len ≡ 0 → None ≡ seen_at (λ p. p.len) placed number)
+      × (0 < place.len → (place.at + 3 < length words) × (Some (wide_at words (place.at + 2)) ≡ seen_at (λ p. p.len) placed number))
+  len-found = len-one at.here at.are at.same at.one at.len
 
 -- there is an object of a number, however it is seen
 pub keys-seen : (see : Placed → List ℕ) (placed : List Placed) → keys_of (map (λ p. (p.number, see p)) placed) ≡ map (λ p. p.number) placed

@@ -1,6 +1,6 @@
 -- A heap's value matches a disk: what stands there is the map of the last flip, or of the open, and what the readers
 -- give is that map with the puts and removals since.
-use Rattle.std.specs.Prelude.{◌≡◌, ◌⊎◌, ◌↔◌, ℕ, ◌+◌, ◌-◌, false, not}
+use Rattle.std.specs.Prelude.{◌≡◌, ◌⊎◌, ◌↔◌, ℕ, ◌+◌, ◌-◌, Bool, false, not}
 use Rattle.std.specs.Prelude.{nat_eq, length, map, filter, Contains, IsTrue, Some, slice_get}
 use Rattle.ipc_base.specs.Objects.{PlainObjects, AreObjects}
 use Rattle.ipc_disk.specs.Medium.{Image, Medium, IsHonest}
@@ -36,10 +36,14 @@ IsKept heap i =
     IsOutside heap.range i
     ⊎ ((u : Use) × (slice_get heap.uses (i - heap.range.first) ≡ Some u) × (is_free u ≡ false))
 
--- An object was taken out of the map, if it was there. Nothing is done to the disk, and what is saved uses the sectors
--- that it has used.
-pub record Removes (object : ℕ) (old new : HeapView) : Type 0 where
+-- Of the objects of the map those of some numbers are left. Nothing is done to the disk, and what is saved uses the
+-- sectors that it has used.
+pub record Keeps (numbers : ℕ → Bool) (old new : HeapView) : Type 0 where
   pub stays : StaysInPlace old new
-  pub placed : new.placed ≡ filter (λ p. not (nat_eq p.number object)) old.placed
+  pub placed : new.placed ≡ filter (λ p. numbers p.number) old.placed
   pub saved : map (λ u. u.saved) new.uses ≡ map (λ u. u.saved) old.uses
   pub next : AreNext old → AreNext new
+
+-- an object was taken out of the map, if it was there
+abbrev pub Removes : ℕ → HeapView → HeapView → Type 0
+Removes object old new = Keeps (λ number. not (nat_eq number object)) old new

@@ -1,10 +1,10 @@
 //! The heap: its value, and the calls on it.
 
 ghost use Rattle.std.specs.Prelude.{◌≡◌, ◌≢◌, ◌<◌, ◌≤◌, ◌+◌, ◌*◌, ◌/◌, ◌^◌};
-ghost use Rattle.std.specs.Prelude.{ℕ, IfOk, IfSome, OnOk, IsErr, IsErrOf, length, map};
+ghost use Rattle.std.specs.Prelude.{ℕ, IfOk, IfSome, OnOk, OnErr, IsErr, IsErrOf, length, map};
 ghost use Rattle.std.specs.Prelude.{Some, None, true, nat_eq, is_some, option_map, slice_get};
 ghost use Rattle.ipc_base.specs.Objects.{PlainObjects, Fit, object_sectors, table_bytes, window};
-ghost use Rattle.ipc_base.specs.Table.{value_at};
+ghost use Rattle.ipc_base.specs.Table.{seen_as, value_at};
 ghost use Rattle.ipc_disk.specs.Calls.{IsSameDisk, CountsCalls, CountsFaultIf, OnlyReads};
 ghost use Rattle.ipc_disk.specs.Counts.{with_calls};
 ghost use Rattle.ipc_disk.specs.Medium.{IsHonest, IsDurable};
@@ -64,7 +64,7 @@ impl Model for Heap {
 impl Heap {
     ghost use Rattle.ipc_heap.specs.Heap.{IsLaidOut, IsElsewhere, IsOwn, Holds};
     ghost use Rattle.ipc_heap.specs.Heap.{HoldsEither, table_words, table_sectors_for};
-    ghost use Rattle.ipc_heap.specs.View.{free, map_of, with_object, used_by, StaysInPlace};
+    ghost use Rattle.ipc_heap.specs.View.{free, map_of, with_object, used_by, sizes_of, ArePlaced, StaysInPlace};
     ghost use Rattle.ipc_heap.specs.Matches.{HeapMatches, IsKept, Removes};
     ghost use Rattle.ipc_heap.specs.Damage.{IsFirstDamage};
 
@@ -127,8 +127,11 @@ impl Heap {
             → ¬ Holds range root epoch objects (D.medium disk.old).contents }
         ensures named { (sector : ℕ) → IsErrOf result (OpenError.Damaged sector)
             → IsHonest (D.medium disk.old) → IsFirstDamage range root (D.medium disk.old).contents sector }
+        ensures own { (sector : ℕ) → IsErrOf result (OpenError.Damaged sector) → IsOwn range root sector }
         // How many sectors are free.
         ensures free { IfOk result (λ heap. free heap + length (used_by heap) ≡ range.count) }
+        ensures table { IfOk result (λ heap. length heap.table
+            ≡ table_sectors_for (length (table_words heap.placed))) }
         // Failures.
         ensures reads { OnlyReads D.size D.medium D.counts (IsErrOf result OpenError.Device) disk.old disk.new }
     {
@@ -174,6 +177,27 @@ impl Heap {
         Some((wide(&self.words, at), wide(&self.words, at + 2)))
     }
 
+    /// How many bytes an object has, if it is there.
+    pub fn len_of(&self, object: u64) -> Option<u64>
+        ensures { result ≡ value_at nat_eq (sizes_of self.now) object }
+    {
+        let place = place_of(&self.words, object);
+        if place.len == 0 {
+            return None;
+        }
+        Some(wide(&self.words, place.at + 2))
+    }
+
+    /// Each object has the sectors that its bytes take, and an honest disk has as many bytes of it.
+    pub fn objects_have_their_bytes<D: SectorDisk>(&self, disk: &D)
+        requires { IsLaidOut self.now.range self.now.root (D.size disk.now) }
+        ensures placed { ArePlaced self.now.range self.now.placed }
+        ensures bytes { IsHonest (D.medium disk.now)
+            → sizes_of self.now ≡ seen_as (λ bytes. length bytes) (map_of self.now (D.medium disk.now)) }
+    {
+        let _ = &self.words;
+    }
+
     /// 512 bytes of an object from a place on, with zeros past its end.
     pub fn read<D: SectorDisk>(
         &self,
@@ -184,7 +208,7 @@ impl Heap {
     ) -> Result<(), DiskFault>
         requires laid_out { IsLaidOut self.now.range self.now.root (D.size disk.old) }
         requires object { is_some (value_at nat_eq (map_of self.now (D.medium disk.old)) object) ≡ true }
-        ensures bytes { OnOk result ((saved : PlainObjects) → HeapMatches self.now saved (D.medium disk.old)
+        ensures bytes { OnOk result (IsHonest (D.medium disk.old)
             → option_map (window place) (value_at nat_eq (map_of self.now (D.medium disk.old)) object)
             ≡ Some into.new) }
         ensures reads { OnlyReads D.size D.medium D.counts (IsErr result) disk.old disk.new }
@@ -219,6 +243,8 @@ impl Heap {
             → LeavesAlone (IsKept self.old) (D.medium disk.old) (D.medium disk.new) }
         // Where it lies, and its epoch, stay.
         ensures stays { StaysInPlace self.old self.new }
+        ensures sizes { OnOk result (IfSome (slice_get (O.objects objects.now) i) (λ o. sizes_of self.new
+            ≡ with_object (sizes_of self.old) o.0 (length o.1))) }
         // How many sectors are free, and when it is full.
         ensures spends { OnOk result (IfSome (slice_get (O.objects objects.now) i) (λ o.
             free self.old ≤ free self.new + sectors_for (length o.1))) }
@@ -291,6 +317,7 @@ impl Heap {
             → map_of self.new (D.medium disk.new) ≡ map_of self.old (D.medium disk.old)) }
         ensures durable { OnOk result (IsDurable (D.medium disk.new)) }
         ensures epoch { OnOk result (self.new.epoch ≡ epoch) }
+        ensures err_epoch { OnErr result (self.new.epoch ≡ self.old.epoch) }
         // A crash at any moment of the call, also of one that fails.
         ensures any_moment { (saved : PlainObjects) → HeapMatches self.old saved (D.medium disk.old)
             → EachImageSince (D.medium disk.old) (D.medium disk.new)
@@ -300,6 +327,9 @@ impl Heap {
             → LeavesAlone (λ i. IsKept self.old i × (i ≢ self.old.root)) (D.medium disk.old) (D.medium disk.new) }
         ensures range { self.new.range ≡ self.old.range }
         ensures root { self.new.root ≡ self.old.root }
+        ensures placed { self.new.placed ≡ self.old.placed }
+        ensures table { OnOk result (length self.new.table
+            ≡ table_sectors_for (length (table_words self.old.placed))) }
         // How many sectors are free, and when it is full.
         ensures free { OnOk result (free self.new + length (used_by self.new) ≡ self.new.range.count) }
         ensures full { IsErrOf result HeapError.Full

@@ -9,7 +9,7 @@ ghost use Rattle.ipc_disk.specs.Medium.{Image, IsHonest};
 ghost use Rattle.ipc_disk.specs.Range.{IsInside, IsWithin};
 ghost use Rattle.ipc_disk.specs.Standing.{sector_at};
 ghost use Rattle.ipc_heap.specs.Damage.{IsFirstDamage, IsTable, chain_for, words_of_table, sector_of_word};
-ghost use Rattle.ipc_heap.specs.Heap.{words_at, words_in};
+ghost use Rattle.ipc_heap.specs.Heap.{IsOwn, words_at, words_in};
 ghost use Rattle.ipc_heap.specs.Relations.Opening.{IsSound, AreNoted, HasObject, LacksObject, StopsAt, AreAllNoted};
 ghost use Rattle.ipc_heap.specs.Relations.Parts.{HaveRoom, AreThere};
 ghost use Rattle.ipc_heap.specs.Relations.Root.{IsRead};
@@ -35,6 +35,7 @@ pub(crate) fn read_root<D: SectorDisk>(
     ensures sound { IfOk result (λ found. IsSound range found) }
     ensures named { (sector : ℕ) → IsErrOf result (OpenError.Damaged sector)
         → IsHonest (D.medium disk.old) → IsFirstDamage range root (D.medium disk.old).contents sector }
+    ensures own { (sector : ℕ) → IsErrOf result (OpenError.Damaged sector) → sector ≡ root }
     ensures reads { OnlyReads D.size D.medium D.counts (IsErrOf result OpenError.Device) disk.old disk.new }
 {
     let mut sector = [0; 512];
@@ -59,9 +60,10 @@ pub(crate) fn room_for(alloc: Global, range: Range, len: u32) -> Result<Parts, A
 {
     let most = 5 * range.count as usize + 5;
     let len = len as usize;
-    let uses = vec![in alloc; UNUSED; range.count as usize]?;
-    let table = Vec::with_capacity(alloc, most.div_ceil(WORDS).max(len.div_ceil(508)))?;
+    // The uses are written at once, so the rest is taken before them.
     let words = Vec::with_capacity(alloc, most.max(len / 4))?;
+    let table = Vec::with_capacity(alloc, most.div_ceil(WORDS).max(len.div_ceil(508)))?;
+    let uses = vec![in alloc; UNUSED; range.count as usize]?;
     Ok(Parts { words, table, uses })
 }
 
@@ -80,12 +82,14 @@ pub(crate) fn read_parts<D: SectorDisk>(
     ensures noted { OnOk result
         (AreAllNoted range parts.new.table.items parts.new.words.items parts.new.uses.items true) }
     ensures all { OnOk result (4 * length parts.new.words.items ≡ root.len) }
+    ensures table { OnOk result (length parts.new.table.items ≡ chain_for root.len) }
     ensures stand { OnOk result (IsHonest (D.medium disk.old)
         → IsRead (sector_at (D.medium disk.old).contents at) root
         → AreThere range at (D.medium disk.old).contents parts.new) }
     ensures named { (sector : ℕ) → IsErrOf result (OpenError.Damaged sector) → IsHonest (D.medium disk.old)
         → IsRead (sector_at (D.medium disk.old).contents at) root
         → IsFirstDamage range at (D.medium disk.old).contents sector }
+    ensures own { (sector : ℕ) → IsErrOf result (OpenError.Damaged sector) → IsOwn range at sector }
     // Memory and failures.
     ensures capacity { vec_capacity parts.new.words ≡ vec_capacity parts.old.words }
     ensures table_capacity { vec_capacity parts.new.table ≡ vec_capacity parts.old.table }
@@ -135,6 +139,7 @@ fn read_table<D: SectorDisk>(
     ensures named { (sector : ℕ) → IsErrOf result (OpenError.Damaged sector) → IsHonest (D.medium disk.old)
         → (at : ℕ) → IsRead (sector_at (D.medium disk.old).contents at) root
         → IsFirstDamage range at (D.medium disk.old).contents sector }
+    ensures own { (sector : ℕ) → IsErrOf result (OpenError.Damaged sector) → IsInside range sector }
     // Memory and failures.
     ensures capacity { vec_capacity table.new ≡ vec_capacity table.old }
     ensures words_capacity { vec_capacity words.new ≡ vec_capacity words.old }
@@ -198,6 +203,7 @@ fn note_objects(
     ensures named { (sector : ℕ) → IsErrOf result (OpenError.Damaged sector) → (root : ℕ) (image : Image)
         → IsTable range root image table.now → words.now ≡ words_of_table root image table.now
         → IsFirstDamage range root image sector }
+    ensures own { (sector : ℕ) → IsErrOf result (OpenError.Damaged sector) → IsInside range sector }
     ensures no_device { IsErrOf result OpenError.Device → ⊥ }
 {
     let mut at = 1;

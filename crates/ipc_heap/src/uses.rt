@@ -33,7 +33,11 @@ pub(crate) fn take_sector(uses: &mut [Use], hint: &mut usize) -> Option<usize>
     ensures taken { IfSome result (λ i. IsTaken uses.old i uses.new) }
     ensures none { IfNone result (All (λ u. is_free u ≡ false) uses.old × (uses.new ≡ uses.old)) }
 {
-    let Some(i) = find_free(uses, *hint).or(find_free(uses, 0)) else {
+    let found = match find_free(uses, *hint) {
+        Some(i) => Some(i),
+        None => find_free(uses, 0),
+    };
+    let Some(i) = found else {
         return None;
     };
     uses[i].next = true;

@@ -17,7 +17,7 @@ use Rattle.ipc_base.specs.Numbers.{fields_bytes, FitFields}
 use Rattle.ipc_base.proofs.CallerLemmas.{passed-bounds, fields_one}
 use Rattle.ipc_image.specs.Sizes.{need_of}
 use Rattle.ipc_image.specs.Superblock.{magic, limit_fields, limit_sizes, superblock_fields, named_bytes, superblock_bytes}
-use Rattle.ipc_image.specs.Superblock.{IsFormatted, version_in, IsSuperblock}
+use Rattle.ipc_image.specs.Superblock.{IsFormatted, version, version_in, IsSuperblock}
 use Rattle.ipc_image.proofs.Numbers.{spelled}
 
 -- each limit has its four bytes
@@ -44,13 +44,13 @@ module _ (sectors : ℕ) (limits : Limits) (sector : List ℕ) (is : IsSuperbloc
   unfolding named_bytes
   numbers_of = sym (drop-take 8 92 sector) ∙ ap (drop 8) is.named
 
-  -- it has the version 0
-  pub has_version : version_in sector ≡ 0
+  -- it has the version of today
+  pub has_version : version_in sector ≡ version
   has_version =
-      let front : take 4 (drop 8 sector) ≡ to_be_bytes w32 0 =
+      let front : take 4 (drop 8 sector) ≡ to_be_bytes w32 version =
       sym (take-take 4 92 (drop 8 sector) (omega arith)) ∙ ap (take 4) numbers_of
-      ∙ take_at (to_be_bytes w32 0) (spelled (drop 1 (superblock_fields sectors limits))) 4 refl in
-      ap (from_be_bytes w32) front ∙ from_be_bytes-to_be_bytes_4 0 (omega arith)
+      ∙ take_at (to_be_bytes w32 version) (spelled (drop 1 (superblock_fields sectors limits))) 4 refl in
+      ap (from_be_bytes w32) front ∙ from_be_bytes-to_be_bytes_4 version (omega arith)
 
   -- the limits stand after the other numbers
   abbrev pub after_limits : List ℕ

@@ -12,6 +12,10 @@ use Rattle.ipc_image.specs.Sizes.{need_of}
 abbrev pub magic : List ℕ
 magic = codes "IPCSTORE"
 
+-- the version of what stands on a device
+abbrev pub version : ℕ
+version = 1
+
 -- the limits, in their order
 abbrev pub limit_fields : Limits → List ℕ
 limit_fields l =
@@ -31,7 +35,7 @@ limit_sizes = replicate 16 Four
 abbrev pub superblock_fields : ℕ → Limits → List ℕ
 superblock_fields sectors limits =
     -- the version, and the sectors of the device
-    0 ∷ sectors
+    version ∷ sectors
     -- the journal: its first sector, and how many it has
     ∷ 3 ∷ 257
     -- the object area, to the end of the device

@@ -52,4 +52,4 @@ pub use records::{read_event, record_len, write_event};
 pub use restoring::engine_of;
 pub use sizes::{area, need};
 pub use state_objects::{StateObjects, objects_of, start_objects};
-pub use superblock::{read_superblock, write_superblock};
+pub use superblock::{VERSION, read_superblock, write_superblock};

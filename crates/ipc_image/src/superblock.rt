@@ -10,6 +10,7 @@ ghost use Rattle.ipc_image.specs.Superblock.{
   superblock_fields,
   superblock_bytes,
   IsFormatted,
+  version,
   version_in,
   IsSuperblock,
   limit_fields,
@@ -27,8 +28,8 @@ use ipc_base::{Field, Limits, take_fields};
 /// How a superblock begins.
 const MAGIC: &[u8; 8] = b"IPCSTORE";
 
-/// The version of the format.
-const VERSION: u32 = 0;
+/// The version of what stands on a device.
+pub const VERSION: u32 = 1;
 
 /// How many numbers follow: the version, six of the device, and the limits.
 const FIELDS: usize = 23;
@@ -64,9 +65,9 @@ pub fn read_superblock(sector: &[u8; 512], sectors: u32) -> Result<Limits, Super
     ensures not_formatted { IsErrOf result SuperblockFault.NotFormatted
         ↔ (¬ IsFormatted sector.now) }
     ensures version { (found : ℕ) → IsErrOf result (SuperblockFault.Version found)
-        ↔ (IsFormatted sector.now × (version_in sector.now ≡ found) × (found ≢ 0)) }
+        ↔ (IsFormatted sector.now × (version_in sector.now ≡ found) × (found ≢ version)) }
     ensures damaged { IsErrOf result SuperblockFault.Damaged
-        ↔ (IsFormatted sector.now × (version_in sector.now ≡ 0)
+        ↔ (IsFormatted sector.now × (version_in sector.now ≡ version)
         × ((limits : AnyLimits) → ¬ IsSuperblock sectors limits sector.now)) }
 {
     if !sector.starts_with(MAGIC) {

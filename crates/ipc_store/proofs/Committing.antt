@@ -6,11 +6,10 @@ use Rattle.std.proofs.lemmas.List.Elements.{All-nil}
 use Rattle.byteorder.specs.Endian.{big_bytes}
 use Rattle.byteorder.specs.Numbers.{big_number-reads_back}
 use Rattle.ipc_base.specs.Objects.{PlainObjects}
-use Rattle.ipc_checkpoint.specs.declared.checkpoint.Checkpoint.{Checkpoint}
 use Rattle.ipc_checkpoint.specs.Checkpoint.{IsElsewhere, epoch_in, Holds as HoldsObjects}
 use Rattle.ipc_checkpoint.specs.declared.layout.Layout.{Layout}
 use Rattle.ipc_checkpoint.specs.Matches.{CheckpointMatches, HoldsEither}
-use Rattle.ipc_checkpoint.specs.View.{epoch_of as saved_epoch, layout_of as saved_layout}
+use Rattle.ipc_checkpoint.specs.View.{CheckpointView, epoch_of as saved_epoch, layout_of as saved_layout}
 use Rattle.ipc_checkpoint.proofs.CallerLemmas.{Holds-since, CheckpointMatches-holds, CheckpointMatches-alone}
 use Rattle.ipc_disk.specs.Medium.{Image, Medium}
 use Rattle.ipc_disk.specs.Range.{IsOutside}
@@ -31,7 +30,7 @@ use Rattle.ipc_store.specs.Batch.{most_bytes, batch_bytes, AreBatch}
 use Rattle.ipc_store.specs.Image.{StandsFor, LeadTo, epoch_at}
 use Rattle.ipc_store.specs.View.{StoreView, store_view}
 use Rattle.ipc_store.specs.Relations.Matches.{StoreMatches, StandsForEither}
-use Rattle.ipc_store.proofs.Devices.{IsPlace, IsPlace-since, stands-with, device-stands, objects-room, objects-outside}
+use Rattle.ipc_store.proofs.Devices.{IsPlace, IsPlace-since, stands-with, device-stands, objects-outside}
 use Rattle.ipc_store.proofs.Devices.{journal-outside, first-outside, first-elsewhere}
 use Rattle.ipc_store.proofs.Histories.{LeadTo-start, LeadTo-more}
 
@@ -61,7 +60,7 @@ module _ {D : Type 0} (medium : Medium) (store : StoreView D) (base : State) (pe
   root-epoch =
       let reads = at.device.honest.reads in
       ap (λ (l : Layout). epoch_in (sector_at medium.contents l.root)) (sym (at.device.device medium.contents reads).1)
-      ∙ (at.device.saved.images medium.contents reads).current
+      ∙ (at.device.saved.matches.images medium.contents reads).current
 
   -- what waits makes a batch
   waits-batch : 4 + length store.records ≤ most_bytes → AreBatch pending
@@ -86,7 +85,7 @@ abbrev Either : {D : Type 0} → StoreView D → State → List PlainEvent → I
 Either store base pending = StandsForEither store.machine.limits base (run store.machine.limits base pending).state
 
 -- a store that has committed
-abbrev after : {D : Type 0} → StoreView D → D → Checkpoint → Journal → ℕ → StoreView D
+abbrev after : {D : Type 0} → StoreView D → D → CheckpointView → Journal → ℕ → StoreView D
 after store disk checkpoint journal confirmed =
     store_view disk store.machine checkpoint journal (record { records = []; count = 0 }) confirmed store.stopped
 
@@ -113,7 +112,6 @@ module _ {D : Type 0} (old new : Medium) (store : StoreView D) (base : State) (p
     objects : EachImageSince old new HasObjectsThere
     objects =
         Holds-since (saved_layout store.checkpoint) (IsOutside (range_of store.journal)) (saved_epoch store.checkpoint) at.device.objects old new
-        (objects-room old store.machine.limits store.checkpoint store.journal base at.device)
         (objects-outside old store.machine.limits store.checkpoint store.journal base at.device) alone
         (CheckpointMatches-holds store.checkpoint at.device.objects old at.device.saved)
 
@@ -165,7 +163,6 @@ module _ {D : Type 0} (old new : Medium) (store : StoreView D) (base : State) (p
         objects = at.device.objects;
         stand = at.device.stand;
         saved = CheckpointMatches-alone store.checkpoint at.device.objects (IsOutside (range_of store.journal)) old new
-            (objects-room old store.machine.limits store.checkpoint store.journal base at.device)
             (objects-outside old store.machine.limits store.checkpoint store.journal base at.device) alone at.device.saved;
         batches = at.device.batches ++ pending ∷ [];
         appended = subst (λ (bs : List (List ℕ)). JournalMatches journal bs new) more
@@ -230,7 +227,7 @@ module _ {D : Type 0} (old new : Medium) (store : StoreView D) (base : State) (p
         turned-or-not
 
     -- and then
-    pub saved : (disk : D) (checkpoint : Checkpoint) (journal : Journal) (confirmed : ℕ)
+    pub saved : (disk : D) (checkpoint : CheckpointView) (journal : Journal) (confirmed : ℕ)
         → saved_layout checkpoint ≡ saved_layout store.checkpoint → saved_epoch checkpoint ≡ epoch
         → range_of journal ≡ range_of store.journal → epoch_of journal ≡ epoch → used_of journal ≡ 0
         → ((objects : PlainObjects) → CheckpointMatches store.checkpoint objects old → CheckpointMatches checkpoint next new)

@@ -1,15 +1,14 @@
 -- What a device stands for, as the values of a store know it, and what calls leave alone that touch the journal or the
 -- objects.
-use Rattle.std.proofs.Common.{◌≡◌, inl, inr, ℕ, ◌*◌, ◌≤◌, List, length, sym, subst, ◌∙◌, ap, arith}
+use Rattle.std.proofs.Common.{◌≡◌, inl, inr, ℕ, ◌+◌, List, length, sym, subst, ◌∙◌, ap, arith}
 use Rattle.std.specs.Prelude.{map}
 use Rattle.ipc_base.specs.declared.limits.Limits.{Limits}
 use Rattle.ipc_base.specs.Objects.{PlainObjects, Fit}
-use Rattle.ipc_checkpoint.specs.declared.checkpoint.Checkpoint.{Checkpoint}
 use Rattle.ipc_checkpoint.specs.declared.layout.Layout.{Layout}
 use Rattle.ipc_checkpoint.specs.Checkpoint.{IsLaidOut, IsOwn, IsElsewhere, Holds as HoldsObjects}
-use Rattle.ipc_checkpoint.specs.Matches.{CheckpointMatches}
-use Rattle.ipc_checkpoint.specs.View.{epoch_of as saved_epoch, layout_of as saved_layout}
-use Rattle.ipc_checkpoint.proofs.CallerLemmas.{CheckpointMatches-holds, CheckpointMatches-one}
+use Rattle.ipc_checkpoint.specs.Matches.{sectors_of}
+use Rattle.ipc_checkpoint.specs.View.{CheckpointView, HasSpare, epoch_of as saved_epoch, free_of, layout_of as saved_layout}
+use Rattle.ipc_checkpoint.proofs.CallerLemmas.{CheckpointMatches-holds}
 use Rattle.ipc_disk.specs.declared.range.Range.{Range}
 use Rattle.ipc_disk.specs.Medium.{Image, Medium}
 use Rattle.ipc_disk.specs.Range.{IsInside, IsOutside, IsWithin}
@@ -21,9 +20,7 @@ use Rattle.ipc_journal.specs.Journal.{Holds}
 use Rattle.ipc_journal.specs.View.{range_of, epoch_of}
 use Rattle.ipc_state.specs.State.{State}
 use Rattle.ipc_engine.specs.Event.{PlainEvent}
-use Rattle.ipc_image.specs.Saved.{StandForState, saved as saved_objects}
-use Rattle.ipc_image.proofs.CallerLemmas.{saved-fits}
-use Rattle.ipc_image.specs.Sizes.{area_of}
+use Rattle.ipc_image.specs.Saved.{StandForState}
 use Rattle.ipc_image.specs.Superblock.{IsSuperblock}
 use Rattle.ipc_store.specs.Batch.{batch_bytes}
 use Rattle.ipc_store.specs.Image.{journal_range, layout_of, IsDevice, LeadTo, StandsFor}
@@ -38,11 +35,11 @@ IsDevice-same places limits a b first same device =
     (subst (λ (s : List ℕ). IsSuperblock (length a) limits s) sector device)
 
 -- the image is of a device with these limits, where the checkpoint lies
-abbrev pub IsPlace : Limits → Checkpoint → Image → Type 0
+abbrev pub IsPlace : Limits → CheckpointView → Image → Type 0
 IsPlace limits checkpoint image = IsDevice limits image × (saved_layout checkpoint ≡ layout_of limits (length image))
 
 -- calls that leave the first sector alone leave it one
-pub IsPlace-since : (places : ℕ → Type 0) (limits : Limits) (checkpoint : Checkpoint) (old new : Medium) → places 0
+pub IsPlace-since : (places : ℕ → Type 0) (limits : Limits) (checkpoint : CheckpointView) (old new : Medium) → places 0
     → LeavesAlone places old new → ((image : Image) → old.images_now image → IsPlace limits checkpoint image)
     → EachImageSince old new (IsPlace limits checkpoint)
 IsPlace-since places limits checkpoint old new first alone here =
@@ -76,7 +73,7 @@ stands-with limits layout range epoch image device lies range-is objects there b
   leads = leads;
 }
 
-module _ (medium : Medium) (limits : Limits) (checkpoint : Checkpoint) (journal : Journal) (base : State)
+module _ (medium : Medium) (limits : Limits) (checkpoint : CheckpointView) (journal : Journal) (base : State)
     (at : DeviceMatches medium limits checkpoint journal base) where
   -- each image now stands for the base
   pub device-stands : (image : Image) → medium.images_now image → StandsFor limits base image
@@ -89,10 +86,6 @@ module _ (medium : Medium) (limits : Limits) (checkpoint : Checkpoint) (journal 
   -- where the checkpoint lies
   here : IsPlace limits checkpoint medium.contents
   here = at.device medium.contents at.honest.reads
-
-  pub objects-room : 2 * (saved_layout checkpoint).area ≤ (saved_layout checkpoint).range.count
-  objects-room =
-      subst (λ (l : Layout). 2 * l.area ≤ l.range.count) (sym here.1) (omega (arith, here.0.room))
 
   pub objects-outside : (i : ℕ) → IsOwn (saved_layout checkpoint) i → IsOutside (range_of journal) i
   objects-outside i own =
@@ -112,7 +105,7 @@ module _ (medium : Medium) (limits : Limits) (checkpoint : Checkpoint) (journal 
       subst (λ (l : Layout). IsElsewhere l 0) (sym here.1) (λ root. absurd (omega (arith, root)), inl (omega arith))
 
 -- where a checkpoint and a journal lie that have changed their epoch alone
-pub stays-on-disk : (limits : Limits) (old new : ℕ) (checkpoint next : Checkpoint) (journal more : Journal) → new ≡ old
+pub stays-on-disk : (limits : Limits) (old new : ℕ) (checkpoint next : CheckpointView) (journal more : Journal) → new ≡ old
     → saved_layout next ≡ saved_layout checkpoint → range_of more ≡ range_of journal → epoch_of more ≡ saved_epoch next
     → AreOnDisk old limits checkpoint journal → AreOnDisk new limits next more
 stays-on-disk limits old new checkpoint next journal more size layout range epoch on = record {
@@ -122,12 +115,8 @@ stays-on-disk limits old new checkpoint next journal more size layout range epoc
   epoch = epoch;
 }
 
--- what the checkpoint keeps fits, if the disk matches
-pub kept-fits : (medium : Medium) (limits : Limits) (checkpoint : Checkpoint) (journal : Journal) (base : State) (size : ℕ)
-    → DeviceMatches medium limits checkpoint journal base → AreOnDisk size limits checkpoint journal
-    → (objects : PlainObjects) → CheckpointMatches checkpoint objects medium → Fit (saved_layout checkpoint).area objects
-kept-fits medium limits checkpoint journal base size at on objects saved =
-    let one : objects ≡ at.objects = CheckpointMatches-one checkpoint objects at.objects medium saved at.saved in
-    let is = at.device medium.contents at.honest.reads in
-    let fit : Fit (area_of limits) (saved_objects at.from) = saved-fits limits at.from is.0.passed at.stand.sound in
-    subst (λ (n : ℕ). Fit n objects) (sym on.room) (subst (λ (o : PlainObjects). Fit (area_of limits) o) (sym (one ∙ at.stand.are)) fit)
+-- if its objects fit, all of a checkpoint's sectors are free but those of an area
+pub has-spare : (layout : Layout) (checkpoint : CheckpointView) (objects : PlainObjects) → saved_layout checkpoint ≡ layout
+    → Fit layout.area objects → free_of checkpoint + sectors_of objects ≡ layout.range.count → HasSpare checkpoint
+has-spare layout checkpoint objects is fit free =
+    omega (arith, fit, free, ap (λ (l : Layout). l.area) is, ap (λ (l : Layout). l.range.count) is)

@@ -1,5 +1,5 @@
 -- What each call of a format makes of the images that a crash may leave.
-use Rattle.std.specs.Prelude.{◌≡◌, ◌⊎◌, ◌<◌, ◌≤◌, ◌-◌, ◌*◌, ℕ, List, [], length, take, replicate, slice_set, refl}
+use Rattle.std.specs.Prelude.{◌≡◌, ◌⊎◌, ◌<◌, ◌≤◌, ℕ, List, [], length, take, replicate, slice_set, refl}
 use Rattle.std.proofs.Common.{inl, inr, ⊎_elim, sym, ◌∙◌, ap, subst, arith}
 use Rattle.std.proofs.lemmas.List.{get_or-set_same, get_or-set_other, length-set}
 use Rattle.std.proofs.lemmas.List.Elements.{All-nil}
@@ -17,7 +17,7 @@ use Rattle.ipc_checkpoint.specs.Checkpoint.{IsLaidOut, IsElsewhere, Holds as Hol
 use Rattle.ipc_checkpoint.proofs.CallerLemmas.{Holds-alone}
 use Rattle.ipc_state.specs.State.{start}
 use Rattle.ipc_image.specs.Saved.{saved}
-use Rattle.ipc_image.specs.Sizes.{area_of, need_of}
+use Rattle.ipc_image.specs.Sizes.{need_of}
 use Rattle.ipc_image.specs.Superblock.{magic, IsFormatted, IsSuperblock}
 use Rattle.ipc_image.proofs.CallerLemmas.{area-counted, start-stands}
 use Rattle.ipc_store.specs.Image.{journal_range, first_epoch, layout_of, HasObjects, StandsFor, IsNotFormatted}
@@ -95,7 +95,6 @@ becomes-device limits bytes image is prepared =
     let here : sector_at new 0 ≡ bytes = sector_at-set_same image 0 bytes (omega (arith, is.room)) in
     let long : length image ≡ length new = sym (length-set image 0 bytes) in
     let kept : SameAt (IsPast 0) image new = SameAt-set (IsPast 0) image 0 bytes (λ past. absurd (omega (arith, past))) in
-    let room : 2 * area_of limits ≤ length image - 260 = omega (arith, is.room) in
     record {
       epoch = first_epoch;
       base = start;
@@ -103,7 +102,7 @@ becomes-device limits bytes image is prepared =
         device = subst (λ (s : List ℕ). IsSuperblock (length new) limits s) (sym here) (subst (λ (n : ℕ). IsSuperblock n limits bytes) long is);
         objects = saved start;
         there = subst (λ (n : ℕ). HoldsObjects (layout_of limits n) first_epoch (saved start) new) long
-            (Holds-alone (layout_of limits (length image)) (IsPast 0) first_epoch (saved start) image new room
+            (Holds-alone (layout_of limits (length image)) (IsPast 0) first_epoch (saved start) image new
             (λ i own. ⊎_elim (λ root. omega (arith, root)) (λ inside. omega (arith, inside.0)) own) kept prepared.objects);
         stand = start-stands limits;
       };

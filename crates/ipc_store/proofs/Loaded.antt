@@ -4,11 +4,10 @@ use Rattle.std.specs.Prelude.{map}
 use Rattle.ipc_base.specs.declared.limits.Limits.{Limits}
 use Rattle.ipc_base.specs.Limits.{ArePassed}
 use Rattle.ipc_base.specs.Objects.{PlainObjects}
-use Rattle.ipc_checkpoint.specs.declared.checkpoint.Checkpoint.{Checkpoint}
 use Rattle.ipc_checkpoint.specs.declared.layout.Layout.{Layout}
 use Rattle.ipc_checkpoint.specs.Checkpoint.{IsLaidOut, Holds as HoldsObjects}
 use Rattle.ipc_checkpoint.specs.Matches.{CheckpointMatches}
-use Rattle.ipc_checkpoint.specs.View.{epoch_of as saved_epoch, layout_of as saved_layout}
+use Rattle.ipc_checkpoint.specs.View.{CheckpointView, epoch_of as saved_epoch, layout_of as saved_layout}
 use Rattle.ipc_checkpoint.proofs.CallerLemmas.{CheckpointMatches-holds}
 use Rattle.ipc_disk.specs.declared.range.Range.{Range}
 use Rattle.ipc_disk.specs.Medium.{Image, Medium, IsHonest, IsDurable, Stays}
@@ -61,7 +60,7 @@ pub stays-durable : (m0 m1 : Medium) → IsHonest m0 → Stays m0 m1 → IsDurab
 stays-durable m0 m1 honest call durable = λ now left. durable now (call.images now left) ∙ sym (call.contents honest)
 
 -- the objects that stand for a state, as a checkpoint knows them
-abbrev pub Kept : Limits → State → Checkpoint → Medium → Type 0
+abbrev pub Kept : Limits → State → CheckpointView → Medium → Type 0
 Kept limits from checkpoint medium = (objects : PlainObjects) × StandForState limits from objects × CheckpointMatches checkpoint objects medium
 
 -- the batches that lead on from there
@@ -69,7 +68,7 @@ abbrev pub Led : Limits → State → State → Journal → Medium → Type 0
 Led limits from to journal medium =
     (batches : List (List PlainEvent)) × JournalMatches journal (map batch_bytes batches) medium × LeadTo limits from batches to
 
-module _ (limits : Limits) (size : ℕ) (checkpoint : Checkpoint) (layout : saved_layout checkpoint ≡ layout_of limits size) where
+module _ (limits : Limits) (size : ℕ) (checkpoint : CheckpointView) (layout : saved_layout checkpoint ≡ layout_of limits size) where
   -- a device whose objects stand for a state
   pub has-base : (medium : Medium) (from : State) → IsHonest medium → IsDevice limits medium.contents → length medium.contents ≡ size
       → Kept limits from checkpoint medium → HasBase limits (saved_epoch checkpoint) from medium.contents

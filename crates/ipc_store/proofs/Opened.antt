@@ -12,7 +12,7 @@ use Rattle.ipc_journal.specs.View.{range_of, epoch_of, used_of}
 use Rattle.ipc_journal.proofs.CallerLemmas.{Fill-end}
 use Rattle.ipc_state.specs.State.{State}
 use Rattle.ipc_engine.specs.Event.{PlainEvent}
-use Rattle.ipc_image.specs.Superblock.{version_in}
+use Rattle.ipc_image.specs.Superblock.{version, version_in}
 use Rattle.ipc_image.proofs.CallerLemmas.{superblock-begins, superblock-version, one-superblock}
 use Rattle.ipc_store.specs.Batch.{batch_bytes}
 use Rattle.ipc_store.specs.Image.{journal_range, IsDevice, HasBase, HasBatches, HasNoHeader, LeadTo, HasNoState, IsNotFormatted, IsDamaged}
@@ -63,9 +63,9 @@ header-none epoch image (inl later) batches (inr current) = absurd (omega (arith
 header-none epoch image (inr past) batches (inl older) = absurd (omega (arith, past.0, older.0.older))
 header-none epoch image (inr past) batches (inr current) = absurd (omega (arith, past.1, current.within))
 
--- a device begins as one, and has the version 0
+-- a device begins as one, and has the version of today
 pub device-begins : (limits : Limits) (image : Image) → IsDevice limits image
-    → (¬ IsNotFormatted image) × (version_in (sector_at image 0) ≡ 0)
+    → (¬ IsNotFormatted image) × (version_in (sector_at image 0) ≡ version)
 device-begins limits image device = (
   λ not. ⊎_elim (λ small. absurd (omega (arith, small, device.room)))
       (λ other. other (superblock-begins (length image) limits (sector_at image 0) device)) not,

@@ -6,8 +6,8 @@ use Rattle.ipc_base.specs.declared.limits.Limits.{Limits}
 use Rattle.ipc_disk.specs.Medium.{Image, Medium, IsHonest, Stays}
 use Rattle.ipc_disk.specs.Since.{EachImageSince}
 use Rattle.ipc_disk.proofs.CallerLemmas.{EachImageSince-weaken, EachImageSince-join}
-use Rattle.ipc_checkpoint.specs.declared.checkpoint.Checkpoint.{Checkpoint}
 use Rattle.ipc_checkpoint.specs.Checkpoint.{epoch_in}
+use Rattle.ipc_checkpoint.specs.View.{CheckpointView}
 use Rattle.ipc_disk.specs.declared.range.Range.{Range}
 use Rattle.ipc_journal.specs.declared.journal.Journal.{Journal}
 use Rattle.ipc_journal.specs.Journal.{header_epoch, header_used}
@@ -36,11 +36,11 @@ only_read old new call law = record {
 }
 
 -- the store over what was loaded
-abbrev store_over : {D : Type 0} → D → Checkpoint → Journal → Machine → StoreView D
+abbrev store_over : {D : Type 0} → D → CheckpointView → Journal → Machine → StoreView D
 store_over disk checkpoint journal machine = store_view disk machine checkpoint journal (record { records = []; count = 0 }) 0 false
 
 -- it matches
-pub new-matches : {D : Type 0} (medium : Medium) (disk : D) (checkpoint : Checkpoint) (journal : Journal) (machine : Machine)
+pub new-matches : {D : Type 0} (medium : Medium) (disk : D) (checkpoint : CheckpointView) (journal : Journal) (machine : Machine)
     → DeviceMatches medium machine.limits checkpoint journal machine.state
     → StoreMatches medium (store_over disk checkpoint journal machine) machine.state []
 new-matches medium disk checkpoint journal machine matches = record {
@@ -49,7 +49,7 @@ new-matches medium disk checkpoint journal machine matches = record {
   waits = record { records = refl; count = refl; each = All-nil HasRecord; named = tt; state = refl };
 }
 
-module _ {D : Type 0} (m : D → Medium) (disk : D) (checkpoint : Checkpoint) (journal : Journal) (machine : Machine)
+module _ {D : Type 0} (m : D → Medium) (disk : D) (checkpoint : CheckpointView) (journal : Journal) (machine : Machine)
     (matches : DeviceMatches (m disk) machine.limits checkpoint journal machine.state)
     (store : StoreView D) (over : store ≡ store_over disk checkpoint journal machine) where
   -- it goes on from the state of the machine

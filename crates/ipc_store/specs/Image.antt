@@ -10,21 +10,21 @@ use Rattle.ipc_disk.specs.Medium.{Image}
 use Rattle.ipc_disk.specs.Standing.{sector_at, sectors_for, StandsAt}
 use Rattle.ipc_journal.specs.Journal.{sectors_of, header_epoch, header_used, Fill, Holds}
 use Rattle.ipc_checkpoint.specs.declared.layout.Layout.{Layout}
-use Rattle.ipc_checkpoint.specs.Checkpoint.{IsOwn, epoch_in, Holds as HoldsObjects}
+use Rattle.ipc_checkpoint.specs.Checkpoint.{IsFirstDamage, epoch_in, Holds as HoldsObjects}
 use Rattle.ipc_state.specs.State.{State}
 use Rattle.ipc_engine.specs.Event.{PlainEvent}
 use Rattle.ipc_engine.specs.Engine.{IsForProcess}
 use Rattle.ipc_engine.specs.Step.{step, run}
 use Rattle.ipc_image.specs.Saved.{StandForState}
 use Rattle.ipc_image.specs.Sizes.{area_of}
-use Rattle.ipc_image.specs.Superblock.{IsFormatted, version_in, IsSuperblock}
+use Rattle.ipc_image.specs.Superblock.{IsFormatted, version_in, IsSuperblock, version as this_version}
 use Rattle.ipc_store.specs.Batch.{batch_bytes, AreBatch}
 
 -- the sectors of the journal
 abbrev pub journal_range : Range
 journal_range = record { first = 3; count = 257 }
 
--- where the objects of a device of so many sectors lie: in two areas behind the journal, with the root in sector 1
+-- where the objects of a device of so many sectors lie: in a heap behind the journal, with the root in sector 1
 abbrev pub layout_of : Limits → ℕ → Layout
 layout_of limits sectors =
     record { range = record { first = 260; count = sectors - 260 }; root = 1; area = area_of limits }
@@ -92,12 +92,12 @@ IsNotFormatted image = (length image < 3) ⊎ (¬ IsFormatted (sector_at image 0
 pub record HasVersion (found : ℕ) (image : Image) : Type 0 where
   pub formatted : ¬ IsNotFormatted image
   pub version : version_in (sector_at image 0) ≡ found
-  pub other : found ≢ 0
+  pub other : found ≢ this_version
 
 -- it is of this version, and stands for no state
 pub record IsDamaged (image : Image) : Type 0 where
   pub formatted : ¬ IsNotFormatted image
-  pub version : version_in (sector_at image 0) ≡ 0
+  pub version : version_in (sector_at image 0) ≡ this_version
   pub stands_for_none : HasNoState image
 
 -- the epoch of its objects, which their root has
@@ -132,8 +132,7 @@ HasNoBatchAt limits s range place used image =
 pub data IsFirstFault (image : Image) : ℕ → Type 0 where
   Superblock : ((limits : Limits) → ¬ IsDevice limits image) → IsFirstFault image 0
   Objects : (limits : Limits) (sector : ℕ) → IsDevice limits image
-      → IsOwn (layout_of limits (length image)) sector
-      → ((epoch : ℕ) (objects : PlainObjects) → ¬ HasObjects limits epoch objects image)
+      → IsFirstDamage (layout_of limits (length image)) image sector
       → IsFirstFault image sector
   NoState : (limits : Limits) (epoch : ℕ) (objects : PlainObjects) → IsDevice limits image
       → HasObjects limits epoch objects image → ((s : State) → ¬ StandForState limits s objects)

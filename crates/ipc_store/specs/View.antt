@@ -3,10 +3,9 @@ use Rattle.std.specs.Prelude.{◌≡◌, ◌≤◌, ◌+◌, ◌-◌, ◌*◌, �
 use Rattle.std.specs.Prelude.{Bool, true, false, if◌then◌else◌, List, [], length, Result, OnOk, OnErr}
 use Rattle.ipc_disk.specs.Counts.{Counts}
 use Rattle.ipc_engine.specs.Engine.{Machine}
-use Rattle.ipc_checkpoint.specs.declared.checkpoint.Checkpoint.{Checkpoint}
 use Rattle.ipc_checkpoint.specs.declared.error.LoadError.{LoadError}
 use Rattle.ipc_checkpoint.specs.declared.error.LoadError.TheVariants as load
-use Rattle.ipc_checkpoint.specs.View.{epoch_of}
+use Rattle.ipc_checkpoint.specs.View.{CheckpointView, epoch_of}
 use Rattle.ipc_engine.specs.declared.fault.StateFault.{StateFault}
 use Rattle.ipc_engine.specs.declared.fault.StateFault.TheVariants as state
 use Rattle.ipc_journal.specs.declared.journal.Journal.{Journal}
@@ -26,7 +25,7 @@ pub record BatchView : Type 0 where
 pub record StoreView (D : Type 0) : Type 0 where
   pub disk : D
   pub machine : Machine
-  pub checkpoint : Checkpoint
+  pub checkpoint : CheckpointView
   pub journal : Journal
   -- the records of the events that wait for a commit, and how many they are
   pub records : List ℕ
@@ -37,7 +36,7 @@ pub record StoreView (D : Type 0) : Type 0 where
   pub stopped : Bool
 
 -- the parts of a store, as it shows them
-abbrev pub store_view : {D : Type 0} → D → Machine → Checkpoint → Journal → BatchView → ℕ → Bool
+abbrev pub store_view : {D : Type 0} → D → Machine → CheckpointView → Journal → BatchView → ℕ → Bool
     → StoreView D
 store_view disk machine checkpoint journal batch confirmed stopped = record {
   disk = disk;

@@ -4,7 +4,7 @@ ghost use Rattle.std.specs.Prelude.{◌≡◌, ◌⊎◌, ◌<◌, ◌≤◌, �
 ghost use Rattle.ipc_base.specs.Limits.{ArePassed};
 ghost use Rattle.ipc_base.specs.Objects.{PlainObjects};
 ghost use Rattle.ipc_checkpoint.specs.Matches.{CheckpointMatches};
-ghost use Rattle.ipc_checkpoint.specs.View.{epoch_of as saved_epoch, layout_of as saved_layout};
+ghost use Rattle.ipc_checkpoint.specs.View.{epoch_of as saved_epoch, layout_of as saved_layout, HasSpare};
 ghost use Rattle.ipc_disk.specs.Calls.{IsSameDisk, CountsFaultIf, OnlyReads};
 ghost use Rattle.ipc_disk.specs.Medium.{IsHonest, IsDurable, Stays};
 ghost use Rattle.ipc_disk.specs.Range.{IsWithin};
@@ -75,6 +75,7 @@ fn load_base<D: SectorDisk>(
     requires room { need_of limits ≤ D.size disk.old }
     ensures layout { IfOk result (λ found. saved_layout found.0 ≡ layout_of limits (D.size disk.old)) }
     ensures limits { IfOk result (λ found. found.1.limits ≡ limits) }
+    ensures spare { IfOk result (λ found. HasSpare found.0) }
     ensures base { IfOk result (λ found. IsHonest (D.medium disk.old) → IsDurable (D.medium disk.old)
         → (objects : PlainObjects) × StandForState limits found.1.state objects
         × CheckpointMatches found.0 objects (D.medium disk.new)) }
@@ -138,6 +139,7 @@ pub(crate) fn load<D: SectorDisk>(
 ) -> Result<(Checkpoint, Journal, Engine), OpenError>
     requires { length room.old ≡ most_bytes }
     ensures on_disk { IfOk result (λ found. AreOnDisk (D.size disk.new) found.2.limits found.0 found.1) }
+    ensures spare { IfOk result (λ found. HasSpare found.0) }
     ensures matches { IfOk result (λ found. IsHonest (D.medium disk.old)
         → DeviceMatches (D.medium disk.new) found.2.limits found.0 found.1 found.2.state) }
     ensures used { IfOk result (λ found. IsHonest (D.medium disk.old) → 0 < used_of found.1

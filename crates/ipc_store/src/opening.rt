@@ -3,6 +3,7 @@
 ghost use Rattle.std.specs.Prelude.{◌≡◌, ◌⊎◌, ◌<◌, ◌≤◌, ◌+◌, ℕ, false, [], length};
 ghost use Rattle.std.specs.Prelude.{Err, IfOk, IfErr, OnOk, OnErr};
 ghost use Rattle.ipc_base.specs.declared.limits.Limits.{Limits};
+ghost use Rattle.ipc_checkpoint.specs.View.{HasSpare};
 ghost use Rattle.ipc_disk.specs.Calls.{IsSameDisk, CountsFaultIf};
 ghost use Rattle.ipc_disk.specs.Counts.{counted};
 ghost use Rattle.ipc_disk.specs.Medium.{IsHonest, Stays};
@@ -140,6 +141,7 @@ fn read_device<D: SectorDisk>(
     disk: &mut D,
 ) -> Result<(Checkpoint, Journal, Engine, Batch), OpenError>
     ensures on_disk { IfOk result (λ found. AreOnDisk (D.size disk.new) found.2.limits found.0 found.1) }
+    ensures spare { IfOk result (λ found. HasSpare found.0) }
     ensures matches { IfOk result (λ found. IsHonest (D.medium disk.old)
         → DeviceMatches (D.medium disk.new) found.2.limits found.0 found.1 found.2.state) }
     ensures used { IfOk result (λ found. IsHonest (D.medium disk.old) → 0 < used_of found.1

@@ -2,6 +2,7 @@
 
 ghost use Rattle.std.specs.Prelude.{◌≡◌, ◌⊎◌, ◌<◌, ◌+◌, ◌-◌, ◌^◌, ◌↔◌, ◌++◌, ◌∷◌, ◌≢◌, [], List};
 ghost use Rattle.std.specs.Prelude.{length, true, false, IsOk, IsTrue, Ok, Err, OnOk, OnErr};
+ghost use Rattle.ipc_checkpoint.specs.View.{HasSpare};
 ghost use Rattle.ipc_disk.specs.Calls.{IsSameDisk, CountsFaultIf};
 ghost use Rattle.ipc_disk.specs.Counts.{counted, with_calls};
 ghost use Rattle.ipc_disk.specs.Medium.{Image, IsHonest};
@@ -47,7 +48,8 @@ pub struct Store<D: SectorDisk> {
 impl<D: SectorDisk> Model for Store<D> {
     ghost use Rattle.std.specs.Coded.{codes};
     ghost use Rattle.sem_undo.specs.Undo.{undo_code};
-    ghost use Rattle.std.specs.Prelude.{◌+◌, ◌<◌, ◌^◌};
+    ghost use Rattle.std.specs.Prelude.{◌≡◌, ◌+◌, ◌<◌, ◌^◌, false};
+    ghost use Rattle.ipc_checkpoint.specs.View.{HasSpare};
     ghost use Rattle.ipc_store.specs.View.{StoreView, store_view};
     ghost use Rattle.ipc_store.specs.Relations.Matches.{AreOnDisk, MatchesIfHonest};
 
@@ -60,7 +62,8 @@ impl<D: SectorDisk> Model for Store<D> {
     ghost invariant = { λ s. AreOnDisk (D.size s.disk) s.engine.limits s.checkpoint s.journal
         × (s.confirmed + s.batch.count < 2 ^ 64)
         × MatchesIfHonest (D.medium s.disk)
-        (store_view s.disk s.engine s.checkpoint s.journal s.batch s.confirmed s.stopped) };
+        (store_view s.disk s.engine s.checkpoint s.journal s.batch s.confirmed s.stopped)
+        × (s.stopped ≡ false → HasSpare s.checkpoint) };
 }
 
 impl<D: SectorDisk> Store<D> {
@@ -75,6 +78,7 @@ impl<D: SectorDisk> Store<D> {
         requires on_disk { AreOnDisk (D.size disk) engine.limits checkpoint journal }
         requires matches { IsHonest (D.medium disk)
             → DeviceMatches (D.medium disk) engine.limits checkpoint journal engine.state }
+        requires spare { HasSpare checkpoint }
         requires empty { batch ≡ record { records = []; count = 0 } }
         ensures { result ≡ store_view disk engine checkpoint journal (record { records = []; count = 0 }) 0 false }
     {

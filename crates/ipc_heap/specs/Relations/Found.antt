@@ -5,7 +5,7 @@ use Rattle.ipc_disk.specs.Standing.{sectors_for}
 use Rattle.ipc_heap.specs.Heap.{Placed, object_sectors, object_words}
 
 -- what is seen of the object of a number, if it is there
-abbrev pub seen_at : (Placed → List ℕ) → List Placed → ℕ → Option (List ℕ)
+abbrev pub seen_at : {X : Type 0} → (Placed → X) → List Placed → ℕ → Option X
 seen_at see placed number = value_at nat_eq (map (λ p. (p.number, see p)) placed) number
 
 -- these are the words of the object of a number

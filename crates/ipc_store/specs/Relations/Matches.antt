@@ -2,10 +2,9 @@
 use Rattle.std.specs.Prelude.{◌≡◌, ◌⊎◌, ℕ, false, List, length, map, All}
 use Rattle.ipc_base.specs.declared.limits.Limits.{Limits}
 use Rattle.ipc_base.specs.Objects.{PlainObjects}
-use Rattle.ipc_checkpoint.specs.declared.checkpoint.Checkpoint.{Checkpoint}
 use Rattle.ipc_checkpoint.specs.Checkpoint.{IsLaidOut}
 use Rattle.ipc_checkpoint.specs.Matches.{CheckpointMatches}
-use Rattle.ipc_checkpoint.specs.View.{epoch_of as saved_epoch, layout_of as saved_layout}
+use Rattle.ipc_checkpoint.specs.View.{CheckpointView, epoch_of as saved_epoch, layout_of as saved_layout}
 use Rattle.ipc_disk.specs.Medium.{Image, Medium, IsHonest}
 use Rattle.ipc_disk.specs.Range.{IsWithin}
 use Rattle.ipc_journal.specs.declared.journal.Journal.{Journal}
@@ -23,7 +22,7 @@ use Rattle.ipc_store.specs.View.{StoreView}
 
 -- the objects and the journal lie on a disk of so many sectors, with room for a state under these limits, and are of
 -- one epoch
-pub record AreOnDisk (size : ℕ) (limits : Limits) (checkpoint : Checkpoint) (journal : Journal) : Type 0 where
+pub record AreOnDisk (size : ℕ) (limits : Limits) (checkpoint : CheckpointView) (journal : Journal) : Type 0 where
   pub objects : IsLaidOut (saved_layout checkpoint) size
   pub room : (saved_layout checkpoint).area ≡ area_of limits
   pub within : IsWithin (range_of journal) size
@@ -31,7 +30,7 @@ pub record AreOnDisk (size : ℕ) (limits : Limits) (checkpoint : Checkpoint) (j
 
 -- Each image that a crash now may leave is of a device with these limits. Its objects stand for a state, and the
 -- batches of its journal lead from there to the base.
-pub record DeviceMatches (medium : Medium) (limits : Limits) (checkpoint : Checkpoint) (journal : Journal)
+pub record DeviceMatches (medium : Medium) (limits : Limits) (checkpoint : CheckpointView) (journal : Journal)
     (base : State) : Type 0 where
   pub honest : IsHonest medium
   pub range : range_of journal ≡ journal_range

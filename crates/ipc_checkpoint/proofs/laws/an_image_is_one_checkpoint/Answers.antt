@@ -1,4 +1,4 @@
--- The root names the epoch and the area, and the area's bytes are those of one list of objects.
+-- A checkpoint is a heap, and an image is one heap.
 use Rattle.ipc_checkpoint.proofs.CallerLemmas.{Holds-one}
 use Rattle.ipc_checkpoint.proofs.laws.an_image_is_one_checkpoint.Goals as goal
 

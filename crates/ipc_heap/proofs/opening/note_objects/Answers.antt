@@ -1,10 +1,11 @@
 -- An object more, or the damage that is seen.
-use Rattle.std.proofs.Common.{◌≡◌, ◌<◌, false, true, ℕ, ◌+◌, inl, inr, Some, Err, refl, sym, ap, ◌∙◌, subst, arith}
+use Rattle.std.proofs.Common.{◌≡◌, ◌<◌, false, true, ℕ, ◌+◌, length, inl, inr, Some, Err, refl, sym, ap, ◌∙◌, subst, arith}
 use Rattle.std.specs.Prelude.{Bool, Option, MatchBool, nat_eq, zero, suc, ◌⊎◌}
 use Rattle.ipc_base.proofs.CallerLemmas.{other_key}
+use Rattle.ipc_disk.specs.Range.{IsInside}
 use Rattle.ipc_heap.specs.declared.error.OpenError.TheVariants.{Damaged}
 use Rattle.ipc_heap.specs.Heap.{object_sectors}
-use Rattle.ipc_heap.proofs.Opens.{AreGone, gone-more, damaged-object, damaged-sector, passed_on}
+use Rattle.ipc_heap.proofs.Opens.{AreGone, gone-more, damaged-object, damaged-sector, passed_on, stops-inside, word-inside}
 use Rattle.ipc_heap.proofs.opening.note_objects.Goals as goal
 use Rattle.ipc_heap.proofs.opening.note_objects.Goals.{then-some_empty, else-some_empty}
 
@@ -45,3 +46,18 @@ loop-preserved c =
     (gone-more c.args.range c.args.table.now c.args.words.now c.loop.uses c.loop.counter c.loop.at c.loop.last c.loop.some_empty c.loop.invariant
     c.in-Some.sectors c.in-Some.ensures c.note_sectors.new.uses c.if-some_empty.some_empty (λ i. omega (arith, c.type_inv.words i))
     (c.in_ok-note_sectors.ensures.noted (object_sectors c.loop.invariant.placed) c.loop.invariant.noted) either)
+
+pub returns-in_default-clause-own : goal.returns-in_default-clause-own
+returns-in_default-clause-own c sector err =
+    let same : c.sector_of_word-begin.result ≡ sector = cc in
+    subst (IsInside c.args.range) (sym c.sector_of_word-begin.ensures ∙ same)
+    (word-inside c.args.range (object_sectors c.loop.invariant.placed) c.args.table.now (length c.args.words.now) c.loop.at c.loop.invariant.noted.inside
+    c.requires.some c.requires.fits)
+
+pub returns-in_err-note_sectors-clause-own : goal.returns-in_err-note_sectors-clause-own
+returns-in_err-note_sectors-clause-own c sector err =
+    let same : c.in_err-note_sectors.field-0.0 ≡ Damaged sector =
+    passed_on c.from_residual.result c.in_err-note_sectors.field-0.0 (Damaged sector) c.from_residual.ensures.1 err in
+    stops-inside c.args.range (object_sectors c.loop.invariant.placed) c.args.table.now _ (length c.args.words.now) c.loop.at sector
+    c.loop.invariant.noted.inside c.requires.some c.requires.fits
+    (c.in_err-note_sectors.ensures.damaged sector (ap Err same) (object_sectors c.loop.invariant.placed) c.loop.invariant.noted)

@@ -119,3 +119,9 @@ returns-clause-table g c honest at read =
     table-read c.args.range c.args.root image at read c.requires.sound c.loop-j.table.items c.loop-j.words.items c.loop-j.uses c.loop-j.at
     (subst (λ (n : ℕ). AreRead c.args.range c.args.root c.loop-j.table.items c.loop-j.words.items c.loop-j.uses n c.loop-j.at) all so_far.read)
     (so_far.hops honest)
+
+pub returns-then-not-can_follow-clause-own : goal.returns-then-not-can_follow-clause-own
+returns-then-not-can_follow-clause-own g c sector err =
+    let here = (goal.at.returns-then-not-can_follow-clause-own g c).After-can_follow in
+    let same : c.loop-j.at ≡ sector = cc in
+    subst (IsInside c.args.range) same (c.loop-j.invariant.read.next (less g here)).0

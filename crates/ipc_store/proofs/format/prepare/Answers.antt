@@ -1,6 +1,6 @@
 -- The header of the journal, and the objects: the first sector stays as it is.
 use Rattle.std.proofs.Common.{◌≡◌, ◌∙◌, length, ap, sym, subst, arith}
-use Rattle.ipc_disk.proofs.CallerLemmas.{EachImageSince-now}
+use Rattle.ipc_disk.proofs.CallerLemmas.{EachImageSince-now, IsSameDisk-then}
 use Rattle.ipc_disk.specs.Since.{SameAt}
 use Rattle.ipc_checkpoint.specs.declared.layout.Layout.{Layout}
 use Rattle.ipc_checkpoint.specs.Checkpoint.{IsLaidOut, IsElsewhere, Holds}
@@ -55,3 +55,9 @@ returns-clause-prepared g c = λ honest erased image now.
     (EachImageSince-now _ _ IsErased (returns-clause-any_moment g c honest erased) run.honest new run.honest.reads)
     (subst (λ (l : Layout). Holds l 1 (saved start) new) there
     (subst (λ (o : PlainObjects). Holds c.layout_of-layout.result 1 o new) c.start_objects.ensures.objects (c.in_ok-create.ensures.holds kept))))
+
+pub returns-in_err-create-clause-same : goal.returns-in_err-create-clause-same
+returns-in_err-create-clause-same g c = IsSameDisk-then c.put_header.ensures.same c.create.ensures.same
+
+pub returns-clause-same : goal.returns-clause-same
+returns-clause-same g c = IsSameDisk-then c.put_header.ensures.same c.create.ensures.same

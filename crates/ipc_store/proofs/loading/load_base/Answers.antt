@@ -1,14 +1,17 @@
 -- The objects are none, or stand for no state.
 use Rattle.std.proofs.Common.{◌≡◌, ℕ, Err, length, sym, ap, subst, ◌∙◌}
-use Rattle.ipc_base.specs.Objects.{PlainObjects}
+use Rattle.ipc_base.specs.Objects.{PlainObjects, Fit}
 use Rattle.ipc_checkpoint.specs.declared.layout.Layout.{Layout}
-use Rattle.ipc_checkpoint.specs.Checkpoint.{IsOwn, Holds}
+use Rattle.ipc_checkpoint.specs.Checkpoint.{IsFirstDamage, Holds}
 use Rattle.ipc_checkpoint.specs.View.{epoch_of}
 use Rattle.ipc_checkpoint.proofs.CallerLemmas.{Holds-one}
 use Rattle.ipc_disk.specs.Medium.{Image, IsHonest}
 use Rattle.ipc_disk.proofs.CallerLemmas.{OnlyReads-ok}
 use Rattle.ipc_store.proofs.Loaded.{OnlyReads-never}
 use Rattle.ipc_image.specs.Saved.{StandForState}
+use Rattle.ipc_image.specs.Sizes.{area_of}
+use Rattle.ipc_image.proofs.CallerLemmas.{saved-fits}
+use Rattle.ipc_store.proofs.Devices.{has-spare}
 use Rattle.ipc_store.specs.declared.fault.OpenError.TheVariants as errors
 use Rattle.ipc_store.specs.Image.{layout_of, HasObjects, IsFirstFault}
 use Rattle.ipc_store.specs.View.{of_load_error, of_state_fault}
@@ -38,8 +41,8 @@ returns-in_err-checkpoint-clause-damaged g c = λ sector is honest device.
     let none : (epoch : ℕ) (objects : PlainObjects) → ¬ HasObjects c.args.limits epoch objects image =
     λ epoch objects has. c.in_err-checkpoint.ensures.damaged sector err honest epoch objects
     (subst (λ (l : Layout). Holds l epoch objects image) (sym here) has) in
-    let own = subst (λ (l : Layout). IsOwn l sector) here (c.in_err-checkpoint.ensures.named sector err) in
-    (λ epoch base has. none epoch has.objects has.there, IsFirstFault.Objects c.args.limits sector device own none)
+    let first = subst (λ (l : Layout). IsFirstDamage l image sector) here (c.in_err-checkpoint.ensures.first sector err honest) in
+    (λ epoch base has. none epoch has.objects has.there, IsFirstFault.Objects c.args.limits sector device first)
 
 pub returns-in_err-engine-clause-damaged : goal.returns-in_err-engine-clause-damaged
 returns-in_err-engine-clause-damaged g c = λ sector is honest device.
@@ -66,3 +69,13 @@ returns-in_err-engine-clause-reads g c =
 
 pub returns-clause-reads : goal.returns-clause-reads
 returns-clause-reads g c = OnlyReads-never (ok-device _) (OnlyReads-ok (loaded-device c.load.result _ c.in_ok-checkpoint.was) c.load.ensures.reads)
+
+pub returns-clause-spare : goal.returns-clause-spare
+returns-clause-spare g c =
+    let objects : PlainObjects = c.in_ok-checkpoint.objects in
+    let stand : StandForState c.args.limits c.in_ok-engine.engine.state objects = c.in_ok-engine.ensures.stands in
+    let fit = subst (λ (o : PlainObjects). Fit (area_of c.args.limits) o) (sym stand.are)
+    (saved-fits c.args.limits c.in_ok-engine.engine.state c.requires.passed stand.sound) in
+    let layout : Layout = c.layout_of-layout.result in
+    has-spare layout c.in_ok-checkpoint.checkpoint objects c.in_ok-checkpoint.ensures.layout
+    (subst (λ (l : Layout). Fit l.area objects) (sym c.layout_of-layout.ensures.exact) fit) c.in_ok-checkpoint.ensures.free

@@ -1,44 +1,70 @@
--- What is damaged, and where.
-use Rattle.std.proofs.Common.{◌≡◌, ◌∙◌, ◌+◌, ℕ, sym, ap, subst, arith}
-use Rattle.std.specs.Prelude.{Result, Ok, Err}
-use Rattle.std.specs.Result.{IsErrOf, IsErrAnd}
+-- The heap, and its objects.
+use Rattle.std.proofs.Common.{◌≡◌, ℕ, map, refl, sym, ap, subst, ◌∙◌}
+use Rattle.std.specs.Prelude.{Result, Ok, Err, IsErrAnd, IsErrOf}
+use Rattle.ipc_base.specs.Objects.{PlainObjects}
+use Rattle.ipc_disk.specs.Medium.{Image}
+use Rattle.ipc_heap.specs.declared.error.OpenError.{OpenError}
+use Rattle.ipc_heap.specs.declared.error.OpenError.TheVariants as opens
+use Rattle.ipc_heap.specs.Heap.{object_on}
+use Rattle.ipc_disk.specs.declared.range.Range.{Range}
+use Rattle.ipc_heap.specs.Matches.{HeapMatches}
+use Rattle.ipc_heap.specs.View.{map_of}
+use Rattle.ipc_heap.proofs.CallerLemmas.{HeapMatches-stays}
 use Rattle.ipc_checkpoint.specs.declared.error.LoadError.{LoadError}
 use Rattle.ipc_checkpoint.specs.declared.error.LoadError.TheVariants.{Damaged}
-use Rattle.ipc_disk.specs.declared.range.Range.{Range}
-use Rattle.ipc_disk.specs.Medium.{Image}
-use Rattle.ipc_disk.specs.Standing.{StandsAt}
-use Rattle.ipc_checkpoint.specs.Checkpoint.{first_of, IsOwn}
-use Rattle.ipc_checkpoint.proofs.CallerLemmas.{area-own}
-use Rattle.ipc_checkpoint.proofs.Loads.{none-there}
+use Rattle.ipc_checkpoint.specs.View.{of_open_error}
+use Rattle.ipc_checkpoint.proofs.Saves.{its-free}
 use Rattle.ipc_checkpoint.proofs.checkpoint.Checkpoint.load.Goals as goal
 
--- an error that is passed on
-passed_on : {T : Type 0} (r : Result T LoadError) (came went : LoadError) → IsErrAnd r (λ y. y ≡ came) → IsErrOf r went → came ≡ went
-passed_on (Ok x) came went from is = cc
-passed_on (Err y) came went from is = cc
+-- a damage that is passed on
+damage : (came : OpenError) (sector : ℕ) → of_open_error came ≡ Damaged sector → came ≡ opens.Damaged sector
+damage opens.Device sector is = cc
+damage (opens.Damaged at) sector is = let same : at ≡ sector = cc in ap (λ (n : ℕ). opens.Damaged n) same
+damage opens.NoMemory sector is = cc
 
-pub returns-in_err-root-clause-damaged : goal.returns-in_err-root-clause-damaged
-returns-in_err-root-clause-damaged g c = λ sector is honest.
-    let same : c.in_err-root.field-0.0 ≡ Damaged sector =
-    passed_on c.from_residual.result c.in_err-root.field-0.0 (Damaged sector) c.from_residual.ensures.1 is in
-    c.in_err-root.ensures.damaged sector (ap Err same) honest
+passed_on : {T : Type 0} (r : Result T LoadError) (came : OpenError) (sector : ℕ) → IsErrAnd r (λ y. y ≡ of_open_error came) → IsErrOf r (Damaged sector)
+    → came ≡ opens.Damaged sector
+passed_on (Ok x) came sector is bad = cc
+passed_on (Err e) came sector is bad = let same : e ≡ Damaged sector = cc in damage came sector (sym is ∙ same)
 
-pub returns-in-Err-Damaged-clause-damaged : goal.returns-in-Err-Damaged-clause-damaged
-returns-in-Err-Damaged-clause-damaged g c = λ sector is honest.
-    let image = (g.D.SectorDisk.medium c.args.disk.now).contents in
-    let reads = c.read_root.ensures.reads in
-    let stands : StandsAt (first_of c.args.layout c.in_ok-root.root.live) c.in_ok-bytes.bytes.items image =
-    subst (λ (r : Range). StandsAt r.first c.in_ok-bytes.bytes.items image) c.sectors-range.ensures
-    (subst (λ (i : Image). StandsAt c.sectors-range.result.first c.in_ok-bytes.bytes.items i) ((reads.stays honest).contents honest)
-    (c.in_ok-bytes.ensures.stands (reads.same.honest.0 honest))) in
-    none-there c.args.layout image c.in_ok-root.root (c.in_ok-root.ensures.read honest) c.in_ok-bytes.bytes.items c.in_ok-bytes.ensures.long stands
-    (λ objects are bytes. c.in-Err-Damaged.ensures.damaged c.in-Err-Damaged.place (ap (λ f. Err f) c.in-Err-Damaged.field-0-is) objects are
-    (c.deref.ensures.value ∙ bytes))
+pub open-requires : goal.open-requires
+open-requires g c =
+    let laid = c.requires.laid_out in
+    record { laid_out = record { within = laid.within; root_there = laid.root; apart = laid.apart; not_first = laid.not_first } }
 
-pub returns-in-Err-Damaged-clause-named : goal.returns-in-Err-Damaged-clause-named
-returns-in-Err-Damaged-clause-named g c = λ sector is.
-    let same : sector ≡ c.sectors-range.result.first + c.sector_of.result = cc in
-    let first : c.sectors-range.result.first ≡ first_of c.args.layout c.in_ok-root.root.live = ap (λ (r : Range). r.first) c.sectors-range.ensures in
-    subst (IsOwn c.args.layout) (sym (same ∙ ap (λ (n : ℕ). n + c.sector_of.result) first))
-    (area-own c.args.layout c.in_ok-root.root.live c.sector_of.result c.requires.laid_out.room c.in_ok-root.ensures.sound.0
-    (omega (arith, c.in_ok-root.ensures.sound, c.sector_of.ensures, c.in_ok-bytes.ensures.long)))
+pub returns-in_err-heap-clause-damaged : goal.returns-in_err-heap-clause-damaged
+returns-in_err-heap-clause-damaged g c sector err =
+    c.in_err-heap.ensures.damaged sector
+    (ap Err (passed_on c.from_residual.result c.in_err-heap.field-0.0 sector c.from_residual.ensures.1 err))
+
+pub returns-in_err-heap-clause-first : goal.returns-in_err-heap-clause-first
+returns-in_err-heap-clause-first g c sector err =
+    c.in_err-heap.ensures.named sector
+    (ap Err (passed_on c.from_residual.result c.in_err-heap.field-0.0 sector c.from_residual.ensures.1 err))
+
+pub returns-in_err-heap-clause-named : goal.returns-in_err-heap-clause-named
+returns-in_err-heap-clause-named g c sector err =
+    c.in_err-heap.ensures.own sector
+    (ap Err (passed_on c.from_residual.result c.in_err-heap.field-0.0 sector c.from_residual.ensures.1 err))
+
+pub returns-clause-free : goal.returns-clause-free
+returns-clause-free g c =
+    its-free c.in_ok-heap.heap c.in_ok-objects.objects c.in_ok-objects.ensures.placed (sym c.in_ok-objects.ensures.sizes) c.in_ok-heap.heap
+    c.args.layout.range.count refl c.in_ok-heap.ensures.table c.in_ok-heap.ensures.free
+
+pub returns-clause-matches : goal.returns-clause-matches
+returns-clause-matches g c = λ honest durable.
+    let mid = g.D.SectorDisk.medium c.open.new.disk in
+    let new = g.D.SectorDisk.medium c.read_objects.new.disk in
+    let h = c.in_ok-heap.heap in
+    let here = c.open.ensures.reads.same.honest.0 honest in
+    let objects : c.in_ok-objects.objects ≡ map_of h mid = c.in_ok-objects.ensures.objects here in
+    let matches = c.in_ok-heap.ensures.matches honest durable in
+    let call = c.read_objects.ensures.reads.stays here in
+    record {
+      matches = subst (λ (l : PlainObjects). HeapMatches h l new) (sym objects) (HeapMatches-stays h (map_of h mid) mid new call matches);
+      map = ap (λ (i : Image). map (object_on i) h.placed) (call.contents here) ∙ sym objects;
+      inside = c.in_ok-objects.ensures.placed.inside;
+      free = its-free h c.in_ok-objects.objects c.in_ok-objects.ensures.placed (sym c.in_ok-objects.ensures.sizes) h
+          h.range.count refl c.in_ok-heap.ensures.table (c.in_ok-heap.ensures.free ∙ ap (λ (r : Range). r.count) (sym c.in_ok-heap.ensures.range));
+    }

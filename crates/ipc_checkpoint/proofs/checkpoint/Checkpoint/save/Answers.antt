@@ -1,89 +1,170 @@
--- Each exit: the images since the start, those of now, and the sectors that stay.
-use Rattle.std.proofs.Common.{◌∙◌, ◌-◌, sym, ap, subst, arith}
-use Rattle.ipc_disk.specs.declared.range.Range.{Range}
-use Rattle.ipc_disk.proofs.CallerLemmas.{LeavesAlone-stays}
-use Rattle.ipc_checkpoint.specs.Checkpoint.{HoldsIn, IsElsewhere}
-use Rattle.ipc_checkpoint.proofs.Saves.{Fit-bytes, others-written, others-both, moment-body, moment-sync, moment-root, saved-there}
+-- What the objects lack is taken out, what has changed is put in, and the heap is turned over.
+use Rattle.std.proofs.Common.{◌≡◌, ℕ, ◌≤◌, refl, ap, subst, ◌∙◌}
+use Rattle.std.specs.Prelude.{Err, IsErrOf, is_some, nat_eq}
+use Rattle.ipc_base.specs.Objects.{PlainObjects}
+use Rattle.ipc_base.specs.Table.{value_at}
+use Rattle.ipc_disk.specs.Counts.{Counts, counted}
+use Rattle.ipc_heap.specs.declared.error.HeapError.{HeapError}
+use Rattle.ipc_heap.specs.declared.error.HeapError.TheVariants.{Device, Full}
+use Rattle.ipc_heap.specs.Matches.{Keeps}
+use Rattle.ipc_heap.specs.View.{HeapView, free}
+use Rattle.ipc_checkpoint.specs.View.{CheckpointView}
+use Rattle.ipc_checkpoint.proofs.Saves.{counted-two, free-new, laid-one, matches-new, moment-mid, moment-new, not-full, only-one, others-mid, others-new}
+use Rattle.ipc_checkpoint.proofs.Saves.{room-one, writes-new}
+use Rattle.ipc_checkpoint.proofs.checkpoint.Checkpoint.save.Given.{Over}
 use Rattle.ipc_checkpoint.proofs.checkpoint.Checkpoint.save.Goals as goal
+use Rattle.ipc_checkpoint.proofs.checkpoint.Checkpoint.save.Goals.{After-keep_those_of, in-Ok, in-Err}
 
-pub write_objects-requires-clause-room : goal.write_objects-requires-clause-room
-write_objects-requires-clause-room g c =
-    omega (arith, Fit-bytes c.args.self.now.layout.area (g.O.Objects.objects c.args.objects.now) c.requires.fits, ap (λ (r : Range). r.count) c.sectors.ensures)
+module _ (g : Over) (c : After-keep_those_of g) where
+  abbrev size : ℕ
+  size = g.D.SectorDisk.size c.args.disk.now
 
-pub write_objects-requires-clause-counted : goal.write_objects-requires-clause-counted
-write_objects-requires-clause-counted g c =
-    omega (arith, Fit-bytes c.args.self.now.layout.area (g.O.Objects.objects c.args.objects.now) c.requires.fits, c.requires.laid_out)
+  abbrev os : PlainObjects
+  os = g.O.Objects.objects c.args.objects.now
 
-pub returns-in_err-len-clause-others : goal.returns-in_err-len-clause-others
-returns-in_err-len-clause-others g c = λ honest.
-    others-written c.args.self.now.layout _ c.requires.laid_out (1 - c.args.self.now.live) c.sectors.result _ _ (omega arith) c.sectors.ensures
-    (c.write_objects.ensures.others honest)
+  abbrev one : HeapView
+  one = c.keep_those_of.new.heap
 
-pub returns-in_err-len-clause-any_moment : goal.returns-in_err-len-clause-any_moment
-returns-in_err-len-clause-any_moment g c = λ saved at.
-    moment-body c.args.self.now _ c.requires.laid_out saved _ at c.args.epoch (g.O.Objects.objects c.args.objects.now) c.sectors.result c.sectors.ensures _
-    (c.write_objects.ensures.others at.honest)
+  same : c.self.inside.heap ≡ c.args.self.now.heap
+  same = ap (λ (v : CheckpointView). v.heap) c.self.view_is
 
-pub returns-in_err-sync-clause-others : goal.returns-in_err-sync-clause-others
-returns-in_err-sync-clause-others g c = λ honest.
-    LeavesAlone-stays (IsElsewhere c.args.self.now.layout) _ _ _
-    (others-written c.args.self.now.layout _ c.requires.laid_out (1 - c.args.self.now.live) c.sectors.result _ _ (omega arith) c.sectors.ensures
-    (c.write_objects.ensures.others honest)) c.sync.ensures.medium
+  keeps : Keeps (λ n. is_some (value_at nat_eq os n)) c.args.self.now.heap one
+  keeps = subst (λ (h : HeapView). Keeps (λ n. is_some (value_at nat_eq os n)) h one) same c.keep_those_of.ensures.keeps
 
-pub returns-in_err-sync-clause-any_moment : goal.returns-in_err-sync-clause-any_moment
-returns-in_err-sync-clause-any_moment g c = λ saved at.
-    moment-sync c.args.self.now _ c.requires.laid_out saved _ at c.args.epoch (g.O.Objects.objects c.args.objects.now) c.sectors.result c.sectors.ensures _ _
-    (c.write_objects.ensures.others at.honest) c.sync.ensures.medium
+  more : free c.args.self.now.heap ≤ free one
+  more = subst (λ (h : HeapView). free h ≤ free one) same c.keep_those_of.ensures.free
 
-pub returns-in_err-write_durably-clause-others : goal.returns-in_err-write_durably-clause-others
-returns-in_err-write_durably-clause-others g c = λ honest.
-    let run = c.write_objects.ensures.others honest in
-    others-both c.args.self.now.layout _ c.requires.laid_out (1 - c.args.self.now.live) c.sectors.result _ _ _ _ (omega arith) c.sectors.ensures run
-    c.sync.ensures.medium (c.write_durably.ensures.others (c.sync.ensures.medium.time.honest.0 run.honest))
+pub put_changed-requires-clause-laid_out : goal.put_changed-requires-clause-laid_out
+put_changed-requires-clause-laid_out g c =
+    let m = (goal.at.put_changed-requires-clause-laid_out g c).After-keep_those_of in
+    laid-one (size g m) c.args.self.now (os g m) (g.O.Objects.differs c.args.objects.now) c.count-count.ensures.objects c.requires.laid_out c.requires.fits
+    c.requires.old_fits (one g m) (keeps g m) (more g m)
 
-pub returns-in_err-write_durably-clause-any_moment : goal.returns-in_err-write_durably-clause-any_moment
-returns-in_err-write_durably-clause-any_moment g c = λ saved at.
-    let run = c.write_objects.ensures.others at.honest in
-    let kept = c.sync.ensures.medium.time.honest.0 run.honest in
-    let long = (g.met.D.SectorDisk.shaped c.sync.new.self _ kept.reads).count in
-    moment-root c.args.self.now (g.D.SectorDisk.size c.args.disk.now) c.requires.laid_out saved _ at c.args.epoch
-    (g.O.Objects.objects c.args.objects.now) c.sectors.result c.sectors.ensures _ _ run c.sync.ensures.medium c.in_ok-sync.ensures.durable
-    (long ∙ c.sync.ensures.call.sectors ∙ c.write_objects.ensures.same.sectors) c.in_ok-len.ensures.objects c.requires.fits (omega (arith, c.requires.later))
-    (c.in_ok-len.ensures.written at.honest) c.root_sector.result c.root_sector.ensures.epoch c.root_sector.ensures.live
-    (c.root_sector.ensures.long ∙ c.in_ok-len.ensures.len) _ (c.write_durably.ensures.any_moment kept)
+pub put_changed-requires-clause-no_others : goal.put_changed-requires-clause-no_others
+put_changed-requires-clause-no_others g c =
+    let m = (goal.at.put_changed-requires-clause-no_others g c).After-keep_those_of in
+    only-one (size g m) c.args.self.now (os g m) (g.O.Objects.differs c.args.objects.now) c.count-count.ensures.objects c.requires.laid_out c.requires.fits
+    c.requires.old_fits (one g m) (keeps g m) (more g m)
 
-pub returns-clause-others : goal.returns-clause-others
-returns-clause-others g c = λ honest.
-    let run = c.write_objects.ensures.others honest in
-    others-both c.args.self.now.layout _ c.requires.laid_out (1 - c.args.self.now.live) c.sectors.result _ _ _ _ (omega arith) c.sectors.ensures run
-    c.sync.ensures.medium (c.write_durably.ensures.others (c.sync.ensures.medium.time.honest.0 run.honest))
+pub put_changed-requires-clause-room : goal.put_changed-requires-clause-room
+put_changed-requires-clause-room g c =
+    let m = (goal.at.put_changed-requires-clause-room g c).After-keep_those_of in
+    room-one (size g m) c.args.self.now (os g m) (g.O.Objects.differs c.args.objects.now) c.count-count.ensures.objects c.requires.laid_out c.requires.fits
+    c.requires.old_fits (one g m) (keeps g m) (more g m)
+
+pub returns-in_err-put_changed-clause-any_moment : goal.returns-in_err-put_changed-clause-any_moment
+returns-in_err-put_changed-clause-any_moment g c = λ saved at.
+    let m = (goal.at.returns-in_err-put_changed-clause-any_moment g c).After-keep_those_of in
+    moment-mid (size g m) c.args.self.now (os g m) (g.O.Objects.differs c.args.objects.now) c.count-count.ensures.objects c.requires.laid_out c.requires.fits
+    c.requires.old_fits (one g m) (keeps g m) (more g m) (g.D.SectorDisk.medium c.args.disk.now) (g.D.SectorDisk.medium c.put_changed.new.disk)
+    c.put_changed.ensures.any_moment c.put_changed.ensures.others saved at c.args.epoch
+
+pub returns-in_err-put_changed-clause-others : goal.returns-in_err-put_changed-clause-others
+returns-in_err-put_changed-clause-others g c =
+    let m = (goal.at.returns-in_err-put_changed-clause-others g c).After-keep_those_of in
+    others-mid (size g m) c.args.self.now (os g m) (g.O.Objects.differs c.args.objects.now) c.count-count.ensures.objects c.requires.laid_out c.requires.fits
+    c.requires.old_fits (one g m) (keeps g m) (more g m) (g.D.SectorDisk.medium c.args.disk.now) (g.D.SectorDisk.medium c.put_changed.new.disk)
+    c.put_changed.ensures.any_moment c.put_changed.ensures.others
+
+pub flip-requires-clause-counted : goal.flip-requires-clause-counted
+flip-requires-clause-counted g c =
+    let m = (goal.at.flip-requires-clause-counted g c).After-keep_those_of in
+    counted-two (size g m) c.args.self.now (os g m) (g.O.Objects.differs c.args.objects.now) c.count-count.ensures.objects c.requires.laid_out c.requires.fits
+    c.requires.old_fits (one g m) (keeps g m) (more g m) (g.D.SectorDisk.medium c.args.disk.now) (g.D.SectorDisk.medium c.put_changed.new.disk)
+    c.put_changed.ensures.any_moment c.put_changed.ensures.others c.put_changed.new.heap c.put_changed.ensures.stays
+    c.in_ok-put_changed.ensures.placed c.in_ok-put_changed.ensures.sizes c.in_ok-put_changed.ensures.spends
+
+-- an error that is not for want of sectors is the disk's
+device : (e : HeapError) → (IsErrOf {T = Unit {0}} (Err e) Full → ⊥) → IsErrOf {T = Unit {0}} (Err e) Device
+device Device some = refl
+device Full some = absurd (some refl)
+
+pub returns-clause-matches : goal.returns-clause-matches
+returns-clause-matches g c =
+    let m = (goal.at.returns-clause-matches g c).After-keep_those_of in
+    elim c.match-flip.branch [
+      | in-Ok w ↦ rw w.result-is
+          (matches-new (size g m) c.args.self.now (os g m) (g.O.Objects.differs c.args.objects.now) c.count-count.ensures.objects c.requires.laid_out
+          c.requires.fits c.requires.old_fits (one g m) (keeps g m) (more g m)
+          (g.D.SectorDisk.medium c.args.disk.now) (g.D.SectorDisk.medium c.put_changed.new.disk)
+          c.put_changed.ensures.any_moment c.put_changed.ensures.others c.put_changed.new.heap c.put_changed.ensures.stays
+          c.in_ok-put_changed.ensures.placed c.in_ok-put_changed.ensures.sizes c.in_ok-put_changed.ensures.spends
+          (g.D.SectorDisk.medium c.flip.new.disk) c.args.epoch c.flip.new.self
+          c.in_ok-put_changed.ensures.matches c.in_ok-put_changed.ensures.map c.requires.unchanged
+          c.flip.ensures.placed c.flip.ensures.range w.in-Ok.ensures.table w.in-Ok.ensures.free w.in-Ok.ensures.matches w.in-Ok.ensures.map
+          c.self.inside.area)
+      | in-Err w ↦ rw w.result-is tt
+    ]
+
+pub returns-clause-free : goal.returns-clause-free
+returns-clause-free g c =
+    let m = (goal.at.returns-clause-free g c).After-keep_those_of in
+    elim c.match-flip.branch [
+      | in-Ok w ↦ rw w.result-is
+          (free-new (size g m) c.args.self.now (os g m) (g.O.Objects.differs c.args.objects.now) c.count-count.ensures.objects c.requires.laid_out
+          c.requires.fits c.requires.old_fits (one g m) (keeps g m) (more g m)
+          (g.D.SectorDisk.medium c.args.disk.now) (g.D.SectorDisk.medium c.put_changed.new.disk)
+          c.put_changed.ensures.any_moment c.put_changed.ensures.others c.put_changed.new.heap c.put_changed.ensures.stays
+          c.in_ok-put_changed.ensures.placed c.in_ok-put_changed.ensures.sizes c.in_ok-put_changed.ensures.spends
+          (g.D.SectorDisk.medium c.flip.new.disk) c.args.epoch c.flip.new.self
+          c.in_ok-put_changed.ensures.matches c.in_ok-put_changed.ensures.map c.requires.unchanged
+          c.flip.ensures.placed c.flip.ensures.range w.in-Ok.ensures.table w.in-Ok.ensures.free)
+      | in-Err w ↦ rw w.result-is tt
+    ]
 
 pub returns-clause-any_moment : goal.returns-clause-any_moment
-returns-clause-any_moment g c = λ saved at.
-    let run = c.write_objects.ensures.others at.honest in
-    let kept = c.sync.ensures.medium.time.honest.0 run.honest in
-    let long = (g.met.D.SectorDisk.shaped c.sync.new.self _ kept.reads).count in
-    moment-root c.args.self.now (g.D.SectorDisk.size c.args.disk.now) c.requires.laid_out saved _ at c.args.epoch
-    (g.O.Objects.objects c.args.objects.now) c.sectors.result c.sectors.ensures _ _ run c.sync.ensures.medium c.in_ok-sync.ensures.durable
-    (long ∙ c.sync.ensures.call.sectors ∙ c.write_objects.ensures.same.sectors) c.in_ok-len.ensures.objects c.requires.fits (omega (arith, c.requires.later))
-    (c.in_ok-len.ensures.written at.honest) c.root_sector.result c.root_sector.ensures.epoch c.root_sector.ensures.live
-    (c.root_sector.ensures.long ∙ c.in_ok-len.ensures.len) _ (c.write_durably.ensures.any_moment kept)
+returns-clause-any_moment g c =
+    let m = (goal.at.returns-clause-any_moment g c).After-keep_those_of in
+    moment-new (size g m) c.args.self.now (os g m) (g.O.Objects.differs c.args.objects.now) c.count-count.ensures.objects c.requires.laid_out
+    c.requires.fits c.requires.old_fits (one g m) (keeps g m) (more g m)
+    (g.D.SectorDisk.medium c.args.disk.now) (g.D.SectorDisk.medium c.put_changed.new.disk)
+    c.put_changed.ensures.any_moment c.put_changed.ensures.others c.put_changed.new.heap c.put_changed.ensures.stays
+    c.in_ok-put_changed.ensures.placed c.in_ok-put_changed.ensures.sizes c.in_ok-put_changed.ensures.spends
+    (g.D.SectorDisk.medium c.flip.new.disk) c.args.epoch c.flip.new.self
+    c.in_ok-put_changed.ensures.matches c.in_ok-put_changed.ensures.map c.requires.unchanged c.flip.ensures.any_moment
 
--- and then the new objects are there
-pub returns-clause-matches : goal.returns-clause-matches
-returns-clause-matches g c = λ saved at.
-    let run = c.write_objects.ensures.others at.honest in
-    let kept = c.sync.ensures.medium.time.honest.0 run.honest in
-    let long = (g.met.D.SectorDisk.shaped c.sync.new.self _ kept.reads).count in
-    let objects = g.O.Objects.objects c.args.objects.now in
-    record {
-      honest = (c.write_durably.ensures.others kept).honest;
-      images = λ image now.
-          subst (HoldsIn c.args.self.now.layout (1 - c.args.self.now.live) c.args.epoch objects)
-          (sym (c.in_ok-write_durably.ensures.durable image now ∙ c.in_ok-write_durably.ensures.written kept))
-          (saved-there c.args.self.now (g.D.SectorDisk.size c.args.disk.now) c.requires.laid_out saved _ at c.args.epoch
-          objects c.sectors.result c.sectors.ensures _ _ run c.sync.ensures.medium c.in_ok-sync.ensures.durable
-          (long ∙ c.sync.ensures.call.sectors ∙ c.write_objects.ensures.same.sectors) c.in_ok-len.ensures.objects c.requires.fits
-          (omega (arith, c.requires.later)) (c.in_ok-len.ensures.written at.honest) c.root_sector.result c.root_sector.ensures.epoch c.root_sector.ensures.live
-          (c.root_sector.ensures.long ∙ c.in_ok-len.ensures.len));
-    }
+pub returns-clause-others : goal.returns-clause-others
+returns-clause-others g c =
+    let m = (goal.at.returns-clause-others g c).After-keep_those_of in
+    others-new (size g m) c.args.self.now (os g m) (g.O.Objects.differs c.args.objects.now) c.count-count.ensures.objects c.requires.laid_out
+    c.requires.fits c.requires.old_fits (one g m) (keeps g m) (more g m)
+    (g.D.SectorDisk.medium c.args.disk.now) (g.D.SectorDisk.medium c.put_changed.new.disk)
+    c.put_changed.ensures.any_moment c.put_changed.ensures.others c.put_changed.new.heap c.put_changed.ensures.stays
+    c.in_ok-put_changed.ensures.placed c.in_ok-put_changed.ensures.sizes c.in_ok-put_changed.ensures.spends
+    (g.D.SectorDisk.medium c.flip.new.disk) c.args.epoch c.flip.new.self
+    c.in_ok-put_changed.ensures.matches c.in_ok-put_changed.ensures.map c.requires.unchanged c.flip.ensures.others
+
+pub returns-clause-counts : goal.returns-clause-counts
+returns-clause-counts g c =
+    let m = (goal.at.returns-clause-counts g c).After-keep_those_of in
+    let first = c.in_ok-put_changed.ensures.counts.ok in
+    elim c.match-flip.branch [
+      | in-Ok w ↦ rw w.result-is (record { err = tt; ok = ap (λ (n : Counts). n.failures) w.in-Ok.ensures.counts ∙ first })
+      | in-Err w ↦ rw w.result-is (record {
+        err = w.in-Err.ensures.fault.failure (device w.in-Err.field-0 (λ full.
+            not-full (size g m) c.args.self.now (os g m) (g.O.Objects.differs c.args.objects.now) c.count-count.ensures.objects c.requires.laid_out
+            c.requires.fits c.requires.old_fits (one g m) (keeps g m) (more g m)
+            (g.D.SectorDisk.medium c.args.disk.now) (g.D.SectorDisk.medium c.put_changed.new.disk)
+            c.put_changed.ensures.any_moment c.put_changed.ensures.others c.put_changed.new.heap c.put_changed.ensures.stays
+            c.in_ok-put_changed.ensures.placed c.in_ok-put_changed.ensures.sizes c.in_ok-put_changed.ensures.spends (w.in-Err.ensures.full full)))
+            ∙ ap (λ (n : ℕ). counted n 1) first;
+        ok = tt;
+      })
+    ]
+
+pub returns-clause-writes : goal.returns-clause-writes
+returns-clause-writes g c =
+    let m = (goal.at.returns-clause-writes g c).After-keep_those_of in
+    elim c.match-flip.branch [
+      | in-Ok w ↦ rw w.result-is
+          (writes-new (size g m) c.args.self.now (os g m) (g.O.Objects.differs c.args.objects.now) c.count-count.ensures.objects c.requires.laid_out
+          c.requires.fits c.requires.old_fits (one g m) (keeps g m) (more g m)
+          (g.D.SectorDisk.medium c.args.disk.now) (g.D.SectorDisk.medium c.put_changed.new.disk)
+          c.put_changed.ensures.any_moment c.put_changed.ensures.others c.put_changed.new.heap c.put_changed.ensures.stays
+          c.in_ok-put_changed.ensures.placed c.in_ok-put_changed.ensures.sizes c.in_ok-put_changed.ensures.spends
+          (g.D.SectorDisk.medium c.flip.new.disk) c.args.epoch c.flip.new.self
+          c.in_ok-put_changed.ensures.matches c.in_ok-put_changed.ensures.map c.requires.unchanged
+          (g.D.SectorDisk.counts c.args.disk.now) (g.D.SectorDisk.counts c.put_changed.new.disk) (g.D.SectorDisk.counts c.flip.new.disk)
+          (g.met.D.SectorDisk.in_range c.args.disk.now) c.in_ok-put_changed.ensures.writes w.in-Ok.ensures.counts)
+      | in-Err w ↦ rw w.result-is tt
+    ]

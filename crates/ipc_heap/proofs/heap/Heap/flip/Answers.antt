@@ -339,6 +339,11 @@ returns-in-Ok-clause-map g c =
     map-then g (m g c) (g.D.SectorDisk.medium c.turn.new.disk) c.if-not-take_table.false _ _ c.deref-2.ensures.value c.deref-3.ensures.value
     c.in-Ok.ensures.turned (new_uses g c) (given g c)
 
+pub returns-in-Ok-clause-table : goal.returns-in-Ok-clause-table
+returns-in-Ok-clause-table g c =
+    long g (m g c) c.if-not-take_table.false ∙ ap (λ (l : List ℕ). table_sectors_for (length l)) c.self.invariant.is_table
+    ∙ ap (λ (v : HeapView). table_sectors_for (length (table_words v.placed))) c.self.view_is
+
 pub returns-in-Ok-clause-free : goal.returns-in-Ok-clause-free
 returns-in-Ok-clause-free g c =
     flipped-free c.self.invariant
@@ -350,3 +355,12 @@ returns-in-Ok-clause-counts g c =
     ap length c.deref-3.ensures.value ∙ long g (m g c) c.if-not-take_table.false ∙ ap (λ (l : List ℕ). table_sectors_for (length l)) c.self.invariant.is_table
     ∙ ap (λ (v : HeapView). table_sectors_for (length (table_words v.placed))) c.self.view_is in
     c.in-Ok.ensures.counts.ok ∙ ap (λ (n : ℕ). with_calls (n + 1) 2 (g.D.SectorDisk.counts c.args.disk.now)) all
+
+pub returns-then-not-take_table-clause-placed : goal.returns-then-not-take_table-clause-placed
+returns-then-not-take_table-clause-placed g c = ap (λ (v : HeapView). v.placed) c.self.view_is
+
+pub returns-in-Err-clause-placed : goal.returns-in-Err-clause-placed
+returns-in-Err-clause-placed g c = ap (λ (v : HeapView). v.placed) c.self.view_is
+
+pub returns-in-Ok-clause-placed : goal.returns-in-Ok-clause-placed
+returns-in-Ok-clause-placed g c = ap (λ (v : HeapView). v.placed) c.self.view_is

@@ -9,7 +9,7 @@ use Rattle.ipc_heap.specs.Relations.Root.{IsRead}
 use Rattle.ipc_heap.specs.declared.error.OpenError.TheVariants.{Damaged}
 use Rattle.ipc_heap.proofs.Damages.{no-damage}
 use Rattle.ipc_heap.proofs.Opens.{passed_on}
-use Rattle.ipc_heap.proofs.Opened.{parts-heap, kept-holds, kept-matches, kept-free}
+use Rattle.ipc_heap.proofs.Opened.{parts-heap, kept-holds, kept-matches, kept-free, kept-table}
 use Rattle.ipc_heap.proofs.heap.Heap.open.Given.{Over}
 use Rattle.ipc_heap.proofs.heap.Heap.open.Goals as goal
 use Rattle.ipc_heap.proofs.heap.Heap.open.Goals.{In_ok-parts, In_ok-read_parts}
@@ -95,3 +95,9 @@ returns-clause-free g c =
     let done = c.in_ok-read_parts.ensures in
     kept-free c.args.range c.args.root c.in_ok-found.found (g.D.SectorDisk.medium c.args.disk.now).contents c.read_parts.new.parts done.noted done.all
     c.in_ok-found.ensures.sound
+
+pub returns-clause-table : goal.returns-clause-table
+returns-clause-table g c =
+    let done = c.in_ok-read_parts.ensures in
+    kept-table c.args.range c.args.root c.in_ok-found.found (g.D.SectorDisk.medium c.args.disk.now).contents c.read_parts.new.parts done.noted done.all
+    c.in_ok-found.ensures.sound done.table

@@ -13,13 +13,13 @@ use Rattle.ipc_disk.specs.Standing.{sector_at, sectors_for}
 use Rattle.ipc_heap.specs.declared.uses.Use.{Use}
 use Rattle.ipc_heap.specs.Heap.{Holds, IsLaidOut, Placed, object_on, object_sectors, object_words}
 use Rattle.ipc_heap.specs.Matches.{HeapMatches, IsKept}
-use Rattle.ipc_heap.specs.View.{HeapView, free, is_free, map_of, with_object}
+use Rattle.ipc_heap.specs.View.{HeapView, free, is_free, map_of, sizes_of, with_object}
 use Rattle.ipc_heap.specs.Relations.Table.{object_at}
 use Rattle.ipc_heap.specs.Relations.Uses.{AreGiven, AreTaken, IsNotFree}
 use Rattle.ipc_heap.specs.Relations.Words.{AreWords, IsHeap, IsPutIn, placed_in}
 use Rattle.ipc_heap.proofs.Changes.{AreObjectsOf, HasSize, back-heap, heap-few, heap-fits, objects-few, pushed-four, pushed-object, seen, with-heap}
 use Rattle.ipc_heap.proofs.Changes.{with-objects, with-placed, words-of}
-use Rattle.ipc_heap.proofs.Images.{kept-matches, kept-moment, kept-objects, put-are, put-map}
+use Rattle.ipc_heap.proofs.Images.{kept-matches, kept-moment, kept-objects, put-are, put-map, put-seen}
 use Rattle.ipc_heap.proofs.Placed.{mapped-at}
 use Rattle.ipc_heap.proofs.heap.Heap.put.Given.{Over}
 use Rattle.ipc_heap.proofs.heap.Heap.put.Goals as goal
@@ -330,6 +330,19 @@ pub returns-in-Ok-clause-matches : goal.returns-in-Ok-clause-matches
 returns-in-Ok-clause-matches g c =
     subst (λ (v : HeapView). (saved : PlainObjects) → HeapMatches v saved (g.D.SectorDisk.medium c.args.disk.now)
     → HeapMatches (next g c) saved (g.D.SectorDisk.medium c.write_object.new.disk)) c.self.view_is (put_matches g c)
+
+pub returns-in-Ok-clause-sizes : goal.returns-in-Ok-clause-sizes
+returns-in-Ok-clause-sizes g c =
+    let size : Placed → ℕ × ℕ = λ q. (q.number, q.len) in
+    let found = (put g c).found in
+    subst (λ (v : HeapView). IfSome (slice_get (g.O.Objects.objects c.args.objects.now) c.args.i)
+    (λ o. sizes_of (next g c) ≡ with_object (sizes_of v) o.0 (length o.1))) c.self.view_is
+    (of_object g (m g c) (λ o. sizes_of (next g c) ≡ with_object (sizes_of (view g (m g c))) o.0 (length o.1))
+    (ap (λ (l : List Placed). map size l) (new_placed g c)
+    ∙ put-seen (λ q. q.len) found.before found.here found.after (placed g (m g c)) found.lower found.same found.one found.higher
+    ∙ ap (λ (l : List Placed). with_object (map size l) c.number-number.result c.len.result) (sym found.are)
+    ∙ ap (λ (n : ℕ). with_object (sizes_of (view g (m g c))) n c.len.result) (sym (its_number g (m g c)))
+    ∙ ap (with_object (sizes_of (view g (m g c))) (object g (m g c)).0) (sym (its_length g (m g c)))))
 
 pub returns-in-Ok-clause-any_moment : goal.returns-in-Ok-clause-any_moment
 returns-in-Ok-clause-any_moment g c = moment g (goal.at.returns-in-Ok-clause-any_moment g c).After-write_object

@@ -41,7 +41,7 @@ read_window-requires-clause-within g c =
 
 pub returns-clause-bytes : goal.returns-clause-bytes
 returns-clause-bytes g c = on_ok_weaker c.read_window.result
-    (λ read saved matches.
+    (λ read honest.
     let image = (g.D.SectorDisk.medium c.args.disk.now).contents in
     let words : List ℕ = c.words_of-words.result.now in
     let found = c.words_of-words.ensures in
@@ -53,5 +53,5 @@ returns-clause-bytes g c = on_ok_weaker c.read_window.result
     ∙ ap (λ (l : List ℕ). Some (window c.args.place l))
     (ap (λ (n : ℕ). take n (flat_map (sector_at image) p.sectors)) (sym (c.wide.ensures ∙ len-of words p found.are))
     ∙ ap (λ (l : List ℕ). take c.wide.result (flat_map (sector_at image) l)) (sym (sectors-of words p found.are)))
-    ∙ ap (λ (l : List ℕ). Some l) (sym (read matches.honest)))
+    ∙ ap (λ (l : List ℕ). Some l) (sym (read honest)))
     c.read_window.ensures.bytes

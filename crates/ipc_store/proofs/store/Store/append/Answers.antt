@@ -37,4 +37,5 @@ invariant_of-self-2 g c = (
               c.append.ensures.range c.append.ensures.epoch c.in_default.ensures.acknowledged,
         ),
       ),
+  c.self.invariant.3,
 )

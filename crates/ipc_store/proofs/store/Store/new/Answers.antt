@@ -10,4 +10,5 @@ invariant_of-result g c = (
     c.args.engine.state,
     ([], new-matches _ c.args.disk c.args.checkpoint c.args.journal c.args.engine (c.requires.matches honest)),
   ),
+  λ goes. c.requires.spare,
 )

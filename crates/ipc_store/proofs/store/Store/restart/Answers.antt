@@ -1,7 +1,6 @@
 -- The restart is the one event that waits.
 use Rattle.std.proofs.Common.{◌≡◌, ⊎_elim, ℕ, ◌+◌, List, [], ◌∷◌, ◌++◌, Err, true, false, sym, ap, subst, ◌∙◌}
-use Rattle.ipc_checkpoint.specs.declared.checkpoint.Checkpoint.{Checkpoint}
-use Rattle.ipc_checkpoint.specs.View.{epoch_of}
+use Rattle.ipc_checkpoint.specs.View.{CheckpointView, epoch_of}
 use Rattle.ipc_store.specs.Image.{last_epoch}
 use Rattle.ipc_journal.specs.declared.journal.Journal.{Journal}
 use Rattle.ipc_journal.specs.View.{range_of, used_of}
@@ -42,7 +41,7 @@ returns-in-Err-Stopped-clause-at_end g c = λ is.
           (full_journal c.step.new.self.journal c.step.new.self.records all why.2),
     )
   where
-    IsLast : Checkpoint → Type 0
+    IsLast : CheckpointView → Type 0
     IsLast checkpoint = epoch_of checkpoint ≡ last_epoch
 
     never : true ≡ false → ⊥

@@ -1,12 +1,14 @@
 -- Each exit: the images since the start, and the store after it.
-use Rattle.std.proofs.Common.{◌≡◌, [], sym, ap, subst, ◌∙◌, arith}
+use Rattle.std.proofs.Common.{◌≡◌, inr, ℕ, ◌+◌, [], sym, ap, subst, ◌∙◌, arith}
 use Rattle.ipc_base.specs.declared.limits.Limits.{Limits}
-use Rattle.ipc_base.specs.Objects.{PlainObjects}
+use Rattle.ipc_base.specs.Objects.{PlainObjects, Fit}
 use Rattle.ipc_state.specs.State.{State}
-use Rattle.ipc_image.specs.Saved.{StandForState}
+use Rattle.ipc_checkpoint.specs.Matches.{sectors_of}
+use Rattle.ipc_checkpoint.specs.View.{free_of, layout_of as saved_layout}
+use Rattle.ipc_image.specs.Saved.{StandForState, saved as saved_objects}
 use Rattle.ipc_engine.specs.Step.{run}
 use Rattle.ipc_store.proofs.Committing.{any_moment-none, any_moment-save, saved}
-use Rattle.ipc_store.proofs.Devices.{stays-on-disk, kept-fits}
+use Rattle.ipc_store.proofs.Devices.{has-spare, stays-on-disk}
 use Rattle.ipc_store.proofs.store.Store.save_state.Goals as goal
 
 -- the objects that are saved are those of the state
@@ -31,9 +33,7 @@ returns-clause-any_moment g c = rw (sym c.self.view_is) (λ base pending at.
     (c.save.ensures.others at.device.honest) c.save.ensures.any_moment)
 
 pub save-requires-clause-old_fits : goal.save-requires-clause-old_fits
-save-requires-clause-old_fits g c = λ objects saved.
-    let found = c.self.invariant.2 (ap (λ v. v.stopped) c.self.view_is ∙ c.requires.running) saved.honest in
-    kept-fits _ _ _ _ found.0 _ found.1.1.device c.self.invariant.0 objects saved
+save-requires-clause-old_fits g c = c.self.invariant.3 (ap (λ v. v.stopped) c.self.view_is ∙ c.requires.running)
 
 pub returns-clause-matches : goal.returns-clause-matches
 returns-clause-matches g c = rw (sym c.self.view_is, c.clear.ensures) (λ base pending at.
@@ -60,4 +60,13 @@ invariant_of-self-2 g c = (
               c.turn.ensures.epoch c.turn.ensures.unused c.in_default-save.ensures.matches,
         ),
       ),
+  λ goes.
+      let state = c.self.inside.engine.state in
+      has-spare (saved_layout c.self.inside.checkpoint) c.save.new.self (saved_objects state) c.save.ensures.layout
+      (subst (λ (n : ℕ). Fit n (saved_objects state)) (sym c.self.invariant.0.room) c.objects_of-objects.ensures.fit)
+      (subst (λ (o : PlainObjects). free_of c.save.new.self + sectors_of o ≡ (saved_layout c.self.inside.checkpoint).range.count)
+      c.objects_of-objects.ensures.objects c.in_default-save.ensures.free),
 )
+
+pub returns-clause-faults : goal.returns-clause-faults
+returns-clause-faults g c = rw (sym c.self.view_is) (record { failure = λ bad. cc; no_failure = inr c.in_default-save.ensures.counts.ok })

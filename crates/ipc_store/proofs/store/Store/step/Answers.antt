@@ -66,4 +66,5 @@ invariant_of-self-2 g c =
               c.in_default.ensures.state c.push.new.self.records c.push.ensures.records c.push.new.self.count c.push.ensures.count,
         ),
       ),
+      c.self.invariant.3,
     )

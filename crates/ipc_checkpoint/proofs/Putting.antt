@@ -1,0 +1,312 @@
+-- Objects are put into a heap, one after another: what the map is then, and what that has cost.
+use Rattle.std.proofs.Common.{◌≡◌, ◌≢◌, ◌⊎◌, inl, inr, ⊎_elim, ℕ, zero, suc, ◌+◌, ◌^◌, ◌<◌, ◌≤◌, Bool, true, false, List, [], ◌∷◌}
+use Rattle.std.proofs.Common.{length, get_or, take, Option, Some, refl, sym, ap, subst, ◌∙◌, arith}
+use Rattle.std.specs.Prelude.{IfSome, if◌then◌else◌, nat_eq, is_some, option_map, slice_get}
+use Rattle.std.proofs.lemmas.Bool.{cases_eq}
+use Rattle.std.proofs.lemmas.List.{length-map}
+use Rattle.std.proofs.lemmas.List.Sums.{sum_by-cons}
+use Rattle.std.proofs.lemmas.Option.{get_or_from_slice_get, slice_get_within, slice_get-get_or, slice_get-map}
+use Rattle.ipc_base.specs.Objects.{PlainObjects, AreObjects, object_sectors}
+use Rattle.ipc_base.specs.Table.{IsRising, keys_of, seen_as, value_at}
+use Rattle.ipc_base.proofs.CallerLemmas.{at-map, keys-map, same_keys, test_cases}
+use Rattle.ipc_disk.specs.Calls.{IsSameDisk}
+use Rattle.ipc_disk.specs.Counts.{Counts, InRange, with_calls}
+use Rattle.ipc_disk.specs.declared.range.Range.{Range}
+use Rattle.ipc_disk.specs.Medium.{Image, Medium, IsHonest}
+use Rattle.ipc_disk.specs.Range.{IsOutside}
+use Rattle.ipc_disk.specs.Since.{EachImageSince, LeavesAlone}
+use Rattle.ipc_disk.specs.Standing.{sectors_for}
+use Rattle.ipc_disk.proofs.CallerLemmas.{EachImageSince-join, EachImageSince-start, IsSameDisk-then, LeavesAlone-fewer, LeavesAlone-join, LeavesAlone-start}
+use Rattle.ipc_disk.proofs.CallerLemmas.{counts-calls}
+use Rattle.ipc_heap.specs.Heap.{Holds, IsElsewhere, object_on}
+use Rattle.ipc_heap.specs.Matches.{HeapMatches, IsKept}
+use Rattle.ipc_heap.specs.View.{ArePlaced, HeapView, StaysInPlace, free, map_of, sizes_of, with_object}
+use Rattle.ipc_checkpoint.specs.Matches.{changed_sectors}
+use Rattle.ipc_checkpoint.specs.Saving.{AreThere, HasNoOthers}
+use Rattle.ipc_checkpoint.proofs.Loads.{keys-seen, seen-known}
+use Rattle.ipc_checkpoint.proofs.Tables.{rising-at, rising-same, value-place, with-at, with-other}
+
+-- ---- objects and their numbers
+
+-- an object has a value at its number, and no other one
+pub own-value : (os : PlainObjects) → AreObjects os → (i : ℕ) (o : ℕ × List ℕ) → slice_get os i ≡ Some o → value_at nat_eq os o.0 ≡ Some o.1
+own-value os are i o is =
+    subst (λ (p : ℕ × List ℕ). value_at nat_eq os p.0 ≡ Some p.1) (get_or_from_slice_get os i o (0, []) is)
+    (rising-at 0 os (2 ^ 64) i (0, []) are.numbers (slice_get_within os i o is))
+
+one-value : (os : PlainObjects) → AreObjects os → (i k : ℕ) (a o : ℕ × List ℕ) → slice_get os i ≡ Some a → slice_get os k ≡ Some o → o.0 ≡ a.0 → o.1 ≡ a.1
+one-value os are i k a o at there same =
+    let both : Some o.1 ≡ Some a.1 = sym (own-value os are k o there) ∙ ap (value_at nat_eq os) same ∙ own-value os are i a at in cc
+
+-- what is said of an element that is there
+pub if-some : {X : Type 0} (P : X → Type 0) (r : Option X) (x : X) → r ≡ Some x → IfSome r P → P x
+if-some {X} P r x is holds = subst (λ (s : Option X). IfSome s P) is holds
+
+-- ---- counts
+
+pub calls-none : (c : Counts) → InRange c → c ≡ with_calls 0 0 c
+calls-none c range = counts-calls c c 0 0 refl (omega (arith, range.writes_fit)) (omega (arith, range.syncs_fit))
+
+pub calls-more : (n m s : ℕ) (old mid new : Counts) → InRange old → mid ≡ with_calls n 0 old → new ≡ with_calls m s mid → new ≡ with_calls (n + m) s old
+calls-more n m s old mid new range first next =
+    counts-calls new old (n + m) s
+    (ap (λ (c : Counts). c.failures) next ∙ ap (λ (c : Counts). c.failures) first)
+    (omega (arith, ap (λ (c : Counts). c.writes) next, ap (λ (c : Counts). c.writes) first))
+    (omega (arith, ap (λ (c : Counts). c.syncs) next, ap (λ (c : Counts). c.syncs) first, range.syncs_fit))
+
+sectors-more : (os : PlainObjects) (i j : ℕ) (d : ℕ × List ℕ) → j ≡ i + 1 → i < length os
+    → object_sectors (take j os) ≡ object_sectors (take i os) + sectors_for (length (get_or os i d).1)
+sectors-more [] i j d is less = absurd (omega (arith, less))
+sectors-more (o ∷ os) i zero d is less = absurd (omega (arith, is))
+sectors-more (o ∷ os) zero (suc j) d is less =
+    let none : j ≡ 0 = omega (arith, is) in
+    sum_by-cons (λ (p : ℕ × List ℕ). sectors_for (length p.1)) o (take j os)
+    ∙ ap (λ (n : ℕ). sectors_for (length o.1) + object_sectors (take n os)) none ∙ omega arith
+sectors-more (o ∷ os) (suc i) (suc j) d is less =
+    omega (
+      arith,
+      sum_by-cons (λ (p : ℕ × List ℕ). sectors_for (length p.1)) o (take j os),
+      sum_by-cons (λ (p : ℕ × List ℕ). sectors_for (length p.1)) o (take i os),
+      sectors-more os i j d (omega (arith, is)) (omega (arith, less)),
+    )
+
+changed-more : (differs : ℕ → Bool) (os : PlainObjects) (i j : ℕ) (d : ℕ × List ℕ) → j ≡ i + 1 → i < length os
+    → changed_sectors differs (take j os) ≡ changed_sectors differs (take i os) + (if differs i then sectors_for (length (get_or os i d).1) else 0)
+changed-more differs [] i j d is less = absurd (omega (arith, less))
+changed-more differs (o ∷ os) i zero d is less = absurd (omega (arith, is))
+changed-more differs (o ∷ os) zero (suc j) d is less =
+    let none : j ≡ 0 = omega (arith, is) in
+    let own : ℕ = if differs 0 then sectors_for (length o.1) else 0 in
+    ap (λ (n : ℕ). own + changed_sectors (λ k. differs (k + 1)) (take n os)) none ∙ omega arith
+changed-more differs (o ∷ os) (suc i) (suc j) d is less =
+    let own : ℕ = if differs 0 then sectors_for (length o.1) else 0 in
+    let next : suc i ≡ i + 1 = omega arith in
+    let rest = changed-more (λ k. differs (k + 1)) os i j d (omega (arith, is)) (omega (arith, less)) in
+    ap (λ (n : ℕ). own + n) rest
+    ∙ ap (λ (k : ℕ). own + (changed_sectors (λ n. differs (n + 1)) (take i os) + (if differs k then sectors_for (length (get_or os i d).1) else 0))) (sym next)
+    ∙ omega arith
+
+-- ---- so many of them were looked at
+
+module _ {D : Type 0} (size : D → ℕ) (medium : D → Medium) (counts : D → Counts) (os : PlainObjects) (differs : ℕ → Bool) (begin : HeapView) (old : D) where
+  pub record PutSoFar (i : ℕ) (now : HeapView) (disk : D) : Type 0 where
+    pub stays : StaysInPlace begin now
+    pub placed : ArePlaced now.range now.placed
+    pub bytes : IsHonest (medium disk) → sizes_of now ≡ seen_as (λ b. length b) (map_of now (medium disk))
+    pub no_others : HasNoOthers (sizes_of now) os
+    pub there : (k : ℕ) (o : ℕ × List ℕ) → k < i → slice_get os k ≡ Some o → value_at nat_eq (sizes_of now) o.0 ≡ Some (length o.1)
+    pub matches : (saved : PlainObjects) → HeapMatches begin saved (medium old) → HeapMatches now saved (medium disk)
+    pub map : (saved : PlainObjects) → HeapMatches begin saved (medium old) → AreThere differs os (map_of begin (medium old))
+        → (k : ℕ) (o : ℕ × List ℕ) → slice_get os k ≡ Some o → (k < i) ⊎ (differs k ≡ false) → value_at nat_eq (map_of now (medium disk)) o.0 ≡ Some o.1
+    pub moment : (saved : PlainObjects) → HeapMatches begin saved (medium old)
+        → EachImageSince (medium old) (medium disk) (Holds begin.range begin.root begin.epoch saved)
+    pub others : IsHonest (medium old) → LeavesAlone (IsElsewhere begin.range begin.root) (medium old) (medium disk)
+    pub same : IsSameDisk size medium old disk
+    pub spent : ℕ
+    pub spent_most : spent ≤ object_sectors (take i os)
+    pub spent_free : free begin ≤ free now + spent
+    pub spent_counts : counts disk ≡ with_calls spent 0 (counts old)
+    pub spent_changed : (saved : PlainObjects) → HeapMatches begin saved (medium old) → AreThere differs os (map_of begin (medium old))
+        → spent ≡ changed_sectors differs (take i os)
+
+  pub put-none : ArePlaced begin.range begin.placed → (IsHonest (medium old) → sizes_of begin ≡ seen_as (λ b. length b) (map_of begin (medium old)))
+      → HasNoOthers (sizes_of begin) os → InRange (counts old)
+      → ((image : Image) → (medium old).images_since (medium old).moment image → (medium old).images_now image) → PutSoFar 0 begin old
+  put-none placed bytes no_others range law = record {
+    stays = record { range = refl; root = refl; epoch = refl; table = refl };
+    placed = placed;
+    bytes = bytes;
+    no_others = no_others;
+    there = λ k o never. absurd (omega (arith, never));
+    matches = λ saved at. at;
+    map = λ saved at there k o is either. ⊎_elim (λ never. absurd (omega (arith, never))) (λ off. there k o is off) either;
+    moment = λ saved at. EachImageSince-start (medium old) (Holds begin.range begin.root begin.epoch saved) law
+        (λ image now. record { allocation = at.there; there = at.images image now });
+    others = λ honest. LeavesAlone-start (IsElsewhere begin.range begin.root) (medium old) honest law;
+    same = record { sectors = refl; honest = (λ h. h, λ h. h) };
+    spent = 0;
+    spent_most = omega arith;
+    spent_free = omega arith;
+    spent_counts = calls-none (counts old) range;
+    spent_changed = λ saved at there. refl;
+  }
+
+  module _ (are : AreObjects os) (i : ℕ) (now : HeapView) (disk : D) (so_far : PutSoFar i now disk) (o : ℕ × List ℕ) (at : slice_get os i ≡ Some o) where
+    less : i < length os
+    less = slice_get_within os i o at
+
+    its : get_or os i (0, []) ≡ o
+    its = get_or_from_slice_get os i o (0, []) at
+
+    most : object_sectors (take (i + 1) os) ≡ object_sectors (take i os) + sectors_for (length o.1)
+    most =
+        sectors-more os i (i + 1) (0, []) refl less ∙ ap (λ (p : ℕ × List ℕ). object_sectors (take i os) + sectors_for (length p.1)) its
+
+    changed : (b : Bool) → differs i ≡ b
+        → changed_sectors differs (take (i + 1) os) ≡ changed_sectors differs (take i os) + (if b then sectors_for (length o.1) else 0)
+    changed b is =
+        changed-more differs os i (i + 1) (0, []) refl less
+        ∙ ap (λ (p : ℕ × List ℕ). changed_sectors differs (take i os) + (if differs i then sectors_for (length p.1) else 0)) its
+        ∙ ap (λ (c : Bool). changed_sectors differs (take i os) + (if c then sectors_for (length o.1) else 0)) is
+
+    -- it is kept
+    pub put-kept : differs i ≡ false → value_at nat_eq (sizes_of now) o.0 ≡ Some (length o.1) → PutSoFar (i + 1) now disk
+    put-kept off is = record {
+      stays = so_far.stays;
+      placed = so_far.placed;
+      bytes = so_far.bytes;
+      no_others = so_far.no_others;
+      there = λ k p lt there. ⊎_elim
+          (λ (here : k ≡ i).
+          let both : Some p ≡ Some o = sym there ∙ ap (slice_get os) here ∙ at in
+          let one : p ≡ o = cc in
+          subst (λ (q : ℕ × List ℕ). value_at nat_eq (sizes_of now) q.0 ≡ Some (length q.1)) (sym one) is)
+          (λ (other : k ≡ i → ⊥). so_far.there k p (omega (arith, lt, other)) there) (cases_eq k i);
+      matches = so_far.matches;
+      map = λ saved begins were k p there either. so_far.map saved begins were k p there (⊎_elim
+          (λ (lt : k < i + 1). ⊎_elim (λ (here : k ≡ i). inr (ap differs here ∙ off)) (λ (other : k ≡ i → ⊥). inl (omega (arith, lt, other))) (cases_eq k i))
+          inr either);
+      moment = so_far.moment;
+      others = so_far.others;
+      same = so_far.same;
+      spent = so_far.spent;
+      spent_most = omega (arith, so_far.spent_most, most);
+      spent_free = so_far.spent_free;
+      spent_counts = so_far.spent_counts;
+      spent_changed = λ saved begins were. so_far.spent_changed saved begins were ∙ omega (arith, changed false off);
+    }
+
+    -- an object that did not differ was there
+    was-there : (saved : PlainObjects) → HeapMatches begin saved (medium old) → AreThere differs os (map_of begin (medium old)) → differs i ≡ false
+        → value_at nat_eq (sizes_of now) o.0 ≡ Some (length o.1)
+    was-there saved begins were off =
+        let here = so_far.map saved begins were i o at (inr off) in
+        ap (λ (t : List (ℕ × ℕ)). value_at nat_eq t o.0) (so_far.bytes (so_far.matches saved begins).honest)
+        ∙ at-map (λ (b : List ℕ). length b) (map_of now (medium disk)) o.0
+        ∙ ap (λ (r : Option (List ℕ)). option_map (λ b. length b) r) here
+
+    -- the images while it is put in, whether or not that goes well
+    module _ (next : D)
+        (moment : (saved : PlainObjects) → HeapMatches now saved (medium disk)
+        → EachImageSince (medium disk) (medium next) (Holds now.range now.root now.epoch saved))
+        (others : IsHonest (medium disk) → LeavesAlone (IsKept now) (medium disk) (medium next)) where
+      pub put-moment : (saved : PlainObjects) → HeapMatches begin saved (medium old)
+          → EachImageSince (medium old) (medium next) (Holds begin.range begin.root begin.epoch saved)
+      put-moment saved begins =
+          let P : Image → Type 0 = Holds begin.range begin.root begin.epoch saved in
+          let stays = so_far.stays in
+          EachImageSince-join (medium old) (medium disk) (medium next) P (so_far.moment saved begins)
+          (subst (λ (e : ℕ). EachImageSince (medium disk) (medium next) (Holds begin.range begin.root e saved)) stays.epoch
+          (subst (λ (r : ℕ). EachImageSince (medium disk) (medium next) (Holds begin.range r now.epoch saved)) stays.root
+          (subst (λ (r : Range). EachImageSince (medium disk) (medium next) (Holds r now.root now.epoch saved)) stays.range
+          (moment saved (so_far.matches saved begins)))))
+
+      pub put-others : IsHonest (medium old) → LeavesAlone (IsElsewhere begin.range begin.root) (medium old) (medium next)
+      put-others honest =
+          let run = so_far.others honest in
+          LeavesAlone-join (IsElsewhere begin.range begin.root) (medium old) (medium disk) (medium next) run
+          (LeavesAlone-fewer (IsElsewhere begin.range begin.root) (IsKept now) (medium disk) (medium next)
+          (λ s out. inl (subst (λ (r : Range). IsOutside r s) (sym so_far.stays.range) out.1))
+          (others run.honest))
+
+      -- it is put in
+      module _ (new : HeapView) (stays : StaysInPlace now new) (placed : ArePlaced new.range new.placed)
+          (bytes : IsHonest (medium next) → sizes_of new ≡ seen_as (λ b. length b) (map_of new (medium next)))
+          (sizes : sizes_of new ≡ with_object (sizes_of now) o.0 (length o.1))
+          (matches : (saved : PlainObjects) → HeapMatches now saved (medium disk) → HeapMatches new saved (medium next))
+          (maps : (saved : PlainObjects) → HeapMatches now saved (medium disk) → map_of new (medium next) ≡ with_object (map_of now (medium disk)) o.0 o.1)
+          (same : IsSameDisk size medium disk next) (range : InRange (counts old))
+          (spends : free now ≤ free new + sectors_for (length o.1)) (calls : counts next ≡ with_calls (sectors_for (length o.1)) 0 (counts disk))
+          (why : differs i ≡ false → value_at nat_eq (sizes_of now) o.0 ≢ Some (length o.1)) where
+        rising : IsRising 0 (keys_of (sizes_of now)) (2 ^ 64)
+        rising = subst (λ (ks : List ℕ). IsRising 0 ks (2 ^ 64)) (sym (keys-seen (λ p. p.len) now.placed)) so_far.placed.numbers
+
+        pub put-more : PutSoFar (i + 1) new next
+        put-more = record {
+          stays = record {
+            range = stays.range ∙ so_far.stays.range;
+            root = stays.root ∙ so_far.stays.root;
+            epoch = stays.epoch ∙ so_far.stays.epoch;
+            table = stays.table ∙ so_far.stays.table;
+          };
+          placed = placed;
+          bytes = bytes;
+          no_others = λ n some. ⊎_elim
+              (λ (here : n ≡ o.0). ap (λ (k : ℕ). is_some (value_at nat_eq os k)) here ∙ ap (λ (r : Option (List ℕ)). is_some r) (own-value os are i o at))
+              (λ (other : n ≡ o.0 → ⊥). so_far.no_others n
+              (ap (λ (r : Option ℕ). is_some r) (sym (with-other (sizes_of now) o.0 n (length o.1) other))
+              ∙ ap (λ (t : List (ℕ × ℕ)). is_some (value_at nat_eq t n)) (sym sizes) ∙ some)) (cases_eq n o.0);
+          there = λ k p lt there.
+              ap (λ (t : List (ℕ × ℕ)). value_at nat_eq t p.0) sizes
+              ∙ ⊎_elim
+              (λ (here : p.0 ≡ o.0).
+              ap (value_at nat_eq (with_object (sizes_of now) o.0 (length o.1))) here
+              ∙ with-at 0 (sizes_of now) (2 ^ 64) o.0 (length o.1) rising
+              ∙ ap (λ (b : List ℕ). Some (length b)) (sym (one-value os are i k o p at there here)))
+              (λ (other : p.0 ≡ o.0 → ⊥). with-other (sizes_of now) o.0 p.0 (length o.1) other
+              ∙ so_far.there k p (before k p lt there other) there) (cases_eq p.0 o.0);
+          matches = λ saved begins. matches saved (so_far.matches saved begins);
+          map = λ saved begins were k p there either.
+              let here = so_far.matches saved begins in
+              ap (λ (t : PlainObjects). value_at nat_eq t p.0) (maps saved here)
+              ∙ ⊎_elim
+              (λ (same : p.0 ≡ o.0).
+              ap (value_at nat_eq (with_object (map_of now (medium disk)) o.0 o.1)) same
+              ∙ with-at 0 (map_of now (medium disk)) (2 ^ 64) o.0 o.1 here.are.numbers
+              ∙ ap (λ (b : List ℕ). Some b) (sym (one-value os are i k o p at there same)))
+              (λ (other : p.0 ≡ o.0 → ⊥). with-other (map_of now (medium disk)) o.0 p.0 o.1 other
+              ∙ so_far.map saved begins were k p there (⊎_elim (λ lt. inl (before k p lt there other)) inr either)) (cases_eq p.0 o.0);
+          moment = put-moment;
+          others = put-others;
+          same = IsSameDisk-then so_far.same same;
+          spent = so_far.spent + sectors_for (length o.1);
+          spent_most = omega (arith, so_far.spent_most, most);
+          spent_free = omega (arith, so_far.spent_free, spends);
+          spent_counts = calls-more so_far.spent (sectors_for (length o.1)) 0 (counts old) (counts disk) (counts next) range so_far.spent_counts calls;
+          spent_changed = λ saved begins were. elim (test_cases (differs i)) [
+            | inl on ↦ ap (λ (n : ℕ). n + sectors_for (length o.1)) (so_far.spent_changed saved begins were) ∙ sym (changed true on)
+            | inr off ↦ absurd (why off (was-there saved begins were off))
+          ];
+        }
+          where
+            before : (k : ℕ) (p : ℕ × List ℕ) → k < i + 1 → slice_get os k ≡ Some p → (p.0 ≡ o.0 → ⊥) → k < i
+            before k p lt there other = ⊎_elim
+                (λ (here : k ≡ i).
+                let both : Some p ≡ Some o = sym there ∙ ap (slice_get os) here ∙ at in
+                let one : p ≡ o = cc in
+                absurd (other (ap (λ (q : ℕ × List ℕ). q.0) one)))
+                (λ (apart : k ≡ i → ⊥). omega (arith, lt, apart)) (cases_eq k i)
+
+  -- all of them were looked at
+  module _ (are : AreObjects os) (i : ℕ) (now : HeapView) (disk : D) (so_far : PutSoFar i now disk) (all : length os ≤ i) where
+    lengths-at : (k n : ℕ) → value_at nat_eq (seen_as (λ (b : List ℕ). length b) os) k ≡ Some n → value_at nat_eq (sizes_of now) k ≡ Some n
+    lengths-at k n is =
+        let place = value-place (seen_as (λ (b : List ℕ). length b) os) k n is in
+        let f : ℕ × List ℕ → ℕ × ℕ = λ o. (o.0, length o.1) in
+        let less : place.0 < length os = omega (arith, place.1, length-map os f) in
+        let o : ℕ × List ℕ = get_or os place.0 (0, []) in
+        let at = slice_get-get_or os place.0 (0, []) less in
+        let seen : f o ≡ (k, n) =
+        sym (get_or_from_slice_get (seen_as (λ (b : List ℕ). length b) os) place.0 (f o) (0, 0)
+        (slice_get-map f os place.0 ∙ ap (option_map f) at)) ∙ place.2 (0, 0) in
+        subst (λ (e : ℕ × ℕ). value_at nat_eq (sizes_of now) e.0 ≡ Some e.1) seen (so_far.there place.0 o (omega (arith, less, all)) at)
+
+    pub put-sizes : sizes_of now ≡ seen_as (λ b. length b) os
+    put-sizes =
+        let keys = keys-map (λ (b : List ℕ). length b) os in
+        rising-same 0 (sizes_of now) (seen_as (λ (b : List ℕ). length b) os) (2 ^ 64)
+        (subst (λ (ks : List ℕ). IsRising 0 ks (2 ^ 64)) (sym (keys-seen (λ p. p.len) now.placed)) so_far.placed.numbers)
+        (subst (λ (ks : List ℕ). IsRising 0 ks (2 ^ 64)) (sym keys) are.numbers) lengths-at
+        (λ n some. same_keys (seen_as (λ (b : List ℕ). length b) os) os n keys ∙ so_far.no_others n some)
+
+    pub put-map : (saved : PlainObjects) → HeapMatches begin saved (medium old) → AreThere differs os (map_of begin (medium old))
+        → map_of now (medium disk) ≡ os
+    put-map saved begins were =
+        let here = so_far.matches saved begins in
+        rising-same 0 (map_of now (medium disk)) os (2 ^ 64) here.are.numbers are.numbers
+        (λ k x is.
+        let place = value-place os k x is in
+        let at : slice_get os place.0 ≡ Some (k, x) = slice_get-get_or os place.0 (0, []) place.1 ∙ ap (λ (e : ℕ × List ℕ). Some e) (place.2 (0, [])) in
+        so_far.map saved begins were place.0 (k, x) at (inl (omega (arith, place.1, all))))
+        (λ n some. so_far.no_others n
+        (seen-known (λ p. p.len) (λ p. (object_on (medium disk).contents p).1) now.placed n ∙ some))

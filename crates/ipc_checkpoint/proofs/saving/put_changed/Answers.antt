@@ -1,0 +1,138 @@
+-- One object after another is put in, or kept.
+use Rattle.std.proofs.Common.{◌≡◌, ℕ, ◌+◌, ◌<◌, ◌≤◌, List, [], length, get_or, Some, refl, sym, ap, subst, ◌∙◌, arith}
+use Rattle.std.specs.Prelude.{◌≢◌, Err, IsErrOf, nat_eq, slice_get}
+use Rattle.std.proofs.lemmas.List.Sums.{sum_by_more_le}
+use Rattle.std.proofs.lemmas.List.{take_all}
+use Rattle.std.proofs.lemmas.Option.{slice_get-get_or}
+use Rattle.ipc_base.specs.Objects.{PlainObjects, object_sectors}
+use Rattle.ipc_base.specs.Table.{value_at}
+use Rattle.ipc_disk.specs.declared.range.Range.{Range}
+use Rattle.ipc_disk.specs.Counts.{Counts, counted, with_calls}
+use Rattle.ipc_disk.specs.Standing.{sectors_for}
+use Rattle.ipc_heap.specs.Heap.{IsLaidOut}
+use Rattle.ipc_heap.specs.declared.error.HeapError.{HeapError}
+use Rattle.ipc_heap.specs.declared.error.HeapError.TheVariants.{Device, Full}
+use Rattle.ipc_heap.specs.View.{free, map_of, sizes_of, with_object}
+use Rattle.ipc_checkpoint.specs.Matches.{changed_sectors}
+use Rattle.ipc_checkpoint.proofs.Putting.{if-some, put-kept, put-map, put-moment, put-more, put-none, put-others, put-sizes}
+use Rattle.ipc_checkpoint.proofs.saving.put_changed.Given.{Over}
+use Rattle.ipc_checkpoint.proofs.saving.put_changed.Goals as goal
+use Rattle.ipc_checkpoint.proofs.saving.put_changed.Goals.{In-loop-i, then-not-is_kept+in_default, else-not-is_kept}
+
+-- an error that is not for want of sectors is the disk's
+device : (e : HeapError) → (IsErrOf {T = Unit {0}} (Err e) Full → ⊥) → IsErrOf {T = Unit {0}} (Err e) Device
+device Device some = refl
+device Full some = absurd (some refl)
+
+pub loop-i-init : goal.loop-i-init
+loop-i-init g c =
+    let first = g.D.SectorDisk.medium c.args.disk.now in
+    put-none g.D.SectorDisk.size g.D.SectorDisk.medium g.D.SectorDisk.counts (g.O.Objects.objects c.args.objects.now) (g.O.Objects.differs c.args.objects.now)
+    c.args.heap.now c.args.disk.now c.objects_have_their_bytes.ensures.placed c.objects_have_their_bytes.ensures.bytes c.requires.no_others
+    (g.met.D.SectorDisk.in_range c.args.disk.now) (λ image left. g.met.D.SectorDisk.only_now c.args.disk.now image left)
+
+module _ (g : Over) (c : In-loop-i g) where
+  abbrev os : PlainObjects
+  os = g.O.Objects.objects c.args.objects.now
+
+  abbrev object : ℕ × List ℕ
+  object = get_or os c.loop-i.i (0, [])
+
+  at : slice_get os c.loop-i.i ≡ Some object
+  at = slice_get-get_or os c.loop-i.i (0, []) (omega (arith, c.loop-i-test.true, c.count-i-end.ensures.count))
+
+pub put-requires-clause-laid_out : goal.put-requires-clause-laid_out
+put-requires-clause-laid_out g c =
+    let so_far = c.loop-i.invariant in
+    subst (λ (n : ℕ). IsLaidOut c.loop-i.heap.range c.loop-i.heap.root n) (sym so_far.same.sectors)
+    (subst (λ (r : ℕ). IsLaidOut c.loop-i.heap.range r (g.D.SectorDisk.size c.args.disk.now)) (sym so_far.stays.root)
+    (subst (λ (r : Range). IsLaidOut r c.args.heap.now.root (g.D.SectorDisk.size c.args.disk.now)) (sym so_far.stays.range) c.requires.laid_out))
+
+pub loop-i-preserved : goal.loop-i-preserved
+loop-i-preserved g c =
+    let m = (goal.at.loop-i-preserved g c).In-loop-i in
+    let first = g.D.SectorDisk.medium c.args.disk.now in
+    let now = g.D.SectorDisk.medium c.loop-i.disk in
+    let o : ℕ × List ℕ = object g m in
+    let differs = g.O.Objects.differs c.args.objects.now in
+    elim c.if-not-is_kept.branch [
+      | then-not-is_kept+in_default w ↦
+          rw (w.heap-is, w.disk-is)
+          (put-more g.D.SectorDisk.size g.D.SectorDisk.medium g.D.SectorDisk.counts (os g m) differs c.args.heap.now c.args.disk.now
+          c.count-i-end.ensures.objects c.loop-i.i c.loop-i.heap c.loop-i.disk c.loop-i.invariant o (at g m) w.put.new.disk
+          w.put.ensures.any_moment w.put.ensures.others w.put.new.self w.put.ensures.stays
+          w.objects_have_their_bytes-then-not-is_kept.ensures.placed w.objects_have_their_bytes-then-not-is_kept.ensures.bytes
+          (if-some (λ p. sizes_of w.put.new.self ≡ with_object (sizes_of c.loop-i.heap) p.0 (length p.1)) _ o (at g m) w.in_default.ensures.sizes)
+          w.in_default.ensures.matches
+          (λ saved here. if-some (λ p. map_of w.put.new.self (g.D.SectorDisk.medium w.put.new.disk) ≡ with_object (map_of c.loop-i.heap now) p.0 p.1) _ o
+          (at g m)
+          (w.in_default.ensures.map saved here))
+          w.put.ensures.same (g.met.D.SectorDisk.in_range c.args.disk.now)
+          (if-some (λ p. free c.loop-i.heap ≤ free w.put.new.self + sectors_for (length p.1)) _ o (at g m) w.in_default.ensures.spends)
+          (if-some (λ p. g.D.SectorDisk.counts w.put.new.disk ≡ with_calls (sectors_for (length p.1)) 0 (g.D.SectorDisk.counts c.loop-i.disk)) _ o (at g m)
+          w.in_default.ensures.counts)
+          (λ off. if-some (λ p. value_at nat_eq (sizes_of c.loop-i.heap) p.0 ≢ Some (length p.1)) _ o (at g m)
+          (c.is_kept.ensures.other w.if-not-is_kept.true off)))
+      | else-not-is_kept w ↦
+          let kept = c.is_kept.ensures.kept w.if-not-is_kept.false in
+          rw (w.heap-is, w.disk-is)
+          (put-kept g.D.SectorDisk.size g.D.SectorDisk.medium g.D.SectorDisk.counts (os g m) differs c.args.heap.now c.args.disk.now
+          c.count-i-end.ensures.objects c.loop-i.i c.loop-i.heap c.loop-i.disk c.loop-i.invariant o (at g m) kept.0
+          (if-some (λ p. value_at nat_eq (sizes_of c.loop-i.heap) p.0 ≡ Some (length p.1)) _ o (at g m) kept.1))
+    ]
+
+pub returns-in-Err-clause-any_moment : goal.returns-in-Err-clause-any_moment
+returns-in-Err-clause-any_moment g c =
+    let m = (goal.at.returns-in-Err-clause-any_moment g c).In-loop-i in
+    put-moment g.D.SectorDisk.size g.D.SectorDisk.medium g.D.SectorDisk.counts (os g m) (g.O.Objects.differs c.args.objects.now) c.args.heap.now c.args.disk.now
+    c.count-i-end.ensures.objects c.loop-i.i c.loop-i.heap c.loop-i.disk c.loop-i.invariant (object g m) (at g m) c.put.new.disk
+    c.put.ensures.any_moment c.put.ensures.others
+
+pub returns-in-Err-clause-others : goal.returns-in-Err-clause-others
+returns-in-Err-clause-others g c =
+    let m = (goal.at.returns-in-Err-clause-others g c).In-loop-i in
+    put-others g.D.SectorDisk.size g.D.SectorDisk.medium g.D.SectorDisk.counts (os g m) (g.O.Objects.differs c.args.objects.now) c.args.heap.now c.args.disk.now
+    c.count-i-end.ensures.objects c.loop-i.i c.loop-i.heap c.loop-i.disk c.loop-i.invariant (object g m) (at g m) c.put.new.disk
+    c.put.ensures.any_moment c.put.ensures.others
+
+pub returns-in-Err-clause-counts : goal.returns-in-Err-clause-counts
+returns-in-Err-clause-counts g c =
+    let m = (goal.at.returns-in-Err-clause-counts g c).In-loop-i in
+    let so_far = c.loop-i.invariant in
+    let size : ℕ × List ℕ → ℕ = λ p. sectors_for (length p.1) in
+    let more = sum_by_more_le size (os g m) c.loop-i.i (0, []) (omega (arith, c.loop-i-test.true, c.count-i-end.ensures.count)) in
+    let failed = device c.in-Err.field-0 (λ full.
+    let short : free c.loop-i.heap < sectors_for (length (object g m).1) =
+    if-some (λ p. free c.loop-i.heap < sectors_for (length p.1)) _ (object g m) (at g m) (c.in-Err.ensures.full full) in
+    omega (arith, short, so_far.spent_free, so_far.spent_most, more, c.requires.room)) in
+    record {
+      err = c.in-Err.ensures.fault.failure failed ∙ ap (λ (n : Counts). counted n.failures 1) so_far.spent_counts;
+      ok = tt;
+    }
+
+pub returns-clause-sizes : goal.returns-clause-sizes
+returns-clause-sizes g c =
+    put-sizes g.D.SectorDisk.size g.D.SectorDisk.medium g.D.SectorDisk.counts (g.O.Objects.objects c.args.objects.now)
+    (g.O.Objects.differs c.args.objects.now) c.args.heap.now c.args.disk.now c.count-i-end.ensures.objects c.loop-i.i c.loop-i.heap c.loop-i.disk
+    c.loop-i.invariant (omega (arith, c.loop-i-test.false, c.count-i-end.ensures.count))
+
+pub returns-clause-map : goal.returns-clause-map
+returns-clause-map g c =
+    put-map g.D.SectorDisk.size g.D.SectorDisk.medium g.D.SectorDisk.counts (g.O.Objects.objects c.args.objects.now)
+    (g.O.Objects.differs c.args.objects.now) c.args.heap.now c.args.disk.now c.count-i-end.ensures.objects c.loop-i.i c.loop-i.heap c.loop-i.disk
+    c.loop-i.invariant (omega (arith, c.loop-i-test.false, c.count-i-end.ensures.count))
+
+pub returns-clause-spends : goal.returns-clause-spends
+returns-clause-spends g c =
+    let os = g.O.Objects.objects c.args.objects.now in
+    let all = take_all c.loop-i.i os (omega (arith, c.loop-i-test.false, c.count-i-end.ensures.count)) in
+    omega (arith, c.loop-i.invariant.spent_free, c.loop-i.invariant.spent_most, ap (λ (l : PlainObjects). object_sectors l) all)
+
+pub returns-clause-writes : goal.returns-clause-writes
+returns-clause-writes g c = λ saved begins were.
+    let os = g.O.Objects.objects c.args.objects.now in
+    let differs = g.O.Objects.differs c.args.objects.now in
+    let all = take_all c.loop-i.i os (omega (arith, c.loop-i-test.false, c.count-i-end.ensures.count)) in
+    c.loop-i.invariant.spent_counts
+    ∙ ap (λ (n : ℕ). with_calls n 0 (g.D.SectorDisk.counts c.args.disk.now))
+    (c.loop-i.invariant.spent_changed saved begins were ∙ ap (λ (l : PlainObjects). changed_sectors differs l) all)
