@@ -35,7 +35,7 @@ help:
 	@echo "make memory the program, with each allocation refused in turn"
 	@echo "make trials scripts that are stopped at each call on their disk, with each choice of what a crash keeps, openings"
 	@echo "            and formats too: what opens is what was answered, or one line more"
-	@echo "make bench  processor time of runs, lines and ticks on both devices, peak memory, what a commit writes, and"
+	@echo "make bench  processor time of runs, lines, saves and ticks, peak memory, what a commit and a save write, and"
 	@echo "            commits a second on a file beside the same writes and syncs done bare; it ends with an error while"
 	@echo "            calls that wait on other queues add more to a request than they may"
 	@echo "make bench-clients  what a call through the library costs beside frames by hand, and the kernel's queues"

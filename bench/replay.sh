@@ -1,12 +1,13 @@
 #!/bin/sh
 # What `replay` costs: a run without lines, a line and a request on the standard device and on the small one, beside
-# other queues, beside descriptors and beside processes that wait, and a tick with many connections, in processor time;
-# the peak memory; and what a commit writes. The status is 1 if those that wait add more than they may.
+# other queues, beside descriptors and beside processes that wait, a save beside what has not changed, and a tick with many
+# connections, in processor time; the peak memory; and what a commit and a save write. The status is 1 if those that wait
+# add more than they may.
 #
 #     sh bench/replay.sh PROGRAM [GROUPS]
 #
 # A script is short, and is run many times, so that no save of the state falls among its commits; but not those of
-# processes that wait, in which ten do.
+# processes that wait, in which ten do, and of saves.
 # Runs of a script and of its first lines alone take turns, in so many groups, and a row tells the difference. On the
 # standard device a run's lines take a hundredth to a tenth of what it takes without them, so those rows are rough.
 # Every run is compared with the output that the protocol asks for: bench/scripts.awk writes both.
@@ -232,6 +233,16 @@ waits() {
 	print_row "63, on the queue, for other types" "" each_same
 }
 
+# Lines of a request of two bytes, a send and a receive in turn, each with a save, on the standard device: beside so many
+# other queues of eight messages of 2000 bytes and, with a second word of 2, a segment of 1 MiB.
+saves() {
+	device standard
+	many=4
+	generate first kind=calls count=0 size=2 together=1 others="$1" saving="$2"
+	generate whole kind=calls count=120 size=2 together=1 others="$1" saving="$2"
+	difference "$1 | $(($2 - 1))" 120
+}
+
 # Ticks on the small device with so many connections open, and so many runs in a group.
 ticks() {
 	device small
@@ -249,6 +260,21 @@ commit() {
 		batch = 4 + 13 + sends * (38 + size) + receives * 42
 		sectors = int((batch + 511) / 512)
 		printf "| %s | %d | %d | 2 | %d |\n", what, batch, sectors + 1, 512 * (sectors + 1)
+	}'
+}
+
+# What a save makes after a request of two bytes on a queue, beside so many others of eight messages of 2000 bytes and so
+# many segments of 1 MiB: the objects that have changed are the four of each state and the queue, a sector each. The table
+# has of each object 16 bytes, and four for each of its sectors; a sector of the table has 508 bytes of it.
+saved() {
+	awk -v what="$1" -v others="$2" -v segments="$3" '
+	function sectors(bytes, each) {
+		return int((bytes + each - 1) / each)
+	}
+	BEGIN {
+		all = 5 + others * sectors(64 + 8 * 2012, 512) + segments * sectors(24 + length("/full") + 1048576, 512)
+		table = sectors(4 + 16 * (5 + others + segments) + 4 * all, 508)
+		printf "| %s | %d | %d | %d | 2 | %d |\n", what, all, table, 5 + table + 1, 512 * (5 + table + 1)
 	}'
 }
 
@@ -308,6 +334,12 @@ echo "| a line of 16 requests on the standard device, no byte, processes that wa
 echo "|---|---|---|"
 waits
 echo
+echo "| a request of two bytes and a save, on the standard device beside other queues of 16,000 bytes | segments of 1 MiB" \
+	"| microseconds | range |"
+echo "|---|---|---|---|"
+saves 0 1
+saves 31 2
+echo
 echo "| a tick on the small device, open connections | microseconds | range |"
 echo "|---|---|---|"
 ticks 1 "$many_small"
@@ -324,6 +356,14 @@ commit "a line of a receive" 0 1 0
 commit "a line of 16 requests, no byte" 8 8 0
 commit "a line of 100 requests, no byte" 50 50 0
 commit "a line of a send, 8192 bytes" 1 0 8192
+echo
+echo "What a save makes follows from the objects that have changed and from the table, as the contract of \`Store::save\`" \
+	"says (\`writes\`)."
+echo
+echo "| the save after a request of two bytes | sectors of all objects | of the table | writes | syncs | bytes written |"
+echo "|---|---|---|---|---|---|"
+saved "beside nothing" 0 0
+saved "beside 31 queues of 16,000 bytes and a segment of 1 MiB" 31 1
 echo
 echo "63 processes that wait on other queues: a line takes $ratio of the time, and at most 1.2 is wanted."
 awk -v ratio="$ratio" 'BEGIN { exit ratio > 1.2 }'

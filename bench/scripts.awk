@@ -4,7 +4,9 @@
 #
 # calls   COUNT requests by one connection, which has made a queue after OTHERS of other keys: sends and receives in turn,
 #         of texts of SIZE bytes, TOGETHER of them in a line. If WAITING is given, so many other processes wait meanwhile,
-#         which is saved before: to receive from the OTHERS in turn, or with SAME not 0 from the queue, for other types
+#         which is saved before: to receive from the OTHERS in turn, or with SAME not 0 from the queue, for other types.
+#         If SAVING is given, each line is followed by a save; before the first one is saved, and each of the OTHERS has
+#         got eight messages of 2000 bytes, and with SAVING above 1 a segment of 1 MiB has been written full
 # gets    COUNT gets of the queue by its key, TOGETHER of them in a line; with ALIKE not 0 the other keys were chosen so
 #         that they stand where this one does in the table of keys
 # lists   COUNT lists of two operations with SEM_UNDO by one connection, TOGETHER of them in a line, on the last semaphore
@@ -88,6 +90,29 @@ function get(    number, piece, held) {
 			held = 0
 		}
 	}
+}
+
+# The other queues get their messages, and the segment its bytes: 128 times 8192.
+function fill(    other, number, piece) {
+	for (other = 1; other <= others; other++) {
+		piece = ""
+		for (number = 1; number <= 8; number++) {
+			piece = piece request(number, "msgsnd", other " 0 7", text_of(2000, number))
+			reply(1, number, "msgsnd")
+		}
+		data(1, piece)
+	}
+	if (saving > 1) {
+		# O_CREAT is 0x40, O_RDWR 2; the name is /full
+		data(1, request(1, "shm_open", 64 + 2 " " 6 * 64, "2f66756c6c") request(2, "ftruncate", "0 1048576"))
+		reply(1, 1, "shm_open", 0)
+		reply(1, 2, "ftruncate")
+		for (number = 0; number < 128; number++) {
+			data(1, request(3, "shm_write", "0 " 8192 * number, text_of(8192, number)))
+			reply(1, 3, "shm_write")
+		}
+	}
+	print "save" > script
 }
 
 # The other processes come and wait.
@@ -251,6 +276,8 @@ function alternate(    number, piece, held, text) {
 		}
 		if (++held == together || number == count) {
 			data(1, piece)
+			if (saving != "")
+				print "save" > script
 			piece = ""
 			held = 0
 		}
@@ -267,6 +294,9 @@ BEGIN {
 	row("semop", "15", "4 text", "")
 	row("mq_open", "28", "4 4 1 4 4 text", "4")
 	row("close", "03", "4", "")
+	row("shm_open", "3c", "4 4 text", "4")
+	row("ftruncate", "3e", "4 8", "")
+	row("shm_write", "40", "4 8 text", "")
 	# Their texts begin with the deadline; then comes the priority or the size.
 	row("mq_send", "2a", "4 text", "")
 	row("mq_receive", "2b", "4 text", "4 text")
@@ -285,6 +315,8 @@ BEGIN {
 		enter(1)
 		if (waiting != "")
 			let_wait()
+		if (saving != "")
+			fill()
 		alternate()
 	} else if (kind == "gets") {
 		enter(1)

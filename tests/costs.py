@@ -11,13 +11,17 @@ from __future__ import annotations
 import errno
 import math
 import os
+import re
 import resource
 import signal
+import struct
 import subprocess
 import sys
 import time
+from collections.abc import Callable
 from itertools import count
 from pathlib import Path
+from typing import NamedTuple
 
 sys.dont_write_bytecode = True
 
@@ -27,13 +31,16 @@ from device_layout import (  # noqa: E402
     ONE,
     QUEUE_KIND,
     RESTART,
+    ROOT,
     SECTOR,
     STANDARD,
     Device,
     Heap,
     Queue,
+    Segment,
     batch,
     clock,
+    connect,
     processes,
     read,
     request,
@@ -63,18 +70,27 @@ from client import (  # noqa: E402
     O_CREAT,
     O_RDWR,
     SEM_UNDO,
-    close_request,
     ftruncate_request,
     hello_request,
+    mq_getattr_request,
+    mq_notify_request,
     mq_open_request,
     mq_send_request,
+    msgctl_set_request,
+    msgctl_stat_request,
     msgget_request,
     msgrcv_request,
     msgsnd_request,
+    sem_getvalue_request,
     sem_open_request,
+    sem_post_request,
+    semctl_set_request,
+    semctl_stat_request,
     semget_request,
     semop_request,
     shm_open_request,
+    shm_read_request,
+    shm_write_request,
 )
 from watch import OPEN, TURN, Call, build, calls, follows, order, turns_of, watched, whole_turns  # noqa: E402
 
@@ -218,14 +234,30 @@ LONG = tuple((1, bytes([65 + number]) * 8192) for number in (0, 1))
 BOUNDS = {number: LONG if number < 12 else 16384 * (EMPTY if number < 23 else BYTES) for number in range(1, 33)}
 
 
-def full_device(messages: dict[int, tuple[tuple[int, bytes], ...]]) -> tuple[bytes, int]:
-    """A device that has these queues and a full journal, so that its open saves; and how many sectors they take, with
-    their table. They take the first ones of the object area, and those after them are free."""
-    queues = {number: Queue(number, them, qbytes=16384) for number, them in messages.items()}
-    objects = state(clock(9, 2, len(queues) + 1), processes(), queues)
-    device = Device(STANDARD).save(1, objects, count(OBJECTS))
-    device.journal(1, *256 * [batch(RESTART)])
-    return bytes(device.image), device.chain[-1] + 1 - OBJECTS
+def set_queue(number: int) -> bytes:
+    """IPC_SET, which leaves a queue of these devices as it was but for the time."""
+    return msgctl_set_request(number, 1000, 100, 0o600, 16384)
+
+
+def device_of(queues: dict[int, Queue], segments: dict[int, Segment]) -> Device:
+    """They take the first sectors of the object area, then comes their table, and those after it are free."""
+    numbers = clock(9, 2, len(queues) + 1, 1, 1, 1, len(segments) + 1)
+    objects = state(numbers, processes(), queues, segments=segments)
+    return Device(STANDARD).save(1, objects, count(OBJECTS))
+
+
+def full_device(messages: dict[int, tuple[tuple[int, bytes], ...]], changes: bool = True) -> Device:
+    """A device that has these queues and a full journal, so that its open saves. The journal changes each queue, or
+    none."""
+    device = device_of({number: Queue(number, them, qbytes=16384) for number, them in messages.items()}, {})
+    sets = [request(9, 2, struct.pack(">I", 1) + set_queue(number)) for number in messages]
+    first = batch(connect(9, 1, 1000, 100), *sets) if changes else batch(RESTART)
+    return device.journal(1, first, *(256 - sectors_of(len(first))) * [batch(RESTART)])
+
+
+def taken_of(device: Device) -> int:
+    """How many sectors the objects and their table take."""
+    return device.chain[-1] + 1 - OBJECTS
 
 
 def rows_of(messages: dict[int, tuple[tuple[int, bytes], ...]]) -> str:
@@ -233,63 +265,75 @@ def rows_of(messages: dict[int, tuple[tuple[int, bytes], ...]]) -> str:
     return "".join(row.format(q, sum(len(text) for _, text in it), len(it)) for q, it in messages.items())
 
 
-def saves_in_pieces(writes: list[Call], first: int, sectors: int) -> None:
-    """These writes are a save's, from this sector on: so many sectors, 64 in each write but the last."""
-    wanted = [(first + at, SECTOR * min(PIECE, sectors - at)) for at in range(0, sectors, PIECE)]
+def saves_in_pieces(writes: list[Call], *runs: tuple[int, int]) -> None:
+    """These writes are a save's, into these runs, each a first sector and how many neighbours: 64 sectors in each write
+    but the last of a run."""
+    wanted = [(first + at, SECTOR * min(PIECE, many - at)) for first, many in runs for at in range(0, many, PIECE)]
     found = [(call.sector, call.result) for call in writes]
-    check(found == wanted, f"a save of {sectors} sectors writes {found[:3]}.. {len(found)}, not {len(wanted)}")
+    check(found == wanted, f"a save into {runs} writes {found[:3]}.. {len(found)}, not {len(wanted)}")
 
 
-def open_and_save(them: list[Call], sectors: int) -> None:
-    """An open reads each sector that counts once, and a save is made of it in as few writes as may be."""
+def first_save(them: list[Call]) -> list[Call]:
+    """The writes of the first save."""
+    writes = [call for call in them if call.name == "pwrite"]
+    roots = [at for at, call in enumerate(writes) if call.sector == ROOT]
+    check(roots != [], "nothing was saved")
+    return [call for call in writes[: roots[0]] if call.sector >= OBJECTS]
+
+
+def open_and_save(them: list[Call], device: Device, written: int) -> None:
+    """An open reads each sector that counts once, and makes a save of so many sectors in as few writes as may be."""
     reads = [call for call in them if call.name == "pread"]
     places = sorted(place for call in reads for place in range(call.sector, call.sector + call.result // SECTOR))
-    wanted = [0, 1, 3, *range(BODY, BODY + 256), *range(OBJECTS, OBJECTS + sectors)]
+    taken = taken_of(device)
+    wanted = [0, 1, 3, *range(BODY, BODY + 256), *range(OBJECTS, OBJECTS + taken)]
     check(places == wanted, f"an open reads {len(places)} sectors, and not {len(wanted)} once each")
-    writes = [call for call in them if call.name == "pwrite" and call.sector >= OBJECTS]
-    saves_in_pieces(writes, OBJECTS + sectors, sectors)
+    saves_in_pieces(first_save(them), (OBJECTS + taken, written))
 
 
 def queues_at_their_bounds() -> None:
-    """They are opened, saved, listed and served, and nothing is refused for memory."""
-    image, sectors = full_device(BOUNDS)
-    Path("device").write_bytes(image)
-    with watched(most=0):
-        check(printed("dump", "device") == rows_of(BOUNDS), "the device lists something else")
-    them = calls()
-    follows("SO+SRS[Pc]*", them)
-    open_and_save(them, sectors)
-    Path("device").write_bytes(image)
+    """They are opened, saved, listed and served, and nothing is refused for memory. An open writes those that the
+    journal has changed, the four objects of each state, and the table."""
+    for changes in True, False:
+        device = full_device(BOUNDS, changes)
+        taken, table = taken_of(device), len(device.chain)
+        Path("device").write_bytes(device.image)
+        with watched(most=0):
+            check(printed("dump", "device") == rows_of(BOUNDS), "the device lists something else")
+        them = calls()
+        follows("SO+SRS[Pc]*", them)
+        open_and_save(them, device, taken if changes else 4 + table)
+    Path("device").write_bytes(device.image)
     with watched(most=0), serving(), process() as client:
+        # Each queue changes by this, in 240 sectors of the journal: a receive and a short text have one each, a text of
+        # 8192 bytes has 17.
         for number, messages in BOUNDS.items():
-            client.send(msgsnd_request(number, 1, b"x", IPC_NOWAIT))
-            check(client.receive()[1] == errno.EAGAIN, f"queue {number} is not full")
             check(client.msgrcv(number, 8192) == messages[0], f"queue {number} has another first message")
             client.msgsnd(number, *messages[0])
-        # 17 sectors of the journal each, so that a save comes.
-        for number in (*range(1, 12), *range(1, 12)):
-            client.msgsnd(number, *client.msgrcv(number, 8192))
+        # Meanwhile a save comes, since each of these has one too.
+        for number in BOUNDS:
+            client.send(msgsnd_request(number, 1, b"x", IPC_NOWAIT))
+            check(client.receive()[1] == errno.EAGAIN, f"queue {number} is not full")
     after = calls()
     served = after[[call.name for call in after].index("write") :]
-    check("SRS" in order(served), "the server has not saved")
-    # A text of 8192 bytes may be out of its queue then.
-    most = max(piece.count("O") for piece in order(served).split("S"))
-    check(most in (-(-(sectors - 17) // PIECE), -(-sectors // PIECE)), f"a save makes {most} writes")
+    # All is written: where the open has freed sectors, and after those that it has taken.
+    behind = OBJECTS + taken + 4 + table
+    freed = ((OBJECTS, 4), (OBJECTS + taken - table, table))
+    saves_in_pieces(first_save(served), *freed, (behind, taken - 4 - table))
     check(printed("dump", "device") == rows_of(BOUNDS), "the queues hold something else")
 
 
 def cost_of_a_save(each: int) -> float:
     """Of 32 queues of so many messages: the calls are as they should be. Answers the least seconds of the processor
     for an open and a save, of three."""
-    messages = {number: each * EMPTY for number in range(1, 33)}
-    image, sectors = full_device(messages)
-    Path("device").write_bytes(image)
+    device = full_device({number: each * EMPTY for number in range(1, 33)})
+    Path("device").write_bytes(device.image)
     with watched(most=0):
         printed("dump", "device")
-    open_and_save(calls(), sectors)
+    open_and_save(calls(), device, taken_of(device))
     least = float("inf")
     for _ in range(3):
-        Path("device").write_bytes(image)
+        Path("device").write_bytes(device.image)
         before = resource.getrusage(resource.RUSAGE_CHILDREN)
         printed("dump", "device")
         after = resource.getrusage(resource.RUSAGE_CHILDREN)
@@ -376,31 +420,93 @@ def semaphore_sets(parts: int) -> list[str]:
 def posix_queues(parts: int) -> list[str]:
     """Ten messages of 8192 bytes in each."""
     makes = [mq_open_request(f"/{number}", O_CREAT | O_RDWR, 0o600) for number in range(4 * parts)]
-    sends = 10 * [mq_send_request(0, 8192 * b"x")]
-    return [*connected(1), *(asks(1, make, *sends, close_request(0)) for make in makes)]
+    return [*connected(1), *(asks(1, make, *10 * [mq_send_request(fd, 8192 * b"x")]) for fd, make in enumerate(makes))]
 
 
 def named_semaphores(parts: int) -> list[str]:
+    """Each process has 32 descriptors at most."""
     makes = [sem_open_request(f"/{number:0249}", O_CREAT, 0o600) for number in range(8 * parts)]
-    return [*connected(1), *(asks(1, make, close_request(0)) for make in makes)]
+    return [*connected(-(-parts // 4)), *(asks(1 + number // 32, make) for number, make in enumerate(makes))]
 
 
 def segments(parts: int) -> list[str]:
     makes = [shm_open_request(f"/{number}", O_CREAT | O_RDWR, 0o600) for number in range(4 * parts)]
-    return [*connected(1), *(asks(1, make, ftruncate_request(0, 32768), close_request(0)) for make in makes)]
+    return [*connected(1), *(asks(1, make, ftruncate_request(fd, 32768)) for fd, make in enumerate(makes))]
 
 
-# Each with how many saves, or opens, of all of it are timed.
-KINDS = {
-    messages: 16,
-    adjustments_of_processes: 16,
-    adjustments_at_semaphores: 16,
-    descriptors: 100,
-    calls_that_wait: 50,
-    semaphore_sets: 200,
-    posix_queues: 16,
-    named_semaphores: 200,
-    segments: 40,
+def by_number(many: int, *requests: Callable[[int], bytes]) -> list[str]:
+    """These requests for each of so many identifiers."""
+    return [asks(1, *(ask(number) for number in range(1, many + 1) for ask in requests))]
+
+
+def by_descriptor(many: int, *requests: Callable[[int], bytes]) -> list[str]:
+    """The same for descriptors, of which each process has 32."""
+    return [
+        asks(1 + first // 32, *(ask(fd) for fd in range(min(32, many - first)) for ask in requests))
+        for first in range(0, many, 32)
+    ]
+
+
+def set_set(number: int) -> bytes:
+    return semctl_set_request(number, 1000, 100, 0o600)
+
+
+def register(fd: int) -> bytes:
+    return mq_notify_request(fd, 1)
+
+
+def give_up(fd: int) -> bytes:
+    return mq_notify_request(fd, 0)
+
+
+def write_a_byte(fd: int) -> bytes:
+    return shm_write_request(fd, 0, b"y")
+
+
+def read_a_byte(fd: int) -> bytes:
+    return shm_read_request(fd, 0, 1)
+
+
+Lines = Callable[[int], list[str]]
+
+
+def no_lines(parts: int) -> list[str]:
+    return []
+
+
+class Kind(NamedTuple):
+    """How many saves, or opens, of all of it are timed. Lines that change each object, and such that only look at it:
+    of what every save writes there are none."""
+
+    many: int
+    changes: Lines = no_lines
+    looks: Lines = no_lines
+
+
+KINDS: dict[Lines, Kind] = {
+    messages: Kind(32, lambda parts: by_number(2, set_queue), lambda parts: by_number(2, msgctl_stat_request)),
+    adjustments_of_processes: Kind(16),
+    adjustments_at_semaphores: Kind(16),
+    descriptors: Kind(100),
+    calls_that_wait: Kind(50),
+    semaphore_sets: Kind(
+        200, lambda parts: by_number(4 * parts, set_set), lambda parts: by_number(4 * parts, semctl_stat_request)
+    ),
+    posix_queues: Kind(
+        16,
+        lambda parts: by_descriptor(4 * parts, register, give_up),
+        lambda parts: by_descriptor(4 * parts, mq_getattr_request, mq_getattr_request),
+    ),
+    named_semaphores: Kind(
+        200,
+        lambda parts: by_descriptor(8 * parts, sem_post_request),
+        lambda parts: by_descriptor(8 * parts, sem_getvalue_request),
+    ),
+    segments: Kind(
+        40,
+        lambda parts: by_descriptor(4 * parts, write_a_byte),
+        lambda parts: by_descriptor(4 * parts, read_a_byte),
+    ),
 }
 
 
@@ -414,32 +520,49 @@ def run_script(lines: list[str], *words: str) -> tuple[float, str]:
     return after.ru_utime + after.ru_stime - before.ru_utime - before.ru_stime, ended.stdout
 
 
-def length_of(lines: list[str]) -> int:
-    """How many bytes a save has of what a script makes. No request of it is refused."""
+def lengths_of(lines: list[str]) -> tuple[int, int]:
+    """How many bytes a save has of what a script makes: of the four objects of each state, and of the others. No
+    request of it is refused."""
     printed("format", "device")
     _, output = run_script(lines, "run", "device")
     answers = [line.split()[1] for line in output.splitlines()]
     check(all(answer[16:20] == "0000" for answer in answers), f"a script is answered {answers[:3]}..")
-    return sum(one.length for one in Heap(memoryview(Path("device").read_bytes()), ONE).placed)
+    placed = Heap(memoryview(Path("device").read_bytes()), ONE).placed
+    return sum(one.length for one in placed[:4]), sum(one.length for one in placed[4:])
 
 
 class Times:
-    """The least seconds of the processor for a script that ends with a save, and for it and so many saves or opens."""
+    """The least seconds of the processor for a script that ends with a save, and for it and so many saves or opens. If
+    there are lines that change each object, they come before each of these saves; and lines that only look at it come
+    before as many, which write what is written always."""
 
-    def __init__(self, lines: list[str], many: int) -> None:
+    def __init__(self, lines: list[str], many: int, changes: list[str], looks: list[str]) -> None:
         self.lines = [*lines, "save"]
-        self.bytes = length_of(self.lines)
+        always, others = lengths_of([*self.lines, *changes, *looks])
+        self.bytes = {"save": others if changes else always, "stop": always + others}
         # Each open takes a sector of the journal, which has 256.
-        self.many = {"": 0, "save": many, "stop": min(many, 200)}
-        self.least = dict.fromkeys(self.many, math.inf)
+        self.many = {"save": many, "stop": min(many, 200)}
+        self.more = {"": [], "save": many * [*changes, "save"], "stop": self.many["stop"] * ["stop"]}
+        if looks:
+            self.more["look"] = many * [*looks, "save"]
+        self.least = dict.fromkeys(self.more, math.inf)
 
     def measure(self) -> None:
-        for what, many in self.many.items():
-            taken, _ = run_script([*self.lines, *many * [what]], "replay")
+        for what, lines in self.more.items():
+            taken, _ = run_script([*self.lines, *lines], "replay")
             self.least[what] = min(self.least[what], taken)
 
+    def looked(self, what: str) -> bool:
+        return what == "save" and "look" in self.more
+
     def of(self, what: str) -> float:
-        return (self.least[what] - self.least[""]) / self.many[what]
+        return (self.least[what] - self.least["look" if self.looked(what) else ""]) / self.many[what]
+
+    def beside(self, nothing: Times, what: str) -> tuple[float, int]:
+        """The seconds of it that one of nothing does not take, and the bytes."""
+        if self.looked(what):
+            return self.of(what), self.bytes[what]
+        return self.of(what) - nothing.of(what), self.bytes[what] - nothing.bytes[what]
 
 
 def too_dear(nothing: Times, each: dict[str, tuple[Times, Times]]) -> list[str]:
@@ -449,17 +572,17 @@ def too_dear(nothing: Times, each: dict[str, tuple[Times, Times]]) -> list[str]:
         word = "save" if what == "save" else "open"
 
         def a_byte(times: Times) -> float:
-            return (times.of(what) - nothing.of(what)) / (times.bytes - nothing.bytes)
-
-        def at_least(times: Times) -> float:
-            return times.of(what) - SPREAD / times.many[what]
+            seconds, size = times.beside(nothing, what)
+            return seconds / size
 
         an_eighth, full = each["messages"]
         full_queues = a_byte(full)
         growth = EIGHT_TIMES * max(1, full.of(what) / an_eighth.of(what) / 8)
         for kind, (few, most) in each.items():
-            is_dear = at_least(most) - nothing.of(what) > A_BYTE * full_queues * (most.bytes - nothing.bytes)
-            grows = at_least(most) > growth * max(few.of(what), 0)
+            spread = SPREAD / most.many[what]
+            seconds, size = most.beside(nothing, what)
+            is_dear = seconds - spread > A_BYTE * full_queues * size
+            grows = most.of(what) - spread > growth * max(few.of(what), 0)
             if is_dear or (grows and a_byte(most) > full_queues):
                 both = f"{1000 * most.of(what):.3f} ms, and of an eighth {1000 * few.of(what):.3f} ms"
                 bytes_of_both = f"{1e9 * a_byte(most):.2f} ns a byte, and of full queues {1e9 * full_queues:.2f}"
@@ -470,11 +593,15 @@ def too_dear(nothing: Times, each: dict[str, tuple[Times, Times]]) -> list[str]:
     return found
 
 
+def times_of(lines: Lines, kind: Kind, parts: int) -> Times:
+    return Times(lines(parts), kind.many * 8 // parts, kind.changes(parts), kind.looks(parts))
+
+
 def saves_and_opens_by_what_there_is() -> None:
-    """What one takes grows as its bytes do, whatever kind is at its bounds. Seconds are the least of some rounds: no
-    more than it takes until nothing is too dear."""
-    nothing = Times([], 400)
-    each = {kind.__name__: (Times(kind(1), 8 * many), Times(kind(8), many)) for kind, many in KINDS.items()}
+    """What one takes grows as the bytes do that it writes or reads, whatever kind is at its bounds. Seconds are the
+    least of some rounds: no more than it takes until nothing is too dear."""
+    nothing = Times([], 400, [], [])
+    each = {lines.__name__: (times_of(lines, kind, 1), times_of(lines, kind, 8)) for lines, kind in KINDS.items()}
     for _ in range(ROUNDS):
         for times in (nothing, *(one for both in each.values() for one in both)):
             times.measure()
@@ -482,6 +609,62 @@ def saves_and_opens_by_what_there_is() -> None:
         if not found:
             return
     check(False, "; ".join(found))
+
+
+# ---- a save beside what has not changed
+
+SEND = [asks(1, msgsnd_request(1, 1, b"hi")), "save"]
+SAVES = 100
+
+
+def device_beside(much: bool) -> Device:
+    """A queue without messages; and 31 of eight messages of 2000 bytes and a segment of 1 MiB."""
+    full = Queue(0, 8 * ((1, 2000 * b"x"),), qbytes=16384)
+    queues = {number: full if number > 1 else full._replace(messages=()) for number in range(1, 33 if much else 2)}
+    return device_of(queues, {1: Segment(b"/full", STANDARD.segment_bytes * b"\xa5")} if much else {})
+
+
+def sectors_beside_much() -> None:
+    """After a send of two bytes a save writes the four objects of each state and the queue, a sector of each, the
+    table, and the root. The table has of each object 16 bytes, and four for each of its sectors: of 5 objects in 5
+    sectors it takes one; with 31 queues in 32 sectors each and a segment in 2049, of 3046 sectors in all, it has 12780
+    bytes and takes 26. So there it is 16 KiB that is written; 64 are allowed."""
+    for much, table in (False, 1), (True, 26):
+        Path("device").write_bytes(device_beside(much).image)
+        with watched(most=0):
+            run_script([*connected(1), *SEND], "run", "device")
+        them = calls()
+        found = re.sub("[iPc]", "", order(them))
+        check(re.fullmatch("SBSHS(BSHS){2}O+SRS", found) is not None, f"the calls are {found}")
+        root = next(call for call in them if call.sector == ROOT and call.name == "pwrite")
+        written = sum(call.result for call in [*first_save(them), root])
+        check(written == SECTOR * (5 + table + 1), f"a save writes {written} bytes, with {table} sectors of the table")
+
+
+class SaveTimes:
+    """The least seconds of the processor for a script, and for it and so many sends of two bytes, each with a save."""
+
+    def __init__(self, device: Device) -> None:
+        self.image = bytes(device.image)
+        self.least = {0: math.inf, SAVES: math.inf}
+
+    def measure(self) -> float:
+        """Of a send and a save."""
+        for many in self.least:
+            Path("device").write_bytes(self.image)
+            taken, _ = run_script([*connected(1), *many * SEND], "run", "device")
+            self.least[many] = min(self.least[many], taken)
+        return (self.least[SAVES] - self.least[0]) / SAVES
+
+
+def saves_beside_much() -> None:
+    """One takes at most twice the processor's time of one beside nothing, and a millisecond."""
+    nothing, much = (SaveTimes(device_beside(there)) for there in (False, True))
+    for _ in range(ROUNDS):
+        few, many = nothing.measure(), much.measure()
+        if many <= 2 * few + 0.001:
+            return
+    check(False, f"a save beside much takes {1000 * many:.3f} ms, and beside nothing {1000 * few:.3f} ms")
 
 
 # ---- moments
@@ -523,6 +706,7 @@ TESTS = [
     moments,
     clients_beyond_the_hundredth,
     saves_and_opens_by_what_there_is,
+    saves_beside_much,
 ]
 WATCHED = [
     turns_that_are_idle,
@@ -530,6 +714,7 @@ WATCHED = [
     commits,
     queues_at_their_bounds,
     saves_grow_with_the_messages,
+    sectors_beside_much,
 ]
 
 

@@ -54,6 +54,7 @@ from device_layout import (  # noqa: E402
     JOURNAL,
     LAST_EPOCH,
     LAST_NUMBER,
+    QUEUE_KIND,
     RESTART,
     ROOT,
     SECTOR,
@@ -416,9 +417,9 @@ def save_of_much() -> None:
     objects = state(clock(9, 2, 3), processes((1, 1000, 100)), {1: one, 2: two})
     new = Device(STANDARD)
     wanted = new.copy().journal(1, *first_queue(*(batch(tick(9), one) for one in asked)))
-    wanted.save(2, objects).save(3, objects)
-    # 39 sectors of objects and one of their table: first from 265 to 304, and then from 260 to 264 and from 305 on.
-    check(wanted.image[SECTOR * ROOT :][:16] == root(3, 339, 256), "the table is in sector 339")
+    wanted.save(2, objects).save(3, objects, unchanged=(QUEUE_KIND + 1, QUEUE_KIND + 2))
+    # 39 sectors of objects and one of their table from 265 to 304; then the queues stay, from 269 to 303.
+    check(wanted.image[SECTOR * ROOT :][:16] == root(3, 264, 256), "the table is in sector 264")
     runs(new, script, printed, wanted, "saves under standard limits")
     opens(wanted.image, row(1, one) + row(2, two), "what they have saved")
 
@@ -482,7 +483,7 @@ def open_with_calls() -> None:
     """No call waits after an open, and the queue is as it was."""
     device = holding(with_calls(waits(SENDING, TAKING)))
     wanted = device.copy().journal(1, batch(RESTART))
-    wanted.save(2, state(clock(9, 5, 2), processes(), {1: FULL}))
+    wanted.save(2, state(clock(9, 5, 2), processes(), {1: FULL}), unchanged=(QUEUE_KIND + 1,))
     runs(device, ["save"], [], wanted, "an open with calls that wait")
 
 
@@ -532,7 +533,8 @@ def save_with_calls() -> None:
     last = Waiting(2, msgrcv(11, 1, 64, 9, 0))
     wanted.put(BODY, 0, batch(tick(7), request(7, 2, last.frame)).ljust(SECTOR, b"\0"))
     wanted.put(JOURNAL, 0, header(2, 1))
-    wanted.save(3, state(clock(7, 5, 2), three, {1: queue}, {}, waits(*waiting[:2], last)))
+    objects = state(clock(7, 5, 2), three, {1: queue}, {}, waits(*waiting[:2], last))
+    wanted.save(3, objects, unchanged=(QUEUE_KIND + 1,))
     runs(Device(), script, printed, wanted, "saves while calls wait")
     opens(wanted.image, row(1, queue), "calls that were saved")
 

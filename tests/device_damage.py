@@ -20,6 +20,7 @@ from device_layout import (
     QUEUE_KIND,
     RESTART,
     SECTOR,
+    SEGMENT_KIND,
     SEM_UNDO,
     SET_KIND,
     SMALL,
@@ -764,7 +765,8 @@ def reads_all(device: Device, queues: dict[int, Queue], segments: dict[int, Segm
     wanted.put(JOURNAL, 0, header(2, used))
     after = {number: queue._replace(messages=(), pids=(1, 5)) for number, queue in queues.items()}
     them = processes((5, 1000, 100))
-    wanted.save(3, state(clock(0, 6, 3, 1, 1, 1, 2), them, after, segments=segments))
+    objects = state(clock(0, 6, 3, 1, 1, 1, 2), them, after, segments=segments)
+    wanted.save(3, objects, unchanged=(SEGMENT_KIND + 1,))
     runs(device, script, printed, wanted, name)
 
 

@@ -455,11 +455,21 @@ class Device:
         used = {*self.chain, *(sector for one in self.placed for sector in one.sectors)}
         return [sector for sector in range(OBJECTS, len(self.image) // SECTOR) if sector not in used]
 
-    def save(self, epoch: int, objects: list[tuple[int, bytes]], places: Iterable[int] | None = None) -> Device:
-        """Takes free sectors for one object after another, and then for the table; or these, if they are given."""
+    def save(
+        self,
+        epoch: int,
+        objects: list[tuple[int, bytes]],
+        places: Iterable[int] | None = None,
+        unchanged: tuple[int, ...] = (),
+    ) -> Device:
+        """Takes free sectors for one object after another, and then for the table; or these, if they are given. The
+        objects of these numbers stay where they are."""
         places = iter(self.free() if places is None else places)
-        self.placed = []
+        before, self.placed = {one.number: one for one in self.placed}, []
         for number, data in objects:
+            if number in unchanged:
+                self.placed.append(before[number])
+                continue
             mine = tuple(next(places) for _ in range(sectors_of(len(data))))
             for at, sector in enumerate(mine):
                 self.fill(sector, data[SECTOR * at : SECTOR * (at + 1)])

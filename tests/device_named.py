@@ -75,7 +75,8 @@ def after(name: str, events: list[bytes], calls: bytes) -> None:
     wanted.put(BODY + used + 1, 0, batch(tick(100), connect(100, 1, 1000, 100)))
     numbers = clock(100, 31, 1, 1, 1, 5, 8)
     objects = state(numbers, processes((30, 1000, 100)), {}, {}, NONE, NONE, {}, sems, segments)
-    wanted.put(JOURNAL, 0, header(7, used + 2)).save(8, objects)
+    wanted.put(JOURNAL, 0, header(7, used + 2))
+    wanted.save(8, objects, unchanged=(NAMED_KIND + 2, SEGMENT_KIND + 1))
     runs(device, script, [numbered(1, 1, 30)], wanted, name)
     opens(wanted.image, listed, f"{name}, saved")
 

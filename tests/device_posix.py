@@ -66,7 +66,9 @@ def after(name: str, posix: dict[int, Posix], events: list[bytes], left: dict[in
     wanted = device.copy().put(BODY + used, 0, batch(RESTART)).put(BODY + used + 1, 0, line)
     queue, one = Queue(9, times=(0, 0, 100), qbytes=device.limits.msgmnb), Set(8, times=(0, 100))
     objects = state(clock(100, 31, 2, 2, 6), processes((30, 1000, 100)), {1: queue}, {1: one}, posix=left)
-    wanted.put(JOURNAL, 0, header(7, used + 2)).save(8, objects)
+    # A queue has changed if somebody was registered with it.
+    same = tuple(POSIX_KIND + number for number in left if posix[number].registration[0] == 0)
+    wanted.put(JOURNAL, 0, header(7, used + 2)).save(8, objects, unchanged=same)
     runs(device, script, printed, wanted, name)
     opens(wanted.image, row(1, queue) + row_of_set(1, one) + "".join(map(row_of_posix, in_order)), f"{name}, saved")
 

@@ -20,7 +20,50 @@ sys.dont_write_bytecode = True
 
 from device_layout import BODY, OBJECTS, ROOT, SECTOR  # noqa: E402
 from server import PROGRAM, TIMEOUT, check, frame, in_a_folder, printed, run_tests  # noqa: E402
-from client import msgsnd_request  # noqa: E402
+from client import (  # noqa: E402
+    IPC_CREAT,
+    IPC_EXCL,
+    IPC_NOWAIT,
+    O_CREAT,
+    O_NONBLOCK,
+    O_RDONLY,
+    O_RDWR,
+    O_TRUNC,
+    SEM_UNDO,
+    close_request,
+    ftruncate_request,
+    mq_getattr_request,
+    mq_notify_request,
+    mq_open_request,
+    mq_receive_request,
+    mq_send_request,
+    mq_setattr_request,
+    mq_unlink_request,
+    msgctl_rmid_request,
+    msgctl_set_request,
+    msgctl_stat_request,
+    msgget_request,
+    msgrcv_request,
+    msgsnd_request,
+    sem_getvalue_request,
+    sem_open_request,
+    sem_post_request,
+    sem_trywait_request,
+    semctl_getall_request,
+    semctl_getncnt_request,
+    semctl_getpid_request,
+    semctl_getval_request,
+    semctl_getzcnt_request,
+    semctl_set_request,
+    semctl_setval_request,
+    semctl_stat_request,
+    semget_request,
+    semop_request,
+    shm_open_request,
+    shm_read_request,
+    shm_stat_request,
+    shm_write_request,
+)
 from watch import ALL, ENDS, Disk, build, calls, order, refused_once, watched  # noqa: E402
 
 REPLAY = ("replay", "--small")
@@ -285,9 +328,10 @@ def makes(name: str, script: str, wanted: str) -> None:
     check(found == wanted, f"{name}: the calls are {found}, and not {wanted}")
 
 
-def printed_of(name: str, script: str) -> None:
+def printed_of(name: str, script: str) -> str:
     ended = subprocess.run([PROGRAM, *RUN], input=script, capture_output=True, text=True, timeout=TIMEOUT)
     check((ended.returncode, ended.stderr) == WELL, f"{name}: {ended}")
+    return ended.stdout
 
 
 def writes_and_syncs() -> None:
@@ -303,14 +347,8 @@ def writes_and_syncs() -> None:
     makes("300 opens", 299 * "stop\n", 256 * "SBSHS" + "SOSRS" + 43 * "SBSHS")
 
 
-def sectors_of_saves() -> None:
-    """A save writes each object, the table and the root: of a process and its queue seven sectors, and again seven, and
-    of a second queue one more. Each save syncs before the root and after it."""
-    printed("format", "device", "--small")
-    lines = SCRIPT.splitlines(keepends=True)[:4]
-    lines += ["save\n", "save\n", "0 data 1 0000000d000000060a0000162e00000380\n", "save\n"]
-    with watched():
-        printed_of("three saves", "".join(lines))
+def sectors_saved() -> list[int]:
+    """How many sectors each save has written."""
     written, saves = 0, []
     for call in calls():
         if call.name == "pwrite" and call.sector >= OBJECTS:
@@ -318,10 +356,116 @@ def sectors_of_saves() -> None:
         if call.name == "pwrite" and call.sector == ROOT:
             saves.append(written + call.size // SECTOR)
             written = 0
-    check(saves == [7, 7, 8], f"{saves} sectors are written")
+    return saves
+
+
+def sectors_of_saves() -> None:
+    """A save writes the first four objects, those that have changed, the table and the root: of a process and its new
+    queue seven sectors, then six, and with a second queue seven. Each save syncs before the root and after it."""
+    printed("format", "device", "--small")
+    lines = SCRIPT.splitlines(keepends=True)[:4]
+    lines += ["save\n", "save\n", "0 data 1 0000000d000000060a0000162e00000380\n", "save\n"]
+    with watched():
+        printed_of("three saves", "".join(lines))
+    check(sectors_saved() == [7, 6, 7], f"{sectors_saved()} sectors are written")
     found = re.sub("O+", "O", "".join(letter for letter in order(calls()) if letter not in "iPc"))
     wanted = "SBSHS" + 3 * "BSHS" + 2 * "OSRS" + "BSHS" + "OSRS"
     check(found == wanted, f"three saves: the calls are {found}, and not {wanted}")
+
+
+def asks(connection: int, *requests: bytes) -> str:
+    return f"0 data {connection} " + b"".join(frame(1, asked) for asked in requests).hex() + "\n"
+
+
+def comes(connection: int) -> str:
+    return f"0 open {connection}\n0 data {connection} {HELLO}\n"
+
+
+MODE = 0o600
+# Lines of a script, and how many objects they change. Connection 1 has the descriptors 0 of the POSIX queue, 1 of the
+# semaphore and 2 of the segment; connection 2 has none.
+CHANGES = {
+    "an object of each kind": (
+        comes(1)
+        + comes(2)
+        + asks(1, msgget_request(1, IPC_CREAT | MODE), semget_request(1, 1, IPC_CREAT | MODE))
+        + asks(1, mq_open_request("/q", O_CREAT | O_RDWR | O_NONBLOCK, MODE), sem_open_request("/s", O_CREAT, MODE))
+        + asks(1, shm_open_request("/m", O_CREAT | O_RDWR, MODE), ftruncate_request(2, 8)),
+        5,
+    ),
+    "nothing": ("", 0),
+    "a tick": ("0 tick\n", 0),
+    "what reads of System V": (
+        asks(1, msgctl_stat_request(1), semctl_stat_request(1), semctl_getall_request(1))
+        + asks(1, semctl_getval_request(1, 0), semctl_getpid_request(1, 0))
+        + asks(1, semctl_getncnt_request(1, 0), semctl_getzcnt_request(1, 0)),
+        0,
+    ),
+    "what reads of POSIX": (
+        asks(1, mq_getattr_request(0), mq_setattr_request(0, O_NONBLOCK), sem_getvalue_request(1))
+        + asks(1, shm_read_request(2, 0, 8), shm_stat_request(2)),
+        0,
+    ),
+    "gets and opens of what is there": (
+        asks(1, msgget_request(1, 0), semget_request(1, 0, 0))
+        + asks(1, mq_open_request("/q", O_RDONLY), close_request(3))
+        + asks(1, sem_open_request("/s", 0), close_request(3))
+        + asks(1, shm_open_request("/m", O_RDONLY), close_request(3)),
+        0,
+    ),
+    "refused calls": (
+        asks(1, msgrcv_request(1, 8, 0, IPC_NOWAIT), msgget_request(1, IPC_CREAT | IPC_EXCL))
+        + asks(1, semop_request(1, [(0, -1, IPC_NOWAIT)]), mq_receive_request(0, 64))
+        + asks(1, sem_trywait_request(1), shm_write_request(2, 8, b"x")),
+        0,
+    ),
+    "a call that waits": (asks(2, msgrcv_request(1, 8)), 0),
+    "a send by which it goes on": (asks(1, msgsnd_request(1, 1, b"a")), 1),
+    "two IPC_SETs to what is there": (
+        asks(1, msgctl_set_request(1, 1000, 100, MODE, 128), semctl_set_request(1, 1000, 100, MODE)),
+        2,
+    ),
+    "two SETVALs": (asks(1, semctl_setval_request(1, 0, 2), semctl_setval_request(1, 0, 1)), 1),
+    "a list with SEM_UNDO": (asks(2, semop_request(1, [(0, 1, SEM_UNDO)])), 1),
+    "a message that is sent": (asks(1, mq_send_request(0, b"a")), 1),
+    "a message that is received": (asks(1, mq_receive_request(0, 64)), 1),
+    "a registration": (
+        asks(2, mq_open_request("/q", O_RDWR), mq_open_request("/q", O_RDWR), mq_notify_request(0, 1)),
+        1,
+    ),
+    "a close of another descriptor": (asks(2, close_request(1)), 0),
+    "a close of the one that is registered": (asks(2, close_request(0)), 1),
+    "a registration again": (asks(2, mq_open_request("/q", O_RDWR), mq_notify_request(0, 1)), 1),
+    "an exit, with an adjustment and a registration": ("0 end 2\n", 2),
+    "an exit without": (comes(2) + "0 end 2\n", 0),
+    "a post": (asks(1, sem_post_request(1)), 1),
+    "a write": (asks(1, shm_write_request(2, 0, b"x")), 1),
+    "a length": (asks(1, ftruncate_request(2, 4)), 1),
+    "an open with O_TRUNC": (asks(1, shm_open_request("/m", O_RDWR | O_TRUNC), close_request(3)), 1),
+    "an adjustment and a registration": (asks(1, semop_request(1, [(0, 1, SEM_UNDO)]), mq_notify_request(0, 1)), 2),
+    "a restart": ("stop\n", 2),
+    "a restart without": ("stop\n", 0),
+    "a send, and a restart": (comes(1) + asks(1, msgsnd_request(1, 1, b"a")) + "stop\n", 1),
+    "a queue more": (comes(1) + asks(1, msgget_request(2, IPC_CREAT | MODE)), 1),
+    "a queue less": (asks(1, msgctl_rmid_request(2)), 0),
+    "an unlink of what is open": (asks(1, mq_open_request("/q", O_RDWR), mq_unlink_request("/q")), 1),
+    "its end": ("0 end 1\n", 0),
+}
+REFUSALS = [errno.ENOMSG, errno.EEXIST, errno.EAGAIN, errno.EAGAIN, errno.EAGAIN, errno.EINVAL]
+
+
+def what_changes_an_object() -> None:
+    """By the words of docs/DEVICE.md: beside six sectors, of the first four objects, of the table and of the root, a
+    save writes one of each object that has changed since the save before."""
+    printed("format", "device", "--small")
+    with watched():
+        output = printed_of("saves", "".join(lines + "save\n" for lines, _ in CHANGES.values()))
+    refusals = [int(line.split()[1][16:20], 16) for line in output.splitlines()]
+    check([one for one in refusals if one] == REFUSALS, f"other calls are refused: {refusals}")
+    saves = sectors_saved()
+    check(len(saves) == len(CHANGES), f"{len(saves)} saves are made")
+    for found, (name, (_, changed)) in zip(saves, CHANGES.items()):
+        check(found == 6 + changed, f"{name}: a save writes {found} sectors, and not {6 + changed}")
 
 
 # The lengths of the texts in a line, the bytes of their batch, and its sectors. A batch has 4 bytes of its length, the
@@ -353,6 +497,7 @@ TESTS = [
     a_crash_leaves_the_message_or_not,
     writes_and_syncs,
     sectors_of_saves,
+    what_changes_an_object,
     batches,
 ]
 

@@ -1,7 +1,7 @@
 -- Numbered objects, each some bytes: what a checkpoint saves and gives back. They are a finite map from numbers to
 -- bytes, as a list by rising number.
-use Rattle.std.specs.Prelude.{ℕ, ◌+◌, ◌-◌, ◌*◌, ◌/◌, ◌<◌, ◌≤◌, ◌^◌, List, ◌++◌, length, take, drop}
-use Rattle.std.specs.Prelude.{replicate, sum_by, All}
+use Rattle.std.specs.Prelude.{◌≡◌, ℕ, ◌+◌, ◌-◌, ◌*◌, ◌/◌, ◌<◌, ◌≤◌, ◌^◌, Bool, false, List, ◌++◌, length, take}
+use Rattle.std.specs.Prelude.{drop, replicate, slice_get, Some, sum_by, All}
 use Rattle.ipc_base.specs.Table.{keys_of, IsRising}
 
 abbrev pub PlainObjects : Type 0
@@ -32,3 +32,11 @@ table_bytes objects = 4 + 16 * length objects + 4 * object_sectors objects
 -- they and their table fit into so many sectors; a sector of the table has 508 bytes of it
 abbrev pub Fit : ℕ → PlainObjects → Type 0
 Fit area objects = object_sectors objects + (table_bytes objects + 507) / 508 ≤ area
+
+-- ---- what was saved
+
+-- each object that does not differ is among the saved ones, with these bytes
+abbrev pub OthersAreThere : (ℕ → Bool) → PlainObjects → PlainObjects → Type 0
+OthersAreThere differs objects saved =
+    (i : ℕ) (o : ℕ × List ℕ) → slice_get objects i ≡ Some o → differs i ≡ false
+    → (j : ℕ) × (slice_get saved j ≡ Some o)

@@ -6,7 +6,7 @@ use Rattle.std.specs.List.{filter}
 use Rattle.std.proofs.lemmas.List.{length-append, length-map}
 use Rattle.std.proofs.lemmas.List.Elements.{All-head, All-tail}
 use Rattle.std.proofs.lemmas.List.Sums.{sum_by-cons}
-use Rattle.ipc_base.specs.Objects.{PlainObjects, AreObjects, Fit, object_sectors}
+use Rattle.ipc_base.specs.Objects.{PlainObjects, AreObjects, Fit, OthersAreThere, object_sectors}
 use Rattle.ipc_base.specs.Table.{seen_as, value_at}
 use Rattle.ipc_disk.specs.declared.range.Range.{Range}
 use Rattle.ipc_disk.specs.Counts.{Counts, InRange, with_calls}
@@ -21,7 +21,7 @@ use Rattle.ipc_heap.specs.Matches.{HeapMatches, IsKept, Keeps}
 use Rattle.ipc_heap.specs.View.{ArePlaced, HeapView, StaysInPlace, free, map_of, sizes_of, used_by}
 use Rattle.ipc_heap.proofs.CallerLemmas.{Keeps-map, Keeps-matches, Keeps-sizes, words_for-is}
 use Rattle.ipc_checkpoint.specs.Checkpoint.{Holds, IsElsewhere, IsLaidOut}
-use Rattle.ipc_checkpoint.specs.Matches.{CheckpointMatches, HoldsEither, OthersAreThere, changed_sectors, sectors_of, table_sectors}
+use Rattle.ipc_checkpoint.specs.Matches.{CheckpointMatches, HoldsEither, changed_sectors, sectors_of, table_sectors}
 use Rattle.ipc_checkpoint.specs.Saving.{AreThere, HasNoOthers}
 use Rattle.ipc_checkpoint.specs.View.{CheckpointView, HasSpare, epoch_of, layout_of}
 use Rattle.ipc_checkpoint.proofs.Putting.{calls-more, own-value}

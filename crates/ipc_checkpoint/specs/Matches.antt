@@ -1,6 +1,5 @@
 -- A checkpoint's value matches a disk: these objects stand there at its epoch.
-use Rattle.std.specs.Prelude.{◌⊎◌, ◌≡◌, ℕ, ◌+◌, ◌/◌, Bool, false, List, [], ◌∷◌, All, if◌then◌else◌, length}
-use Rattle.std.specs.Prelude.{slice_get, Some}
+use Rattle.std.specs.Prelude.{◌⊎◌, ◌≡◌, ℕ, ◌+◌, ◌/◌, Bool, List, [], ◌∷◌, All, if◌then◌else◌, length}
 use Rattle.ipc_base.specs.Objects.{PlainObjects, object_sectors, table_bytes}
 use Rattle.ipc_disk.specs.Medium.{Image, Medium}
 use Rattle.ipc_disk.specs.Range.{IsInside}
@@ -36,9 +35,3 @@ pub record CheckpointMatches (checkpoint : CheckpointView) (objects : PlainObjec
 abbrev pub HoldsEither : Layout → ℕ → PlainObjects → ℕ → PlainObjects → Image → Type 0
 HoldsEither layout epoch objects next others image =
     Holds layout epoch objects image ⊎ Holds layout next others image
-
--- each object that does not differ is there with these bytes
-abbrev pub OthersAreThere : (ℕ → Bool) → PlainObjects → PlainObjects → Type 0
-OthersAreThere differs objects saved =
-    (i : ℕ) (o : ℕ × List ℕ) → slice_get objects i ≡ Some o → differs i ≡ false
-    → (j : ℕ) × (slice_get saved j ≡ Some o)

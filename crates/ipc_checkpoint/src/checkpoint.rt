@@ -34,9 +34,9 @@ impl Model for Checkpoint {
 
 impl Checkpoint {
     ghost use Rattle.ipc_checkpoint.specs.Checkpoint.{Holds, IsLaidOut, IsElsewhere, IsOwn, IsFirstDamage};
-    ghost use Rattle.ipc_checkpoint.specs.Matches.{CheckpointMatches, HoldsEither, OthersAreThere};
+    ghost use Rattle.ipc_checkpoint.specs.Matches.{CheckpointMatches, HoldsEither};
     ghost use Rattle.ipc_checkpoint.specs.Matches.{sectors_of, table_sectors, changed_sectors};
-    ghost use Rattle.ipc_base.specs.Objects.{Fit};
+    ghost use Rattle.ipc_base.specs.Objects.{Fit, OthersAreThere};
     ghost use Rattle.ipc_checkpoint.specs.View.{layout_of, epoch_of, free_of, HasSpare};
 
     /// Makes the first checkpoint, at epoch 1, with one sync. Until then, and after an `Err`, its sectors may be

@@ -1,6 +1,6 @@
 -- Which calls can go on when one object has changed: those that wait on it, and no other.
 use Rattle.std.proofs.Common.{◌≡◌, ◌≢◌, ℕ, zero, suc, ℤ, ◌⊎◌, inl, inr, Bool, true, false, not, List, [], ◌∷◌, ◌++◌}
-use Rattle.std.proofs.Common.{Option, Some, None, is_some, get_or, length, length-append, append_assoc, ◌+◌, ◌*◌, ◌≤◌}
+use Rattle.std.proofs.Common.{Option, Some, None, is_some, get_or, length, length-append, ◌+◌, ◌*◌, ◌≤◌}
 use Rattle.std.proofs.Common.{refl, sym, ap, subst, ◌∙◌, arith}
 use Rattle.std.specs.Prelude.{All, find, nat_eq, if◌then◌else◌}
 use Rattle.std.proofs.lemmas.Bool.Decides.{nat_tests}
@@ -26,7 +26,7 @@ use Rattle.sysv_calls.proofs.CallerLemmas.{attempt-good, by-waiting, received-wa
 use Rattle.ipc_engine.specs.Event.{PlainOutcome}
 use Rattle.ipc_engine.specs.Settling.{AreLinked, HaveSameObjects, OthersWait, ReceivesWait, RestWaits}
 use Rattle.ipc_engine.specs.Sound.{IsSound}
-use Rattle.ipc_engine.specs.Step.{Step, silent, after, resumed, resumed_first, settle_within, settle, can_resume, tried}
+use Rattle.ipc_engine.specs.Step.{silent, after, resumed, resumed_first, settle_within, settle, can_resume, tried}
 use Rattle.ipc_engine.proofs.Lists.{found-all, found-passes}
 use Rattle.ipc_engine.proofs.Settled.{left-free, resumed-has, settle-nothing}
 use Rattle.ipc_engine.proofs.Soundness.{still-waits}
@@ -76,7 +76,7 @@ same_object a (Some b) = by_kind (test_cases (nat_eq (rank a.kind) (rank b.kind)
         inr (λ same. absurd (let it : a ≡ b = cc in let also : rank a.kind ≡ rank b.kind = ap (λ (c : Object). rank c.kind) it in grind (arith, nat_tests)))
 
 -- each call of a list is found there by its process
-all-waiting : (ws : List PlainWaiting) → All (λ (w : PlainWaiting). is_some (waiting_call_of w.pid ws) ≡ true) ws
+pub all-waiting : (ws : List PlainWaiting) → All (λ (w : PlainWaiting). is_some (waiting_call_of w.pid ws) ≡ true) ws
 all-waiting [] = All-nil _
 all-waiting (w ∷ ws) =
     All-cons (λ (v : PlainWaiting). is_some (waiting_call_of v.pid (w ∷ ws)) ≡ true) w ws (by_test (is_of w.pid w) (waiting_call_of w.pid ws) (inl (grind
@@ -90,7 +90,7 @@ all-waiting (w ∷ ws) =
 
 module _ (limits : Limits) where
   -- the object on which a call waits is there
-  there-of : (s : State) (w : PlainWaiting) → IsSoundWaiting w → can_resume limits s w ≡ false → is_there w.pid.0 w.on s ≡ true
+  pub there-of : (s : State) (w : PlainWaiting) → IsSoundWaiting w → can_resume limits s w ≡ false → is_there w.pid.0 w.on s ≡ true
   there-of s w sound waits = tried-there limits s w.pid.0 true w.call.kind w.on sound.on (opposite _ waits)
     where
       opposite : (b : Bool) → not b ≡ false → b ≡ true
@@ -135,8 +135,8 @@ module _ (limits : Limits) where
         subst (λ (ws : List PlainWaiting). All (λ (w : PlainWaiting). is_receive w.call.kind ≡ true → can_resume limits f.state w ≡ false) ws) (sym good.wait)
         (λ k d i other. by_kind (get_or s.wait k d).pid.0 (get_or s.wait k d).call.kind other (h.waits k d i).waits)
       where
-        good : IsGood limits s (touched (requests.Msgrcv id flags size mtype)) f
-        good = subst (IfFinishes (IsGood limits s (touched (requests.Msgrcv id flags size mtype)))) is
+        good : IsGood limits s (touched s (requests.Msgrcv id flags size mtype)) f
+        good = subst (IfFinishes (IsGood limits s (touched s (requests.Msgrcv id flags size mtype)))) is
             (attempt-good limits s pid false (requests.Msgrcv id flags size mtype))
 
         opposite : (b : Bool) → not b ≡ false → b ≡ true
@@ -183,7 +183,7 @@ module _ (limits : Limits) where
   -- ---- one after another
 
   -- who waits besides one that has left is another
-  left-apart : (s : State) (w : PlainWaiting) (pid : ℕ) → is_waiting (without_waiting s w.pid.0) pid ≡ true → pid ≢ w.pid.0
+  pub left-apart : (s : State) (w : PlainWaiting) (pid : ℕ) → is_waiting (without_waiting s w.pid.0) pid ≡ true → pid ≢ w.pid.0
   left-apart s w pid waiting same =
       let yes : is_waiting (without_waiting s w.pid.0) w.pid.0 ≡ true =
       subst (λ (p : ℕ). is_waiting (without_waiting s w.pid.0) p ≡ true) same waiting in

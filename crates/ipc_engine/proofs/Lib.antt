@@ -13,3 +13,5 @@ pub mod Going
 mod Buffers
 mod Doing
 mod Resumes
+mod Tracking
+mod Marks

@@ -13,6 +13,7 @@ use Rattle.ipc_wait.proofs.CallerLemmas.{IsIn, found-in, waiting_call_of-without
 use Rattle.sem_undo.specs.Undo.{Key, adjustment}
 use Rattle.sysv_msg.specs.Queue.{Queue}
 use Rattle.sysv_sem.specs.Set.{Set}
+use Rattle.ipc_state.specs.declared.parked.Object.{Object}
 use Rattle.ipc_state.specs.declared.parked.Awaited.{Awaited}
 use Rattle.ipc_state.specs.declared.parked.Awaited.TheVariants as awaited
 use Rattle.ipc_state.specs.declared.processes.Process.{Process}
@@ -21,7 +22,7 @@ use Rattle.ipc_state.specs.Numbered.{entry_of}
 use Rattle.ipc_state.specs.Finish.{Finish, Tried, Finishes, Waits, IfFinishes}
 use Rattle.ipc_state.specs.Sound.{HasSoundParts, FitsBody}
 use Rattle.ipc_state.specs.State.{State, is_process, is_waiting, undo_of, without_waiting}
-use Rattle.ipc_state.specs.Touching.{is_there, object_of, IsAsBefore}
+use Rattle.ipc_state.specs.Touching.{is_there, object_of, IsAsBefore, IsSameIn}
 use Rattle.ipc_state.specs.Waiting.{PlainWaiting, IsSoundWaiting}
 use Rattle.ipc_state.proofs.CallerLemmas.{HasSameProcesses, same-connected, same-processes, without_waiting-sound, same-awaited, same-objects}
 use Rattle.posix_mq.specs.declared.queue.Registration.{Registration}
@@ -99,6 +100,7 @@ module _ (limits : Limits) where
     pub objects : (pid : ℕ) (on : Awaited) → pid ≢ w.pid.0 → object_of t.state pid on ≡ object_of s pid on
     pub others : HasSoundParts limits s → (pid : ℕ) (on : Awaited) → is_waiting (without_waiting s w.pid.0) pid ≡ true
         → object_of s w.pid.0 w.on ≢ object_of s pid on → is_there pid on s ≡ true → IsAsBefore pid on s t.state
+    pub same : HasSoundParts limits s → (o : Object) → object_of s w.pid.0 w.on ≢ Some o → IsSameIn o s t.state
 
   pub resumed-has : (s : State) (w : PlainWaiting) → IsSoundWaiting w → HasResumed s w (resumed limits s w)
   resumed-has s w sound =
@@ -129,6 +131,8 @@ module _ (limits : Limits) where
                 (good.others (without_waiting-sound limits s w.pid.0 h) pid on waits
                 (λ same. apart (sym (same-objects s left w.pid.0 w.on refl) ∙ (same ∙ same-objects s left pid on refl)))
                 (there-with pid on s (without w.pid s.wait) there));
+            same = λ h o apart.
+                good.same (without_waiting-sound limits s w.pid.0 h) o (λ one. apart (sym (same-objects s left w.pid.0 w.on refl) ∙ one));
           }
       by_tried Waits ended = record {
         parts = without_waiting-sound limits s w.pid.0;
@@ -140,6 +144,7 @@ module _ (limits : Limits) where
         weight = λ weigh most note light h pid. omega (arith, notes-same note s (without_waiting s w.pid.0) pid refl);
         objects = λ pid on other. same-objects s (without_waiting s w.pid.0) pid on refl;
         others = λ h pid on waits apart there. as-before pid on s (without_waiting s w.pid.0) refl refl refl refl (λ pid k. refl) refl;
+        same = λ h o apart e is. is;
       }
 
   -- of any state it leaves the same processes, and the clock

@@ -152,7 +152,7 @@ module _ (limits : Limits) where
       })
 
   -- who waits besides a process is another one
-  apart : (pid : ℕ) (ws : List PlainWaiting) → All (λ (w : PlainWaiting). w.pid.0 ≢ pid) (without (record { 0 = pid }) ws)
+  pub apart : (pid : ℕ) (ws : List PlainWaiting) → All (λ (w : PlainWaiting). w.pid.0 ≢ pid) (without (record { 0 = pid }) ws)
   apart pid [] = All-nil _
   apart pid (w ∷ ws) = by_test (w.pid.0 == pid) refl (apart pid ws)
     where

@@ -42,9 +42,9 @@ there-object s pid (awaited.Descriptor fd) there = by_found (descriptor_at s.pro
     by_found (Some d) there = λ no. cc
 
 -- a call that waits on an object is one that may change it
-waits-touched : (s : State) (pid : ℕ) (call : PlainSysv) (on : Awaited) → awaited_by (Sysv call) ≡ Some on → touched call ≡ object_of s pid on
+waits-touched : (s : State) (pid : ℕ) (call : PlainSysv) (on : Awaited) → awaited_by (Sysv call) ≡ Some on → touched s call ≡ object_of s pid on
 waits-touched s pid =
-    by-waiting (λ call. (on : Awaited) → awaited_by (Sysv call) ≡ Some on → touched call ≡ object_of s pid on)
+    by-waiting (λ call. (on : Awaited) → awaited_by (Sysv call) ≡ Some on → touched s call ≡ object_of s pid on)
     (λ id flags mtype text on is. let same : awaited.MsgQueue (record { 0 = id }) ≡ on = cc in ap (object_of s pid) same)
     (λ id flags size mtype on is. let same : awaited.MsgQueue (record { 0 = id }) ≡ on = cc in ap (object_of s pid) same)
     (λ id timeout operations on is. let same : awaited.Semset (record { 0 = id }) ≡ on = cc in ap (object_of s pid) same)
@@ -74,8 +74,8 @@ module _ (limits : Limits) where
         leaves = λ p. record { owed = omega arith; objects = λ other on. refl };
       }
 
-  call-ended : (s : State) (pid : ℕ) (call : PlainSysv) (t : Tried) → IfFinishes (IsGood limits s (touched call)) t → IfFinishes (IsApart s) t
-      → IfFinishes (HasEnded limits s pid (touched call)) t
+  call-ended : (s : State) (pid : ℕ) (call : PlainSysv) (t : Tried) → IfFinishes (IsGood limits s (touched s call)) t → IfFinishes (IsApart s) t
+      → IfFinishes (HasEnded limits s pid (touched s call)) t
   call-ended s pid call (Finishes f) good apart =
       record {
         good = good;

@@ -2,17 +2,20 @@
 use Rattle.std.specs.Prelude.{◌≡◌, Bool, true, false, not, ◌&&◌, if◌then◌else◌, List}
 use Rattle.ipc_base.specs.declared.limits.Limits.{Limits}
 use Rattle.ipc_wire.specs.Spelling.{HasFrame}
+use Rattle.ipc_state.specs.declared.parked.Object.{Object}
 use Rattle.ipc_state.specs.State.{State, is_process, is_waiting, has_all_processes}
 use Rattle.ipc_state.specs.Held.{Ready}
 use Rattle.ipc_engine.specs.Event.{PlainEvent, Connect, Call, Interrupt, Tick, Exit, Restart, PlainOutcome}
 use Rattle.ipc_engine.specs.Reserved.{takes_memory}
 use Rattle.ipc_engine.specs.Step.{due}
 
--- the limits that it keeps, the state, and the replies of the last event
+-- the limits that it keeps, the state, the replies of the last event, and the objects that may be otherwise than when
+-- the state was saved
 pub record Machine : Type 0 where
   pub limits : Limits
   pub state : State
   pub outcomes : List PlainOutcome
+  pub changed : List Object
 
 -- the process that an event names is connected
 abbrev pub IsForProcess : State → PlainEvent → Type 0

@@ -7,5 +7,6 @@ pub mod Engine
 pub mod Buffer
 pub mod Sound
 pub mod Settling
+pub mod Changes
 pub mod Reserved
 pub mod Listing

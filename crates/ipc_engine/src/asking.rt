@@ -1,23 +1,30 @@
 //! What a process asks: its calls, one at a time, and INTERRUPT; and that it leaves.
 
-ghost use Rattle.std.specs.Prelude.{◌≡◌, ◌+◌, ◌*◌, ◌<◌, ◌≤◌, ◌++◌, true, false, length, map, vec_capacity};
+ghost use Rattle.std.specs.Prelude.{◌≡◌, ◌+◌, ◌*◌, ◌<◌, ◌≤◌, ◌++◌, ◌&&◌, ◌||◌, true, false, Some};
+ghost use Rattle.std.specs.Prelude.{length, map, vec_capacity};
+ghost use Rattle.std.specs.Result.{is_ok};
 ghost use Rattle.ipc_wait.specs.Waits.{waiting_call_of};
 ghost use Rattle.ipc_wire.specs.Request.{plain_kind};
 ghost use Rattle.ipc_wire.specs.View.{plain_request};
 ghost use Rattle.ipc_state.proofs.CallerLemmas.{IsGood};
+ghost use Rattle.ipc_state.specs.declared.parked.Object.{Object as PlainObject};
 ghost use Rattle.ipc_state.specs.Finish.{finish_firing, refused};
 ghost use Rattle.ipc_state.specs.State.{State as PlainState, exit, is_process, is_waiting};
+ghost use Rattle.ipc_state.specs.Touching.{changes_by_exit};
 ghost use Rattle.ipc_state.specs.Waiting.{awaited_by, may_wait};
 ghost use Rattle.ipc_state.specs.Spare.{IsSpare, room_in as room_in_answer};
 ghost use Rattle.ipc_engine.specs.Buffer.{HasBuffer, room_in};
+ghost use Rattle.ipc_engine.specs.Changes.{HasMarked, changes_by_call, changes_if_done};
+ghost use Rattle.ipc_engine.specs.Changes.{is_marked, is_one, most_objects};
 ghost use Rattle.ipc_engine.specs.Does.{Does, emptied};
 ghost use Rattle.ipc_engine.specs.Reserved.{IsReserved, needs};
-ghost use Rattle.ipc_engine.specs.Settling.{HaveSameObjects, ReceivesWait};
+ghost use Rattle.ipc_engine.specs.Settling.{HaveSameObjects, ReceivesWait, touched_by};
 ghost use Rattle.ipc_engine.specs.Sound.{IsSound};
 ghost use Rattle.ipc_engine.specs.Step.{after, asked, called, interrupt as interrupt_step, interrupted, joins};
 ghost use Rattle.ipc_engine.specs.Step.{replied, settle as settled, replied_or_joined, tried};
 ghost use Rattle.ipc_engine.specs.View.{plain_outcome};
 
+use crate::changed::Changed;
 use crate::event::Outcome;
 use crate::replies::{push, push_reply, reply_to};
 use crate::settling::{settle, settle_all};
@@ -33,6 +40,7 @@ pub(crate) fn ask(
     state: &mut State,
     outcomes: &mut Vec<Outcome>,
     spare: &mut Vec<u8>,
+    changed: &mut Changed,
     pid: Pid,
     request: &Request<'_>,
     kept: Option<Parked>,
@@ -44,16 +52,21 @@ pub(crate) fn ask(
     requires waits { state.old.limits.processes ≤ state.old.waits }
     requires places { length outcomes.old.items + 2 * (length state.old.state.wait + 1) ≤ vec_capacity outcomes.old }
     requires spare { IsSpare state.old.limits spare.old }
+    requires marks { 2 * most_objects state.old.limits < vec_capacity changed.old.marks }
     ensures does { Does (asked state.old.limits pid.0 (plain_request request.now)
         (plain_request request.now).kind state.old.state) (emptied state.old)
         state.new outcomes.old outcomes.new }
     ensures buffer { HasBuffer state.old.limits spare.new outcomes.new.items }
+    ensures marked { HasMarked state.old.state
+        (changes_by_call state.old.limits state.old.state pid.0 (plain_kind request.now.kind))
+        changed.old.marks.items changed.new.marks.items }
+    ensures room { vec_capacity changed.old.marks ≤ vec_capacity changed.new.marks }
 {
     match &request.kind {
         RequestKind::Hello(_) => refuse(outcomes, pid, request.serial, Errno::EPROTO),
         RequestKind::Interrupt => interrupt(state, outcomes, pid, request.serial),
         RequestKind::Sysv(_) | RequestKind::Posix(_) => {
-            make(state, outcomes, spare, pid, request, kept);
+            make(state, outcomes, spare, changed, pid, request, kept);
         }
     }
 }
@@ -63,6 +76,7 @@ fn make(
     state: &mut State,
     outcomes: &mut Vec<Outcome>,
     spare: &mut Vec<u8>,
+    changed: &mut Changed,
     pid: Pid,
     request: &Request<'_>,
     kept: Option<Parked>,
@@ -74,17 +88,23 @@ fn make(
     requires waits { state.old.limits.processes ≤ state.old.waits }
     requires places { length outcomes.old.items + 2 * (length state.old.state.wait + 1) ≤ vec_capacity outcomes.old }
     requires spare { IsSpare state.old.limits spare.old }
+    requires marks { 2 * most_objects state.old.limits < vec_capacity changed.old.marks }
     ensures does { Does (called state.old.limits pid.0 (plain_request request.now) state.old.state) (emptied state.old)
         state.new outcomes.old outcomes.new }
     ensures buffer { HasBuffer state.old.limits spare.new outcomes.new.items }
+    ensures marked { HasMarked state.old.state
+        (changes_by_call state.old.limits state.old.state pid.0 (plain_kind request.now.kind))
+        changed.old.marks.items changed.new.marks.items }
+    ensures room { vec_capacity changed.old.marks ≤ vec_capacity changed.new.marks }
 {
     if state.is_waiting(pid) {
         return refuse(outcomes, pid, request.serial, Errno::EALREADY);
     }
+    changed.make_room(state);
     if let Some(parked) = kept {
-        return try_once(state, outcomes, pid, parked);
+        return try_once(state, outcomes, changed, pid, parked);
     }
-    at_once(state, outcomes, spare, pid, request);
+    at_once(state, outcomes, spare, changed, pid, request);
 }
 
 /// A call that never waits.
@@ -92,6 +112,7 @@ fn at_once(
     state: &mut State,
     outcomes: &mut Vec<Outcome>,
     spare: &mut Vec<u8>,
+    changed: &mut Changed,
     pid: Pid,
     request: &Request<'_>,
 )
@@ -102,15 +123,21 @@ fn at_once(
     requires ready { state.old.ready ≡ needs (plain_kind request.now.kind) }
     requires places { length outcomes.old.items + 2 * (length state.old.state.wait + 1) ≤ vec_capacity outcomes.old }
     requires spare { IsSpare state.old.limits spare.old }
+    requires mark { length changed.old.marks.items < vec_capacity changed.old.marks }
     ensures does { Does (replied_or_joined state.old.limits pid.0 (plain_request request.now) state.old.state
         (tried state.old.limits state.old.state pid.0 false (plain_kind request.now.kind))) (emptied state.old)
         state.new outcomes.old outcomes.new }
     ensures buffer { HasBuffer state.old.limits spare.new outcomes.new.items }
+    ensures marked { (o : PlainObject) → is_marked changed.new.marks.items o ≡ (is_marked changed.old.marks.items o
+        || changes_if_done (touched_by state.old.state pid.0 (plain_kind request.now.kind))
+        (tried state.old.limits state.old.state pid.0 false (plain_kind request.now.kind)) o) }
+    ensures room { vec_capacity changed.new.marks ≡ vec_capacity changed.old.marks }
 {
     let (answer, touched) = try_at_once(state, pid, &request.kind, spare);
     finish(
         state,
         outcomes,
+        changed,
         pid,
         request.serial,
         answer,
@@ -121,22 +148,33 @@ fn at_once(
 }
 
 /// A call that may wait is tried: it ends, and others go on, or it joins those that wait.
-fn try_once(state: &mut State, outcomes: &mut Vec<Outcome>, pid: Pid, parked: Parked)
+fn try_once(
+    state: &mut State,
+    outcomes: &mut Vec<Outcome>,
+    changed: &mut Changed,
+    pid: Pid,
+    parked: Parked,
+)
     requires sound { IsSound state.old.limits state.old.state }
     requires process { is_process state.old.state pid.0 ≡ true }
     requires free { is_waiting state.old.state pid.0 ≡ false }
     requires waits { state.old.limits.processes ≤ state.old.waits }
     requires places { length outcomes.old.items + 2 * (length state.old.state.wait + 1) ≤ vec_capacity outcomes.old }
-    ensures { Does (replied_or_joined state.old.limits pid.0 parked state.old.state
+    requires mark { length changed.old.marks.items < vec_capacity changed.old.marks }
+    ensures does { Does (replied_or_joined state.old.limits pid.0 parked state.old.state
         (tried state.old.limits state.old.state pid.0 false parked.kind)) state.old
         state.new outcomes.old outcomes.new }
+    ensures marked { (o : PlainObject) → is_marked changed.new.marks.items o ≡ (is_marked changed.old.marks.items o
+        || changes_if_done (touched_by state.old.state pid.0 parked.kind)
+        (tried state.old.limits state.old.state pid.0 false parked.kind) o) }
+    ensures room { vec_capacity changed.new.marks ≡ vec_capacity changed.old.marks }
 {
     let serial = parked.serial();
     let touched = touched_by(state, pid, &parked);
     let received = is_receive(&parked);
     match try_kept(state, pid, false, parked) {
         Tried::Finishes(answer, fired) => finish(
-            state, outcomes, pid, serial, answer, fired, touched, received,
+            state, outcomes, changed, pid, serial, answer, fired, touched, received,
         ),
         Tried::Waits(parked) => join(state, outcomes, pid, parked),
     }
@@ -166,11 +204,13 @@ fn join(state: &mut State, outcomes: &mut Vec<Outcome>, pid: Pid, parked: Parked
     }
 }
 
-/// A call has ended so, and may have changed this object: it is answered, then the process is told of the registration
-/// that it fired, if one, and then those go on that wait on the object and can. `received`, if it was a receive.
+/// A call has ended so, and may have changed this object, which counts as changed unless the call was refused: it is
+/// answered, then the process is told of the registration that it fired, if one, and then those go on that wait on the
+/// object and can. `received`, if it was a receive.
 fn finish(
     state: &mut State,
     outcomes: &mut Vec<Outcome>,
+    changed: &mut Changed,
     pid: Pid,
     serial: u32,
     answer: Answer,
@@ -183,10 +223,15 @@ fn finish(
         × HaveSameObjects s state.old.state }
     requires receives { received ≡ true → ReceivesWait state.old.limits state.old.state }
     requires places { length outcomes.old.items + 2 * (length state.old.state.wait + 1) ≤ vec_capacity outcomes.old }
+    requires mark { length changed.old.marks.items < vec_capacity changed.old.marks }
     ensures does { Does (after (replied pid.0 serial (finish_firing state.old.state answer fired))
         (settled state.old.limits)) state.old state.new outcomes.old outcomes.new }
     ensures room { room_in_answer answer ≤ room_in outcomes.new.items }
+    ensures marked { (o : PlainObject) → is_marked changed.new.marks.items o
+        ≡ (is_marked changed.old.marks.items o || is_ok answer && is_one touched o) }
+    ensures capacity { vec_capacity changed.new.marks ≡ vec_capacity changed.old.marks }
 {
+    changed.mark_if(answer.is_ok(), touched);
     push_reply(outcomes, pid, serial, answer, fired);
     settle(state, outcomes, touched, received);
 }
@@ -214,12 +259,17 @@ pub(crate) fn interrupt(state: &mut State, outcomes: &mut Vec<Outcome>, pid: Pid
 }
 
 /// The process leaves, and then calls go on that wait for what its adjustments have changed. It takes no memory.
-pub(crate) fn leave(state: &mut State, outcomes: &mut Vec<Outcome>, pid: Pid)
+pub(crate) fn leave(state: &mut State, outcomes: &mut Vec<Outcome>, changed: &mut Changed, pid: Pid)
     requires sound { IsSound state.old.limits state.old.state }
     requires places { length outcomes.old.items + 2 * length state.old.state.wait ≤ vec_capacity outcomes.old }
-    ensures { Does (settled state.old.limits (exit state.old.state pid.0)) (emptied state.old)
+    requires marks { 2 * most_objects state.old.limits < vec_capacity changed.old.marks }
+    ensures does { Does (settled state.old.limits (exit state.old.state pid.0)) (emptied state.old)
         state.new outcomes.old outcomes.new }
+    ensures marked { HasMarked state.old.state (changes_by_exit (Some pid.0) state.old.state)
+        changed.old.marks.items changed.new.marks.items }
+    ensures room { vec_capacity changed.old.marks ≤ vec_capacity changed.new.marks }
 {
+    changed.mark_leaving(state, Some(pid.0));
     state.remove_process(pid);
     settle_all(state, outcomes);
 }

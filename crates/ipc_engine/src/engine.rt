@@ -15,6 +15,7 @@ ghost use Rattle.std.specs.Prelude.{
   length,
   not,
   ◌&&◌,
+  ◌||◌,
   IsOk,
   IsTrue,
   OnOk,
@@ -31,10 +32,12 @@ ghost use Rattle.ipc_wire.specs.View.{plain_request};
 ghost use Rattle.ipc_state.specs.Held.{left};
 ghost use Rattle.ipc_state.specs.Held.Ready.{Nothing};
 ghost use Rattle.ipc_state.specs.Sound.{FitsBody};
-ghost use Rattle.ipc_state.specs.State.{has_all_processes, is_process, is_waiting, start};
+ghost use Rattle.ipc_state.specs.declared.parked.Object.{Object as PlainObject};
+ghost use Rattle.ipc_state.specs.State.{State as PlainState, has_all_processes, is_process, is_waiting, start};
 ghost use Rattle.ipc_wait.specs.Waits.{next_deadline};
 ghost use Rattle.ipc_engine.specs.Buffer.{HasBuffer};
 ghost use Rattle.ipc_engine.specs.Bytes.{most_owed, owed};
+ghost use Rattle.ipc_engine.specs.Changes.{IsTracked, changes, is_changed, is_marked};
 ghost use Rattle.ipc_engine.specs.Engine.{hello_needs};
 ghost use Rattle.ipc_engine.specs.Reserved.{IsReserved, takes_memory};
 ghost use Rattle.ipc_engine.specs.Step.{step as step_on, connect as connect_step, due, most_replies};
@@ -43,6 +46,7 @@ ghost use Rattle.ipc_engine.specs.Sound.{IsSound};
 ghost use Rattle.ipc_engine.specs.View.{plain_event, plain_outcome, step_of};
 
 use crate::asking::{ask, interrupt, leave};
+use crate::changed::Changed;
 use crate::deadlines::advance;
 use crate::event::{Event, Outcome};
 use crate::fault::StateFault;
@@ -51,30 +55,33 @@ use crate::replies::{push, take_back};
 use crate::settling::all_have_to_wait;
 use crate::trying::reserve;
 use ipc_base::{Cred, Errno, Limits, Moment, Pid};
-use ipc_state::{Parked, State};
+use ipc_keys::NameKind;
+use ipc_state::{Object, ObjectKind, Parked, State};
 use ipc_wire::{Body, Request};
 use posix_calls::registrations;
 use std::alloc::{AllocError, Global};
 use std::marker::Model;
 
-/// The machine. A contract sees its limits, its state, and the replies of the last event.
+/// The machine. A contract sees its limits, its state, the replies of the last event, and which objects have changed,
+/// or may have, since the state was saved.
 #[derive(Drop)]
 pub struct Engine {
     state: State,
     outcomes: Vec<Outcome>,
     /// The buffer in which a call makes the body of its reply, unless a reply has it.
     spare: Vec<u8>,
+    changed: Changed,
 }
 
 impl Model for Engine {
-    ghost use Rattle.std.specs.Prelude.{◌≡◌, ◌≤◌, map, vec_capacity};
+    ghost use Rattle.std.specs.Prelude.{◌≡◌, ◌<◌, ◌≤◌, ◌*◌, map, vec_capacity};
     ghost use Rattle.std.specs.Coded.{codes};
     ghost use Rattle.ipc_base.specs.Limits.{ArePassed};
     ghost use Rattle.sem_undo.specs.Undo.{undo_code};
     ghost use Rattle.ipc_state.specs.Held.Ready.{Nothing};
     ghost use Rattle.ipc_engine.specs.Buffer.{HasBuffer};
+    ghost use Rattle.ipc_engine.specs.Changes.{most_objects};
     ghost use Rattle.ipc_engine.specs.Engine.{Machine};
-    ghost use Rattle.ipc_state.specs.Held.Ready.{Nothing};
     ghost use Rattle.ipc_engine.specs.Sound.{IsSound};
     ghost use Rattle.ipc_engine.specs.Step.{most_replies};
     ghost use Rattle.ipc_engine.specs.View.{plain_outcome};
@@ -87,34 +94,38 @@ impl Model for Engine {
       limits = e.state.limits;
       state = e.state.state;
       outcomes = map plain_outcome e.outcomes.items;
+      changed = e.changed.marks.items;
     } };
 
     ghost invariant = { λ e. (most_replies e.state.limits ≤ vec_capacity e.outcomes)
         × IsSound e.state.limits e.state.state
         × ArePassed e.state.limits × HasBuffer e.state.limits e.spare e.outcomes.items
-        × (e.state.limits.processes ≤ e.state.waits) × (e.state.ready ≡ Nothing) };
+        × (e.state.limits.processes ≤ e.state.waits) × (e.state.ready ≡ Nothing)
+        × (2 * most_objects e.state.limits < vec_capacity e.changed.marks) };
 }
 
 impl Engine {
     ghost use Rattle.ipc_engine.specs.Engine.{IsForProcess, event_takes_memory};
 
-    /// A machine to which nothing has happened. Refused for want of memory.
+    /// A machine to which nothing has happened, and of which no object has changed. Refused for want of memory.
     pub fn new(alloc: Global, limits: Limits) -> Result<Engine, AllocError>
         requires { ArePassed limits }
         ensures state { IfOk result (λ engine. engine.state ≡ start) }
         ensures outcomes { IfOk result (λ engine. engine.outcomes ≡ []) }
+        ensures changed { IfOk result (λ engine. engine.changed ≡ []) }
         ensures limits { IfOk result (λ engine. engine.limits ≡ limits) }
         ensures sound { IfOk result (λ engine. IsSound engine.limits engine.state) }
     {
         Engine::of(alloc, State::new(alloc, limits))
     }
 
-    /// A machine that has this state, and no replies. Refused if the state is not sound, or for want of
-    /// memory.
+    /// A machine that has this state, and no replies; no object has changed. Refused if the state is not sound, or for
+    /// want of memory.
     pub fn from_state(alloc: Global, state: State) -> Result<Engine, StateFault>
         ensures state { IfOk result (λ engine. engine.state ≡ state.state) }
         ensures limits { IfOk result (λ engine. engine.limits ≡ state.limits) }
         ensures outcomes { IfOk result (λ engine. engine.outcomes ≡ []) }
+        ensures changed { IfOk result (λ engine. engine.changed ≡ []) }
         ensures sound { IfOk result (λ engine. IsSound engine.limits engine.state) }
         ensures unsound { result ≡ Err StateFault.Unsound → ¬ IsSound state.limits state.state }
     {
@@ -132,16 +143,19 @@ impl Engine {
         ensures state { IfOk result (λ engine. engine.state ≡ state.state) }
         ensures limits { IfOk result (λ engine. engine.limits ≡ state.limits) }
         ensures outcomes { IfOk result (λ engine. engine.outcomes ≡ []) }
+        ensures changed { IfOk result (λ engine. engine.changed ≡ []) }
         ensures sound { IfOk result (λ engine. IsSound engine.limits engine.state) }
     {
         let outcomes = Vec::with_capacity(alloc, most_replies(state.limits()))?;
         let spare = buffer(alloc, state.limits())?;
+        let changed = Changed::new(alloc, state.limits())?;
         state.release();
         state.reserve_waits()?;
         Ok(Engine {
             state,
             outcomes,
             spare,
+            changed,
         })
     }
 
@@ -180,6 +194,32 @@ impl Engine {
         ensures sound { IsSound self.now.limits self.now.state }
     {
         self.state.limits()
+    }
+
+    /// Whether the object of this kind and number may be otherwise than when the state was saved (`mark_saved`), or was
+    /// taken over: a call has ended with it, other than by a refusal, an exit has adjusted it, or it has lost a
+    /// registration. Kinds are numbered as on a device: 1 message queues, 2 semaphore sets, 3 POSIX queues, 4 named
+    /// semaphores, 5 segments; what is of kind 0 counts as changed always.
+    pub fn changed(&self, kind: u32, number: u32) -> bool
+        ensures { result ≡ is_changed self.now.changed kind number }
+    {
+        let kind = match kind {
+            0 => return true,
+            1 => ObjectKind::MsgQueue,
+            2 => ObjectKind::Semset,
+            3 => ObjectKind::Named(NameKind::Mq),
+            4 => ObjectKind::Named(NameKind::Psem),
+            5 => ObjectKind::Named(NameKind::Pshm),
+            _ => return false,
+        };
+        self.changed.has(Object { kind, number })
+    }
+
+    /// The state has been saved: no object of a kind from 1 on has changed since. It takes no memory.
+    pub fn mark_saved(&mut self)
+        ensures { self.new ≡ record self.old { changed = [] } }
+    {
+        self.changed.clear();
     }
 
     /// Whether a process has this number.
@@ -247,7 +287,9 @@ impl Engine {
     /// process, and by a call that may make an object or change a segment's length, or that has a text or a list. If it
     /// is refused, nothing has changed, the clock included. A call that waits already, and what is answered to one that
     /// waited, takes none. The state is sound before and after, and no body of a reply is longer than
-    /// `Limits::longest_reply` says.
+    /// `Limits::longest_reply` says. What differs from a state that was saved counts as changed (`tracked`), and what
+    /// newly does so is what the event changes (`only`): nothing by a call that is refused, waits, or only reads, by a
+    /// HELLO, a tick or an INTERRUPT.
     pub fn step(&mut self, event: Event<'_>) -> Result<(), AllocError>
         requires { IsForProcess self.old.state (plain_event event) }
         ensures state { OnOk result (self.new.state
@@ -262,6 +304,11 @@ impl Engine {
         ensures was_sound { IsSound self.old.limits self.old.state }
         ensures sound { IsSound self.new.limits self.new.state }
         ensures fits { OnOk result (All (λ o. FitsBody self.new.limits o.body) self.new.outcomes) }
+        ensures tracked { (base : PlainState) → IsTracked self.old.changed base self.old.state
+            → IsTracked self.new.changed base self.new.state }
+        ensures only { OnOk result ((o : PlainObject) → is_marked self.new.changed o ≡ true
+            → (is_marked self.old.changed o || changes self.old.limits self.old.state (plain_event event.entry) o)
+            ≡ true) }
     {
         match event {
             Event::Connect {
@@ -286,6 +333,7 @@ impl Engine {
                     &mut self.state,
                     &mut self.outcomes,
                     &mut self.spare,
+                    &mut self.changed,
                     pid,
                     &request,
                     kept,
@@ -304,10 +352,11 @@ impl Engine {
             }
             Event::Exit { pid, moment } => {
                 advance(&mut self.state, &mut self.outcomes, &mut self.spare, moment);
-                leave(&mut self.state, &mut self.outcomes, pid);
+                leave(&mut self.state, &mut self.outcomes, &mut self.changed, pid);
             }
             Event::Restart => {
                 take_back(&mut self.outcomes, &mut self.spare);
+                self.changed.mark_leaving(&self.state, None);
                 self.state.restart();
             }
         }

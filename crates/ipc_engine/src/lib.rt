@@ -2,6 +2,7 @@
 #![tactic(auto)]
 
 mod asking;
+mod changed;
 mod deadlines;
 mod engine;
 mod event;

@@ -40,7 +40,7 @@ pub(crate) fn reserve(
     }
 }
 
-/// Tries a request that never waits. It takes no memory. Gives how it ends, and the object that it may change.
+/// Tries a request that never waits. It takes no memory. Gives how it ends, and the object that it may leave otherwise.
 pub(crate) fn try_at_once(
     state: &mut State,
     pid: Pid,
@@ -60,8 +60,8 @@ pub(crate) fn try_at_once(
 {
     match kind {
         RequestKind::Sysv(call) => {
-            let answer = sysv_calls::attempt(state, pid, call, spare);
-            (answer, sysv_calls::touched(call))
+            let touched = sysv_calls::touched(state, call);
+            (sysv_calls::attempt(state, pid, call, spare), touched)
         }
         RequestKind::Posix(call) => {
             let touched = posix_calls::touched(state, pid, call);
@@ -114,12 +114,13 @@ pub(crate) fn is_receive(parked: &Parked) -> bool
     }
 }
 
-/// The object that a call of a process may change, so that those that wait on it may go on.
+/// The object that a call of a process may leave otherwise, so that those that wait on it may go on.
 pub(crate) fn touched_by(state: &State, pid: Pid, parked: &Parked) -> Option<Object>
+    requires { HasSoundParts state.now.limits state.now.state }
     ensures { result ≡ touched_by state.now.state pid.0 parked.now.kind }
 {
     match parked.kind() {
-        ParkedKind::Sysv(call) => sysv_calls::touched(&call.lend()),
+        ParkedKind::Sysv(call) => sysv_calls::touched(state, &call.lend()),
         ParkedKind::Posix(call) => posix_calls::touched(state, pid, &call.lend()),
     }
 }

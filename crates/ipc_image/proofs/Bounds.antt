@@ -4,6 +4,7 @@ use Rattle.std.proofs.lemmas.Nat.{mul-le}
 use Rattle.ipc_base.specs.declared.limits.Limits.{Limits}
 use Rattle.ipc_base.specs.Limits.{ArePassed}
 use Rattle.ipc_base.proofs.CallerLemmas.{passed-bounds}
+use Rattle.ipc_image.specs.Format.{format}
 use Rattle.ipc_image.specs.Sizes.{sectors, process_sectors, object_sectors}
 
 -- what is used of them
@@ -25,7 +26,7 @@ bounds l passed =
     mul-le l.processes (16 + 16 * l.descriptors) 64 528 b.processes.1 (omega arith) in
     let adjustments : 12 * l.processes * l.semmns ≤ 393216 = mul-le (12 * l.processes) l.semmns 768 512 (omega arith) b.semmns in
     let first : sectors (4 + l.processes * (16 + 16 * l.descriptors)) ≤ 67 = omega (arith, descriptors) in
-    let second : sectors (4 + l.processes * 8464) ≤ 1059 = omega (arith, b.processes) in
+    let second : sectors (4 + l.processes * (16 + format.request)) ≤ 1059 = omega (arith, b.processes) in
     let third : sectors (4 + 12 * l.processes * l.semmns) ≤ 769 = omega (arith, adjustments) in
     let messages : l.maxmsg * (8 + l.msgsize) ≤ 82000 = mul-le l.maxmsg (8 + l.msgsize) 10 8200 b.maxmsg (omega arith) in
     let queues : l.msgmni * sectors (64 + 13 * l.msgmnb) ≤ 13344 =

@@ -10,6 +10,7 @@ use Rattle.ipc_base.proofs.CallerLemmas.{passed-bounds}
 use Rattle.ipc_engine.specs.Sound.{IsSound}
 use Rattle.ipc_state.specs.State.{State, start}
 use Rattle.ipc_engine.proofs.CallerLemmas.{start-sound}
+use Rattle.ipc_image.specs.Format.{format}
 use Rattle.ipc_image.specs.Saved.{saved, StandForState}
 use Rattle.ipc_image.specs.Sizes.{entries, area_of}
 use Rattle.ipc_image.proofs.Bounds.{bounds}
@@ -19,18 +20,20 @@ use Rattle.ipc_wire.proofs.CallerLemmas.{one_text}
 use Rattle.ipc_engine.specs.Event.{PlainEvent, Connect, Call, Interrupt, Tick, Exit, Restart, moment_of}
 use Rattle.ipc_image.specs.Records.{kind_of, details, text_of, record_bytes, HasDetails, HasRecord, BeginsWith}
 use Rattle.ipc_image.specs.RecordParts.{IsOf}
-use Rattle.ipc_image.specs.Superblock.{IsFormatted, version, version_in, IsSuperblock}
+use Rattle.ipc_image.specs.Superblock.{IsFormatted, version_in, IsSuperblock}
 use Rattle.ipc_base.proofs.CallerLemmas.{number32_known}
 use Rattle.ipc_image.proofs.EventRecords.{Got, GotLong, connect_only, call_only, interrupt_only, text_only, length_text, begun, text_cut}
 use Rattle.ipc_image.proofs.Reading as reading
 use Rattle.ipc_image.proofs.WholeState.{saved_once}
+-- what was saved, and has not changed since
+pub use Rattle.ipc_image.proofs.Unchanged.{others-there}
 
 -- a superblock begins as one
 pub superblock-begins : (sectors : ℕ) (limits : Limits) (sector : List ℕ) → IsSuperblock sectors limits sector → IsFormatted sector
 superblock-begins = reading.begins
 
--- it is of the version of today
-pub superblock-version : (sectors : ℕ) (limits : Limits) (sector : List ℕ) → IsSuperblock sectors limits sector → version_in sector ≡ version
+-- it is of the version of the devices that are opened
+pub superblock-version : (sectors : ℕ) (limits : Limits) (sector : List ℕ) → IsSuperblock sectors limits sector → version_in sector ≡ format.version
 superblock-version = reading.has_version
 
 -- a sector is the superblock of one device with one set of limits

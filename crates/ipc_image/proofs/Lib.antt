@@ -19,3 +19,4 @@ mod NamedObjects
 mod NamedSizes
 mod AdjustmentLists
 mod WaitingCalls
+mod Unchanged

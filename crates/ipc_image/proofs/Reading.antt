@@ -15,9 +15,10 @@ use Rattle.ipc_base.specs.declared.field.Size.TheVariants.{Four}
 use Rattle.ipc_base.specs.Limits.{ArePassed, tests}
 use Rattle.ipc_base.specs.Numbers.{fields_bytes, FitFields}
 use Rattle.ipc_base.proofs.CallerLemmas.{passed-bounds, fields_one}
+use Rattle.ipc_image.specs.Format.{format}
 use Rattle.ipc_image.specs.Sizes.{need_of}
-use Rattle.ipc_image.specs.Superblock.{magic, limit_fields, limit_sizes, superblock_fields, named_bytes, superblock_bytes}
-use Rattle.ipc_image.specs.Superblock.{IsFormatted, version, version_in, IsSuperblock}
+use Rattle.ipc_image.specs.Superblock.{magic, limit_fields, limit_sizes, superblock_fields, named_length, named_bytes, superblock_bytes}
+use Rattle.ipc_image.specs.Superblock.{IsFormatted, version_in, IsSuperblock}
 use Rattle.ipc_image.proofs.Numbers.{spelled}
 
 -- each limit has its four bytes
@@ -38,19 +39,19 @@ module _ (sectors : ℕ) (limits : Limits) (sector : List ℕ) (is : IsSuperbloc
   -- how a superblock begins
   pub begins : IsFormatted sector
   unfolding named_bytes
-  begins = sym (take-take 8 100 sector (omega arith)) ∙ ap (take 8) is.named
+  begins = sym (take-take 8 named_length sector (omega arith)) ∙ ap (take 8) is.named
 
   pub numbers_of : take 92 (drop 8 sector) ≡ spelled (superblock_fields sectors limits)
   unfolding named_bytes
   numbers_of = sym (drop-take 8 92 sector) ∙ ap (drop 8) is.named
 
-  -- it has the version of today
-  pub has_version : version_in sector ≡ version
+  -- it has the version of the devices that are opened
+  pub has_version : version_in sector ≡ format.version
   has_version =
-      let front : take 4 (drop 8 sector) ≡ to_be_bytes w32 version =
+      let front : take 4 (drop 8 sector) ≡ to_be_bytes w32 format.version =
       sym (take-take 4 92 (drop 8 sector) (omega arith)) ∙ ap (take 4) numbers_of
-      ∙ take_at (to_be_bytes w32 version) (spelled (drop 1 (superblock_fields sectors limits))) 4 refl in
-      ap (from_be_bytes w32) front ∙ from_be_bytes-to_be_bytes_4 version (omega arith)
+      ∙ take_at (to_be_bytes w32 format.version) (spelled (drop 1 (superblock_fields sectors limits))) 4 refl in
+      ap (from_be_bytes w32) front ∙ from_be_bytes-to_be_bytes_4 format.version (omega arith)
 
   -- the limits stand after the other numbers
   abbrev pub after_limits : List ℕ

@@ -33,6 +33,7 @@ use Rattle.ipc_state.specs.State.{State, objects_in, named_of, start}
 use Rattle.ipc_state.specs.Waiting.{PlainWaiting}
 use Rattle.ipc_state.specs.Tables.{item_row}
 use Rattle.ipc_base.specs.Numbers.{fields_bytes}
+use Rattle.ipc_image.specs.Format.{format}
 use Rattle.ipc_image.specs.Saved.{counted_bytes, queue_sizes, queue_numbers, set_sizes, set_numbers}
 use Rattle.ipc_image.specs.Saved.{clock_sizes, clock_numbers, count_bytes, process_bytes, processes_bytes, message_bytes}
 use Rattle.ipc_image.specs.Saved.{waiting_bytes, waits_bytes, Adjustment, adjustment_bytes, adjustments_in, adjustments_bytes}
@@ -281,7 +282,7 @@ module _ (limits : Limits) (s : State) (passed : ArePassed limits) (sound : IsSo
       All-weaker (λ (e : ℕ × KeyedEntry Set). IsSoundSemset limits e.1.object) (λ e. length (set_bytes e.1) ≤ 44 + 6 * limits.semmsl)
       (λ e good. omega (arith, set-long e.1, good.few)) s.semset.entries sound.parts.semset.held.bound.each
 
-  waits-short : length (waits_bytes s.wait) ≤ 4 + limits.processes * 8464
+  waits-short : length (waits_bytes s.wait) ≤ 4 + limits.processes * (16 + format.request)
   waits-short = omega (arith, waits-long s.wait, length-waits s.wait sound.parts.wait.each, sound.parts.wait.few)
 
   -- each process has no more adjustments than there may be semaphores

@@ -1,5 +1,5 @@
 -- Calls that wait: what is read of their bytes, and how many they have.
-use Rattle.std.proofs.Common.{◌≡◌, ◌<◌, ◌≤◌, ◌^◌, ◌-◌, ◌*◌, ◌%◌, ℕ, true, false, cond, nat_eq, List, [], ◌∷◌, ◌++◌, length, Option, Some, None, IfSome}
+use Rattle.std.proofs.Common.{◌≡◌, ◌<◌, ◌≤◌, ◌^◌, ◌-◌, ◌+◌, ◌*◌, ◌%◌, ℕ, true, false, cond, nat_eq, List, [], ◌∷◌, ◌++◌, length, Option, Some, None, IfSome}
 use Rattle.std.proofs.Common.{refl, sym, ap, subst, ◌∙◌, append_assoc, arith}
 use Rattle.std.specs.Prelude.{All}
 use Rattle.std.specs.Int.{w32, to_be_bytes}
@@ -14,6 +14,7 @@ use Rattle.ipc_state.specs.declared.parked.Awaited.{Awaited}
 use Rattle.ipc_state.specs.Waiting.{PlainWaiting, awaited_by, IsSoundWaiting}
 use Rattle.ipc_wire.specs.Request.{PlainRequest}
 use Rattle.ipc_wire.specs.Spelling.{HasFrame, request_bytes, opcode_of, fields_of}
+use Rattle.ipc_image.specs.Format.{format}
 use Rattle.ipc_image.specs.Relations.Trees.{waiting_one}
 use Rattle.ipc_image.specs.Saved.{deadline_number, waiting_sizes, waiting_shape, waiting_numbers, waiting_tree, waiting_bytes, waits_bytes, FitsWaiting}
 use Rattle.ipc_image.specs.SavedParts.{deadline_from}
@@ -85,11 +86,11 @@ waits_one = counted_one waiting_bytes FitsWaiting (plain_one waiting_shape waiti
 
 -- ---- how many bytes
 
--- a call has at most 8464
-waiting-long : (w : PlainWaiting) → HasFrame w.call → length (waiting_bytes w) ≤ 8464
+-- a call has at most 16, and a request
+waiting-long : (w : PlainWaiting) → HasFrame w.call → length (waiting_bytes w) ≤ 16 + format.request
 waiting-long w has = omega (arith, has.short)
 
-pub length-waits : (ws : List PlainWaiting) → All IsSoundWaiting ws → length (flat_map waiting_bytes ws) ≤ 8464 * length ws
+pub length-waits : (ws : List PlainWaiting) → All IsSoundWaiting ws → length (flat_map waiting_bytes ws) ≤ (16 + format.request) * length ws
 length-waits [] each = omega arith
 length-waits (w ∷ ws) each =
     omega (

@@ -3,6 +3,7 @@
 -- the next one, so a save is never short of sectors.
 use Rattle.std.specs.Prelude.{ℕ, ◌+◌, ◌*◌, ◌/◌}
 use Rattle.ipc_base.specs.declared.limits.Limits.{Limits}
+use Rattle.ipc_image.specs.Format.{format, objects_first}
 
 -- the sectors that so many bytes take
 abbrev pub sectors : ℕ → ℕ
@@ -12,11 +13,11 @@ sectors bytes = (bytes + 511) / 512
 abbrev pub process_sectors : Limits → ℕ
 process_sectors l =
     -- the clock, and the next number of each kind
-    sectors 32
+    sectors (12 + 4 * format.numbers)
     -- each process, with its descriptors
     + sectors (4 + l.processes * (16 + 16 * l.descriptors))
-    -- the waiting calls, one a process: 16 bytes, and a request of at most 8448 without its length
-    + sectors (4 + l.processes * 8464)
+    -- the waiting calls, one a process: 16 bytes, and a request without its length
+    + sectors (4 + l.processes * (16 + format.request))
     -- each adjustment of a process for a semaphore
     + sectors (4 + 12 * l.processes * l.semmns)
 
@@ -47,7 +48,7 @@ table_bytes l = 4 + 16 * entries l + 4 * (process_sectors l + object_sectors l)
 abbrev pub area_of : Limits → ℕ
 area_of l = process_sectors l + object_sectors l + (table_bytes l + 507) / 508
 
--- the least device: the superblock, the root, a sector that is kept free, the journal's 257, and
+-- the least device: the superblock, the root, a sector that is kept free, the journal, and
 -- two images
 abbrev pub need_of : Limits → ℕ
-need_of l = 260 + 2 * area_of l
+need_of l = objects_first + 2 * area_of l

@@ -1,20 +1,17 @@
 -- The superblock, sector 0 of a device: what its bytes are, and when a sector is one.
-use Rattle.std.specs.Prelude.{◌≡◌, ◌≤◌, ◌-◌, ℕ, List, [], ◌∷◌, ◌++◌, take, drop, replicate, codes}
+use Rattle.std.specs.Prelude.{◌≡◌, ◌≤◌, ◌-◌, ℕ, ◌+◌, ◌*◌, List, [], ◌∷◌, ◌++◌, take, drop, replicate, codes}
 use Rattle.std.specs.Int.{w32, to_be_bytes, from_be_bytes}
 use Rattle.std.specs.List.{flat_map}
 use Rattle.ipc_base.specs.declared.limits.Limits.{Limits}
 use Rattle.ipc_base.specs.Limits.{ArePassed}
 use Rattle.ipc_base.specs.declared.field.Size.{Size}
 use Rattle.ipc_base.specs.declared.field.Size.TheVariants.{Four}
+use Rattle.ipc_image.specs.Format.{format, journal_first, journal_count, objects_first}
 use Rattle.ipc_image.specs.Sizes.{need_of}
 
 -- how every superblock begins
 abbrev pub magic : List ℕ
 magic = codes "IPCSTORE"
-
--- the version of what stands on a device
-abbrev pub version : ℕ
-version = 1
 
 -- the limits, in their order
 abbrev pub limit_fields : Limits → List ℕ
@@ -29,28 +26,32 @@ limit_fields l =
 
 -- each has four bytes
 abbrev pub limit_sizes : List Size
-limit_sizes = replicate 16 Four
+limit_sizes = replicate format.limits Four
 
 -- the numbers of the superblock of a device of so many sectors
 abbrev pub superblock_fields : ℕ → Limits → List ℕ
 superblock_fields sectors limits =
     -- the version, and the sectors of the device
-    version ∷ sectors
+    format.version ∷ sectors
     -- the journal: its first sector, and how many it has
-    ∷ 3 ∷ 257
+    ∷ journal_first ∷ journal_count
     -- the object area, to the end of the device
-    ∷ 260 ∷ (sectors - 260)
+    ∷ objects_first ∷ (sectors - objects_first)
     -- the root
-    ∷ 1
+    ∷ format.root
     ∷ limit_fields limits
 
--- the bytes that have a meaning, 100 of them: each number in four bytes
+-- how many bytes have a meaning: the beginning, and each number in four bytes
+abbrev pub named_length : ℕ
+named_length = 36 + 4 * format.limits
+
+-- these bytes
 unfoldable pub named_bytes : ℕ → Limits → List ℕ
 named_bytes sectors limits = magic ++ flat_map (to_be_bytes w32) (superblock_fields sectors limits)
 
 -- the whole sector
 abbrev pub superblock_bytes : ℕ → Limits → List ℕ
-superblock_bytes sectors limits = named_bytes sectors limits ++ replicate 412 0
+superblock_bytes sectors limits = named_bytes sectors limits ++ replicate (512 - named_length) 0
 
 -- the sector begins as a superblock does
 abbrev pub IsFormatted : List ℕ → Type 0
@@ -63,6 +64,6 @@ version_in sector = from_be_bytes w32 (take 4 (drop 8 sector))
 -- The sector is the superblock of a device of so many sectors, with these limits. Bytes without a
 -- meaning may be any.
 pub record IsSuperblock (sectors : ℕ) (limits : Limits) (sector : List ℕ) : Type 0 where
-  pub named : take 100 sector ≡ named_bytes sectors limits
+  pub named : take named_length sector ≡ named_bytes sectors limits
   pub passed : ArePassed limits
   pub room : need_of limits ≤ sectors

@@ -18,9 +18,11 @@
 mod adjustment_list;
 mod adjustments;
 mod clock;
+mod engine_objects;
 mod entry;
 mod fault;
 mod fields;
+mod format;
 mod kind;
 mod laws;
 mod mq;
@@ -42,14 +44,16 @@ mod waiting;
 mod widths;
 mod window;
 
+pub use engine_objects::{EngineObjects, objects_of};
 pub use fault::SuperblockFault;
+pub use format::{FORMAT, Format, LONGEST_RECORD};
 pub use laws::{
     a_record_is_of_one_event, a_saved_state_fits, a_sector_is_one_superblock,
     an_area_can_be_counted, objects_stand_for_one_state, record_is_read, superblock_is_read,
 };
-pub use places::{JOURNAL, JOURNAL_COUNT, OBJECTS, ROOT, SUPERBLOCK};
+pub use places::{JOURNAL, JOURNAL_COUNT, OBJECTS, SUPERBLOCK};
 pub use records::{read_event, record_len, write_event};
 pub use restoring::engine_of;
 pub use sizes::{area, need};
-pub use state_objects::{StateObjects, objects_of, start_objects};
-pub use superblock::{VERSION, read_superblock, write_superblock};
+pub use state_objects::{StateObjects, start_objects};
+pub use superblock::{read_superblock, write_superblock};

@@ -3,9 +3,6 @@
 /// The sector of the superblock.
 pub const SUPERBLOCK: u32 = 0;
 
-/// The sector of the root. The one after it is kept free.
-pub const ROOT: u32 = 1;
-
 /// The first sector of the journal, its header.
 pub const JOURNAL: u32 = 3;
 

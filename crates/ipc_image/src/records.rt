@@ -21,6 +21,7 @@ ghost use Rattle.std.specs.Bool.{OnTrue, OnFalse};
 ghost use Rattle.ipc_base.specs.Fields.{Puts};
 ghost use Rattle.ipc_engine.specs.Event.{PlainEvent};
 ghost use Rattle.ipc_engine.specs.View.{plain_event};
+ghost use Rattle.ipc_image.specs.Format.{longest_record};
 ghost use Rattle.ipc_image.specs.Records.{
   kind_of,
   details,
@@ -52,7 +53,7 @@ const RESTART: u8 = 6;
 /// How many bytes the record of an event takes, its length with it.
 pub fn record_len(event: &Event<'_>) -> usize
     ensures exact { result ≡ length (record_bytes (plain_event event.now)) }
-    ensures bounded { result ≤ 8465 }
+    ensures bounded { result ≤ longest_record }
 {
     13 + match event {
         Event::Connect { .. } => 12,

@@ -96,12 +96,13 @@ fn restore_named(
 }
 
 /// The machine whose state these objects are, under limits that have passed their check. It has no
-/// replies. `Unsound` if they stand for no sound state.
+/// replies, and no object has changed. `Unsound` if they stand for no sound state.
 pub fn engine_of(alloc: Global, objects: &ObjectMap, limits: Limits) -> Result<Engine, StateFault>
     requires { ArePassed limits }
     ensures stands { IfOk result (λ engine. StandForState limits engine.state objects.now) }
     ensures limits { IfOk result (λ engine. engine.limits ≡ limits) }
     ensures outcomes { IfOk result (λ engine. engine.outcomes ≡ []) }
+    ensures changed { IfOk result (λ engine. engine.changed ≡ []) }
     ensures damaged { result ≡ Err StateFault.Unsound → (s : PlainState) → ¬ StandForState limits s objects.now }
 {
     let mut state = State::new(alloc, limits);

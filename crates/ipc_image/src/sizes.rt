@@ -11,6 +11,7 @@ ghost use Rattle.ipc_image.specs.Sizes.{
   need_of,
 };
 
+use crate::format::FORMAT;
 use crate::places::OBJECTS;
 use ipc_base::Limits;
 
@@ -44,9 +45,9 @@ fn process_part(limits: &Limits) -> u32
     ensures bounded { result ≤ 1896 }
 {
     let processes = limits.processes;
-    sectors_for(32)
+    sectors_for(12 + 4 * FORMAT.numbers)
         + sectors_for(4 + processes * (16 + 16 * limits.descriptors))
-        + sectors_for(4 + processes * 8464)
+        + sectors_for(4 + processes * (16 + FORMAT.request))
         + sectors_for(4 + 12 * processes * limits.semmns)
 }
 

@@ -81,7 +81,7 @@ impl<'a> Model for StateObjects<'a> {
 
 /// The state of the machine as objects. It takes no memory. They stand for that state, and fit where
 /// objects are kept under the machine's limits.
-pub fn objects_of<'a>(engine: &'a Engine) -> StateObjects<'a>
+pub(crate) fn all_of<'a>(engine: &'a Engine) -> StateObjects<'a>
     ensures objects { ⟦<StateObjects<'a> as Objects>⟧.objects result ≡ saved engine.now.state }
     ensures stand { StandForState engine.now.limits engine.now.state (saved engine.now.state) }
     ensures fit { Fit (area_of engine.now.limits) (saved engine.now.state) }

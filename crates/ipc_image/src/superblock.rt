@@ -10,26 +10,25 @@ ghost use Rattle.ipc_image.specs.Superblock.{
   superblock_fields,
   superblock_bytes,
   IsFormatted,
-  version,
   version_in,
   IsSuperblock,
   limit_fields,
   limit_sizes,
+  named_length,
 };
+ghost use Rattle.ipc_image.specs.Format.{format};
 ghost use Rattle.ipc_base.specs.Numbers.{fields_bytes, record_bytes, FitFields};
 
 use crate::fault::SuperblockFault;
 use crate::fields::{FOUR, put_fields};
-use crate::places::{JOURNAL, JOURNAL_COUNT, OBJECTS, ROOT};
+use crate::format::FORMAT;
+use crate::places::{JOURNAL, JOURNAL_COUNT, OBJECTS};
 use crate::sizes::need;
 use crate::window::Window;
 use ipc_base::{Field, Limits, take_fields};
 
 /// How a superblock begins.
 const MAGIC: &[u8; 8] = b"IPCSTORE";
-
-/// The version of what stands on a device.
-pub const VERSION: u32 = 1;
 
 /// How many numbers follow: the version, six of the device, and the limits.
 const FIELDS: usize = 23;
@@ -65,16 +64,16 @@ pub fn read_superblock(sector: &[u8; 512], sectors: u32) -> Result<Limits, Super
     ensures not_formatted { IsErrOf result SuperblockFault.NotFormatted
         ↔ (¬ IsFormatted sector.now) }
     ensures version { (found : ℕ) → IsErrOf result (SuperblockFault.Version found)
-        ↔ (IsFormatted sector.now × (version_in sector.now ≡ found) × (found ≢ version)) }
+        ↔ (IsFormatted sector.now × (version_in sector.now ≡ found) × (found ≢ format.version)) }
     ensures damaged { IsErrOf result SuperblockFault.Damaged
-        ↔ (IsFormatted sector.now × (version_in sector.now ≡ version)
+        ↔ (IsFormatted sector.now × (version_in sector.now ≡ format.version)
         × ((limits : AnyLimits) → ¬ IsSuperblock sectors limits sector.now)) }
 {
     if !sector.starts_with(MAGIC) {
         return Err(SuperblockFault::NotFormatted);
     }
     let found = version_of(sector);
-    if found != VERSION {
+    if found != FORMAT.version {
         return Err(SuperblockFault::Version { found });
     }
     limits_of(sector, sectors).ok_or(SuperblockFault::Damaged)
@@ -98,7 +97,7 @@ fn limits_of(sector: &[u8; 512], sectors: u32) -> Option<Limits>
 
 /// The bytes of a superblock that have a meaning.
 fn named_bytes(sector: &[u8; 512]) -> &[u8]
-    ensures { result.now ≡ take 100 sector.now }
+    ensures { result.now ≡ take named_length sector.now }
 {
     &sector[..100]
 }
@@ -115,13 +114,13 @@ fn fields_of(sectors: u32, limits: &Limits) -> [Field; FIELDS]
     ensures { record_bytes result ≡ flat_map (to_be_bytes w32) (superblock_fields sectors limits.now) }
 {
     [
-        Field::U32(VERSION),
+        Field::U32(FORMAT.version),
         Field::U32(sectors),
         Field::U32(JOURNAL),
         Field::U32(JOURNAL_COUNT),
         Field::U32(OBJECTS),
         Field::U32(sectors.saturating_sub(OBJECTS)),
-        Field::U32(ROOT),
+        Field::U32(FORMAT.root),
         Field::U32(limits.processes),
         Field::U32(limits.msgmni),
         Field::U32(limits.msgmax),

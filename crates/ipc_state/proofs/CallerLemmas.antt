@@ -69,8 +69,10 @@ use Rattle.ipc_state.proofs.Adjusting.{each-moved, each-cleared, each-dropped, k
 pub use Rattle.ipc_state.proofs.EntryKeys.{All-seen}
 pub use Rattle.ipc_state.proofs.Ending.{HasSameProcesses, IsGood, as_before, by-finish, refused-good, same-processes, same-but-table, same-connected}
 pub use Rattle.ipc_state.proofs.Ending.{same-awaited, same-objects}
-pub use Rattle.ipc_state.proofs.Elsewhere.{before-then, elsewhere-closed, elsewhere-new, elsewhere-object, elsewhere-table, elsewhere-unlinked}
+pub use Rattle.ipc_state.proofs.Changes.{same_in-closed, same_in-exit, same_in-new, same_in-object, same_in-restart, same_in-unlinked}
+pub use Rattle.ipc_state.proofs.Elsewhere.{before-then, elsewhere-closed, elsewhere-exit, elsewhere-new, elsewhere-object, elsewhere-table, elsewhere-unlinked}
 pub use Rattle.ipc_state.proofs.Numbering.{neither}
+pub use Rattle.ipc_state.proofs.SoundMqs.{is_on-same}
 pub use Rattle.ipc_state.proofs.Steps.{AtEnd, after, after-orelse, after-orstop, after-refuse, after-stop, after-then, at-all, at-failure, at-halt, at-some}
 pub use Rattle.ipc_state.proofs.Steps.{at-value, by-if_some, by-test, may-wait, ok-same}
 pub use Rattle.ipc_state.proofs.Steps.{HasFound, Tested, finishes, has-found, is_blocked, tested, waits-as-tested, waits-blocked, waits-for}

@@ -1,16 +1,18 @@
 -- What other calls wait for stays as it is as an object with a name changes, comes or loses its name, and as the
 -- descriptors of a process change.
 use Rattle.std.proofs.Common.{◌≡◌, ◌≢◌, ℕ, Bool, true, false, cond, List, [], ◌∷◌, Option, Some, None, refl, sym, ap, subst, ◌∙◌, arith}
-use Rattle.std.specs.Prelude.{nat_eq, option_map, unwrap_or, if◌then◌else◌}
+use Rattle.std.specs.Prelude.{nat_eq, is_some, option_map, unwrap_or}
+use Rattle.std.specs.FinMap as fin
 use Rattle.std.proofs.lemmas.Bool.Decides.{nat_tests}
 use Rattle.ipc_base.specs.declared.limits.Limits.{Limits}
-use Rattle.ipc_base.specs.Table.{value_at, without}
-use Rattle.ipc_base.proofs.CallerLemmas.{at-map, at-with, other-push, other-with, rising-found}
+use Rattle.ipc_base.specs.Table.{IsRising, value_at, without}
+use Rattle.ipc_base.proofs.CallerLemmas.{at-map, at-with, other-push, other-with, rising-found, rising-gone, value_at-without}
 use Rattle.posix_mq.specs.Queue.{Queue as Mq}
 use Rattle.posix_mq.specs.declared.queue.Registration.{Registration}
 use Rattle.ipc_state.specs.declared.descriptors.Descriptor.{Descriptor}
 use Rattle.ipc_state.specs.declared.objects.Entry.{Entry}
 use Rattle.ipc_keys.specs.declared.check.NameKind.TheVariants as names
+use Rattle.sem_undo.specs.Undo.{Undo, adjustment}
 use Rattle.sysv_msg.specs.Queue.{Queue}
 use Rattle.sysv_sem.specs.Set.{Set}
 use Rattle.ipc_state.specs.declared.parked.Awaited.{Awaited}
@@ -21,19 +23,20 @@ use Rattle.ipc_state.specs.declared.parked.ObjectKind.TheVariants as kinds
 use Rattle.ipc_state.specs.declared.processes.Process.{Process}
 use Rattle.ipc_state.specs.Descriptors.{Table}
 use Rattle.ipc_state.specs.Bound.{ObjectsOf, holding, putting, rebound, unbound, without_bound}
-use Rattle.ipc_state.specs.Keyed.{Keyed}
+use Rattle.ipc_state.specs.Keyed.{Keyed, KeyedEntry}
 use Rattle.ipc_state.specs.Kinds.{Content, EntryOf, Objects, Those, each_open, has_access, may_open, no_bound, of_kind, parted, with_kind}
 use Rattle.ipc_state.specs.Named.{NamedEntry}
 use Rattle.ipc_state.specs.Numbered.{entry_of, with_entry, with_new}
-use Rattle.ipc_state.specs.Opening.{deregistered, descriptors_of, descriptor_at, is_by, is_by_descriptor}
-use Rattle.ipc_state.specs.Opening.{is_on, is_open, is_registered, is_there_for, object_as, opened_as, same_kind, still_open, unless_so}
+use Rattle.ipc_state.specs.Opening.{deregistered, descriptors_of, descriptor_at, is_by}
+use Rattle.ipc_state.specs.Opening.{is_on, is_open, is_there_for, object_as, opened_as, still_open}
 use Rattle.ipc_state.specs.Opening.{with_table, without_registrations}
 use Rattle.ipc_state.specs.Sound.{HasSoundParts}
-use Rattle.ipc_state.specs.State.{State, closed, objects_in, objects_of, unlinked, with_descriptors, with_entry_of, with_object_of}
-use Rattle.ipc_state.specs.Touching.{object_of, object_at, is_awaited, IsAsBefore}
+use Rattle.ipc_state.specs.State.{State, closed, exit, objects_in, objects_of, undo_of, undone, unlinked, with_descriptors, with_entry_of, with_object_of}
+use Rattle.ipc_state.specs.Touching.{IsAsBefore, changes_by_exit, closed_on, is_adjusted, is_adjusted_in, is_awaited, is_there, object_at, object_of}
+use Rattle.ipc_state.proofs.Changes.{closed-stays, on_of, own-unadjusted, unadjusted, unadjusted-none, undone-apart, unregistered}
 use Rattle.ipc_state.proofs.SoundMqs.{both_true, each-holds, either, first, is_on-same, kept-open, put-holds, sound-of, without_goers}
 use Rattle.ipc_state.proofs.SoundOpening as opening
-use Rattle.ipc_state.proofs.SoundOpening.{All-found, opens}
+use Rattle.ipc_state.proofs.SoundOpening.{opens}
 
 -- the object of an entry, and the descriptors of a process
 abbrev object_in : {B X : Type 0} → Option (Entry B X) → Option X
@@ -41,10 +44,6 @@ object_in r = option_map (λ e. e.object) r
 
 abbrev table_in : Option Process → Table
 table_in r = unwrap_or (option_map (λ (q : Process). q.descriptors) r) []
-
--- what a descriptor of a process is open on
-abbrev on_of : Option Descriptor → Option Object
-on_of r = option_map (λ (d : Descriptor). d.on) r
 
 -- as before at one change and at the next, as before at both
 pub before-then : (pid : ℕ) (on : Awaited) (s t u : State) → IsAsBefore pid on s t → IsAsBefore pid on t u → IsAsBefore pid on s u
@@ -207,67 +206,70 @@ module _ (limits : Limits) (s : State) (h : HasSoundParts limits s) where
         (λ m awaits is. same-unbound (parted kind) (no_bound kind) (parted-same kind awaits) (objects_of s kind) n m)),
   )
 
+  -- a queue is the same, with whoever is registered with it
+  same-queues : (p fd : ℕ) (goes : Registration → Bool)
+      → ((m : ℕ) (e : NamedEntry Mq) → object_of s p (awaited.Descriptor fd) ≡ Some (opened_as names.Mq m) → entry_of s.mq m ≡ Some e → deregistered goes e ≡ e)
+      → Same s p fd (kinds.Named names.Mq) (without_registrations goes s.mq)
+  same-queues p fd goes stay m may is = ap object_in (at-map (deregistered goes) s.mq.entries m) ∙ by_entry (entry_of s.mq m) refl
+    where
+      by_entry : (r : Option (NamedEntry Mq)) → entry_of s.mq m ≡ r → object_in (option_map (deregistered goes) r) ≡ object_in r
+      by_entry None found = refl
+      by_entry (Some e) found = ap (λ (d : NamedEntry Mq). Some d.object) (stay m e is found)
+
   -- a descriptor that is closed by another process, with the registration by it
-  pub elsewhere-closed : (pid fd p : ℕ) (on : Awaited) → p ≢ pid → object_of s pid (awaited.Descriptor fd) ≢ object_of s p on
-      → IsAsBefore p on s (closed s pid fd)
+  pub elsewhere-closed : (pid fd p : ℕ) (on : Awaited) → p ≢ pid → closed_on s pid fd ≢ object_of s p on → IsAsBefore p on s (closed s pid fd)
   elsewhere-closed pid fd p (awaited.MsgQueue id) other apart = refl
   elsewhere-closed pid fd p (awaited.Semset id) other apart = (refl, λ q num. refl)
-  elsewhere-closed pid fd p (awaited.Descriptor k) other apart = (
-    same,
-    swept-same left (without_goers goes (objects_in s)) p k same
-        (put-holds (Same s p k) (objects_in s) (kinds.Named names.Mq) (without_registrations goes s.mq) (λ kind m may is. refl)
-        (λ m may is. ap object_in (at-map (deregistered goes) s.mq.entries m) ∙ by_entry m is (entry_of s.mq m) refl)),
-  )
+  elsewhere-closed pid fd p (awaited.Descriptor k) other apart =
+      let table : Table = without nat_eq (descriptors_of s.processes.entries pid) fd in
+      let same : descriptor_at (with_table s.processes pid table).entries p k ≡ descriptor_at s.processes.entries p k =
+      ap (λ (r : Option Process). value_at nat_eq (table_in r) k) (opening.table-other s.processes pid table p other) in (
+        same,
+        swept-same (with_table s.processes pid table).entries (without_goers (is_by (Some pid) (Some fd)) (objects_in s)) p k same
+            (put-holds (Same s p k) (objects_in s) (kinds.Named names.Mq) (without_registrations (is_by (Some pid) (Some fd)) s.mq) (λ kind m may is. refl)
+            (same-queues p k (is_by (Some pid) (Some fd))
+            (λ m e is found. closed-stays s pid fd m e (h.named names.Mq).together found (λ one. apart (one ∙ sym is))))),
+      )
+
+  -- what another process names, as one leaves that changes no such object
+  pub elsewhere-exit : (pid p : ℕ) (on : Awaited) → p ≢ pid
+      → ((o : Object) → object_of s p on ≡ Some o → changes_by_exit (Some pid) s o ≡ false) → is_there p on s ≡ true → IsAsBefore p on s (exit s pid)
+  elsewhere-exit pid p (awaited.MsgQueue id) other none there = refl
+  elsewhere-exit pid p (awaited.Semset id) other none there =
+      let apart : is_adjusted (Some pid) s.undo id.0 ≡ false = by_entry (entry_of s.semset id.0) refl there in
+      let own : is_adjusted_in id.0 (undo_of s pid) ≡ false = own-unadjusted s.undo pid id.0 apart in
+      (undone-apart s.semset (pid, undo_of s pid) id.0 own, λ q num. by_pid q num own (nat_eq q pid) refl)
     where
-      goes : Registration → Bool
-      goes = is_by (Some pid) (Some fd)
+      this : Object
+      this = object_as kinds.Semset id.0
 
-      queue : ℕ → Object
-      queue m = opened_as names.Mq m
+      by_entry : (r : Option (KeyedEntry Set)) → entry_of s.semset id.0 ≡ r → is_some r ≡ true → is_adjusted (Some pid) s.undo id.0 ≡ false
+      by_entry None found some = cc
+      by_entry (Some e) found some = unadjusted s this limits h (Some pid) (none this refl) id.0 refl e found
 
-      left : List (ℕ × Process)
-      left = (with_table s.processes pid (without nat_eq (descriptors_of s.processes.entries pid) fd)).entries
+      none-left : (r : Option Undo) → is_some r ≡ false → unwrap_or r fin.empty ≡ fin.empty
+      none-left None gone = refl
+      none-left (Some u) gone = cc
 
-      same : descriptor_at left p k ≡ descriptor_at s.processes.entries p k
-      same =
-          ap (λ (r : Option Process). value_at nat_eq (table_in r) k)
-          (opening.table-other s.processes pid (without nat_eq (descriptors_of s.processes.entries pid) fd) p other)
-
-      -- a registration that goes is with the queue on which the descriptor is open
-      stays-so : (m : ℕ) (r : Option Registration) → is_by_descriptor s.processes.entries m r ≡ true
-          → object_of s pid (awaited.Descriptor fd) ≢ Some (queue m) → unless_so goes r ≡ r
-      stays-so m None registered elsewhere = refl
-      stays-so m (Some r) registered elsewhere = by_test (goes r) refl
-        where
-          by_kind : (kind : ObjectKind) → same_kind kind (kinds.Named names.Mq) ≡ true → kind ≡ kinds.Named names.Mq
-          by_kind kinds.MsgQueue is = cc
-          by_kind kinds.Semset is = cc
-          by_kind (kinds.Named names.Mq) is = refl
-          by_kind (kinds.Named names.Psem) is = cc
-          by_kind (kinds.Named names.Pshm) is = cc
-
-          by_value : (v : Option Descriptor) → unwrap_or (option_map (λ (d : Descriptor). is_on (opened_as names.Mq m) d.on) v) false ≡ true
-              → on_of v ≡ Some (queue m)
-          by_value None is = cc
-          by_value (Some d) is =
-              let both = both_true (same_kind d.on.kind (kinds.Named names.Mq)) (nat_eq d.on.number m) is in
-              let number : d.on.number ≡ m = grind (arith, nat_tests, both.1) in
-              λ i. Some (record { kind = by_kind d.on.kind both.0 i; number = number i })
-
-          by_test : (b : Bool) → goes r ≡ b → (if b then None else Some r) ≡ Some r
-          by_test false is = refl
-          by_test true is =
-              let both = both_true (nat_eq pid r.pid.0) (nat_eq fd r.descriptor) is in
-              let by_pid : r.pid.0 ≡ pid = grind (arith, nat_tests, both.0) in
-              let by_fd : r.descriptor ≡ fd = grind (arith, nat_tests, both.1) in
-              absurd (elsewhere ((λ i. on_of (descriptor_at s.processes.entries (sym by_pid i) (sym by_fd i)))
-              ∙ by_value (descriptor_at s.processes.entries r.pid.0 r.descriptor) registered))
-
-      by_entry : (m : ℕ) → object_of s p (awaited.Descriptor k) ≡ Some (queue m) → (r : Option (NamedEntry Mq)) → entry_of s.mq m ≡ r
-          → object_in (option_map (deregistered goes) r) ≡ object_in r
-      by_entry m is None found = refl
-      by_entry m is (Some e) found =
-          let IsIt : ℕ × NamedEntry Mq → Type 0 = λ d. is_registered s.processes.entries d ≡ true in
-          let registered = All-found IsIt s.mq.entries m e (h.named names.Mq).together found in
-          ap (λ (r : Option Registration). Some (record e.object { registration = r }))
-          (stays-so m e.object.registration registered (λ at. apart (at ∙ sym is)))
+      by_pid : (q num : ℕ) → is_adjusted_in id.0 (undo_of s pid) ≡ false → (b : Bool) → nat_eq q pid ≡ b
+          → adjustment (unwrap_or (value_at nat_eq (without nat_eq s.undo pid) q) fin.empty) (id.0, num) ≡ adjustment (undo_of s q) (id.0, num)
+      by_pid q num own false is =
+          ap (λ (r : Option Undo). adjustment (unwrap_or r fin.empty) (id.0, num)) (value_at-without s.undo pid q (λ same. grind (arith, nat_tests)))
+      by_pid q num own true is =
+          let it : q ≡ pid = grind (arith, nat_tests) in
+          let keys = subst (λ (ks : List ℕ). IsRising 1 ks s.processes.next) (sym h.undo.pids) h.processes.numbered.numbers in
+          ap (λ (k : ℕ). adjustment (unwrap_or (value_at nat_eq (without nat_eq s.undo pid) k) fin.empty) (id.0, num)) it
+          ∙ (ap (λ (u : Undo). adjustment u (id.0, num)) (none-left _ (rising-gone 1 s.undo s.processes.next pid keys))
+          ∙ (unadjusted-none (undo_of s pid) id.0 num own ∙ ap (λ (k : ℕ). adjustment (undo_of s k) (id.0, num)) (sym it)))
+  elsewhere-exit pid p (awaited.Descriptor k) other none there =
+      let left : List (ℕ × Process) = without nat_eq s.processes.entries pid in
+      let sets : Objects = with_kind (objects_in s) kinds.Semset (undone s.semset (pid, undo_of s pid)) in
+      let same : descriptor_at left p k ≡ descriptor_at s.processes.entries p k =
+      ap (λ (r : Option Process). value_at nat_eq (table_in r) k) (value_at-without s.processes.entries pid p other) in (
+        same,
+        swept-same left (without_goers (is_by (Some pid) None) sets) p k same
+            (put-holds (Same s p k) sets (kinds.Named names.Mq) (without_registrations (is_by (Some pid) None) s.mq)
+            (put-holds (Same s p k) (objects_in s) kinds.Semset sets.semset (λ kind m may is. refl) (λ m may is. cc))
+            (same-queues p k (is_by (Some pid) None)
+            (λ m e is found. unregistered s (opened_as names.Mq m) limits h (Some pid) (none (opened_as names.Mq m) is) m refl e found))),
+      )

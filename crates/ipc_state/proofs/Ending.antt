@@ -1,5 +1,5 @@
 -- A call is shown by its steps: from a sound state it leaves a sound state, the body of its answer fits, and what others
--- wait for is as before.
+-- wait for is as before, and each object but its own.
 use Rattle.std.proofs.Common.{◌≡◌, ◌≢◌, ℕ, Bool, true, false, List, [], ◌∷◌, Option, Some, None, refl, sym, ap, subst, ◌∙◌, arith}
 use Rattle.std.specs.Prelude.{Ok, Err, is_some, option_map, unwrap_or, nat_eq, if◌then◌else◌}
 use Rattle.std.proofs.lemmas.Bool.Decides.{nat_tests}
@@ -23,7 +23,7 @@ use Rattle.ipc_state.specs.Numbered.{Numbered, entry_of}
 use Rattle.ipc_state.specs.Opening.{descriptor_at, with_table}
 use Rattle.ipc_state.specs.Sound.{HasSoundParts, FitsBody}
 use Rattle.ipc_state.specs.State.{State, cred_of, is_process, is_waiting}
-use Rattle.ipc_state.specs.Touching.{is_awaited, object_at, object_of, is_there, IsAsBefore}
+use Rattle.ipc_state.specs.Touching.{is_awaited, object_at, object_of, is_there, IsAsBefore, IsSameIn}
 use Rattle.ipc_state.proofs.SoundOpening as opening
 
 pub as_before : (pid : ℕ) (on : Awaited) (s : State) → IsAsBefore pid on s s
@@ -104,7 +104,7 @@ same-objects s t pid (awaited.Descriptor fd) same =
     ap (λ (ps : Numbered Process). option_map (λ (d : Descriptor). d.on) (descriptor_at ps.entries pid fd)) same
 
 -- What is to be shown of what a call that began in a state leaves and answers, if it may change this object alone: the
--- state stays sound, the body of the answer fits, and all else that others wait for is as it was.
+-- state stays sound, the body of the answer fits, and all else that others wait for is as it was, and each other object.
 pub record IsGood (limits : Limits) (s : State) (touches : Option Object) (f : Finish) : Type 0 where
   pub state : HasSoundParts limits s → HasSoundParts limits f.state
   pub body : HasSoundParts limits s → FitsBody limits f.body
@@ -113,6 +113,7 @@ pub record IsGood (limits : Limits) (s : State) (touches : Option Object) (f : F
   pub wait : f.state.wait ≡ s.wait
   pub others : HasSoundParts limits s → (pid : ℕ) (on : Awaited) → is_waiting s pid ≡ true → touches ≢ object_of s pid on → is_there pid on s ≡ true
       → IsAsBefore pid on s f.state
+  pub same : HasSoundParts limits s → (o : Object) → touches ≢ Some o → IsSameIn o s f.state
 
 -- what holds of a call that is done, and of one that is refused, holds where it comes to its end
 pub by-finish : (P : Finish → Type 0) (s : State) (a : Attempt Done) → ((d : Done) → a ≡ Ok d → P (done_firing d.state d.body d.fired))
@@ -131,4 +132,5 @@ refused-good limits s touches e =
       clock = refl;
       wait = refl;
       others = λ h pid on waits apart there. as_before pid on s;
+      same = λ h o apart e is. is;
     }

@@ -8,6 +8,7 @@ mod SoundQueues
 mod SoundSets
 mod SoundMqs
 mod SoundOpening
+mod Changes
 mod Elsewhere
 mod Ending
 mod Directories

@@ -1,18 +1,22 @@
 -- What a call changes as far as other calls wait for it. What comes of a call that waits depends on the limits, who
 -- made it and the object on which it waits, for a set with the adjustments there, for what a descriptor is open on with
 -- that descriptor, and on nothing else of the state.
-use Rattle.std.specs.Prelude.{◌≡◌, ℕ, Bool, true, false, is_some, option_map, Option, Some}
+use Rattle.std.specs.Prelude.{◌≡◌, ℕ, Bool, true, false, ◌&&◌, ◌||◌, if◌then◌else◌, is_some, nat_eq, unwrap_or}
+use Rattle.std.specs.Prelude.{List, Option, Some, None, option_map, option_and_then}
+use Rattle.std.specs.FinMap as fin
+use Rattle.std.specs.List.{list_any}
 use Rattle.ipc_keys.specs.declared.check.NameKind.TheVariants as names
 use Rattle.posix_mq.specs.Queue.{Queue as Mq}
-use Rattle.sem_undo.specs.Undo.{adjustment}
+use Rattle.posix_mq.specs.declared.queue.Registration.{Registration}
+use Rattle.sem_undo.specs.Undo.{Undo, adjustment}
 use Rattle.ipc_state.specs.declared.parked.Awaited.{Awaited}
 use Rattle.ipc_state.specs.declared.parked.Awaited.TheVariants as awaited
 use Rattle.ipc_state.specs.declared.parked.Object.{Object}
 use Rattle.ipc_state.specs.declared.parked.ObjectKind.{ObjectKind}
 use Rattle.ipc_state.specs.declared.parked.ObjectKind.TheVariants as kinds
-use Rattle.ipc_state.specs.Kinds.{Content}
+use Rattle.ipc_state.specs.Kinds.{Content, EntryOf}
 use Rattle.ipc_state.specs.Numbered.{entry_of}
-use Rattle.ipc_state.specs.Opening.{descriptor_at, object_as}
+use Rattle.ipc_state.specs.Opening.{descriptor_at, is_by, is_on, is_or_any, object_as, opened_as}
 use Rattle.ipc_state.specs.State.{State, objects_of, undo_of}
 
 -- the object that a request of the process names, if it names one; an identifier does, whether it has an object or not
@@ -57,3 +61,45 @@ IsAsBefore pid (awaited.Descriptor fd) before after =
     × ((kind : ObjectKind) (n : ℕ) → is_awaited kind ≡ true
     → object_of before pid (awaited.Descriptor fd) ≡ Some (object_as kind n)
     → object_at after kind n ≡ object_at before kind n)
+
+-- ---- what an object is
+
+-- an object that is in the second state is in the first, with what it is bound to, whose it is and what it holds
+abbrev pub IsSameIn : Object → State → State → Type 0
+IsSameIn o before after =
+    (e : EntryOf o.kind) → entry_of (objects_of after o.kind) o.number ≡ Some e
+    → entry_of (objects_of before o.kind) o.number ≡ Some e
+
+-- whether a registration, if there is one, is by this process, or any, and by this descriptor, or any
+abbrev pub is_made_by : Option ℕ → Option ℕ → Option Registration → Bool
+is_made_by pid fd r = unwrap_or (option_map (is_by pid fd) r) false
+
+-- who is registered with the queue of a number, if it is there
+abbrev pub registration_of : State → ℕ → Option Registration
+registration_of s n = option_and_then (λ e. e.object.registration) (entry_of s.mq n)
+
+-- the object that a close of a descriptor changes: the queue on which it is open, if the process is registered by it
+abbrev pub is_queue : ObjectKind → Bool
+is_queue (kinds.Named names.Mq) = true
+is_queue kind = false
+
+abbrev pub parted_from : State → ℕ → ℕ → Object → Option Object
+parted_from s pid fd o =
+    if is_queue o.kind && is_made_by (Some pid) (Some fd) (registration_of s o.number) then Some o else None
+
+abbrev pub closed_on : State → ℕ → ℕ → Option Object
+closed_on s pid fd = option_and_then (parted_from s pid fd) (object_of s pid (awaited.Descriptor fd))
+
+-- whether a process, or any, has an adjustment at a set
+abbrev pub is_adjusted_in : ℕ → Undo → Bool
+is_adjusted_in n undo = list_any (λ a. nat_eq a.0.0 n) (fin.entries undo)
+
+abbrev pub is_adjusted : Option ℕ → List (ℕ × Undo) → ℕ → Bool
+is_adjusted pid undo n = list_any (λ p. is_or_any pid p.0 && is_adjusted_in n p.1) undo
+
+-- whether the exit of a process, or of each, changes an object: a set at which it has an adjustment, or a queue with
+-- which it is registered
+abbrev pub changes_by_exit : Option ℕ → State → Object → Bool
+changes_by_exit pid s o =
+    list_any (λ e. is_on (object_as kinds.Semset e.0) o && is_adjusted pid s.undo e.0) s.semset.entries
+    || list_any (λ e. is_on (opened_as names.Mq e.0) o && is_made_by pid None e.1.object.registration) s.mq.entries

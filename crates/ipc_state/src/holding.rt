@@ -12,7 +12,7 @@ ghost use Rattle.ipc_state.specs.Held.{left};
 ghost use Rattle.ipc_state.specs.Kinds.{has_access, keeps_by};
 ghost use Rattle.ipc_state.specs.Named.{is_named_so, is_own};
 ghost use Rattle.ipc_state.specs.Numbered.{entry_of};
-ghost use Rattle.ipc_state.specs.Opening.{descriptor_at, is_on, is_open, is_sound_descriptor, stays_by};
+ghost use Rattle.ipc_state.specs.Opening.{descriptor_at, is_on, is_open, is_sound_descriptor, is_there_for, stays_by};
 ghost use Rattle.ipc_state.specs.Sound.{AreHeld, AreSoundDescriptors, AreSoundProcesses};
 ghost use Rattle.ipc_state.specs.State.{named_of, objects_in, objects_of, swept};
 ghost use Rattle.ipc_state.specs.Tables.{item_row, numbered_of};
@@ -88,6 +88,13 @@ impl State {
         ensures { result ≡ list_all (λ r. is_sound_descriptor (objects_in self.now.state) r.descriptor) rows.now }
     {
         rows.iter().all(|row| self.is_open(&row.descriptor))
+    }
+
+    /// Whether an object is there.
+    pub fn has_object(&self, object: Object) -> bool
+        ensures { result ≡ is_there_for (objects_in self.now.state) object }
+    {
+        self.is_there(object.kind, object.number)
     }
 
     fn is_open(&self, descriptor: &Descriptor) -> bool
@@ -278,8 +285,8 @@ fn open_it(rows: &[DescriptorRow], this: Object) -> bool
     rows.iter().any(|row| is_on(this, row.descriptor.on))
 }
 
-/// Whether what a descriptor is open on is this.
-pub(crate) fn is_on(this: Object, on: Object) -> bool
+/// Whether what a descriptor is open on, or any object, is this.
+pub fn is_on(this: Object, on: Object) -> bool
     ensures { result ≡ is_on this on }
 {
     on == this

@@ -30,6 +30,7 @@ pub use bound::Bound;
 pub use descriptors::{
     Descriptor, DescriptorRow, Descriptors, lowest_unused_is_so, opened_is_there,
 };
+pub use holding::is_on;
 pub use keys::IPC_PRIVATE;
 pub use numbered::{Item, LAST_NUMBER};
 pub use objects::{Entry, Keyed, KeyedEntry, Named, NamedEntry, ObjectTable};

@@ -6,6 +6,7 @@ use Rattle.std.proofs.lemmas.List.Concat.{flat_map-append}
 use Rattle.ipc_base.specs.declared.limits.Limits.{Limits}
 use Rattle.ipc_disk.specs.Medium.{Medium}
 use Rattle.ipc_state.specs.State.{State}
+use Rattle.ipc_engine.specs.Changes.{IsTracked}
 use Rattle.ipc_engine.specs.Engine.{Machine, IsForProcess}
 use Rattle.ipc_engine.specs.Event.{PlainEvent}
 use Rattle.ipc_engine.specs.Step.{step, run}
@@ -26,9 +27,10 @@ module _ {D : Type 0} (medium : Medium) (store : StoreView D) (base : State) (pe
   -- the event is the last of those that wait
   pub accepted : StoreMatches medium store base pending → (e : PlainEvent) → HasRecord e → IsForProcess store.machine.state e
       → (machine : Machine) → machine.limits ≡ store.machine.limits → machine.state ≡ (step store.machine.limits store.machine.state e).state
+      → ((saved : State) → IsTracked store.machine.changed saved store.machine.state → IsTracked machine.changed saved machine.state)
       → (records : List ℕ) → records ≡ store.records ++ record_bytes e → (waiting : ℕ) → waiting ≡ store.waiting + 1
       → StoreMatches medium (record store { machine = machine; records = records; waiting = waiting }) base (pending ++ e ∷ [])
-  accepted at e has named machine limits state records records-are waiting waiting-is =
+  accepted at e has named machine limits state tracks records records-are waiting waiting-is =
       let waits = at.waits in
       let before : State = (run store.machine.limits base pending).state in
       let for : IsForProcess before e = subst (λ (s : State). IsForProcess s e) waits.state named in
@@ -36,9 +38,12 @@ module _ {D : Type 0} (medium : Medium) (store : StoreView D) (base : State) (pe
       AreFor-parts store.machine.limits base pending (e ∷ []) waits.named (for, tt) in
       let after : machine.state ≡ (run store.machine.limits base (pending ++ e ∷ [])).state =
       state ∙ ap (λ (s : State). (step store.machine.limits s e).state) waits.state ∙ sym (run-parts store.machine.limits base pending (e ∷ [])) in
+      let Both : Limits → Type 0 =
+      λ l. (d : DeviceMatches medium l store.checkpoint store.journal base) × IsTracked machine.changed d.from machine.state in
+      let both : Both machine.limits = subst Both (sym limits) (at.device, tracks at.device.from at.tracked) in
       record {
         running = at.running;
-        device = subst (λ (l : Limits). DeviceMatches medium l store.checkpoint store.journal base) (sym limits) at.device;
+        device = both.0;
         waits = record {
           records = records-are ∙ ap (λ (x : List ℕ). x ++ record_bytes e) waits.records ∙ sym (records-more pending e);
           count = omega (arith, waiting-is, waits.count, length-append pending (e ∷ []));
@@ -46,4 +51,5 @@ module _ {D : Type 0} (medium : Medium) (store : StoreView D) (base : State) (pe
           named = subst (λ (l : Limits). AreFor l base (pending ++ e ∷ [])) (sym limits) events;
           state = subst (λ (l : Limits). machine.state ≡ (run l base (pending ++ e ∷ [])).state) (sym limits) after;
         };
+        tracked = both.1;
       }

@@ -5,6 +5,7 @@ use Rattle.byteorder.specs.Endian.{big_bytes}
 use Rattle.std.specs.Int.{w32, w64, to_be_bytes}
 use Rattle.ipc_wire.specs.Spelling.{opcode_of, fields_of, request_bytes}
 use Rattle.ipc_engine.specs.Event.{PlainEvent, Connect, Call, Interrupt, Tick, Exit, Restart, moment_of}
+use Rattle.ipc_image.specs.Format.{longest_record}
 use Rattle.ipc_image.specs.Records.{record_bytes, details, text_of, HasDetails, HasRecord}
 use Rattle.ipc_store.specs.Relations.Batch.{IsFilled}
 
@@ -82,12 +83,11 @@ details-most (Tick moment) has = omega arith
 details-most (Exit pid moment) has = omega arith
 details-most Restart has = omega arith
 
--- the longest record has 8465 bytes
-pub record-most : (e : PlainEvent) → HasRecord e → length (record_bytes e) ≤ 8465
+pub record-most : (e : PlainEvent) → HasRecord e → length (record_bytes e) ≤ longest_record
 record-most e has = omega (arith, record-length e, details-most e has.details)
 
 -- a record goes into the bytes from a place on, if one of the greatest length does
-pub record-goes : (e : PlainEvent) (bytes : List ℕ) (len : ℕ) → len + 8465 ≤ length bytes → length (record_bytes e) ≤ 8465
+pub record-goes : (e : PlainEvent) (bytes : List ℕ) (len : ℕ) → len + longest_record ≤ length bytes → length (record_bytes e) ≤ longest_record
     → (length (record_bytes e) ≤ length (take (length bytes - len) (drop len bytes))) × (9 + length (details e) < 2 ^ 32)
 record-goes e bytes len room most = (
   omega (arith, room, most, length-take (length bytes - len) (drop len bytes), length-drop len bytes),

@@ -1,16 +1,18 @@
 -- A commit takes a store from its base to the state after what waits, by a batch more in the journal, or by a save.
-use Rattle.std.proofs.Common.{◌≡◌, inl, inr, ℕ, ◌+◌, ◌≤◌, ◌<◌, ◌++◌, List, [], ◌∷◌, length, refl, sym, ap, subst, ◌∙◌, arith}
-use Rattle.std.specs.Prelude.{map}
+use Rattle.std.proofs.Common.{◌≡◌, ◌≢◌, ◌⊎◌, Ok, Err, Result, inl, inr, ℕ, ◌+◌, ◌≤◌, ◌<◌, ◌++◌, List, [], ◌∷◌, length, refl, sym, ap, subst, ◌∙◌, arith}
+use Rattle.std.specs.Prelude.{map, OnOk, ⊤}
 use Rattle.std.proofs.lemmas.List.{map-append, length-append}
 use Rattle.std.proofs.lemmas.List.Elements.{All-nil}
 use Rattle.byteorder.specs.Endian.{big_bytes}
 use Rattle.byteorder.specs.Numbers.{big_number-reads_back}
-use Rattle.ipc_base.specs.Objects.{PlainObjects}
+use Rattle.ipc_base.specs.Objects.{PlainObjects, OthersAreThere}
 use Rattle.ipc_checkpoint.specs.Checkpoint.{IsElsewhere, epoch_in, Holds as HoldsObjects}
 use Rattle.ipc_checkpoint.specs.declared.layout.Layout.{Layout}
 use Rattle.ipc_checkpoint.specs.Matches.{CheckpointMatches, HoldsEither}
 use Rattle.ipc_checkpoint.specs.View.{CheckpointView, epoch_of as saved_epoch, layout_of as saved_layout}
 use Rattle.ipc_checkpoint.proofs.CallerLemmas.{Holds-since, CheckpointMatches-holds, CheckpointMatches-alone}
+use Rattle.ipc_disk.specs.Calls.{CountsFaultIf}
+use Rattle.ipc_disk.specs.Counts.{Counts, counted, with_calls}
 use Rattle.ipc_disk.specs.Medium.{Image, Medium}
 use Rattle.ipc_disk.specs.Range.{IsOutside}
 use Rattle.ipc_disk.specs.Since.{EachImageSince, LeavesAlone}
@@ -22,10 +24,15 @@ use Rattle.ipc_journal.specs.View.{range_of, epoch_of, used_of}
 use Rattle.ipc_journal.specs.Matches.{JournalMatches, HoldsOneMoreOrNot}
 use Rattle.ipc_journal.proofs.CallerLemmas.{Holds-turned, EachImageSince-alone, JournalMatches-alone, JournalMatches-turned}
 use Rattle.ipc_state.specs.State.{State}
+use Rattle.ipc_engine.specs.Engine.{Machine}
 use Rattle.ipc_engine.specs.Event.{PlainEvent}
 use Rattle.ipc_engine.specs.Step.{run}
 use Rattle.ipc_image.specs.Records.{HasRecord}
-use Rattle.ipc_image.specs.Saved.{StandForState}
+use Rattle.ipc_image.specs.Changed.{differs_in}
+use Rattle.ipc_image.specs.Saved.{StandForState, saved as saved_objects}
+use Rattle.ipc_image.proofs.CallerLemmas.{others-there}
+use Rattle.ipc_store.specs.declared.fault.CommitError.{CommitError}
+use Rattle.ipc_store.specs.declared.fault.CommitError.TheVariants as commit
 use Rattle.ipc_store.specs.Batch.{most_bytes, batch_bytes, AreBatch}
 use Rattle.ipc_store.specs.Image.{StandsFor, LeadTo, epoch_at}
 use Rattle.ipc_store.specs.View.{StoreView, store_view}
@@ -74,20 +81,44 @@ module _ {D : Type 0} (medium : Medium) (store : StoreView D) (base : State) (pe
   unfolding batch_bytes
   bytes-are = ap (λ (x : List ℕ). big_bytes 4 (length x) ++ x) at.waits.records
 
+  -- where nothing waits, the base is the state of now
+  pub none-waits : store.waiting ≡ 0 → StoreMatches medium store (run store.machine.limits base pending).state []
+  none-waits none =
+      let empty : pending ≡ [] = nothing pending (sym at.waits.count ∙ none) in
+      subst (λ (es : List PlainEvent). StoreMatches medium store (run store.machine.limits base es).state []) (sym empty)
+      (subst (λ (es : List PlainEvent). StoreMatches medium store base es) empty at)
+    where
+      nothing : (es : List PlainEvent) → length es ≡ 0 → es ≡ []
+      nothing [] is = refl
+      nothing (e ∷ es) is = absurd (omega (arith, is))
+
   -- one batch more leads to the state after what waits
   leads-more : 4 + length store.records ≤ most_bytes
       → LeadTo store.machine.limits at.device.from (at.device.batches ++ pending ∷ []) (run store.machine.limits base pending).state
   leads-more size =
       LeadTo-more store.machine.limits at.device.from at.device.batches pending base at.device.leads (waits-batch size) at.waits.named
 
+-- what a commit that appends has counted
+pub append-counts : {D : Type 0} (counts : D → Counts) (old new : D) (writes : ℕ) (done : Result ⊤ CommitError) → done ≢ Err commit.Stopped
+    → (done ≡ Err commit.Device → (counts new).failures ≡ counted (counts old).failures 1)
+    → OnOk done (counts new ≡ with_calls writes 2 (counts old)) → CountsFaultIf counts (done ≡ Err commit.Device) old new
+append-counts counts old new writes done runs failure made =
+    record { failure = failure; no_failure = by_result done runs made }
+  where
+    by_result : (r : Result ⊤ CommitError) → r ≢ Err commit.Stopped → OnOk r (counts new ≡ with_calls writes 2 (counts old))
+        → (r ≡ Err commit.Device) ⊎ ((counts new).failures ≡ (counts old).failures)
+    by_result (Ok _) runs is = inr (ap (λ (n : Counts). n.failures) is)
+    by_result (Err commit.Device) runs is = inl refl
+    by_result (Err commit.Stopped) runs is = absurd (runs refl)
+
 -- what holds of each image of a call is one of two states
 abbrev Either : {D : Type 0} → StoreView D → State → List PlainEvent → Image → Type 0
 Either store base pending = StandsForEither store.machine.limits base (run store.machine.limits base pending).state
 
 -- a store that has committed
-abbrev after : {D : Type 0} → StoreView D → D → CheckpointView → Journal → ℕ → StoreView D
-after store disk checkpoint journal confirmed =
-    store_view disk store.machine checkpoint journal (record { records = []; count = 0 }) confirmed store.stopped
+abbrev after : {D : Type 0} → StoreView D → Machine → D → CheckpointView → Journal → ℕ → StoreView D
+after store machine disk checkpoint journal confirmed =
+    store_view disk machine checkpoint journal (record { records = []; count = 0 }) confirmed store.stopped
 
 module _ {D : Type 0} (old new : Medium) (store : StoreView D) (base : State) (pending : List PlainEvent)
     (at : StoreMatches old store base pending) where
@@ -151,7 +182,7 @@ module _ {D : Type 0} (old new : Medium) (store : StoreView D) (base : State) (p
     pub committed : (disk : D) (journal : Journal) (confirmed : ℕ)
         → range_of journal ≡ range_of store.journal → epoch_of journal ≡ epoch_of store.journal
         → ((batches : List (List ℕ)) → JournalMatches store.journal batches old → JournalMatches journal (batches ++ batch ∷ []) new)
-        → StoreMatches new (after store disk store.checkpoint journal confirmed) (run store.machine.limits base pending).state []
+        → StoreMatches new (after store store.machine disk store.checkpoint journal confirmed) (run store.machine.limits base pending).state []
     committed disk journal confirmed range epoch acknowledged = record {
       running = at.running;
       device = record {
@@ -170,9 +201,24 @@ module _ {D : Type 0} (old new : Medium) (store : StoreView D) (base : State) (p
         leads = leads-more old store base pending at size;
       };
       waits = record { records = refl; count = refl; each = All-nil HasRecord; named = tt; state = at.waits.state };
+      tracked = at.tracked;
     }
 
   -- ---- the state is saved
+
+  -- what was saved are the objects of the state then
+  pub was-saved : (those : PlainObjects) → CheckpointMatches store.checkpoint those old → those ≡ saved_objects at.device.from
+  was-saved those there = sym there.map ∙ at.device.saved.map ∙ at.device.stand.are
+
+  -- each object that does not count as changed is among them
+  pub unchanged : StandForState store.machine.limits store.machine.state (saved_objects store.machine.state)
+      → (those : PlainObjects) → CheckpointMatches store.checkpoint those old
+      → OthersAreThere (differs_in store.machine.changed (saved_objects store.machine.state)) (saved_objects store.machine.state) those
+  unchanged stand those there =
+      subst
+      (λ (o : PlainObjects). OthersAreThere (differs_in store.machine.changed (saved_objects store.machine.state)) (saved_objects store.machine.state) o)
+      (sym (was-saved those there))
+      (others-there store.machine.limits store.machine.changed at.device.from store.machine.state at.tracked stand)
 
   module _ (epoch : ℕ) (later : saved_epoch store.checkpoint < epoch) (next : PlainObjects)
       (stand : StandForState store.machine.limits store.machine.state next)
@@ -231,7 +277,8 @@ module _ {D : Type 0} (old new : Medium) (store : StoreView D) (base : State) (p
         → saved_layout checkpoint ≡ saved_layout store.checkpoint → saved_epoch checkpoint ≡ epoch
         → range_of journal ≡ range_of store.journal → epoch_of journal ≡ epoch → used_of journal ≡ 0
         → ((objects : PlainObjects) → CheckpointMatches store.checkpoint objects old → CheckpointMatches checkpoint next new)
-        → StoreMatches new (after store disk checkpoint journal confirmed) (run store.machine.limits base pending).state []
+        → StoreMatches new (after store (record store.machine { changed = [] }) disk checkpoint journal confirmed)
+        (run store.machine.limits base pending).state []
     saved disk checkpoint journal confirmed lies is-epoch range journal-epoch used matches = record {
       running = at.running;
       device = record {
@@ -252,4 +299,5 @@ module _ {D : Type 0} (old new : Medium) (store : StoreView D) (base : State) (p
         leads = no-batch;
       };
       waits = record { records = refl; count = refl; each = All-nil HasRecord; named = tt; state = at.waits.state };
+      tracked = λ o off e is. is;
     }

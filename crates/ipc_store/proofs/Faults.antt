@@ -9,6 +9,7 @@ use Rattle.ipc_engine.specs.declared.fault.StateFault.{StateFault}
 use Rattle.ipc_engine.specs.declared.fault.StateFault.TheVariants as states
 use Rattle.ipc_journal.specs.declared.error.JournalError.{JournalError}
 use Rattle.ipc_journal.specs.declared.error.JournalError.TheVariants as journals
+use Rattle.ipc_image.specs.Format.{format}
 use Rattle.ipc_store.specs.declared.fault.OpenError.{OpenError}
 use Rattle.ipc_store.specs.declared.fault.OpenError.TheVariants as errors
 use Rattle.ipc_store.specs.View.{of_journal_error, of_load_error, of_state_fault}
@@ -38,7 +39,7 @@ load-fault (loads.Damaged n) sector is = cc
 load-fault loads.NoMemory sector is = cc
 
 -- of the state that they are
-pub image-fault : (fault : StateFault) (sector : ℕ) → of_state_fault fault ≡ errors.Damaged sector → (fault ≡ states.Unsound) × (sector ≡ 1)
+pub image-fault : (fault : StateFault) (sector : ℕ) → of_state_fault fault ≡ errors.Damaged sector → (fault ≡ states.Unsound) × (sector ≡ format.root)
 image-fault states.Unsound sector is = (cc, cc)
 image-fault states.NoMemory sector is = absurd cc
 

@@ -19,12 +19,14 @@ use Rattle.ipc_journal.specs.declared.journal.Journal.{Journal}
 use Rattle.ipc_journal.specs.Matches.{JournalMatches}
 use Rattle.ipc_journal.specs.View.{range_of, epoch_of}
 use Rattle.ipc_state.specs.State.{State}
+use Rattle.ipc_engine.specs.Changes.{IsTracked}
+use Rattle.ipc_engine.specs.Engine.{Machine}
 use Rattle.ipc_engine.specs.Event.{PlainEvent}
 use Rattle.ipc_image.specs.Saved.{StandForState}
 use Rattle.ipc_image.specs.Sizes.{area_of, need_of}
 use Rattle.ipc_store.specs.Batch.{batch_bytes}
 use Rattle.ipc_store.specs.Image.{journal_range, layout_of, IsDevice, HasBase, LeadTo}
-use Rattle.ipc_store.specs.Relations.Matches.{AreOnDisk, DeviceMatches}
+use Rattle.ipc_store.specs.Relations.Matches.{AreOnDisk, DeviceMatches, MachineMatches}
 use Rattle.ipc_store.proofs.Formatting.{laid-out}
 
 -- calls that only read, one after another
@@ -81,30 +83,37 @@ module _ (limits : Limits) (size : ℕ) (checkpoint : CheckpointView) (layout : 
   }
 
   module _ (journal : Journal) (range : range_of journal ≡ journal_range) (epoch : epoch_of journal ≡ saved_epoch checkpoint)
-      (others : Limits) (same : others ≡ limits) where
+      (machine : Machine) (same : machine.limits ≡ limits) where
     -- the whole device
-    pub loaded : (medium : Medium) (from to : State) → IsHonest medium → IsDurable medium → IsDevice limits medium.contents
-        → length medium.contents ≡ size → Kept limits from checkpoint medium → Led limits from to journal medium
-        → DeviceMatches medium others checkpoint journal to
-    loaded medium from to honest durable device count kept led =
-        subst (λ (l : Limits). DeviceMatches medium l checkpoint journal to) (sym same) (record {
-          honest = honest;
-          range = range;
-          epoch = epoch;
-          device = λ image now.
-              subst (λ (i : Image). IsDevice limits i × (saved_layout checkpoint ≡ layout_of limits (length i))) (sym (durable image now))
-              (device, layout ∙ ap (layout_of limits) (sym count));
-          from = from;
-          objects = kept.0;
-          stand = kept.1;
-          saved = kept.2;
-          batches = led.0;
-          appended = led.1;
-          leads = led.2;
-        })
+    pub loaded : (medium : Medium) (from : State) → IsHonest medium → IsDurable medium → IsDevice limits medium.contents
+        → length medium.contents ≡ size → Kept limits from checkpoint medium → Led limits from machine.state journal medium
+        → IsTracked machine.changed from machine.state → MachineMatches medium machine checkpoint journal
+    loaded medium from honest durable device count kept led tracked =
+        let Both : Limits → Type 0 =
+        λ l. (d : DeviceMatches medium l checkpoint journal machine.state) × IsTracked machine.changed d.from machine.state in
+        let both : Both machine.limits =
+        subst Both (sym same) (
+          record {
+            honest = honest;
+            range = range;
+            epoch = epoch;
+            device = λ image now.
+                subst (λ (i : Image). IsDevice limits i × (saved_layout checkpoint ≡ layout_of limits (length i))) (sym (durable image now))
+                (device, layout ∙ ap (layout_of limits) (sym count));
+            from = from;
+            objects = kept.0;
+            stand = kept.1;
+            saved = kept.2;
+            batches = led.0;
+            appended = led.1;
+            leads = led.2;
+          },
+          tracked,
+        ) in
+        record { device = both.0; tracked = both.1 }
 
     -- and where it lies
-    pub on-disk : (last : ℕ) → last ≡ size → ArePassed limits → need_of limits ≤ size → AreOnDisk last others checkpoint journal
+    pub on-disk : (last : ℕ) → last ≡ size → ArePassed limits → need_of limits ≤ size → AreOnDisk last machine.limits checkpoint journal
     on-disk last is passed room = record {
       objects = subst (λ (n : ℕ). IsLaidOut (saved_layout checkpoint) n) (sym is)
           (subst (λ (l : Layout). IsLaidOut l size) (sym layout) (laid-out limits size passed room));

@@ -12,7 +12,8 @@ use Rattle.ipc_journal.specs.View.{range_of, epoch_of, used_of}
 use Rattle.ipc_journal.proofs.CallerLemmas.{Fill-end}
 use Rattle.ipc_state.specs.State.{State}
 use Rattle.ipc_engine.specs.Event.{PlainEvent}
-use Rattle.ipc_image.specs.Superblock.{version, version_in}
+use Rattle.ipc_image.specs.Format.{format}
+use Rattle.ipc_image.specs.Superblock.{version_in}
 use Rattle.ipc_image.proofs.CallerLemmas.{superblock-begins, superblock-version, one-superblock}
 use Rattle.ipc_store.specs.Batch.{batch_bytes}
 use Rattle.ipc_store.specs.Image.{journal_range, IsDevice, HasBase, HasBatches, HasNoHeader, LeadTo, HasNoState, IsNotFormatted, IsDamaged}
@@ -65,7 +66,7 @@ header-none epoch image (inr past) batches (inr current) = absurd (omega (arith,
 
 -- a device begins as one, and has the version of today
 pub device-begins : (limits : Limits) (image : Image) → IsDevice limits image
-    → (¬ IsNotFormatted image) × (version_in (sector_at image 0) ≡ version)
+    → (¬ IsNotFormatted image) × (version_in (sector_at image 0) ≡ format.version)
 device-begins limits image device = (
   λ not. ⊎_elim (λ small. absurd (omega (arith, small, device.room)))
       (λ other. other (superblock-begins (length image) limits (sector_at image 0) device)) not,

@@ -22,7 +22,7 @@ use Rattle.ipc_store.specs.declared.fault.OpenError.TheVariants as errors
 use Rattle.ipc_store.proofs.Opened.{device-begins}
 use Rattle.ipc_store.specs.Image.{journal_range, last_epoch, IsNotFormatted, HasVersion, IsDamaged, IsFirstFault, IsAtEnd, StandsFor}
 use Rattle.ipc_store.specs.View.{StoreView, IsAtLastEpoch, store_view}
-use Rattle.ipc_store.specs.Relations.Matches.{DeviceMatches, StoreMatches, StandsForEither, OpensTo}
+use Rattle.ipc_store.specs.Relations.Matches.{MachineMatches, StoreMatches, StandsForEither, OpensTo}
 use Rattle.ipc_store.proofs.Batches.{record-length}
 use Rattle.ipc_store.proofs.Committing.{stands_now, root-epoch}
 
@@ -41,16 +41,16 @@ store_over disk checkpoint journal machine = store_view disk machine checkpoint 
 
 -- it matches
 pub new-matches : {D : Type 0} (medium : Medium) (disk : D) (checkpoint : CheckpointView) (journal : Journal) (machine : Machine)
-    → DeviceMatches medium machine.limits checkpoint journal machine.state
-    → StoreMatches medium (store_over disk checkpoint journal machine) machine.state []
+    → MachineMatches medium machine checkpoint journal → StoreMatches medium (store_over disk checkpoint journal machine) machine.state []
 new-matches medium disk checkpoint journal machine matches = record {
   running = refl;
-  device = matches;
+  device = matches.device;
   waits = record { records = refl; count = refl; each = All-nil HasRecord; named = tt; state = refl };
+  tracked = matches.tracked;
 }
 
 module _ {D : Type 0} (m : D → Medium) (disk : D) (checkpoint : CheckpointView) (journal : Journal) (machine : Machine)
-    (matches : DeviceMatches (m disk) machine.limits checkpoint journal machine.state)
+    (matches : MachineMatches (m disk) machine checkpoint journal)
     (store : StoreView D) (over : store ≡ store_over disk checkpoint journal machine) where
   -- it goes on from the state of the machine
   pub begins : StoreMatches (m store.disk) store machine.state []
@@ -62,7 +62,7 @@ module _ {D : Type 0} (m : D → Medium) (disk : D) (checkpoint : CheckpointView
   stood old same =
       subst (StandsFor store.machine.limits machine.state) same
       (stands_now (m store.disk) store machine.state [] begins (m disk).contents
-      (subst (λ v. (m v.disk).images_now (m disk).contents) (sym over) matches.honest.reads))
+      (subst (λ v. (m v.disk).images_now (m disk).contents) (sym over) matches.device.honest.reads))
 
   -- the calls of the restart leave that state, or the state after the restart
   pub restart_leaves : (old new : Medium) → IsHonest old → Stays old (m disk)

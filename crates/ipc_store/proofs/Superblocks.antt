@@ -6,7 +6,8 @@ use Rattle.std.proofs.lemmas.Option.{unwrap_or-slice_get}
 use Rattle.ipc_base.specs.declared.limits.Limits.{Limits}
 use Rattle.ipc_disk.specs.Medium.{Image}
 use Rattle.ipc_disk.specs.Standing.{sector_at}
-use Rattle.ipc_image.specs.Superblock.{IsFormatted, version, version_in, IsSuperblock}
+use Rattle.ipc_image.specs.Format.{format}
+use Rattle.ipc_image.specs.Superblock.{IsFormatted, version_in, IsSuperblock}
 use Rattle.ipc_store.specs.Image.{IsDevice, IsNotFormatted, HasVersion, IsDamaged, IsFirstFault}
 
 -- a sector that was read
@@ -19,14 +20,14 @@ module _ (image : Image) (size : ℕ) (sector : List ℕ) (whole : length image 
   begins formatted (inl small) = absurd (omega (arith, small, whole, large))
   begins formatted (inr other) = other (subst IsFormatted (sym read) formatted)
 
-  pub has_version : (found : ℕ) → IsFormatted sector × (version_in sector ≡ found) × (found ≢ version) → HasVersion found image
+  pub has_version : (found : ℕ) → IsFormatted sector × (version_in sector ≡ found) × (found ≢ format.version) → HasVersion found image
   has_version found (formatted, version, other) = record { formatted = begins formatted; version = ap version_in read ∙ version; other = other }
 
   no_device : ((limits : Limits) → ¬ IsSuperblock size limits sector) → (limits : Limits) → ¬ IsDevice limits image
   no_device none limits device =
       none limits (subst (λ (s : List ℕ). IsSuperblock size limits s) read (subst (λ (n : ℕ). IsSuperblock n limits (sector_at image 0)) whole device))
 
-  pub is_damaged : IsFormatted sector × (version_in sector ≡ version) × ((limits : Limits) → ¬ IsSuperblock size limits sector)
+  pub is_damaged : IsFormatted sector × (version_in sector ≡ format.version) × ((limits : Limits) → ¬ IsSuperblock size limits sector)
       → IsDamaged image × IsFirstFault image 0
   is_damaged (formatted, version, none) = (
     record {

@@ -3,11 +3,12 @@ use Rattle.std.specs.Prelude.{◌≤◌, ◌+◌, ℕ, List, ◌++◌, length, A
 use Rattle.std.specs.List.{flat_map}
 use Rattle.byteorder.specs.Endian.{big_bytes}
 use Rattle.ipc_engine.specs.Event.{PlainEvent}
+use Rattle.ipc_image.specs.Format.{format}
 use Rattle.ipc_image.specs.Records.{record_bytes, HasRecord}
 
 -- the most bytes that a batch has, with its length
 abbrev pub most_bytes : ℕ
-most_bytes = 32768
+most_bytes = format.batch
 
 -- the records of events, each directly after the one before
 abbrev pub records_of : List PlainEvent → List ℕ

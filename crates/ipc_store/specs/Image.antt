@@ -15,19 +15,23 @@ use Rattle.ipc_state.specs.State.{State}
 use Rattle.ipc_engine.specs.Event.{PlainEvent}
 use Rattle.ipc_engine.specs.Engine.{IsForProcess}
 use Rattle.ipc_engine.specs.Step.{step, run}
+use Rattle.ipc_image.specs.Format.{format, journal_first, journal_count, objects_first}
 use Rattle.ipc_image.specs.Saved.{StandForState}
 use Rattle.ipc_image.specs.Sizes.{area_of}
-use Rattle.ipc_image.specs.Superblock.{IsFormatted, version_in, IsSuperblock, version as this_version}
+use Rattle.ipc_image.specs.Superblock.{IsFormatted, version_in, IsSuperblock}
 use Rattle.ipc_store.specs.Batch.{batch_bytes, AreBatch}
 
 -- the sectors of the journal
 abbrev pub journal_range : Range
-journal_range = record { first = 3; count = 257 }
+journal_range = record { first = journal_first; count = journal_count }
 
--- where the objects of a device of so many sectors lie: in a heap behind the journal, with the root in sector 1
+-- the object area of a device of so many sectors, behind the journal to the end
+abbrev pub objects_range : ℕ → Range
+objects_range sectors = record { first = objects_first; count = sectors - objects_first }
+
+-- where its objects lie
 abbrev pub layout_of : Limits → ℕ → Layout
-layout_of limits sectors =
-    record { range = record { first = 260; count = sectors - 260 }; root = 1; area = area_of limits }
+layout_of limits sectors = record { range = objects_range sectors; root = format.root; area = area_of limits }
 
 -- the first epoch, with which a device is made, and the last
 abbrev pub first_epoch : ℕ
@@ -92,17 +96,17 @@ IsNotFormatted image = (length image < 3) ⊎ (¬ IsFormatted (sector_at image 0
 pub record HasVersion (found : ℕ) (image : Image) : Type 0 where
   pub formatted : ¬ IsNotFormatted image
   pub version : version_in (sector_at image 0) ≡ found
-  pub other : found ≢ this_version
+  pub other : found ≢ format.version
 
 -- it is of this version, and stands for no state
 pub record IsDamaged (image : Image) : Type 0 where
   pub formatted : ¬ IsNotFormatted image
-  pub version : version_in (sector_at image 0) ≡ this_version
+  pub version : version_in (sector_at image 0) ≡ format.version
   pub stands_for_none : HasNoState image
 
 -- the epoch of its objects, which their root has
 abbrev pub epoch_at : Image → ℕ
-epoch_at image = epoch_in (sector_at image 1)
+epoch_at image = epoch_in (sector_at image format.root)
 
 -- The device stands for a state, its objects and its journal are of the last epoch, and the journal has no room for one
 -- batch more.
@@ -136,13 +140,13 @@ pub data IsFirstFault (image : Image) : ℕ → Type 0 where
       → IsFirstFault image sector
   NoState : (limits : Limits) (epoch : ℕ) (objects : PlainObjects) → IsDevice limits image
       → HasObjects limits epoch objects image → ((s : State) → ¬ StandForState limits s objects)
-      → IsFirstFault image 1
+      → IsFirstFault image format.root
   Header : (limits : Limits) (epoch : ℕ) (base : State) → HasBase limits epoch base image
-      → HasNoHeader epoch image → IsFirstFault image 3
+      → HasNoHeader epoch image → IsFirstFault image journal_first
   AtBatch : (limits : Limits) (epoch : ℕ) (base : State) (batches : List (List PlainEvent)) (s : State)
       → HasBase limits epoch base image → LeadTo limits base batches s
       → Fill journal_range 0 (sectors_of (map batch_bytes batches)) (map batch_bytes batches) image
       → sectors_of (map batch_bytes batches) < header_used journal_range image
       → HasNoBatchAt limits s journal_range (sectors_of (map batch_bytes batches))
       (header_used journal_range image) image
-      → IsFirstFault image (4 + sectors_of (map batch_bytes batches))
+      → IsFirstFault image (journal_first + 1 + sectors_of (map batch_bytes batches))

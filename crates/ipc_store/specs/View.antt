@@ -3,8 +3,11 @@ use Rattle.std.specs.Prelude.{◌≡◌, ◌≤◌, ◌+◌, ◌-◌, ◌*◌, �
 use Rattle.std.specs.Prelude.{Bool, true, false, if◌then◌else◌, List, [], length, Result, OnOk, OnErr}
 use Rattle.ipc_disk.specs.Counts.{Counts}
 use Rattle.ipc_engine.specs.Engine.{Machine}
+use Rattle.ipc_image.specs.Changed.{differs_in}
+use Rattle.ipc_image.specs.Saved.{saved}
 use Rattle.ipc_checkpoint.specs.declared.error.LoadError.{LoadError}
 use Rattle.ipc_checkpoint.specs.declared.error.LoadError.TheVariants as load
+use Rattle.ipc_checkpoint.specs.Matches.{changed_sectors, table_sectors}
 use Rattle.ipc_checkpoint.specs.View.{CheckpointView, epoch_of}
 use Rattle.ipc_engine.specs.declared.fault.StateFault.{StateFault}
 use Rattle.ipc_engine.specs.declared.fault.StateFault.TheVariants as state
@@ -12,6 +15,7 @@ use Rattle.ipc_journal.specs.declared.journal.Journal.{Journal}
 use Rattle.ipc_journal.specs.View.{Fits, used_of}
 use Rattle.ipc_journal.specs.declared.error.JournalError.{JournalError}
 use Rattle.ipc_journal.specs.declared.error.JournalError.TheVariants as journal
+use Rattle.ipc_image.specs.Format.{format, longest_record}
 use Rattle.ipc_store.specs.Batch.{most_bytes}
 use Rattle.ipc_store.specs.Image.{last_epoch}
 use Rattle.ipc_store.specs.declared.fault.OpenError.{OpenError}
@@ -51,7 +55,7 @@ store_view disk machine checkpoint journal batch confirmed stopped = record {
 
 -- a record of the greatest length still fits into the batch
 abbrev pub HasRoom : {D : Type 0} → StoreView D → Type 0
-HasRoom store = 4 + length store.records + 8465 ≤ most_bytes
+HasRoom store = 4 + length store.records + longest_record ≤ most_bytes
 
 abbrev pub IsStopped : {D : Type 0} → StoreView D → Type 0
 IsStopped store = store.stopped ≡ true
@@ -65,7 +69,7 @@ abbrev pub numbers_used : {D : Type 0} → StoreView D → ℕ
 numbers_used store = epoch_of store.checkpoint + (store.confirmed + store.waiting)
 
 -- The events that waited have been made last, if the call was Ok; else the store is stopped and they still wait. The
--- machine stays as it was.
+-- machine stays as it was, but for what has changed since its state was saved.
 pub record IsCommitted {D T E : Type 0} (result : Result T E) (old new : StoreView D) : Type 0 where
   pub waiting : OnOk result (new.waiting ≡ 0)
   pub records : OnOk result (new.records ≡ [])
@@ -74,7 +78,7 @@ pub record IsCommitted {D T E : Type 0} (result : Result T E) (old new : StoreVi
   pub stops : OnErr result (IsStopped new)
   pub still_waits : OnErr result (new.waiting ≡ old.waiting)
   pub unconfirmed : OnErr result (new.confirmed ≡ old.confirmed)
-  pub machine : new.machine ≡ old.machine
+  pub machine : new.machine ≡ record old.machine { changed = new.machine.changed }
 
 -- A call went well: the store has not stopped, the disk has counted no failure, and so many numbers more are used at
 -- most.
@@ -85,7 +89,7 @@ pub record Spends {D : Type 0} (counts : D → Counts) (n : ℕ) (old new : Stor
 
 -- the longest records of so many events fit into the batch, and it takes so many events more
 abbrev pub IsReadyFor : {D : Type 0} → StoreView D → ℕ → Type 0
-IsReadyFor store n = (4 + length store.records + n * 8465 ≤ most_bytes) × (n ≤ events_left store)
+IsReadyFor store n = (4 + length store.records + n * longest_record ≤ most_bytes) × (n ≤ events_left store)
 
 -- the batch that waits fits into the journal
 abbrev pub HasPlace : {D : Type 0} → StoreView D → Type 0
@@ -95,10 +99,17 @@ HasPlace store = Fits store.journal (4 + length store.records)
 abbrev pub IsAtLastEpoch : {D : Type 0} → StoreView D → Type 0
 IsAtLastEpoch store = epoch_of store.checkpoint ≡ last_epoch
 
--- it has gone on to the next epoch, at which its journal is empty
+-- it has gone on to the next epoch, at which its journal is empty and no object has changed since the state was saved
 abbrev pub HasTurned : {D : Type 0} → StoreView D → StoreView D → Type 0
 HasTurned old new =
-    (epoch_of new.checkpoint ≡ epoch_of old.checkpoint + 1) × (used_of new.journal ≡ 0)
+    (epoch_of new.checkpoint ≡ epoch_of old.checkpoint + 1) × (used_of new.journal ≡ 0) × (new.machine.changed ≡ [])
+
+-- how many sectors a save of the state of a machine writes: those of the objects that have changed, of the table of all
+-- objects, and the root
+abbrev pub save_sectors : Machine → ℕ
+save_sectors machine =
+    let objects = saved machine.state in
+    changed_sectors (differs_in machine.changed objects) objects + table_sectors objects + 1
 
 -- the fault of an open that meets this fault of the objects' sectors
 abbrev pub of_load_error : LoadError → OpenError
@@ -108,7 +119,7 @@ of_load_error load.NoMemory = NoMemory
 
 -- the fault of an open whose objects are no state: the root's
 abbrev pub of_state_fault : StateFault → OpenError
-of_state_fault state.Unsound = Damaged 1
+of_state_fault state.Unsound = Damaged format.root
 of_state_fault state.NoMemory = NoMemory
 
 -- the fault of an open that meets this fault of the journal

@@ -9,7 +9,7 @@ use ipc_base::BadLimits;
 use ipc_checkpoint::LoadError;
 use ipc_disk::DiskFault;
 use ipc_engine::StateFault;
-use ipc_image::ROOT;
+use ipc_image::FORMAT;
 use ipc_journal::JournalError;
 use std::alloc::AllocError;
 use thiserror::Error;
@@ -128,7 +128,9 @@ impl From<StateFault> for OpenError {
 
     fn from(error: StateFault) -> Self {
         match error {
-            StateFault::Unsound => OpenError::Damaged { sector: ROOT },
+            StateFault::Unsound => OpenError::Damaged {
+                sector: FORMAT.root,
+            },
             StateFault::NoMemory => OpenError::NoMemory,
         }
     }

@@ -8,6 +8,7 @@ ghost use Rattle.ipc_disk.specs.Calls.{IsSameDisk, CountsFault, CountsFaultIf};
 ghost use Rattle.ipc_disk.specs.Medium.{Image, IsHonest, IsDurable, SetOrNot};
 ghost use Rattle.ipc_disk.specs.Since.{EachImageSince};
 ghost use Rattle.ipc_state.specs.State.{start};
+ghost use Rattle.ipc_image.specs.Format.{objects_first};
 ghost use Rattle.ipc_image.specs.Sizes.{need_of};
 ghost use Rattle.ipc_image.specs.Superblock.{IsSuperblock};
 ghost use Rattle.ipc_store.specs.Image.{StandsFor, IsNotFormatted};
@@ -81,7 +82,7 @@ fn make<D: SectorDisk>(disk: &mut D, limits: &Limits) -> Result<(), DiskFault>
 
 // The disk is no device any more.
 fn erase<D: SectorDisk>(disk: &mut D) -> Result<(), DiskFault>
-    requires room { 260 ≤ D.size disk.old }
+    requires room { objects_first ≤ D.size disk.old }
     ensures erased { OnOk result (IsHonest (D.medium disk.old) → EachNow (D.medium disk.new) IsErased) }
     ensures any_moment { IsHonest (D.medium disk.old)
         → EachImageSince (D.medium disk.old) (D.medium disk.new)

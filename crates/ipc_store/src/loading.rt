@@ -1,6 +1,6 @@
 //! The loading of a device: its superblock, its objects, its journal, and the machine that they lead to.
 
-ghost use Rattle.std.specs.Prelude.{◌≡◌, ◌⊎◌, ◌<◌, ◌≤◌, ℕ, length, map, List, IfOk, IsErrOf};
+ghost use Rattle.std.specs.Prelude.{◌≡◌, ◌⊎◌, ◌<◌, ◌≤◌, ℕ, [], length, map, List, IfOk, IsErrOf};
 ghost use Rattle.ipc_base.specs.Limits.{ArePassed};
 ghost use Rattle.ipc_base.specs.Objects.{PlainObjects};
 ghost use Rattle.ipc_checkpoint.specs.Matches.{CheckpointMatches};
@@ -14,11 +14,12 @@ ghost use Rattle.ipc_journal.specs.View.{range_of, epoch_of, used_of};
 ghost use Rattle.ipc_state.specs.State.{State};
 ghost use Rattle.ipc_image.specs.Saved.{StandForState};
 ghost use Rattle.ipc_image.specs.Sizes.{need_of};
+ghost use Rattle.ipc_engine.specs.Changes.{IsTracked};
 ghost use Rattle.ipc_engine.specs.Event.{PlainEvent};
 ghost use Rattle.ipc_store.specs.Batch.{most_bytes, batch_bytes};
 ghost use Rattle.ipc_store.specs.Image.{journal_range, layout_of, IsDevice, HasBase, LeadTo};
 ghost use Rattle.ipc_store.specs.Image.{IsNotFormatted, HasVersion, IsDamaged, IsFirstFault};
-ghost use Rattle.ipc_store.specs.Relations.Matches.{AreOnDisk, DeviceMatches};
+ghost use Rattle.ipc_store.specs.Relations.Matches.{AreOnDisk, MachineMatches};
 
 use crate::fault::OpenError;
 use crate::places::{JOURNAL_RANGE, layout_of};
@@ -75,6 +76,7 @@ fn load_base<D: SectorDisk>(
     requires room { need_of limits ≤ D.size disk.old }
     ensures layout { IfOk result (λ found. saved_layout found.0 ≡ layout_of limits (D.size disk.old)) }
     ensures limits { IfOk result (λ found. found.1.limits ≡ limits) }
+    ensures changed { IfOk result (λ found. found.1.changed ≡ []) }
     ensures spare { IfOk result (λ found. HasSpare found.0) }
     ensures base { IfOk result (λ found. IsHonest (D.medium disk.old) → IsDurable (D.medium disk.old)
         → (objects : PlainObjects) × StandForState limits found.1.state objects
@@ -108,6 +110,8 @@ fn load_journal<D: SectorDisk>(
     ensures range { IfOk result (λ journal. range_of journal ≡ journal_range) }
     ensures epoch { IfOk result (λ journal. epoch_of journal ≡ saved_epoch checkpoint.now) }
     ensures limits { engine.new.limits ≡ engine.old.limits }
+    ensures tracked { (base : State) → IsTracked engine.old.changed base engine.old.state
+        → IsTracked engine.new.changed base engine.new.state }
     ensures leads { IfOk result (λ journal. IsHonest (D.medium disk.old) → IsDurable (D.medium disk.old)
         → (batches : List (List PlainEvent)) × JournalMatches journal (map batch_bytes batches) (D.medium disk.new)
         × LeadTo engine.old.limits engine.old.state batches engine.new.state) }
@@ -141,7 +145,7 @@ pub(crate) fn load<D: SectorDisk>(
     ensures on_disk { IfOk result (λ found. AreOnDisk (D.size disk.new) found.2.limits found.0 found.1) }
     ensures spare { IfOk result (λ found. HasSpare found.0) }
     ensures matches { IfOk result (λ found. IsHonest (D.medium disk.old)
-        → DeviceMatches (D.medium disk.new) found.2.limits found.0 found.1 found.2.state) }
+        → MachineMatches (D.medium disk.new) found.2 found.0 found.1) }
     ensures used { IfOk result (λ found. IsHonest (D.medium disk.old) → 0 < used_of found.1
         → used_of found.1 ≡ header_used journal_range (D.medium disk.old).contents) }
     ensures current { IfOk result (λ found. IsHonest (D.medium disk.old) → 0 < used_of found.1

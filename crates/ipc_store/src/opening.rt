@@ -11,6 +11,7 @@ ghost use Rattle.ipc_disk.specs.Since.{EachImageSince};
 ghost use Rattle.ipc_journal.specs.Journal.{header_epoch, header_used};
 ghost use Rattle.ipc_journal.specs.View.{range_of, epoch_of, used_of};
 ghost use Rattle.ipc_state.specs.State.{State, restart};
+ghost use Rattle.ipc_image.specs.Format.{format};
 ghost use Rattle.ipc_store.specs.Batch.{most_bytes};
 ghost use Rattle.ipc_store.specs.Image.{
   journal_range,
@@ -25,7 +26,7 @@ ghost use Rattle.ipc_store.specs.Image.{
 };
 ghost use Rattle.ipc_store.specs.View.{IsAtLastEpoch, numbers_used};
 ghost use Rattle.ipc_store.specs.Histories.{OpensOn};
-ghost use Rattle.ipc_store.specs.Relations.Matches.{AreOnDisk, DeviceMatches, StoreMatches};
+ghost use Rattle.ipc_store.specs.Relations.Matches.{AreOnDisk, MachineMatches, StoreMatches};
 ghost use Rattle.ipc_store.specs.Relations.Matches.{StandsForEither, OpensTo};
 ghost use Rattle.ipc_store.specs.declared.fault.OpenError.TheVariants as errors;
 
@@ -36,7 +37,7 @@ use crate::store::Store;
 use ipc_checkpoint::Checkpoint;
 use ipc_disk::SectorDisk;
 use ipc_engine::{Engine, Event};
-use ipc_image::ROOT;
+use ipc_image::FORMAT;
 use ipc_journal::Journal;
 use std::alloc::{AllocError, Global};
 
@@ -77,7 +78,7 @@ impl<D: SectorDisk> Store<D> {
         ensures damaged { IfErr result (λ fault. (sector : ℕ) → fault.error ≡ errors.Damaged sector
             → IsHonest (D.medium disk)
             → (IsDamaged (D.medium disk).contents × IsFirstFault (D.medium disk).contents sector)
-            ⊎ (IsAtEnd (D.medium disk).contents × (sector ≡ 1))) }
+            ⊎ (IsAtEnd (D.medium disk).contents × (sector ≡ format.root))) }
         ensures unwritten { IfErr result (λ fault. IsHonest (D.medium disk) → HasNoState (D.medium disk).contents
             → (D.counts fault.disk).writes ≡ (D.counts disk).writes) }
         // Failures and counts.
@@ -118,8 +119,9 @@ impl<D: SectorDisk> Store<D> {
         ensures any_moment { (base : State) → StoreMatches (D.medium self.old.disk) self.old base []
             → EachImageSince (D.medium self.old.disk) (D.medium self.new.disk)
             (StandsForEither self.old.machine.limits base (restart base)) }
-        ensures faults { OnErr result ((result ≡ Err OpenError.Device) ⊎ (result ≡ Err (OpenError.Damaged 1))) }
-        ensures at_end { result ≡ Err (OpenError.Damaged 1) → IsAtLastEpoch self.old
+        ensures faults { OnErr result ((result ≡ Err OpenError.Device)
+            ⊎ (result ≡ Err (OpenError.Damaged format.root))) }
+        ensures at_end { result ≡ Err (OpenError.Damaged format.root) → IsAtLastEpoch self.old
             × (used_of self.old.journal + 1 ≡ (range_of self.old.journal).count) }
         ensures size { D.size self.new.disk ≡ D.size self.old.disk }
         ensures counts { CountsFaultIf D.counts (result ≡ Err OpenError.Device) self.old.disk self.new.disk }
@@ -130,7 +132,9 @@ impl<D: SectorDisk> Store<D> {
         match self.commit() {
             Ok(()) => Ok(()),
             Err(CommitError::Device) => Err(OpenError::Device),
-            Err(CommitError::Stopped) => Err(OpenError::Damaged { sector: ROOT }),
+            Err(CommitError::Stopped) => Err(OpenError::Damaged {
+                sector: FORMAT.root,
+            }),
         }
     }
 }
@@ -143,7 +147,7 @@ fn read_device<D: SectorDisk>(
     ensures on_disk { IfOk result (λ found. AreOnDisk (D.size disk.new) found.2.limits found.0 found.1) }
     ensures spare { IfOk result (λ found. HasSpare found.0) }
     ensures matches { IfOk result (λ found. IsHonest (D.medium disk.old)
-        → DeviceMatches (D.medium disk.new) found.2.limits found.0 found.1 found.2.state) }
+        → MachineMatches (D.medium disk.new) found.2 found.0 found.1) }
     ensures used { IfOk result (λ found. IsHonest (D.medium disk.old) → 0 < used_of found.1
         → used_of found.1 ≡ header_used journal_range (D.medium disk.old).contents) }
     ensures current { IfOk result (λ found. IsHonest (D.medium disk.old) → 0 < used_of found.1

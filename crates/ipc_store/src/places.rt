@@ -2,12 +2,13 @@
 
 ghost use Rattle.std.specs.Prelude.{◌≡◌, ◌≤◌};
 ghost use Rattle.ipc_base.specs.Limits.{ArePassed};
+ghost use Rattle.ipc_image.specs.Format.{objects_first};
 ghost use Rattle.ipc_store.specs.Image.{layout_of};
 
 use ipc_base::Limits;
 use ipc_checkpoint::Layout;
 use ipc_disk::Range;
-use ipc_image::{JOURNAL, JOURNAL_COUNT, OBJECTS, ROOT, area};
+use ipc_image::{FORMAT, JOURNAL, JOURNAL_COUNT, OBJECTS, area};
 
 /// The sectors of the journal.
 pub(crate) const JOURNAL_RANGE: Range = Range {
@@ -21,7 +22,7 @@ pub(crate) const FIRST_EPOCH: u64 = 1;
 /// Where the objects of a device of so many sectors lie.
 pub(crate) fn layout_of(limits: &Limits, sectors: u32) -> Layout
     requires passed { ArePassed limits.now }
-    requires least { 260 ≤ sectors }
+    requires least { objects_first ≤ sectors }
     ensures exact { result ≡ layout_of limits.now sectors }
     ensures bounded { result.area ≤ 22785 }
 {
@@ -30,7 +31,7 @@ pub(crate) fn layout_of(limits: &Limits, sectors: u32) -> Layout
             first: OBJECTS,
             count: sectors - OBJECTS,
         },
-        root: ROOT,
+        root: FORMAT.root,
         area: area(limits),
     }
 }

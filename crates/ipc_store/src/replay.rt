@@ -7,6 +7,7 @@ ghost use Rattle.ipc_disk.specs.Medium.{IsHonest};
 ghost use Rattle.ipc_disk.specs.Range.{IsWithin};
 ghost use Rattle.ipc_journal.specs.View.{range_of};
 ghost use Rattle.ipc_state.specs.State.{State};
+ghost use Rattle.ipc_engine.specs.Changes.{IsTracked};
 ghost use Rattle.ipc_engine.specs.Event.{PlainEvent};
 ghost use Rattle.ipc_store.specs.Batch.{most_bytes};
 ghost use Rattle.ipc_store.specs.Relations.Replay.{Replays, IsGoodUpTo, AreRecords};
@@ -29,6 +30,8 @@ pub(crate) fn replay<D: SectorDisk>(
     requires room { length room.old ≡ most_bytes }
     // The batches lead to the state of the machine.
     ensures limits { engine.new.limits ≡ engine.old.limits }
+    ensures tracked { (base : State) → IsTracked engine.old.changed base engine.old.state
+        → IsTracked engine.new.changed base engine.new.state }
     ensures replays { OnOk result (IsHonest (D.medium disk.old) → (batches : List (List PlainEvent))
         × Replays engine.old.limits engine.old.state journal.now (D.medium disk.old).contents batches
         engine.new.state) }
@@ -61,6 +64,8 @@ pub(crate) fn replay<D: SectorDisk>(
 /// `false` if the bytes are no records, or if an event names a process that is not connected.
 fn go_through(engine: &mut Engine, records: &[u8]) -> Result<bool, AllocError>
     ensures limits { engine.new.limits ≡ engine.old.limits }
+    ensures tracked { (base : State) → IsTracked engine.old.changed base engine.old.state
+        → IsTracked engine.new.changed base engine.new.state }
     ensures all { IfOk result (λ good. good ≡ true → (events : List PlainEvent)
         × AreRecords engine.old.limits engine.old.state records.now events engine.new.state) }
     ensures only { (events : List PlainEvent) (s : State)

@@ -18,8 +18,8 @@ ghost use Rattle.ipc_engine.specs.View.{plain_event};
 ghost use Rattle.ipc_image.specs.Records.{record_bytes};
 ghost use Rattle.ipc_store.specs.Histories.{Takes};
 ghost use Rattle.ipc_store.specs.View.{HasRoom, HasPlace, HasTurned, IsStopped, IsAtLastEpoch, IsReadyFor};
-ghost use Rattle.ipc_store.specs.View.{events_left, store_view, IsCommitted, Spends};
-ghost use Rattle.ipc_store.specs.Relations.Matches.{AreOnDisk, DeviceMatches, StoreMatches, StandsForEither};
+ghost use Rattle.ipc_store.specs.View.{events_left, save_sectors, store_view, IsCommitted, Spends};
+ghost use Rattle.ipc_store.specs.Relations.Matches.{AreOnDisk, MachineMatches, StoreMatches, StandsForEither};
 
 use crate::batch::Batch;
 use crate::fault::{CommitError, StepError};
@@ -76,8 +76,7 @@ impl<D: SectorDisk> Store<D> {
         batch: Batch,
     ) -> Store<D>
         requires on_disk { AreOnDisk (D.size disk) engine.limits checkpoint journal }
-        requires matches { IsHonest (D.medium disk)
-            → DeviceMatches (D.medium disk) engine.limits checkpoint journal engine.state }
+        requires matches { IsHonest (D.medium disk) → MachineMatches (D.medium disk) engine checkpoint journal }
         requires spare { HasSpare checkpoint }
         requires empty { batch ≡ record { records = []; count = 0 } }
         ensures { result ≡ store_view disk engine checkpoint journal (record { records = []; count = 0 }) 0 false }
@@ -206,6 +205,9 @@ impl<D: SectorDisk> Store<D> {
         ensures faults { CountsFaultIf D.counts (result ≡ Err CommitError.Device) self.old.disk self.new.disk }
         ensures counts { OnOk result (0 < self.old.waiting → HasPlace self.old → D.counts self.new.disk
             ≡ with_calls (sectors_for (4 + length self.old.records) + 1) 2 (D.counts self.old.disk)) }
+        ensures keeps { OnOk result (HasPlace self.old → self.new.machine ≡ self.old.machine) }
+        ensures writes { OnOk result (IsHonest (D.medium self.old.disk) → 0 < self.old.waiting → ¬ HasPlace self.old
+            → D.counts self.new.disk ≡ with_calls (save_sectors self.old.machine) 2 (D.counts self.old.disk)) }
         ensures turned { OnOk result (0 < self.old.waiting → ¬ HasPlace self.old → HasTurned self.old self.new) }
         ensures spends { OnOk result (Spends D.counts 1 self.old self.new) }
         ensures same { IsSameDisk D.size D.medium self.old.disk self.new.disk }
@@ -250,6 +252,8 @@ impl<D: SectorDisk> Store<D> {
         ensures kept { IsStopped self.old → self.new ≡ self.old }
         ensures unwritten { result ≡ Err CommitError.Stopped → self.new.disk ≡ self.old.disk }
         ensures faults { CountsFaultIf D.counts (result ≡ Err CommitError.Device) self.old.disk self.new.disk }
+        ensures writes { OnOk result (IsHonest (D.medium self.old.disk) → D.counts self.new.disk
+            ≡ with_calls (save_sectors self.old.machine) 2 (D.counts self.old.disk)) }
         ensures turned { OnOk result (HasTurned self.old self.new) }
         ensures spends { OnOk result (Spends D.counts 1 self.old self.new) }
         ensures same { IsSameDisk D.size D.medium self.old.disk self.new.disk }
@@ -274,6 +278,7 @@ impl<D: SectorDisk> Store<D> {
             → EachImageSince (D.medium self.old.disk) (D.medium self.new.disk)
             (StandsForEither self.old.machine.limits base (run self.old.machine.limits base pending).state) }
         ensures epoch { self.new.checkpoint ≡ self.old.checkpoint }
+        ensures machine { self.new.machine ≡ self.old.machine }
         ensures stopped { result ≢ Err CommitError.Stopped }
         ensures failure { result ≡ Err CommitError.Device → (D.counts self.new.disk).failures
             ≡ counted (D.counts self.old.disk).failures 1 }
@@ -305,6 +310,8 @@ impl<D: SectorDisk> Store<D> {
         ensures stopped { (result ≡ Err CommitError.Stopped) ↔ IsAtLastEpoch self.old }
         ensures unwritten { result ≡ Err CommitError.Stopped → self.new.disk ≡ self.old.disk }
         ensures faults { CountsFaultIf D.counts (result ≡ Err CommitError.Device) self.old.disk self.new.disk }
+        ensures writes { OnOk result (IsHonest (D.medium self.old.disk) → D.counts self.new.disk
+            ≡ with_calls (save_sectors self.old.machine) 2 (D.counts self.old.disk)) }
         ensures turned { OnOk result (HasTurned self.old self.new) }
         ensures same { IsSameDisk D.size D.medium self.old.disk self.new.disk }
     {
@@ -318,6 +325,7 @@ impl<D: SectorDisk> Store<D> {
             return Err(CommitError::Device);
         }
         self.journal.turn(epoch);
+        self.engine.mark_saved();
         self.confirmed += self.batch.count();
         self.batch.clear();
         Ok(())

@@ -6,7 +6,7 @@ use Rattle.std.specs.Prelude.{slice_index}
 use Rattle.std.proofs.lemmas.Bool.{cases_lt, lt-ltb, le-ltb, ltb-false, ltb-true, cond-true, cond-false, cond_both}
 use Rattle.std.proofs.lemmas.List.{length-append, length-drop, length-take-le, take-append-le, drop-append-le}
 use Rattle.ipc_wire.specs.Request.{PlainKind, PlainRequest}
-use Rattle.ipc_wire.specs.Stream.{PlainFrame, TakesBytes, part, u32_at, kind_of, request_or_fault, frame_of, first, missing}
+use Rattle.ipc_wire.specs.Stream.{PlainFrame, TakesBytes, part, u32_at, kind_of, request_or_fault, frame_of, first, greatest_length, missing}
 use Rattle.ipc_wire.specs.Stream.PlainFrame.{More, Whole, Fault}
 
 request_takes : (call : Option PlainKind) (used serial available : ℕ) → 9 ≤ used → used ≤ available → TakesBytes (request_or_fault used serial call) available
@@ -22,7 +22,7 @@ frame_takes text available least most =
 
 -- a length out of range, and what a frame of this length is
 abbrev pub is_out_of_range : ℕ → Bool
-is_out_of_range size = ltb size 5 || ltb 8448 size
+is_out_of_range size = ltb size 5 || ltb greatest_length size
 
 abbrev pub sized : ℕ → ℕ → PlainFrame → PlainFrame
 sized size available frame = cond (is_out_of_range size) (Fault 0) (cond (ltb available (4 + size)) More frame)
@@ -35,11 +35,11 @@ pub first_long : (bytes : List ℕ) → 4 ≤ length bytes → first bytes ≡ s
 unfolding first
 first_long bytes long = cond-false _ _ _ (le-ltb _ _ long)
 
-pub in_range : (size : ℕ) → is_out_of_range size ≡ false → (5 ≤ size) × (size ≤ 8448)
+pub in_range : (size : ℕ) → is_out_of_range size ≡ false → (5 ≤ size) × (size ≤ greatest_length)
 in_range size e =
     elim (cases_lt size 5) [
       | inl low ↦ absurd (let p = lt-ltb _ _ low in cc)
-      | inr least ↦ elim (cases_lt 8448 size) [
+      | inr least ↦ elim (cases_lt greatest_length size) [
         | inl high ↦ absurd (let p = lt-ltb _ _ high in let q = le-ltb _ _ least in cc)
         | inr most ↦ (least, most)
       ]

@@ -9,7 +9,7 @@ use Rattle.std.proofs.lemmas.Nat.{be_bytes_4}
 use Rattle.ipc_wire.specs.declared.request.Frame.{Frame}
 use Rattle.ipc_wire.specs.declared.request.Frame.TheVariants as frames
 use Rattle.ipc_wire.specs.Request.{PlainKind, PlainRequest}
-use Rattle.ipc_wire.specs.Stream.{PlainFrame, plain_frame, part, u32_at, kind_of, request_or_fault, frame_of, first}
+use Rattle.ipc_wire.specs.Stream.{PlainFrame, plain_frame, part, u32_at, kind_of, request_or_fault, frame_of, first, greatest_length}
 use Rattle.ipc_wire.specs.Stream.PlainFrame.{More, Whole, Fault}
 use Rattle.ipc_wire.specs.Spelling.{opcode_of, fields_of, request_bytes, frame, HasFrame}
 use Rattle.ipc_wire.specs.View.{plain_request}
@@ -75,7 +75,8 @@ record Read (text : List ℕ) (used : ℕ) (request : PlainRequest) : Type 0 whe
   text_is : text ≡ text_of request.serial (opcode_of request.kind) (fields_of request.kind)
   has : HasFrame request
 
-text_back : (text : List ℕ) (used : ℕ) (request : PlainRequest) → AreBytes text → 5 ≤ length text → length text ≤ 8448 → frame_of text ≡ Whole used request
+text_back : (text : List ℕ) (used : ℕ) (request : PlainRequest) → AreBytes text → 5 ≤ length text → length text ≤ greatest_length → frame_of text
+    ≡ Whole used request
     → Read text used request
 unfolding frame_of
 text_back text used request fits least most e =
@@ -103,14 +104,14 @@ text_back text used request fits least most e =
     ]
 
 -- what is read of a frame without its length
-pub request_read : (text : List ℕ) (used : ℕ) (request : PlainRequest) → AreBytes text → 5 ≤ length text → length text ≤ 8448
+pub request_read : (text : List ℕ) (used : ℕ) (request : PlainRequest) → AreBytes text → 5 ≤ length text → length text ≤ greatest_length
     → frame_of text ≡ Whole used request → HasFrame request × (text ≡ request_bytes request)
 request_read text used request fits least most e = let read = text_back text used request fits least most e in (read.has, read.text_is)
 
 -- the frame of a request without its length is no fault, and has a length in range
 pub record Readable (text : List ℕ) (request : PlainRequest) : Type 0 where
   pub least : 5 ≤ length text
-  pub most : length text ≤ 8448
+  pub most : length text ≤ greatest_length
   pub whole : frame_of text ≡ Whole (9 + length (fields_of request.kind)) request
 
 pub request_text : (text : List ℕ) (request : PlainRequest) → HasFrame request → text ≡ request_bytes request → Readable text request

@@ -5,7 +5,7 @@ use Rattle.std.proofs.lemmas.Bool.{le-ltb, cond-false, ne_eqb}
 use Rattle.std.proofs.lemmas.List.{length-append, take_at}
 use Rattle.std.proofs.lemmas.Nat.{from_be_bytes-to_be_bytes_4}
 use Rattle.ipc_wire.specs.Request.{PlainKind, PlainRequest}
-use Rattle.ipc_wire.specs.Stream.{part, u32_at, kind_of, frame_of, first}
+use Rattle.ipc_wire.specs.Stream.{part, u32_at, kind_of, frame_of, first, greatest_length}
 use Rattle.ipc_wire.specs.Stream.PlainFrame.{Whole}
 use Rattle.ipc_wire.specs.Spelling.{opcode_of, fields_of, frame, HasFrame}
 use Rattle.ipc_wire.proofs.Frames.{first_long, is_out_of_range, sized}
@@ -24,13 +24,14 @@ text_again serial opcode fields call least most read =
     let size : 4 + length (text_of serial opcode fields) ≡ 9 + length fields = omega arith in
     rw (named, some, read, size) refl
 
-in_range_again : (size : ℕ) → 5 ≤ size → size ≤ 8448 → is_out_of_range size ≡ false
+in_range_again : (size : ℕ) → 5 ≤ size → size ≤ greatest_length → is_out_of_range size ≡ false
 in_range_again size least most =
     let low : ltb size 5 ≡ false = le-ltb _ _ least in
-    let high : ltb 8448 size ≡ false = le-ltb _ _ most in
+    let high : ltb greatest_length size ≡ false = le-ltb _ _ most in
     rw (low, high) refl
 
-framed_again : (text rest : List ℕ) (size : ℕ) → length text ≡ size → 5 ≤ size → size ≤ 8448 → first ((to_be_bytes w32 size ++ text) ++ rest) ≡ frame_of text
+framed_again : (text rest : List ℕ) (size : ℕ) → length text ≡ size → 5 ≤ size → size ≤ greatest_length
+    → first ((to_be_bytes w32 size ++ text) ++ rest) ≡ frame_of text
 unfolding u32_at
 framed_again text rest size len least most =
     let bytes : List ℕ = (to_be_bytes w32 size ++ text) ++ rest in

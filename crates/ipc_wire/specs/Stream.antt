@@ -1,4 +1,4 @@
--- The requests of a stream of bytes. A frame is the length of what follows (four bytes, from 5 to 8448), a
+-- The requests of a stream of bytes. A frame is the length of what follows (four bytes, 5 at least), a
 -- serial of four bytes that is not 0, an opcode of one byte, and the fields of the opcode's row.
 use Rattle.std.specs.Prelude.{◌≤◌, ◌+◌, ◌-◌, ℕ, zero, suc, Bool, true, false, List, [], ◌∷◌, ◌++◌, length, take, drop}
 use Rattle.std.specs.Prelude.{slice_index, nat_lt, ◌==◌, ◌||◌, if◌then◌else◌, Option, Some, None}
@@ -51,6 +51,10 @@ kind_of opcode bytes = made_by_some (row_of opcode) bytes
 
 -- ---- frames
 
+-- the most bytes behind the length of a frame
+abbrev pub greatest_length : ℕ
+greatest_length = 8448
+
 abbrev pub request_or_fault : ℕ → ℕ → Option PlainKind → PlainFrame
 request_or_fault used serial None = Fault serial
 request_or_fault used serial (Some kind) = Whole used (record { serial = serial; kind = kind })
@@ -66,7 +70,7 @@ unfoldable pub first : List ℕ → PlainFrame
 first bytes =
     let size = u32_at 0 bytes in
     if nat_lt (length bytes) 4 then More
-    else if nat_lt size 5 || nat_lt 8448 size then Fault 0
+    else if nat_lt size 5 || nat_lt greatest_length size then Fault 0
     else if nat_lt (length bytes) (4 + size) then More
     else frame_of (part 4 size bytes)
 

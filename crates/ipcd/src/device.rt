@@ -5,6 +5,7 @@ ghost use Rattle.ipc_base.specs.declared.limits.Limits.{Limits};
 ghost use Rattle.ipc_base.specs.Limits.{ArePassed};
 ghost use Rattle.ipc_disk.specs.Medium.{IsHonest};
 ghost use Rattle.ipc_disk.specs.Memory.{memory_medium};
+ghost use Rattle.ipc_image.specs.Format.{format};
 ghost use Rattle.ipc_image.specs.Sizes.{need_of};
 ghost use Rattle.ipc_state.specs.State.{start};
 ghost use Rattle.ipc_store.specs.Histories.{Keeps, OpensOn, Past, new_past, reopened};
@@ -65,7 +66,7 @@ pub fn open_store<D: SectorDisk + Drop>(alloc: Global, disk: D) -> Result<Store<
     ensures damaged { IfErr result (λ fault. (sector : ℕ) → fault ≡ Run (Damaged sector)
         → IsHonest (D.medium disk)
         → (IsDamaged (D.medium disk).contents × IsFirstFault (D.medium disk).contents sector)
-        ⊎ (IsAtEnd (D.medium disk).contents × (sector ≡ 1))) }
+        ⊎ (IsAtEnd (D.medium disk).contents × (sector ≡ format.root))) }
 {
     an_open_finds_what_stands_there::<D>();
     match Store::open(alloc, disk) {

@@ -55,15 +55,16 @@ use Rattle.posix_sem.specs.Semaphore.{post_answer, posted, sem_value_max, wait_a
 use Rattle.shm_segment.specs.Segment.{Segment, empty_segment, is_within, part, truncated, written}
 use Rattle.ipc_state.specs.Sound.{segment_bytes}
 use Rattle.ipc_state.specs.State.{named_of, objects_in, with_psem, with_pshm}
-use Rattle.ipc_state.specs.Touching.{IsAsBefore, object_of}
+use Rattle.ipc_state.specs.Touching.{IsAsBefore, IsSameIn, closed_on, object_of}
 use Rattle.ipc_state.specs.Waiting.{may_wait}
 use Rattle.ipc_state.proofs.CallerLemmas.{IsGood, as_before, same-but-table, same-objects, same-processes}
 use Rattle.ipc_state.proofs.CallerLemmas.{AtEnd, after, after-refuse, after-then, at-all, at-some, at-value, by-if_some, by-test}
 use Rattle.ipc_state.proofs.CallerLemmas.{closed-sound, unlinked-sound, with_descriptor-sound, with_descriptor_flags-sound}
 use Rattle.ipc_state.proofs.CallerLemmas.{descriptor-sound, mq-registered, received_mq-sound, sent_mq-sound}
 use Rattle.ipc_state.proofs.CallerLemmas.{MayJoin, content-sound, with_new-sound, with_object-sound}
+use Rattle.ipc_state.proofs.CallerLemmas.{same_in-closed, same_in-new, same_in-object, same_in-unlinked}
 use Rattle.ipc_state.proofs.CallerLemmas.{before-then, elsewhere-closed, elsewhere-new, elsewhere-object, elsewhere-table, elsewhere-unlinked}
-use Rattle.posix_calls.specs.Calls.{definition_of, on_descriptor, touched}
+use Rattle.posix_calls.specs.Calls.{definition_of, made_object, made_or_cut, named_object, on_descriptor, option_made, touched}
 use Rattle.posix_calls.specs.Mq.{Found, arrived, attr_fields, close, firing, given_up, is_own, is_to_notify, kept_flags}
 use Rattle.posix_calls.specs.Mq.{message_body, mq_getattr, mq_notify, mq_open, mq_receive, mq_send, mq_setattr}
 use Rattle.posix_calls.specs.Mq.{registering, registration}
@@ -193,6 +194,13 @@ module _ (flags : ℕ) (s : State) (n : ℕ) (e : NamedEntry Segment) where
       by_test true = elsewhere-object s (kinds.Named names.Pshm) n (truncated 0 e.object) p on refl (λ no. cc)
       by_test false = as_before p on s
 
+  cut-same_in : (o : Object) → made_or_cut flags s.pshm.next (Some n) ≢ Some o → IsSameIn o s (cut_as flags s n e)
+  cut-same_in o = by_test (has flags trunc)
+    where
+      by_test : (b : Bool) → (if b then Some (opened_as names.Pshm n) else None) ≢ Some o → IsSameIn o s (cut_if b)
+      by_test true apart = same_in-object s o (kinds.Named names.Pshm) n (truncated 0 e.object) apart
+      by_test false apart = λ d is. is
+
 -- all but the segments is as it was
 pub cut-same : {X : Type 0} (f : State → X) → ((x : Segment) → (s : State) (n : ℕ) → f (with_pshm s n x) ≡ f s) → (flags : ℕ) (s : State) (n : ℕ)
     (e : NamedEntry Segment) → f (cut_as flags s n e) ≡ f s
@@ -262,9 +270,10 @@ module _ (limits : Limits) where
       same-ends : (t : State) (body : PlainBody) (fired : Option Registration) → t.processes ≡ s.processes → t.clock ≡ s.clock → t.wait ≡ s.wait
           → (HasSoundParts limits s → HasSoundParts limits t) → (HasSoundParts limits s → FitsBody limits body)
           → (HasSoundParts limits s → (p : ℕ) (on : Awaited) → touches ≢ object_of s p on → IsAsBefore p on s t)
+          → (HasSoundParts limits s → (o : Object) → touches ≢ Some o → IsSameIn o s t)
           → ((p : ℕ) → own p fired + registrations t p ≤ registrations s p + may_make pid body p)
           → AtEnd never (Leaves touches) (answer_firing t body fired)
-      same-ends t body fired same clock wait sound fits others owes =
+      same-ends t body fired same clock wait sound fits others rest owes =
           at-value _ (record {
             good = λ free. record {
               state = sound;
@@ -273,20 +282,23 @@ module _ (limits : Limits) where
               clock = clock;
               wait = wait;
               others = λ h p on waits apart there. others h p on apart;
+              same = rest;
             };
             owes = owes;
             objects = λ p other on. same-objects s t p on same;
           })
 
       read-ends : (body : PlainBody) → FitsBody limits body → AtEnd never (Leaves touches) (answer s body)
-      read-ends body fits = same-ends s body None refl refl refl (λ h. h) (λ _. fits) (λ h p on apart. as_before p on s) (λ p. omega arith)
+      read-ends body fits =
+          same-ends s body None refl refl refl (λ h. h) (λ _. fits) (λ h p on apart. as_before p on s) (λ h o apart e is. is) (λ p. omega arith)
 
       -- the descriptors of the caller alone are others
       table-ends : (t : State) (body : PlainBody) (table : Table) → t.processes ≡ with_table s.processes pid table → t.clock ≡ s.clock → t.wait ≡ s.wait
           → (HasSoundParts limits s → HasSoundParts limits t) → FitsBody limits body
           → (HasSoundParts limits s → (p : ℕ) (on : Awaited) → p ≢ pid → touches ≢ object_of s p on → IsAsBefore p on s t)
+          → (HasSoundParts limits s → (o : Object) → touches ≢ Some o → IsSameIn o s t)
           → ((p : ℕ) → registrations t p ≤ registrations s p) → AtEnd never (Leaves touches) (answer t body)
-      table-ends t body table same clock wait sound fits others owes =
+      table-ends t body table same clock wait sound fits others rest owes =
           at-value _ (record {
             good = λ free. record {
               state = sound;
@@ -296,6 +308,7 @@ module _ (limits : Limits) where
               wait = wait;
               others = λ h p on waits apart there.
                   others h p on (λ one. let both : true ≡ false = sym waits ∙ (ap (is_waiting s) one ∙ free) in cc) apart;
+              same = rest;
             };
             owes = λ p. omega (arith, owes p);
             objects = λ p other on. same-objects (with_descriptors s pid table) t p on same ∙ table-objects p s pid table other on;
@@ -329,6 +342,7 @@ module _ (limits : Limits) where
         with_object-sound limits s (kinds.Named names.Mq) f.number e.entry q e.there (good (was h)) (stays by) h)
         (λ h. fits (was h))
         (λ h p on apart. elsewhere-object s (kinds.Named names.Mq) f.number q p on refl (λ _ same. apart (on-object s pid fd o.descriptor _ o.at o.on ∙ same)))
+        (λ h this apart. same_in-object s this (kinds.Named names.Mq) f.number q (λ same. apart (on-object s pid fd o.descriptor _ o.at o.on ∙ same)))
         (λ p. omega (arith, put-mq p s f.number f.queue q o.there, owes p))
 
     mq_send-ends : (fd priority : ℕ) (text : List ℕ) → AtEnd false (Leaves (on_descriptor s pid fd)) (mq_send s pid fd priority text)
@@ -378,17 +392,20 @@ module _ (limits : Limits) where
       mq_getattr-ends fd = after (open-ends s pid fd) (λ f o. read-ends (Record (record_bytes (attr_fields f))) (omega arith))
 
       -- the name of an object is gone, and it, if it is not open
-      unlink-ends : (kind : NameKind) (cred : Cred) (name : List ℕ) → AtEnd never (Leaves None) (unlink kind s cred name)
+      unlink-ends : (kind : NameKind) (cred : Cred) (name : List ℕ) → AtEnd never (Leaves (named_object kind s name)) (unlink kind s cred name)
       unlink-ends kind cred name =
-          after-then (proper-ends kind name) (λ _. after (unlinkable-ends (named_of s kind) cred name) (λ n _.
+          after-then (proper-ends kind name) (λ _. after (unlinkable-ends (named_of s kind) cred name) (λ n is.
           same-ends (unlinked s (kinds.Named kind) n) Empty None refl refl refl (unlinked-sound limits s (kinds.Named kind) n refl) (λ _. omega arith)
-          (λ h p on apart. elsewhere-unlinked limits s h (kinds.Named kind) n p on refl) (λ p. omega (arith, fewer-unlinked p s kind n))))
+          (λ h p on apart. elsewhere-unlinked limits s h (kinds.Named kind) n p on refl)
+          (λ h this apart. same_in-unlinked s this limits h (kinds.Named kind) n (λ same. apart (ap (option_map (opened_as kind)) is ∙ same)))
+          (λ p. omega (arith, fewer-unlinked p s kind n))))
 
-      close-ends : (fd : ℕ) → AtEnd never (Leaves (on_descriptor s pid fd)) (close s pid fd)
+      close-ends : (fd : ℕ) → AtEnd never (Leaves (closed_on s pid fd)) (close s pid fd)
       close-ends fd =
           after (at-some EBADF (descriptor_at s.processes.entries pid fd)) (λ d _.
           table-ends (closed s pid fd) Empty _ refl refl refl (closed-sound limits s pid fd) (omega arith)
-          (λ h p on other apart. elsewhere-closed limits s h pid fd p on other apart) (λ p. fewer-closed p s pid fd))
+          (λ h p on other apart. elsewhere-closed limits s h pid fd p on other apart) (λ h this apart. same_in-closed s this limits h pid fd apart)
+          (λ p. fewer-closed p s pid fd))
 
       mq_setattr-ends : (fd flags : ℕ) → AtEnd never (Leaves None) (mq_setattr s pid fd flags)
       mq_setattr-ends fd flags =
@@ -397,56 +414,61 @@ module _ (limits : Limits) where
           table-ends (with_descriptor_flags s pid fd left) (Record (record_bytes (attr_fields f))) _ refl refl refl
           (λ h. with_descriptor_flags-sound limits s pid fd left (λ d at. keeps-access f o left
           (set-mode f.flags flags (eqb-true _ _ (not-false _ within)) ∙ ap (λ (n : ℕ). bit_and n 3) (sym o.flags)) h d at) h)
-          (omega arith) (λ h p on other apart. elsewhere-table s pid _ p on other) (λ p. omega arith)))
+          (omega arith) (λ h p on other apart. elsewhere-table s pid _ p on other) (λ h this apart e is. is) (λ p. omega arith)))
 
       -- a descriptor on an object that is there, in a state of which others see nothing new
-      opens-ends : (t : State) (flags : ℕ) (on : Object) → t.processes ≡ s.processes → t.clock ≡ s.clock → t.wait ≡ s.wait
+      opens-ends : {touches : Option Object} (t : State) (flags : ℕ) (on : Object) → t.processes ≡ s.processes → t.clock ≡ s.clock → t.wait ≡ s.wait
           → has_all_descriptors limits t pid ≡ false → (HasSoundParts limits s → HasSoundParts limits t)
           → (HasSoundParts limits s → is_there_for (objects_in t) on ≡ true) → has_access on.kind flags ≡ true
-          → (HasSoundParts limits s → (p : ℕ) (on : Awaited) → IsAsBefore p on s t) → ((p : ℕ) → registrations t p ≤ registrations s p)
-          → AtEnd never (Leaves None) (opens t pid flags on)
-      opens-ends t flags on same clock wait few sound there access others owes =
+          → (HasSoundParts limits s → (p : ℕ) (on : Awaited) → IsAsBefore p on s t)
+          → (HasSoundParts limits s → (o : Object) → touches ≢ Some o → IsSameIn o s t) → ((p : ℕ) → registrations t p ≤ registrations s p)
+          → AtEnd never (Leaves touches) (opens t pid flags on)
+      opens-ends t flags on same clock wait few sound there access others rest owes =
           let d : Descriptor = record { on = on; flags = flags } in
           let table = opened_table (descriptors_of t.processes.entries pid) d in
           table-ends (with_descriptor t pid d) (Number (lowest_unused (descriptors_of t.processes.entries pid))) table
           (ap (λ (ps : Numbered Process). with_table ps pid table) same) clock wait
           (λ h. with_descriptor-sound limits t pid d few (and_from _ _ (there h) access) (sound h)) (omega arith)
-          (λ h p on other apart. before-then p on s t _ (others h p on) (elsewhere-table t pid table p on other)) owes
+          (λ h p on other apart. before-then p on s t _ (others h p on) (elsewhere-table t pid table p on other)) rest owes
 
       module _ (kind : NameKind) (cred : Cred) (flags : ℕ) (few : has_all_descriptors limits s pid ≡ false)
           (access : has_access (kinds.Named kind) flags ≡ true) where
         -- a descriptor on an object that is there, and that the caller may use
-        there-ends : (n asked : ℕ)
-            → AtEnd never (Leaves None) (usable (named_of s kind) cred n asked >>= (λ e. opens s pid flags (opened_as kind n)))
+        there-ends : {touches : Option Object} (n asked : ℕ)
+            → AtEnd never (Leaves touches) (usable (named_of s kind) cred n asked >>= (λ e. opens s pid flags (opened_as kind n)))
         there-ends n asked =
             after (usable-ends (named_of s kind) cred n asked) (λ e there.
-            opens-ends s flags (opened_as kind n) refl refl refl few (λ h. h) (λ _. ap is_some there) access as_it_is (λ p. omega arith))
+            opens-ends s flags (opened_as kind n) refl refl refl few (λ h. h) (λ _. ap is_some there) access as_it_is (λ h this apart e is. is)
+            (λ p. omega arith))
 
         -- a descriptor on a new object
-        new-ends : (name : List ℕ) (mode : ℕ) (x : Content (kinds.Named kind)) → is_ok (check_name kind name) ≡ true → named (named_of s kind) name ≡ None
+        new-ends : {touches : Option Object} (name : List ℕ) (mode : ℕ) (x : Content (kinds.Named kind)) → is_ok (check_name kind name) ≡ true
+            → named (named_of s kind) name ≡ None → touches ≡ Some (opened_as kind (named_of s kind).next)
             → is_full (most_of limits (kinds.Named kind)) (named_of s kind) ≡ false → IsSoundContent limits (kinds.Named kind) x
             → (HasSoundParts limits s → MayJoin limits (kinds.Named kind) (named_of s kind) x)
             → ((p : ℕ) → registrations (with_new_of s (kinds.Named kind) name cred mode x) p ≤ registrations s p)
-            → AtEnd never (Leaves None) (opens (with_new_of s (kinds.Named kind) name cred mode x) pid flags (opened_as kind (named_of s kind).next))
-        new-ends name mode x right unused room good may owes =
+            → AtEnd never (Leaves touches) (opens (with_new_of s (kinds.Named kind) name cred mode x) pid flags (opened_as kind (named_of s kind).next))
+        new-ends name mode x right unused makes room good may owes =
             let those : Those (kinds.Named kind) = named_of s kind in
             let e : EntryOf (kinds.Named kind) = record { bound = name; perm = perm_of cred mode; object = x } in
             opens-ends (with_new_of s (kinds.Named kind) name cred mode x) flags (opened_as kind those.next) refl refl refl few
             (λ h. with_new-sound limits s (kinds.Named kind) name cred mode x unused room right good (may h) h)
             (λ h. ap (λ (o : Those (kinds.Named kind)). is_some (entry_of o those.next)) (put-kind (objects_in s) kind (with_new those e))
             ∙ new-there those e (h.named kind).held.bound.numbered.numbers)
-            access (λ h p on. elsewhere-new limits s h (kinds.Named kind) e p on refl) owes
+            access (λ h p on. elsewhere-new limits s h (kinds.Named kind) e p on refl)
+            (λ h this apart. same_in-new s this (kinds.Named kind) e (λ same. apart (makes ∙ same))) owes
 
       mq_open-ends : (cred : Cred) (flags mode attr : ℕ) (maxmsg msgsize : ℤ) (name : List ℕ)
-          → AtEnd never (Leaves None) (mq_open limits s cred pid flags mode attr maxmsg msgsize name)
+          → AtEnd never (Leaves (made_object names.Mq s name)) (mq_open limits s cred pid flags mode attr maxmsg msgsize name)
       mq_open-ends cred flags mode attr maxmsg msgsize name =
           after-then (proper-ends names.Mq name) (λ right. after-refuse EINVAL (λ access. after-refuse EMFILE (λ few.
-          after (sought-ends s.mq name flags) (λ found unused.
+          after (sought-ends s.mq name flags) (λ found is.
           by-if_some {o = found} (λ n _. there-ends names.Mq cred (kept_flags flags) few (kept-mode flags access) n (asked_by flags))
           (λ none. after (attributes-ends limits attr maxmsg msgsize) (λ given good. after-refuse ENOSPC (λ room.
           let q : Mq = empty_queue given.0 given.1 None in
           let e : NamedEntry Mq = record { bound = name; perm = perm_of cred mode; object = q } in
-          new-ends names.Mq cred (kept_flags flags) few (kept-mode flags access) name mode q right (unused none) room good (λ _. refl)
+          new-ends names.Mq cred (kept_flags flags) few (kept-mode flags access) name mode q right (is ∙ none)
+          (ap (option_made names.Mq s.mq.next) (is ∙ none)) room good (λ _. refl)
           (λ p. omega (arith, sum_by-append (of-entry p) s.mq.entries ((s.mq.next, e) ∷ []))))))))))
 
     -- ---- named semaphores
@@ -462,6 +484,7 @@ module _ (limits : Limits) where
         (λ _. omega arith)
         (λ h p on apart. elsewhere-object s (kinds.Named names.Psem) f.number value p on refl
         (λ _ same. apart (on-object s pid fd o.descriptor _ o.at o.on ∙ same)))
+        (λ h this apart. same_in-object s this (kinds.Named names.Psem) f.number value (λ same. apart (on-object s pid fd o.descriptor _ o.at o.on ∙ same)))
         (λ p. omega arith)
 
     posted-few : (n : ℕ) → n ≤ sem_value_max → posted n ≤ sem_value_max
@@ -489,31 +512,34 @@ module _ (limits : Limits) where
       sem_getvalue-ends fd = after (open_psem-ends s pid fd) (λ f o. read-ends (Number f.value) (omega arith))
 
       sem_open-ends : (cred : Cred) (flags mode value : ℕ) (name : List ℕ)
-          → AtEnd never (Leaves None) (sem_open limits s cred pid flags mode value name)
+          → AtEnd never (Leaves (made_object names.Psem s name)) (sem_open limits s cred pid flags mode value name)
       sem_open-ends cred flags mode value name =
-          after-then (proper-ends names.Psem name) (λ right. after-refuse EMFILE (λ few. after (sought-ends s.psem name flags) (λ found unused.
+          after-then (proper-ends names.Psem name) (λ right. after-refuse EMFILE (λ few. after (sought-ends s.psem name flags) (λ found is.
           by-if_some {o = found} (λ n _. there-ends names.Psem cred 0 few refl n 6)
           (λ none. after-refuse EINVAL (λ most. after-refuse ENOSPC (λ room.
           let short : value ≤ sem_value_max = grind (arith, nat_tests) in
-          new-ends names.Psem cred 0 few refl name mode value right (unused none) room short (λ _. tt) (λ p. omega arith)))))))
+          new-ends names.Psem cred 0 few refl name mode value right (is ∙ none) (ap (option_made names.Psem s.psem.next) (is ∙ none)) room short (λ _. tt)
+          (λ p. omega arith)))))))
 
       -- ---- segments
 
       -- another segment in the place of one that is open
       put_segment-ends : (fd : ℕ) (f : FoundPshm) (x : Segment) → IsOpenPshm s pid fd f
           → (HasSoundParts limits s → segment_bytes s.pshm - length f.entry.object.bytes + length x.bytes ≤ limits.segment_bytes)
-          → AtEnd never (Leaves None) (answer (with_pshm s f.number x) Empty)
+          → AtEnd never (Leaves (on_descriptor s pid fd)) (answer (with_pshm s f.number x) Empty)
       put_segment-ends fd f x o few =
           same-ends (with_pshm s f.number x) Empty None refl refl refl
           (λ h. with_object-sound limits s (kinds.Named names.Pshm) f.number f.entry x o.there tt (few h) h) (λ _. omega arith)
-          (λ h p on apart. elsewhere-object s (kinds.Named names.Pshm) f.number x p on refl (λ no. cc)) (λ p. omega arith)
+          (λ h p on apart. elsewhere-object s (kinds.Named names.Pshm) f.number x p on refl (λ no. cc))
+          (λ h this apart. same_in-object s this (kinds.Named names.Pshm) f.number x (λ same. apart (on-object s pid fd o.descriptor _ o.at o.on ∙ same)))
+          (λ p. omega arith)
 
-      ftruncate-ends : (fd len : ℕ) → AtEnd never (Leaves None) (ftruncate limits s pid fd len)
+      ftruncate-ends : (fd len : ℕ) → AtEnd never (Leaves (on_descriptor s pid fd)) (ftruncate limits s pid fd len)
       ftruncate-ends fd len =
           after (writable-ends s pid fd) (λ f o. after-refuse ENOSPC (λ few.
           put_segment-ends fd f (truncated len f.entry.object) o (λ _. grind (arith, nat_tests, truncated-length f.entry.object len))))
 
-      shm_write-ends : (fd offset : ℕ) (bytes : List ℕ) → AtEnd never (Leaves None) (shm_write limits s pid fd offset bytes)
+      shm_write-ends : (fd offset : ℕ) (bytes : List ℕ) → AtEnd never (Leaves (on_descriptor s pid fd)) (shm_write limits s pid fd offset bytes)
       shm_write-ends fd offset bytes =
           after (writable-ends s pid fd) (λ f o. after-refuse EINVAL (λ _. after-refuse EINVAL (λ within.
           put_segment-ends fd f (written offset bytes f.entry.object) o (λ h.
@@ -529,9 +555,9 @@ module _ (limits : Limits) where
       shm_stat-ends : (fd : ℕ) → AtEnd never (Leaves None) (shm_stat s pid fd)
       shm_stat-ends fd = after (open_pshm-ends s pid fd) (λ f o. read-ends (Record (record_bytes (segment_fields f.entry))) (omega arith))
 
-      opened_pshm-ends : (cred : Cred) (flags n : ℕ) → (bit_and flags 1 == 1) ≡ false → has_all_descriptors limits s pid ≡ false
-          → AtEnd never (Leaves None) (opened_pshm s cred pid flags n)
-      opened_pshm-ends cred flags n access few =
+      opened_pshm-ends : {touches : Option Object} (cred : Cred) (flags n : ℕ) → touches ≡ made_or_cut flags s.pshm.next (Some n)
+          → (bit_and flags 1 == 1) ≡ false → has_all_descriptors limits s pid ≡ false → AtEnd never (Leaves touches) (opened_pshm s cred pid flags n)
+      opened_pshm-ends cred flags n cuts access few =
           after (usable-ends s.pshm cred n (asked_of_pshm flags)) (λ e there.
           let t : State = cut_as flags s n e in
           opens-ends t (access_of flags) (opened_as names.Pshm n) (cut-same (λ (u : State). u.processes) (λ x t m. refl) flags s n e)
@@ -539,16 +565,18 @@ module _ (limits : Limits) where
           (ap (λ (ps : Numbered Process). nat_le limits.descriptors (length (descriptors_of ps.entries pid)))
           (cut-same (λ (u : State). u.processes) (λ x t m. refl) flags s n e) ∙ few)
           (cut-sound flags s n e limits there) (λ _. cut-there flags s n e there) (segment-mode flags access)
-          (λ h p on. cut-elsewhere flags s n e p on)
+          (λ h p on. cut-elsewhere flags s n e p on) (λ h this apart. cut-same_in flags s n e this (λ same. apart (cuts ∙ same)))
           (λ p. omega (arith, ap (λ (o : Named Mq). sum_by (of-entry p) o.entries) (cut-same (λ (u : State). u.mq) (λ x t m. refl) flags s n e))))
 
-      shm_open-ends : (cred : Cred) (flags mode : ℕ) (name : List ℕ) → AtEnd never (Leaves None) (shm_open limits s cred pid flags mode name)
+      shm_open-ends : (cred : Cred) (flags mode : ℕ) (name : List ℕ)
+          → AtEnd never (Leaves (made_or_cut flags s.pshm.next (named s.pshm name))) (shm_open limits s cred pid flags mode name)
       shm_open-ends cred flags mode name =
           after-then (proper-ends names.Pshm name) (λ right. after-refuse EINVAL (λ access. after-refuse EMFILE (λ few.
-          after (sought-ends s.pshm name flags) (λ found unused.
-          by-if_some {o = found} (λ n _. opened_pshm-ends cred flags n access few)
+          after (sought-ends s.pshm name flags) (λ found is.
+          by-if_some {o = found} (λ n one. opened_pshm-ends cred flags n (ap (made_or_cut flags s.pshm.next) (is ∙ one)) access few)
           (λ none. after-refuse ENOSPC (λ room.
-          new-ends names.Pshm cred (access_of flags) few (segment-mode flags access) name mode empty_segment right (unused none) room tt
+          new-ends names.Pshm cred (access_of flags) few (segment-mode flags access) name mode empty_segment right (is ∙ none)
+          (ap (made_or_cut flags s.pshm.next) (is ∙ none)) room tt
           (λ h. omega (arith, (h.named names.Pshm).together)) (λ p. omega arith)))))))
 
     pub call-ends : (call : PlainPosix) → AtEnd (not (may_wait (Posix call))) (Leaves (touched s pid call)) (definition_of limits s pid call)

@@ -174,19 +174,19 @@ module _ {never : Bool} where
 
   -- if an open finds nothing, no object has the name
   pub sought-ends : {X : Type 0} (o : Named X) (name : List ℕ) (flags : ℕ)
-      → AtEnd never (λ (found : Option ℕ). found ≡ None → named o name ≡ None) (sought o name flags)
+      → AtEnd never (λ (found : Option ℕ). named o name ≡ found) (sought o name flags)
   sought-ends o name flags =
-      by-if_some {o = named o name} (λ n _. after-refuse EEXIST (λ _. at-value (Some n) (λ is. cc)))
-      (λ none. after-refuse ENOENT (λ _. at-value None (λ _. none)))
+      by-if_some {o = named o name} (λ n is. after-refuse EEXIST (λ _. at-value (Some n) is))
+      (λ none. after-refuse ENOENT (λ _. at-value None none))
 
   pub usable-ends : {X : Type 0} (o : Named X) (cred : Cred) (n asked : ℕ)
       → AtEnd never (λ (e : NamedEntry X). entry_of o n ≡ Some e) (usable o cred n asked)
   usable-ends o cred n asked = after-orelse ENOENT (λ e there. after-refuse EACCES (λ _. at-value e there))
 
   pub unlinkable-ends : {X : Type 0} (o : Named X) (cred : Cred) (name : List ℕ)
-      → AtEnd never (λ (n : ℕ). Unit {0}) (unlinkable o cred name)
+      → AtEnd never (λ (n : ℕ). named o name ≡ Some n) (unlinkable o cred name)
   unlinkable-ends o cred name =
-      after-orelse ENOENT {o = named o name} (λ n _. after-orelse ENOENT {o = entry_of o n} (λ e _. after-refuse EACCES (λ _. at-value n tt)))
+      after-orelse ENOENT {o = named o name} (λ n is. after-orelse ENOENT {o = entry_of o n} (λ e _. after-refuse EACCES (λ _. at-value n is)))
 
   limited-ends : (limit : ℕ) (asked : ℤ) → AtEnd never (λ (n : ℕ). (0 < n) × (n ≤ limit)) (limited limit asked)
   limited-ends limit (negsuc k) = at-failure EINVAL

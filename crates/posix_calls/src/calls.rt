@@ -1,12 +1,16 @@
 //! The attempt of a call that never waits, which takes no memory; and which object a call may change.
 
-ghost use Rattle.std.specs.Prelude.{◌≡◌, true, false};
+ghost use Rattle.std.specs.Prelude.{◌≡◌, ◌&&◌, true, false, Some, option_map};
 ghost use Rattle.ipc_wire.specs.Posix.{plain_posix};
 ghost use Rattle.ipc_wire.specs.Request.{Posix};
+ghost use Rattle.ipc_state.specs.Directory.{ArePositive};
 ghost use Rattle.ipc_state.specs.Finish.{Finishes, finish_of};
 ghost use Rattle.ipc_state.specs.Held.{left};
+ghost use Rattle.ipc_state.specs.Named.{named as named_in};
+ghost use Rattle.ipc_state.specs.Opening.{opened_as};
 ghost use Rattle.ipc_state.specs.Sound.{HasSoundParts};
 ghost use Rattle.ipc_state.specs.State.{is_process};
+ghost use Rattle.ipc_state.specs.Touching.{closed_on, is_made_by, is_queue, registration_of};
 ghost use Rattle.ipc_state.specs.Waiting.{may_wait};
 ghost use Rattle.posix_calls.specs.Calls as defined;
 ghost use Rattle.posix_calls.specs.Needs.{needs};
@@ -16,9 +20,12 @@ use crate::mq::{close, mq_getattr, mq_notify, mq_setattr, mq_unlink};
 use crate::opening::{Wanted, mq_open};
 use crate::psem::{sem_getvalue, sem_open, sem_post, sem_trywait, sem_unlink};
 use crate::pshm::{ftruncate, shm_open, shm_read, shm_stat, shm_unlink, shm_write};
-use ipc_base::Pid;
-use ipc_state::{Answer, Awaited, Object, State};
+use bitflags::Flags;
+use ipc_base::{OpenFlags, Pid};
+use ipc_keys::NameKind;
+use ipc_state::{Answer, Awaited, Named, Object, ObjectKind, State};
 use ipc_wire::PosixCall;
+use shm_segment::Segment;
 
 /// The attempt of a call by a process, whose memory is reserved and that never waits. It takes none: a record is made
 /// in the spare buffer, and has it. Nothing is reserved then.
@@ -80,18 +87,109 @@ pub fn attempt(state: &mut State, pid: Pid, call: &PosixCall<'_>, spare: &mut Ve
     }
 }
 
-/// The object that a call may change, so that those that wait on it may go on.
+/// The object that a call may leave otherwise, so that those that wait on it may go on: no other, and none if it is
+/// refused. An open that finds its object changes none, unless it cuts a segment; else it makes the one of the next
+/// number.
 pub fn touched(state: &State, pid: Pid, call: &PosixCall<'_>) -> Option<Object>
+    requires sound { HasSoundParts state.now.limits state.now.state }
     ensures { result ≡ defined.touched state.now.state pid.0 (plain_posix call.now) }
 {
     match call {
-        PosixCall::Close { fd }
-        | PosixCall::MqSend { fd, .. }
+        PosixCall::Close { fd } => closed_on(state, pid, *fd),
+        PosixCall::MqOpen { name, .. } => made(NameKind::Mq, state.named_mqs(), name),
+        PosixCall::SemOpen { name, .. } => made(NameKind::Psem, state.psems(), name),
+        PosixCall::ShmOpen { flags, name, .. } => made_or_cut(state.pshms(), *flags, name),
+        PosixCall::MqUnlink { name } => named(NameKind::Mq, state.named_mqs(), name),
+        PosixCall::SemUnlink { name } => named(NameKind::Psem, state.psems(), name),
+        PosixCall::ShmUnlink { name } => named(NameKind::Pshm, state.pshms(), name),
+        PosixCall::MqSend { fd, .. }
         | PosixCall::MqReceive { fd, .. }
         | PosixCall::MqNotify { fd, .. }
         | PosixCall::SemPost { fd }
         | PosixCall::SemWait { fd, .. }
-        | PosixCall::SemTrywait { fd } => state.object_of(pid, Awaited::Descriptor(*fd)),
-        _ => None,
+        | PosixCall::SemTrywait { fd }
+        | PosixCall::Ftruncate { fd, .. }
+        | PosixCall::ShmWrite { fd, .. } => state.object_of(pid, Awaited::Descriptor(*fd)),
+        PosixCall::MqGetattr { .. }
+        | PosixCall::MqSetattr { .. }
+        | PosixCall::SemGetvalue { .. }
+        | PosixCall::ShmRead { .. }
+        | PosixCall::ShmStat { .. } => None,
+    }
+}
+
+/// The queue on which a descriptor is open, if the process is registered with it by that: a close takes this away.
+fn closed_on(state: &State, pid: Pid, fd: u32) -> Option<Object>
+    ensures { result ≡ closed_on state.now.state pid.0 fd }
+{
+    let on = state.object_of(pid, Awaited::Descriptor(fd))?;
+    if is_registered(state, pid, fd, on) {
+        Some(on)
+    } else {
+        None
+    }
+}
+
+/// Whether it is a queue with which the process is registered by this descriptor.
+fn is_registered(state: &State, pid: Pid, fd: u32, on: Object) -> bool
+    ensures { result ≡ (is_queue on.kind
+        && is_made_by (Some pid.0) (Some fd) (registration_of state.now.state on.number)) }
+{
+    let ObjectKind::Named(NameKind::Mq) = on.kind else {
+        return false;
+    };
+    let Some(entry) = state.mq(on.number) else {
+        return false;
+    };
+    match entry.object.registration() {
+        Some(registration) => registration.pid == pid && registration.descriptor == fd,
+        None => false,
+    }
+}
+
+/// The object that an open of this name makes; none, if the name names one.
+fn made<T>(kind: NameKind, objects: &Named<T>, name: &[u8]) -> Option<Object>
+    requires { ArePositive objects.now.objects.entries }
+    ensures { result ≡ defined.option_made kind objects.now.objects.next (named_in objects.now.objects name.now) }
+{
+    match objects.of_name(name) {
+        Some(_number) => None,
+        None => Some(named_object(kind, objects.next())),
+    }
+}
+
+/// The segment that shm_open makes, or cuts to no bytes, if it does either.
+fn made_or_cut(segments: &Named<Segment>, flags: OpenFlags, name: &[u8]) -> Option<Object>
+    requires { ArePositive segments.now.objects.entries }
+    ensures { result ≡ defined.made_or_cut flags.0 segments.now.objects.next
+        (named_in segments.now.objects name.now) }
+{
+    let Some(number) = segments.of_name(name) else {
+        return Some(named_object(NameKind::Pshm, segments.next()));
+    };
+    if flags.contains(OpenFlags::O_TRUNC) {
+        Some(named_object(NameKind::Pshm, number))
+    } else {
+        None
+    }
+}
+
+/// The object that a name names.
+fn named<T>(kind: NameKind, objects: &Named<T>, name: &[u8]) -> Option<Object>
+    requires { ArePositive objects.now.objects.entries }
+    ensures { result ≡ option_map (opened_as kind) (named_in objects.now.objects name.now) }
+{
+    match objects.of_name(name) {
+        Some(number) => Some(named_object(kind, number)),
+        None => None,
+    }
+}
+
+fn named_object(kind: NameKind, number: u32) -> Object
+    ensures { result ≡ opened_as kind number }
+{
+    Object {
+        kind: ObjectKind::Named(kind),
+        number,
     }
 }

@@ -1,9 +1,8 @@
 -- What is shown of what a System V call leaves and answers: it is good (from a sound state a sound one, with a body that fits,
--- and what others wait for is as it was, but for its own object), and all but queues, sets and adjustments is as it was.
-use Rattle.std.proofs.Common.{◌≡◌, ◌≢◌, ℕ, Bool, true, List, Option, Some, None, refl, sym, ap, arith}
-use Rattle.std.specs.Prelude.{is_some, nat_eq, unwrap_or}
+-- what others wait for and each object is as it was, but for its own), and all but queues, sets and adjustments is as it was.
+use Rattle.std.proofs.Common.{◌≡◌, ◌≢◌, ◌∙◌, ℕ, ℤ, Bool, List, Option, Some, None, refl, sym, ap, arith}
+use Rattle.std.specs.Prelude.{if◌then◌else◌, is_some, nat_eq, unwrap_or}
 use Rattle.std.specs.FinMap as fin
-use Rattle.ipc_base.specs.declared.identity.Id.{Id}
 use Rattle.ipc_base.specs.declared.limits.Limits.{Limits}
 use Rattle.ipc_base.specs.Table.{value_at}
 use Rattle.ipc_wire.specs.declared.reply.Body.TheVariants.{Empty}
@@ -14,13 +13,17 @@ use Rattle.sysv_sem.specs.Set.{Set}
 use Rattle.ipc_state.specs.declared.parked.Awaited.{Awaited}
 use Rattle.ipc_state.specs.declared.parked.Awaited.TheVariants as awaited
 use Rattle.ipc_state.specs.declared.parked.Object.{Object}
-use Rattle.sysv_calls.specs.Calls.{queue_at, set_at}
+use Rattle.ipc_state.specs.declared.parked.ObjectKind.{ObjectKind}
+use Rattle.ipc_state.specs.declared.parked.ObjectKind.TheVariants as kinds
+use Rattle.ipc_keys.specs.declared.check.NameKind.TheVariants as names
+use Rattle.sysv_calls.specs.Calls.{made_by, queue_at, set_at}
 use Rattle.ipc_state.specs.Finish.{Done, Finish, answer, done_firing}
-use Rattle.ipc_state.specs.Keyed.{Keyed}
+use Rattle.ipc_state.specs.Keyed.{Keyed, keyed}
 use Rattle.ipc_state.specs.Numbered.{entry_of}
+use Rattle.ipc_state.specs.Opening.{object_as}
 use Rattle.ipc_state.specs.Sound.{FitsBody, HasSoundParts}
 use Rattle.ipc_state.specs.State.{State}
-use Rattle.ipc_state.specs.Touching.{IsAsBefore, is_there, object_of}
+use Rattle.ipc_state.specs.Touching.{IsAsBefore, IsSameIn, object_of}
 use Rattle.ipc_state.proofs.CallerLemmas.{AtEnd, IsGood, at-value, same-awaited, same-processes}
 
 -- it leaves the processes and the POSIX queues as they are, and fires no registration
@@ -40,11 +43,16 @@ queue id = Some (queue_at id)
 abbrev pub set : ℕ → Option Object
 set id = Some (set_at id)
 
-pub other_queue : {id : ℕ} {n : Id} → queue id ≢ Some (queue_at n.0) → n.0 ≢ id
+pub other_queue : {id n : ℕ} → queue id ≢ Some (queue_at n) → n ≢ id
 other_queue apart same = apart (ap queue (sym same))
 
-other_set : {id : ℕ} {n : Id} → set id ≢ Some (set_at n.0) → n.0 ≢ id
+other_set : {id n : ℕ} → set id ≢ Some (set_at n) → n ≢ id
 other_set apart same = apart (ap set (sym same))
+
+-- a get that finds none by its key makes the next one
+pub other_made : {X : Type 0} (at : ℕ → Object) (o : Keyed X) (key : ℤ) (n : ℕ) → keyed o key ≡ None → made_by at o key ≢ Some (at n) → n ≢ o.next
+other_made at o key n unused apart same =
+    apart (ap (λ (r : Option ℕ). if is_some r then None else Some (at o.next)) unused ∙ ap (λ (k : ℕ). Some (at k)) (sym same))
 
 -- the adjustments of a process in a table of them
 abbrev pub those : List (ℕ × Undo) → ℕ → Undo
@@ -56,9 +64,9 @@ module _ {limits : Limits} {s : State} {never : Bool} where
     ends-with : (msg : Keyed Queue) (semset : Keyed Set) (undo : List (ℕ × Undo)) (body : PlainBody)
         → (HasSoundParts limits s → HasSoundParts limits (record s { msg = msg; semset = semset; undo = undo }))
         → (HasSoundParts limits s → FitsBody limits body)
-        → ((n : Id) → touches ≢ Some (queue_at n.0) → is_some (entry_of s.msg n.0) ≡ true → entry_of msg n.0 ≡ entry_of s.msg n.0)
-        → ((n : Id) → touches ≢ Some (set_at n.0) → is_some (entry_of s.semset n.0) ≡ true → (entry_of semset n.0 ≡ entry_of s.semset n.0)
-        × ((pid num : ℕ) → adjustment (those undo pid) (n.0, num) ≡ adjustment (those s.undo pid) (n.0, num)))
+        → ((n : ℕ) → touches ≢ Some (queue_at n) → entry_of msg n ≡ entry_of s.msg n)
+        → ((n : ℕ) → touches ≢ Some (set_at n) → (entry_of semset n ≡ entry_of s.semset n)
+        × ((pid num : ℕ) → adjustment (those undo pid) (n, num) ≡ adjustment (those s.undo pid) (n, num)))
         → AtEnd never (Leaves limits s touches) (answer (record s { msg = msg; semset = semset; undo = undo }) body)
     ends-with msg semset undo body sound fits queues sets =
         at-value _ (record {
@@ -68,38 +76,46 @@ module _ {limits : Limits} {s : State} {never : Bool} where
             kept = same-processes s _ refl;
             clock = refl;
             wait = refl;
-            others = λ h pid on waits apart there. same pid on apart there;
+            others = λ h pid on waits apart there. same pid on apart;
+            same = λ h o apart. same_in o.kind o.number apart;
           };
           apart = record { processes = refl; mq = refl; fired = refl };
         })
       where
-        same : (pid : ℕ) (on : Awaited) → touches ≢ object_of s pid on → is_there pid on s ≡ true
-            → IsAsBefore pid on s (record s { msg = msg; semset = semset; undo = undo })
-        same pid (awaited.MsgQueue n) apart there = queues n apart there
-        same pid (awaited.Semset n) apart there = sets n apart there
-        same pid (awaited.Descriptor fd) apart there = (
+        same_in : (kind : ObjectKind) (n : ℕ) → touches ≢ Some (object_as kind n)
+            → IsSameIn (object_as kind n) s (record s { msg = msg; semset = semset; undo = undo })
+        same_in kinds.MsgQueue n apart e is = sym (queues n apart) ∙ is
+        same_in kinds.Semset n apart e is = sym (sets n apart).0 ∙ is
+        same_in (kinds.Named names.Mq) n apart e is = is
+        same_in (kinds.Named names.Psem) n apart e is = is
+        same_in (kinds.Named names.Pshm) n apart e is = is
+
+        same : (pid : ℕ) (on : Awaited) → touches ≢ object_of s pid on → IsAsBefore pid on s (record s { msg = msg; semset = semset; undo = undo })
+        same pid (awaited.MsgQueue n) apart = queues n.0 apart
+        same pid (awaited.Semset n) apart = sets n.0 apart
+        same pid (awaited.Descriptor fd) apart = (
           refl,
           λ kind n waits is. same-awaited s (record s { msg = msg; semset = semset; undo = undo }) refl refl kind n waits,
         )
 
     -- all is as it was
     pub read-ends : (body : PlainBody) → (HasSoundParts limits s → FitsBody limits body) → AtEnd never (Leaves limits s touches) (answer s body)
-    read-ends body fits = ends-with s.msg s.semset s.undo body (λ h. h) fits (λ n apart there. refl) (λ n apart there. (refl, λ pid num. refl))
+    read-ends body fits = ends-with s.msg s.semset s.undo body (λ h. h) fits (λ n apart. refl) (λ n apart. (refl, λ pid num. refl))
 
     -- the queues alone are others
     pub queues-ends : (msg : Keyed Queue) (body : PlainBody) → (HasSoundParts limits s → HasSoundParts limits (record s { msg = msg }))
         → (HasSoundParts limits s → FitsBody limits body)
-        → ((n : Id) → touches ≢ Some (queue_at n.0) → is_some (entry_of s.msg n.0) ≡ true → entry_of msg n.0 ≡ entry_of s.msg n.0)
+        → ((n : ℕ) → touches ≢ Some (queue_at n) → entry_of msg n ≡ entry_of s.msg n)
         → AtEnd never (Leaves limits s touches) (answer (record s { msg = msg }) body)
-    queues-ends msg body sound fits queues = ends-with msg s.semset s.undo body sound fits queues (λ n apart there. (refl, λ pid num. refl))
+    queues-ends msg body sound fits queues = ends-with msg s.semset s.undo body sound fits queues (λ n apart. (refl, λ pid num. refl))
 
-    -- the sets alone are others, each that was there as it was
+    -- the sets alone are others
     pub sets-ends : (semset : Keyed Set) (body : PlainBody) → (HasSoundParts limits s → HasSoundParts limits (record s { semset = semset }))
         → (HasSoundParts limits s → FitsBody limits body)
-        → ((n : ℕ) → is_some (entry_of s.semset n) ≡ true → entry_of semset n ≡ entry_of s.semset n)
+        → ((n : ℕ) → touches ≢ Some (set_at n) → entry_of semset n ≡ entry_of s.semset n)
         → AtEnd never (Leaves limits s touches) (answer (record s { semset = semset }) body)
     sets-ends semset body sound fits sets =
-        ends-with s.msg semset s.undo body sound fits (λ n apart there. refl) (λ n apart there. (sets n.0 there, λ pid num. refl))
+        ends-with s.msg semset s.undo body sound fits (λ n apart. refl) (λ n apart. (sets n apart, λ pid num. refl))
 
   -- one set alone, or adjustments at it
   pub one_set-ends : (id : ℕ) (semset : Keyed Set) (undo : List (ℕ × Undo))
@@ -108,5 +124,5 @@ module _ {limits : Limits} {s : State} {never : Bool} where
       → ((pid : ℕ) (k : Key) → k.0 ≢ id → adjustment (those undo pid) k ≡ adjustment (those s.undo pid) k)
       → AtEnd never (Leaves limits s (set id)) (answer (record s { semset = semset; undo = undo }) Empty)
   one_set-ends id semset undo sound others elsewhere =
-      ends-with s.msg semset undo Empty sound (λ _. omega arith) (λ n apart there. refl)
-      (λ n apart there. (others n.0 (other_set apart), λ pid num. elsewhere pid (n.0, num) (other_set apart)))
+      ends-with s.msg semset undo Empty sound (λ _. omega arith) (λ n apart. refl)
+      (λ n apart. (others n (other_set apart), λ pid num. elsewhere pid (n, num) (other_set apart)))

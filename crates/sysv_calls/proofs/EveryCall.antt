@@ -17,7 +17,7 @@ use Rattle.sysv_calls.proofs.SemCalls.{semctl_setval-ends, semctl_stat-ends, sem
 use Rattle.sysv_calls.proofs.SemopCalls.{semctl_getcnt-ends, semop-ends}
 
 call-ends : (limits : Limits) (s : State) (pid : ℕ) (again : Bool) (call : PlainSysv)
-    → AtEnd (not (may_wait (Sysv call))) (Leaves limits s (touched call)) (definition_of limits s pid again call)
+    → AtEnd (not (may_wait (Sysv call))) (Leaves limits s (touched s call)) (definition_of limits s pid again call)
 call-ends limits s pid again (requests.Msgget key flags) = msgget-ends limits s (cred_of s pid) key flags
 call-ends limits s pid again (requests.Msgsnd id flags mtype text) = msgsnd-ends limits s (cred_of s pid) pid again id flags mtype text
 call-ends limits s pid again (requests.Msgrcv id flags size mtype) = msgrcv-ends limits s (cred_of s pid) pid again id flags size mtype
@@ -39,10 +39,10 @@ call-ends limits s pid again (requests.SemctlRmid id) = semctl_rmid-ends limits 
 
 module _ (limits : Limits) (s : State) (pid : ℕ) (again : Bool) (call : PlainSysv) where
   -- from a sound state it ends in one, with a body that fits, and changes no more than its own object
-  pub attempt-good : IfFinishes (IsGood limits s (touched call)) (attempt limits s pid again call)
+  pub attempt-good : IfFinishes (IsGood limits s (touched s call)) (attempt limits s pid again call)
   attempt-good =
-      by-finish (IsGood limits s (touched call)) s (definition_of limits s pid again call) (λ d is. ((call-ends limits s pid again call).holds d is).good)
-      (refused-good limits s (touched call))
+      by-finish (IsGood limits s (touched s call)) s (definition_of limits s pid again call) (λ d is. ((call-ends limits s pid again call).holds d is).good)
+      (refused-good limits s (touched s call))
 
   -- it leaves the processes and the POSIX queues as they are
   pub attempt-apart : IfFinishes (IsApart s) (attempt limits s pid again call)

@@ -9,7 +9,7 @@ use Rattle.ipc_base.specs.declared.errno.Errno.TheVariants.{EPERM, ENOSPC}
 use Rattle.ipc_base.specs.declared.identity.Cred.{Cred}
 use Rattle.ipc_base.specs.declared.limits.Limits.{Limits}
 use Rattle.ipc_base.specs.Numbers.{record_bytes}
-use Rattle.ipc_base.proofs.CallerLemmas.{message-is_bounded, other-with, value_at-without}
+use Rattle.ipc_base.proofs.CallerLemmas.{message-is_bounded, other-push, other-with, value_at-without}
 use Rattle.ipc_perm.specs.declared.perm.Perm.{Perm}
 use Rattle.ipc_perm.specs.Perm.{owned_by, asked_by}
 use Rattle.ipc_wire.specs.declared.reply.Body.TheVariants.{Empty, Number, Message, Record}
@@ -25,26 +25,27 @@ use Rattle.ipc_state.proofs.CallerLemmas.{AtEnd, after, after-refuse, at-all, by
 use Rattle.ipc_state.proofs.CallerLemmas.{changed-sound, content-sound, new_queue-sound, owned_by-mode, permitted-sound, sent-sound, taken-sound}
 use Rattle.ipc_state.proofs.CallerLemmas.{with_held-sound, with_new-sound, without_msg_queue-sound}
 use Rattle.sysv_calls.specs.Access.{read}
+use Rattle.sysv_calls.specs.Calls.{made_by, queue_at}
 use Rattle.sysv_calls.specs.Msg.{message_at, msgctl_rmid, msgctl_set, msgctl_stat, msgget, msgrcv, msgsnd}
 use Rattle.sysv_calls.specs.Records.{perm_fields, queue_fields}
-use Rattle.sysv_calls.proofs.Ending.{Leaves, other_queue, queue, queues-ends, read-ends}
-use Rattle.sysv_calls.proofs.Reaching.{accessible-ends, owned-ends, receives, removed-ends, sends, sought-ends, there-append}
+use Rattle.sysv_calls.proofs.Ending.{Leaves, other_made, other_queue, queue, queues-ends, read-ends}
+use Rattle.sysv_calls.proofs.Reaching.{accessible-ends, owned-ends, receives, removed-ends, sends, sought-ends}
 
 module _ {limits : Limits} {s : State} {never : Bool} where
   -- another queue in the place of one
   put-ends : (id : ℕ) (e : KeyedEntry Queue) (body : PlainBody) → (HasSoundParts limits s → HasSoundParts limits (with_msg_queue s id e))
       → (HasSoundParts limits s → FitsBody limits body) → AtEnd never (Leaves limits s (queue id)) (answer (with_msg_queue s id e) body)
-  put-ends id e body sound fits = queues-ends _ body sound fits (λ n apart there. other-with s.msg.entries id n.0 e (other_queue apart))
+  put-ends id e body sound fits = queues-ends _ body sound fits (λ n apart. other-with s.msg.entries id n e (other_queue apart))
 
 module _ (limits : Limits) (s : State) (cred : Cred) {never : Bool} where
-  pub msgget-ends : (key : ℤ) (flags : ℕ) → AtEnd never (Leaves limits s None) (msgget limits s cred key flags)
+  pub msgget-ends : (key : ℤ) (flags : ℕ) → AtEnd never (Leaves limits s (made_by queue_at s.msg key)) (msgget limits s cred key flags)
   msgget-ends key flags =
       after (sought-ends s.msg key flags) (λ found unused. by-if_some {o = found}
       (λ id _. after (accessible-ends false s.msg cred id (asked_by flags)) (λ e _. read-ends (Number id) (λ _. omega arith)))
       (λ none. after-refuse ENOSPC (λ room.
       queues-ends _ (Number s.msg.next) (with_new-sound limits s kinds.MsgQueue key cred flags (new_queue limits.msgmnb s.clock) (unused none) room tt
       (new_queue-sound limits s.clock) tt)
-      (λ _. omega arith) (λ n apart there. there-append s.msg.entries _ n.0 there))))
+      (λ _. omega arith) (λ n apart. other-push s.msg.entries s.msg.next n _ (other_made queue_at s.msg key n (unused none) apart)))))
 
   pub msgctl_stat-ends : (id : ℕ) → AtEnd never (Leaves limits s None) (msgctl_stat s cred id)
   msgctl_stat-ends id =
@@ -65,7 +66,7 @@ module _ (limits : Limits) (s : State) (cred : Cred) {never : Bool} where
       after (removed-ends s.msg cred id) (λ queues is.
       subst (λ (m : Keyed Queue). AtEnd never (Leaves limits s (queue id)) (answer (record s { msg = m }) Empty)) is
       (queues-ends _ Empty (without_msg_queue-sound limits s id) (λ _. omega arith)
-      (λ n apart there. value_at-without s.msg.entries id n.0 (other_queue apart))))
+      (λ n apart. value_at-without s.msg.entries id n (other_queue apart))))
 
 module _ (limits : Limits) (s : State) (cred : Cred) (pid : ℕ) (again : Bool) where
   pub msgsnd-ends : (id flags : ℕ) (mtype : ℤ) (text : List ℕ) → AtEnd false (Leaves limits s (queue id)) (msgsnd limits s cred pid again id flags mtype text)

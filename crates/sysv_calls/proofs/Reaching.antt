@@ -1,7 +1,7 @@
 -- What the steps of a call find, and what holds where its tests are passed.
-use Rattle.std.proofs.Common.{◌≡◌, ℕ, zero, suc, ℤ, pos, negsuc, ◌*◌, ◌<◌, Bool, true, false, List, [], ◌∷◌, ◌++◌, cond, length}
+use Rattle.std.proofs.Common.{◌≡◌, ℕ, zero, suc, ℤ, pos, negsuc, ◌*◌, ◌<◌, Bool, true, false, List, [], ◌∷◌, length}
 use Rattle.std.proofs.Common.{map, arith, Option, Some, None, refl, sym, ap, ◌∙◌}
-use Rattle.std.specs.Prelude.{not, is_some, nat_eq, nat_le, nat_lt, int_lt, ◌≤◌, ◌==◌, slice_get, sum_by, All, if◌then◌else◌, Ok, Err}
+use Rattle.std.specs.Prelude.{not, is_some, nat_le, nat_lt, int_lt, ◌≤◌, ◌==◌, slice_get, sum_by, All, if◌then◌else◌, Ok, Err}
 use Rattle.std.proofs.lemmas.Bool.{eqb-true, leb-true, lt-ltb, ltb-false, ltb-true, not-false}
 use Rattle.std.proofs.lemmas.List.Elements.{All-weaker}
 use Rattle.std.proofs.lemmas.List.Sums.{AllPass-from_list_all, sum_by-cons}
@@ -12,7 +12,6 @@ use Rattle.ipc_base.specs.Numbers.{field_bytes, record_bytes}
 use Rattle.std.proofs.lemmas.List.Quantifiers.{position-Some}
 use Rattle.ipc_base.specs.declared.limits.Limits.{Limits}
 use Rattle.ipc_base.specs.Limits.{ArePassed}
-use Rattle.ipc_base.specs.Table.{value_at}
 use Rattle.ipc_base.proofs.CallerLemmas.{passed-bounds}
 use Rattle.ipc_base.specs.declared.errno.Errno.TheVariants.{EACCES, EEXIST, EFBIG, ENOENT, EINVAL, EAGAIN, ENOMSG, EPERM, E2BIG, ERANGE}
 use Rattle.ipc_base.specs.declared.identity.Cred.{Cred}
@@ -62,17 +61,6 @@ module _ {X : Type 0} (o : Keyed X) (cred : Cred) (id : ℕ) (e : KeyedEntry X) 
 
   pub owned-there : owned o cred id ≡ Ok e → entry_of o id ≡ Some e
   owned-there is = (owned-ends {never = true} o cred id).holds e is
-
--- what is there stays as it is when more comes
-pub there-append : {X : Type 0} (es more : List (ℕ × X)) (n : ℕ) → is_some (value_at nat_eq es n) ≡ true → value_at nat_eq (es ++ more) n ≡ value_at nat_eq es n
-there-append [] more n is = cc
-there-append (e ∷ es) more n is = by_test (nat_eq e.0 n) is (there-append es more n)
-  where
-    by_test : (b : Bool) → is_some (cond b (Some e.1) (value_at nat_eq es n)) ≡ true
-        → (is_some (value_at nat_eq es n) ≡ true → value_at nat_eq (es ++ more) n ≡ value_at nat_eq es n)
-        → cond b (Some e.1) (value_at nat_eq (es ++ more) n) ≡ cond b (Some e.1) (value_at nat_eq es n)
-    by_test true is rest = refl
-    by_test false is rest = rest is
 
 -- ---- what holds where the tests of a call are passed
 

@@ -14,7 +14,7 @@ use Rattle.ipc_base.specs.declared.identity.Pid.{Pid}
 use Rattle.ipc_base.specs.declared.limits.Limits.{Limits}
 use Rattle.ipc_base.specs.Numbers.{record_bytes}
 use Rattle.ipc_base.specs.Table.{seen_as, value_at}
-use Rattle.ipc_base.proofs.CallerLemmas.{at-map, other-with, value_at-without}
+use Rattle.ipc_base.proofs.CallerLemmas.{at-map, other-push, other-with, value_at-without}
 use Rattle.ipc_perm.specs.declared.perm.Perm.{Perm}
 use Rattle.ipc_perm.specs.Perm.{owned_by, asked_by}
 use Rattle.ipc_wire.specs.Pairs.{numbers_in}
@@ -35,11 +35,12 @@ use Rattle.ipc_state.proofs.CallerLemmas.{AtEnd, after, after-orelse, after-refu
 use Rattle.ipc_state.proofs.CallerLemmas.{changed_set-sound, content-sound, new_set-sound, owned_by-mode, permitted-sound, with_held-sound, with_new-sound}
 use Rattle.ipc_state.proofs.CallerLemmas.{with_value-sound, with_values-sound, without_adjustments-sound, without_semset-sound}
 use Rattle.sysv_calls.specs.Access.{read, write}
+use Rattle.sysv_calls.specs.Calls.{made_by, set_at}
 use Rattle.sysv_calls.specs.Records.{perm_fields, set_fields}
 use Rattle.sysv_calls.specs.Sem.{count_of, has_fewer, made_set, semctl_getall, semctl_getpid, semctl_getval, semctl_rmid, semctl_set, semctl_setall}
 use Rattle.sysv_calls.specs.Sem.{semctl_setval, semctl_stat, semget, value_of}
-use Rattle.sysv_calls.proofs.Ending.{Leaves, read-ends, set, one_set-ends, sets-ends, those}
-use Rattle.sysv_calls.proofs.Reaching.{accessible-ends, count-few, owned-ends, removed-ends, semaphore-ends, settable-ends, sought-ends, there-append}
+use Rattle.sysv_calls.proofs.Ending.{Leaves, other_made, read-ends, set, one_set-ends, sets-ends, those}
+use Rattle.sysv_calls.proofs.Reaching.{accessible-ends, count-few, owned-ends, removed-ends, semaphore-ends, settable-ends, sought-ends}
 use Rattle.sysv_calls.proofs.Reaching.{values-length, within-limit}
 
 -- what is cleared at a set changes no adjustment at another
@@ -64,16 +65,17 @@ some-of : (n : ℕ) → (n == 0) ≡ false → 0 < n
 some-of n is = grind (arith, nat_tests)
 
 module _ (limits : Limits) (s : State) (cred : Cred) {never : Bool} where
-  made-ends : (key : ℤ) (flags n : ℕ) → keyed s.semset key ≡ None → n ≤ limits.semmsl → AtEnd never (Leaves limits s None) (made_set limits s cred key flags n)
+  made-ends : (key : ℤ) (flags n : ℕ) → keyed s.semset key ≡ None → n ≤ limits.semmsl
+      → AtEnd never (Leaves limits s (made_by set_at s.semset key)) (made_set limits s cred key flags n)
   made-ends key flags n unused few =
       after-refuse EINVAL {b = n == 0} (λ some. after-refuse ENOSPC {b = is_full limits.semmni s.semset} (λ room.
       after-refuse ENOSPC {b = nat_lt limits.semmns (semaphore_count s.semset + n)} (λ all.
       sets-ends _ (Number s.semset.next) (with_new-sound limits s kinds.Semset key cred flags (new_set n s.clock) unused room tt
       (new_set-sound limits n s.clock (some-of n some) few)
       (omega (arith, length-replicate n fresh, ltb-false limits.semmns (semaphore_count s.semset + n) all)))
-      (λ _. omega arith) (λ n there. there-append s.semset.entries _ n there))))
+      (λ _. omega arith) (λ n apart. other-push s.semset.entries s.semset.next n _ (other_made set_at s.semset key n unused apart)))))
 
-  pub semget-ends : (key nsems : ℤ) (flags : ℕ) → AtEnd never (Leaves limits s None) (semget limits s cred key nsems flags)
+  pub semget-ends : (key nsems : ℤ) (flags : ℕ) → AtEnd never (Leaves limits s (made_by set_at s.semset key)) (semget limits s cred key nsems flags)
   semget-ends key nsems flags =
       after-orelse EINVAL {o = count_of limits nsems} (λ n is. after (sought-ends s.semset key flags) (λ found unused. by-if_some {o = found}
       (λ id _. after-refuse EINVAL {b = has_fewer (semset_of s id) n} (λ _.

@@ -1,10 +1,11 @@
 -- What each call answers and leaves, and which object it may change.
-use Rattle.std.specs.Prelude.{ℕ, Bool, true, false, Option, Some, None}
+use Rattle.std.specs.Prelude.{ℕ, ℤ, Bool, true, false, if◌then◌else◌, Option, Some, None, is_some}
 use Rattle.ipc_base.specs.declared.limits.Limits.{Limits}
 use Rattle.ipc_wire.specs.Request.{PlainSysv, PlainKind, Sysv}
 use Rattle.ipc_wire.specs.Request as requests
 use Rattle.ipc_state.specs.declared.parked.Object.{Object}
 use Rattle.ipc_state.specs.declared.parked.ObjectKind.TheVariants.{MsgQueue, Semset}
+use Rattle.ipc_state.specs.Keyed.{Keyed, keyed}
 use Rattle.ipc_state.specs.State.{State, cred_of}
 use Rattle.ipc_state.specs.Finish.{Tried, Attempt, Done, ended}
 use Rattle.sysv_calls.specs.Msg.{msgget, msgsnd, msgrcv, msgctl_stat, msgctl_set, msgctl_rmid}
@@ -44,18 +45,25 @@ queue_at id = record { kind = MsgQueue; number = id }
 abbrev pub set_at : ℕ → Object
 set_at id = record { kind = Semset; number = id }
 
--- the object that a call may change, so that those that wait on it may go on
-abbrev pub touched : PlainSysv → Option Object
-touched (requests.Msgsnd id flags mtype text) = Some (queue_at id)
-touched (requests.Msgrcv id flags size mtype) = Some (queue_at id)
-touched (requests.MsgctlSet id uid gid mode qbytes) = Some (queue_at id)
-touched (requests.MsgctlRmid id) = Some (queue_at id)
-touched (requests.Semop id timeout operations) = Some (set_at id)
-touched (requests.SemctlSetVal id num value) = Some (set_at id)
-touched (requests.SemctlSetAll id values) = Some (set_at id)
-touched (requests.SemctlSet id uid gid mode) = Some (set_at id)
-touched (requests.SemctlRmid id) = Some (set_at id)
-touched call = None
+-- the object that a get makes, of the next number; none, if the key names one
+abbrev pub made_by : {X : Type 0} → (ℕ → Object) → Keyed X → ℤ → Option Object
+made_by at o key = if is_some (keyed o key) then None else Some (at o.next)
+
+-- the object that a call may leave otherwise, so that those that wait on it may go on: no other, and none if it is
+-- refused
+abbrev pub touched : State → PlainSysv → Option Object
+touched s (requests.Msgget key flags) = made_by queue_at s.msg key
+touched s (requests.Msgsnd id flags mtype text) = Some (queue_at id)
+touched s (requests.Msgrcv id flags size mtype) = Some (queue_at id)
+touched s (requests.MsgctlSet id uid gid mode qbytes) = Some (queue_at id)
+touched s (requests.MsgctlRmid id) = Some (queue_at id)
+touched s (requests.Semget key nsems flags) = made_by set_at s.semset key
+touched s (requests.Semop id timeout operations) = Some (set_at id)
+touched s (requests.SemctlSetVal id num value) = Some (set_at id)
+touched s (requests.SemctlSetAll id values) = Some (set_at id)
+touched s (requests.SemctlSet id uid gid mode) = Some (set_at id)
+touched s (requests.SemctlRmid id) = Some (set_at id)
+touched s call = None
 
 -- whether it is a receive from a queue: one takes a message away, so that no other receive goes on by it
 abbrev pub is_receive : PlainKind → Bool

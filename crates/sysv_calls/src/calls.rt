@@ -4,8 +4,10 @@
 ghost use Rattle.std.specs.Prelude.{◌≡◌, true, false, IfOk, IsOk, OnErr};
 ghost use Rattle.ipc_wire.specs.Request.{Sysv, plain_sysv, plain_kind};
 ghost use Rattle.ipc_wire.specs.View.{plain_request};
+ghost use Rattle.ipc_state.specs.Directory.{ArePositive};
 ghost use Rattle.ipc_state.specs.Finish.{Finishes, finish_of};
 ghost use Rattle.ipc_state.specs.Held.{left};
+ghost use Rattle.ipc_state.specs.Opening.{object_as};
 ghost use Rattle.ipc_state.specs.Sound.{HasSoundParts};
 ghost use Rattle.ipc_state.specs.State.{is_process};
 ghost use Rattle.sysv_calls.specs.Calls as defined;
@@ -20,7 +22,7 @@ use crate::sem::{
 };
 use crate::semop::semctl_getcnt;
 use ipc_base::{Errno, Pid};
-use ipc_state::{Answer, Object, ObjectKind, Parked, State};
+use ipc_state::{Answer, Keyed, Object, ObjectKind, Parked, State};
 use ipc_wire::{Body, Request, RequestKind, SysvCall};
 use std::alloc::{AllocError, Global};
 
@@ -101,11 +103,15 @@ pub fn attempt(state: &mut State, pid: Pid, call: &SysvCall<'_>, spare: &mut Vec
     }
 }
 
-/// The object that a call may change, so that those that wait on it may go on.
-pub fn touched(call: &SysvCall<'_>) -> Option<Object>
-    ensures { result ≡ defined.touched (plain_sysv call.now) }
+/// The object that a call may leave otherwise, so that those that wait on it may go on: no other, and none if it is
+/// refused. A get that finds its object changes none; else it makes the one of the next number.
+pub fn touched(state: &State, call: &SysvCall<'_>) -> Option<Object>
+    requires sound { HasSoundParts state.now.limits state.now.state }
+    ensures { result ≡ defined.touched state.now.state (plain_sysv call.now) }
 {
     match call {
+        SysvCall::Msgget { key, .. } => made_by(ObjectKind::MsgQueue, state.msg(), *key),
+        SysvCall::Semget { key, .. } => made_by(ObjectKind::Semset, state.semset(), *key),
         SysvCall::Msgsnd { id, .. }
         | SysvCall::Msgrcv { id, .. }
         | SysvCall::MsgctlSet { id, .. }
@@ -121,9 +127,7 @@ pub fn touched(call: &SysvCall<'_>) -> Option<Object>
             kind: ObjectKind::Semset,
             number: id.0,
         }),
-        SysvCall::Msgget { .. }
-        | SysvCall::MsgctlStat { .. }
-        | SysvCall::Semget { .. }
+        SysvCall::MsgctlStat { .. }
         | SysvCall::SemctlGetVal { .. }
         | SysvCall::SemctlGetPid { .. }
         | SysvCall::SemctlGetNcnt { .. }
@@ -131,4 +135,18 @@ pub fn touched(call: &SysvCall<'_>) -> Option<Object>
         | SysvCall::SemctlGetAll { .. }
         | SysvCall::SemctlStat { .. } => None,
     }
+}
+
+/// The object that a get of this key makes; none, if the key names one.
+fn made_by<T>(kind: ObjectKind, objects: &Keyed<T>, key: i32) -> Option<Object>
+    requires { ArePositive objects.now.objects.entries }
+    ensures { result ≡ defined.made_by (object_as kind) objects.now.objects key }
+{
+    if objects.of_key(key).is_some() {
+        return None;
+    }
+    Some(Object {
+        kind,
+        number: objects.next(),
+    })
 }

@@ -11,6 +11,8 @@ use Rattle.ipc_journal.specs.declared.journal.Journal.{Journal}
 use Rattle.ipc_journal.specs.Matches.{JournalMatches}
 use Rattle.ipc_journal.specs.View.{range_of, epoch_of}
 use Rattle.ipc_state.specs.State.{State, restart}
+use Rattle.ipc_engine.specs.Changes.{IsTracked}
+use Rattle.ipc_engine.specs.Engine.{Machine}
 use Rattle.ipc_engine.specs.Event.{PlainEvent}
 use Rattle.ipc_engine.specs.Step.{run}
 use Rattle.ipc_image.specs.Records.{HasRecord}
@@ -45,6 +47,12 @@ pub record DeviceMatches (medium : Medium) (limits : Limits) (checkpoint : Check
   pub appended : JournalMatches journal (map batch_bytes batches) medium
   pub leads : LeadTo limits from batches base
 
+-- The machine goes on from what stands there: what is otherwise than in the state that was saved has changed.
+pub record MachineMatches (medium : Medium) (machine : Machine) (checkpoint : CheckpointView) (journal : Journal)
+    : Type 0 where
+  pub device : DeviceMatches medium machine.limits checkpoint journal machine.state
+  pub tracked : IsTracked machine.changed device.from machine.state
+
 -- these events wait, each with a place in the batch
 pub record HasPending {D : Type 0} (store : StoreView D) (base : State) (pending : List PlainEvent) : Type 0 where
   pub records : store.records ≡ records_of pending
@@ -54,12 +62,14 @@ pub record HasPending {D : Type 0} (store : StoreView D) (base : State) (pending
   pub state : store.machine.state ≡ (run store.machine.limits base pending).state
 
 -- The store goes on from the base, which each image that a crash now may leave stands for, and
--- these events wait. Its engine is in the state after them.
+-- these events wait. Its engine is in the state after them, and what is otherwise than in the state that was saved has
+-- changed.
 pub record StoreMatches {D : Type 0} (medium : Medium) (store : StoreView D) (base : State)
     (pending : List PlainEvent) : Type 0 where
   pub running : store.stopped ≡ false
   pub device : DeviceMatches medium store.machine.limits store.checkpoint store.journal base
   pub waits : HasPending store base pending
+  pub tracked : IsTracked store.machine.changed device.from store.machine.state
 
 -- a store that has not stopped, on an honest disk, matches it
 abbrev pub MatchesIfHonest : {D : Type 0} → Medium → StoreView D → Type 0

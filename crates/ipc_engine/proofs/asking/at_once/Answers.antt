@@ -1,14 +1,17 @@
-use Rattle.std.proofs.Common.{◌++◌, map, length, sym, subst, ap, ◌∙◌, arith}
-use Rattle.std.specs.Prelude.{None, Option}
+use Rattle.std.proofs.Common.{length, sym, subst, ap, ◌∙◌, arith, false}
+use Rattle.std.proofs.Common.{Bool}
+use Rattle.std.specs.Prelude.{◌||◌, None, Option}
 use Rattle.ipc_wire.specs.Request.{plain_kind}
 use Rattle.ipc_wire.specs.View.{plain_request}
 use Rattle.ipc_state.specs.declared.parked.Object.{Object}
 use Rattle.ipc_state.specs.Finish.{Tried, finish_of}
-use Rattle.ipc_state.specs.Held.{Held, left}
-use Rattle.ipc_engine.specs.Step.{after, replied, settle, replied_or_joined}
-use Rattle.ipc_engine.specs.View.{plain_outcome}
-use Rattle.ipc_engine.proofs.Buffers.{finish-state, waits-kept, with_state}
+use Rattle.ipc_state.specs.Held.{Held}
+use Rattle.ipc_engine.specs.Changes.{is_marked}
+use Rattle.ipc_engine.specs.Settling.{touched_by}
+use Rattle.ipc_engine.specs.Step.{after, replied, settle, replied_or_joined, tried}
+use Rattle.ipc_engine.proofs.Buffers.{finish-state, waits-kept}
 use Rattle.ipc_engine.proofs.Doing.{does-as, does-from}
+use Rattle.ipc_engine.proofs.Marks.{done-marks}
 use Rattle.ipc_engine.proofs.Resumes.{ended-of, good-here}
 use Rattle.ipc_engine.proofs.Tries.{HasEnded}
 use Rattle.ipc_engine.proofs.asking.at_once.Goals as goal
@@ -39,3 +42,12 @@ returns-clause-does c =
 
 pub returns-clause-buffer : goal.returns-clause-buffer
 returns-clause-buffer c = omega (arith, c.try_at_once-answer.ensures.spare, c.finish.ensures.room)
+
+pub returns-clause-marked : goal.returns-clause-marked
+returns-clause-marked c o =
+    let s = c.args.state.now in
+    let tries = c.try_at_once-answer in
+    c.finish.ensures.marked o
+    ∙ ap (λ (b : Bool). is_marked c.args.changed.now.marks.items o || b)
+    (done-marks tries.new.state.state tries.result.0 None tries.result.1 (touched_by s.state c.args.pid.0 (plain_kind c.args.request.now.kind))
+    (tried s.limits s.state c.args.pid.0 false (plain_kind c.args.request.now.kind)) o tries.ensures.finish tries.ensures.touched)

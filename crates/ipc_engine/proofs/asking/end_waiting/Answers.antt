@@ -1,4 +1,4 @@
-use Rattle.std.proofs.Common.{◌≡◌, ◌≤◌, List, [], ◌∷◌, ◌++◌, map, length, append-nil, sym, ap, ◌∙◌, Some, arith, length-append}
+use Rattle.std.proofs.Common.{◌≡◌, ◌≤◌, List, [], ◌∷◌, map, length, append-nil, sym, ap, ◌∙◌, Some, arith, length-append}
 use Rattle.ipc_base.specs.declared.errno.Errno.TheVariants.{EINTR}
 use Rattle.ipc_base.specs.declared.identity.Pid.{Pid}
 use Rattle.ipc_wire.specs.declared.reply.Body.TheVariants.{Empty}

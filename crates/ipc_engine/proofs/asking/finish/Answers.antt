@@ -1,12 +1,9 @@
-use Rattle.std.proofs.Common.{List, ◌++◌, map, sym, subst, ap, ◌∙◌, append_assoc}
+use Rattle.std.proofs.Common.{sym, subst, ap}
 use Rattle.ipc_state.specs.Finish.{finish_firing}
-use Rattle.ipc_state.specs.Held.{Held}
 use Rattle.ipc_state.specs.State.{State}
 use Rattle.ipc_state.specs.Sound.{HasSoundParts}
-use Rattle.ipc_engine.specs.Event.{PlainOutcome}
 use Rattle.ipc_engine.specs.Settling.{AreLinked, HaveSameObjects, OthersWait}
 use Rattle.ipc_engine.specs.Step.{settle, replied}
-use Rattle.ipc_engine.specs.View.{plain_outcome}
 use Rattle.ipc_engine.proofs.Buffers.{finish-state}
 use Rattle.ipc_engine.proofs.Doing.{does-after, does-as}
 use Rattle.ipc_engine.proofs.Going.{others-after, linked-after}

@@ -2,7 +2,7 @@ use Rattle.std.proofs.Common.{◌≡◌, ℕ, true, ◌++◌, map, refl, ap, ◌
 use Rattle.ipc_wait.specs.Waits.{is_due}
 use Rattle.ipc_state.specs.Finish.{refused}
 use Rattle.ipc_state.specs.Waiting.{PlainWaiting, deadline_of}
-use Rattle.ipc_engine.specs.Step.{Step, replied}
+use Rattle.ipc_engine.specs.Step.{replied}
 use Rattle.ipc_engine.specs.View.{plain_outcome}
 use Rattle.ipc_engine.proofs.Doing.{does-as}
 use Rattle.ipc_engine.proofs.Expiring.{joined}

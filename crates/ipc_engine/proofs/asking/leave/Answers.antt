@@ -1,4 +1,4 @@
-use Rattle.std.proofs.Common.{◌++◌, not, length, map, refl, sym, subst, ap, ◌∙◌, arith}
+use Rattle.std.proofs.Common.{not, length, refl, sym, subst, ap, arith}
 use Rattle.std.proofs.lemmas.List.Filters.{length-filter_both}
 use Rattle.ipc_wait.specs.Waits.{is_of}
 use Rattle.ipc_state.specs.Sound.{HasSoundParts}
@@ -7,7 +7,6 @@ use Rattle.ipc_state.specs.Waiting.{PlainWaiting}
 use Rattle.ipc_state.proofs.CallerLemmas.{exit-sound}
 use Rattle.ipc_engine.specs.Settling.{AreLinked}
 use Rattle.ipc_engine.specs.Step.{settle}
-use Rattle.ipc_engine.specs.View.{plain_outcome}
 use Rattle.ipc_engine.proofs.Doing.{does-from}
 use Rattle.ipc_engine.proofs.Soundness.{exit-linked}
 use Rattle.ipc_engine.proofs.asking.leave.Goals as goal
@@ -27,5 +26,5 @@ settle_all-requires-clause-room c =
     let fewer = length-filter_both (is_of c.args.pid) (λ (w : PlainWaiting). not (is_of c.args.pid w)) (λ w. refl) c.args.state.now.state.wait in
     omega (arith, c.requires.places, fewer, ap (λ (h : Held). length h.state.wait) c.remove_process.ensures)
 
-pub returns : goal.returns
-returns c = does-from (λ h. settle h.limits h.state) c.remove_process.ensures c.settle_all.ensures.does
+pub returns-clause-does : goal.returns-clause-does
+returns-clause-does c = does-from (λ h. settle h.limits h.state) c.remove_process.ensures c.settle_all.ensures.does

@@ -1,16 +1,21 @@
-use Rattle.std.proofs.Common.{◌≡◌, Bool, true, false, Some, None, refl, sym, ap, ◌∙◌}
-use Rattle.std.specs.Prelude.{if◌then◌else◌}
+use Rattle.std.proofs.Common.{◌≡◌, ℕ, Bool, true, false, not, Some, None, refl, sym, ap, ◌∙◌}
+use Rattle.std.specs.Prelude.{◌&&◌, ◌||◌, if◌then◌else◌}
+use Rattle.ipc_base.specs.declared.limits.Limits.{Limits}
 use Rattle.ipc_wire.specs.Posix as calls
 use Rattle.ipc_wire.specs.Request as requests
 use Rattle.ipc_wire.specs.Request.{PlainKind, PlainRequest, Sysv, Posix}
 use Rattle.ipc_wire.specs.View.{plain_request}
 use Rattle.ipc_state.specs.Held.{Held, Ready}
 use Rattle.ipc_state.specs.Held.Ready.{Nothing}
-use Rattle.ipc_state.specs.State.{is_waiting}
+use Rattle.ipc_state.specs.declared.parked.Object.{Object}
+use Rattle.ipc_state.specs.State.{State, is_waiting}
 use Rattle.ipc_state.specs.Waiting.{may_wait}
+use Rattle.ipc_engine.specs.Changes.{changes_by_call, changes_if_done, is_marked}
 use Rattle.ipc_engine.specs.Reserved.{kept_of, needs}
+use Rattle.ipc_engine.specs.Settling.{touched_by}
 use Rattle.ipc_engine.specs.Step.{Step, replied_or_joined, tried}
 use Rattle.ipc_engine.proofs.Doing.{does-as, does-from}
+use Rattle.ipc_engine.proofs.Marks.{none-marked, room-marked}
 use Rattle.ipc_engine.proofs.asking.make.Goals.{In-Some}
 use Rattle.ipc_engine.proofs.asking.make.Goals as goal
 
@@ -57,4 +62,42 @@ returns-in-Some-clause-does c =
     let both = kept-ready (goal.at.returns-in-Some-clause-does c).In-Some in
     let went : PlainRequest → Step = λ r. replied_or_joined s.limits c.args.pid.0 r s.state (tried s.limits s.state c.args.pid.0 false r.kind) in
     rw free (does-from (λ h. went (plain_request c.args.request.now)) (ap (λ (r : Ready). let h : Held = record s { ready = r } in h) both.1)
-    (does-as (ap went both.0) c.try_once.ensures))
+    (does-as (ap went both.0) c.try_once.ensures.does))
+
+-- what the call changes, if its process does not wait
+changes-free : (limits : Limits) (s : State) (pid : ℕ) (o : Object) (parked request : PlainRequest) → is_waiting s pid ≡ false → parked ≡ request
+    → changes_if_done (touched_by s pid parked.kind) (tried limits s pid false parked.kind) o ≡ changes_by_call limits s pid request.kind o
+changes-free limits s pid o parked request free same =
+    ap (λ (r : PlainRequest). changes_if_done (touched_by s pid r.kind) (tried limits s pid false r.kind) o) same
+    ∙ sym (ap (λ (b : Bool). not b && changes_if_done (touched_by s pid request.kind) (tried limits s pid false request.kind) o) free)
+
+pub returns-then-is_waiting-clause-marked : goal.returns-then-is_waiting-clause-marked
+returns-then-is_waiting-clause-marked c =
+    let s = c.args.state.now in
+    let kind = (plain_request c.args.request.now).kind in
+    none-marked s.state (changes_by_call s.limits s.state c.args.pid.0 kind) c.args.changed.now.marks.items
+    (λ o. ap (λ (b : Bool). not b && changes_if_done (touched_by s.state c.args.pid.0 kind) (tried s.limits s.state c.args.pid.0 false kind) o)
+    (sym c.is_waiting.ensures ∙ c.if-is_waiting.true))
+
+pub returns-in-Some-clause-marked : goal.returns-in-Some-clause-marked
+returns-in-Some-clause-marked c =
+    let s = c.args.state.now in
+    let free : is_waiting s.state c.args.pid.0 ≡ false = sym c.is_waiting.ensures ∙ c.if-is_waiting.false in
+    let both = kept-ready (goal.at.returns-in-Some-clause-marked c).In-Some in
+    let mid = c.make_room.new.self.marks.items in
+    room-marked s.state (changes_by_call s.limits s.state c.args.pid.0 (plain_request c.args.request.now).kind) c.args.changed.now.marks.items mid _
+    c.make_room.ensures.only c.make_room.ensures.kept
+    (λ o. c.try_once.ensures.marked o
+    ∙ ap (λ (b : Bool). is_marked mid o || b)
+    (changes-free s.limits s.state c.args.pid.0 o c.in-Some.parked (plain_request c.args.request.now) free both.0))
+
+pub returns-clause-marked : goal.returns-clause-marked
+returns-clause-marked c =
+    let s = c.args.state.now in
+    let free : is_waiting s.state c.args.pid.0 ≡ false = sym c.is_waiting.ensures ∙ c.if-is_waiting.false in
+    let mid = c.make_room.new.self.marks.items in
+    room-marked s.state (changes_by_call s.limits s.state c.args.pid.0 (plain_request c.args.request.now).kind) c.args.changed.now.marks.items mid _
+    c.make_room.ensures.only c.make_room.ensures.kept
+    (λ o. c.at_once.ensures.marked o
+    ∙ ap (λ (b : Bool). is_marked mid o || b)
+    (changes-free s.limits s.state c.args.pid.0 o (plain_request c.args.request.now) (plain_request c.args.request.now) free refl))

@@ -1,5 +1,6 @@
-use Rattle.std.proofs.Common.{◌≡◌, ◌<◌, ◌++◌, map, length, sym, subst, ap, ◌∙◌, arith}
-use Rattle.std.specs.Prelude.{Option}
+use Rattle.std.proofs.Common.{◌≡◌, ◌<◌, length, sym, subst, ap, ◌∙◌, arith, false}
+use Rattle.std.proofs.Common.{Bool}
+use Rattle.std.specs.Prelude.{◌||◌, Option}
 use Rattle.ipc_base.specs.declared.limits.Limits.{Limits}
 use Rattle.ipc_state.specs.declared.parked.Object.{Object}
 use Rattle.ipc_state.specs.Finish.{Tried, finish_firing}
@@ -7,12 +8,13 @@ use Rattle.ipc_state.specs.Held.{Held}
 use Rattle.ipc_state.specs.State.{State}
 use Rattle.ipc_state.specs.Waiting.{awaited_by}
 use Rattle.ipc_state.proofs.CallerLemmas.{room-waiting}
+use Rattle.ipc_engine.specs.Changes.{is_marked}
 use Rattle.ipc_engine.specs.Settling.{ReceivesWait, touched_by}
-use Rattle.ipc_engine.specs.Step.{after, replied, settle, replied_or_joined, joins}
-use Rattle.ipc_engine.specs.View.{plain_outcome}
-use Rattle.ipc_engine.proofs.Buffers.{finish-state, waits-kept, with_state}
+use Rattle.ipc_engine.specs.Step.{after, replied, settle, replied_or_joined, joins, tried}
+use Rattle.ipc_engine.proofs.Buffers.{finish-state, waits-kept}
 use Rattle.ipc_engine.proofs.Doing.{does-as, does-from}
 use Rattle.ipc_engine.proofs.Going.{receives-tried}
+use Rattle.ipc_engine.proofs.Marks.{done-marks, waits-marks}
 use Rattle.ipc_engine.proofs.Resumes.{ended-of, good-here}
 use Rattle.ipc_engine.proofs.Soundness.{linked}
 use Rattle.ipc_engine.proofs.Tries.{HasEnded}
@@ -60,8 +62,8 @@ finish-requires-clause-places c =
       ap length (waits-kept c.try_kept.new.state.state c.args.state.now.state c.in-Finishes.answer c.in-Finishes.fired good.wait),
     )
 
-pub returns-in-Finishes : goal.returns-in-Finishes
-returns-in-Finishes c =
+pub returns-in-Finishes-clause-does : goal.returns-in-Finishes-clause-does
+returns-in-Finishes-clause-does c =
     let s = c.args.state.now in
     let f = finish_firing c.try_kept.new.state.state c.in-Finishes.answer c.in-Finishes.fired in
     let limits = c.try_kept.new.state.limits in
@@ -76,11 +78,26 @@ join-requires-clause-room c =
     c.requires.process in
     subst (λ (h : Held). length h.state.wait < h.waits) (sym c.in-Waits.ensures.kept.1) (omega (arith, fewer, c.requires.waits))
 
-pub returns-in-Waits : goal.returns-in-Waits
-returns-in-Waits c =
+pub returns-in-Waits-clause-does : goal.returns-in-Waits-clause-does
+returns-in-Waits-clause-does c =
     let s = c.args.state.now in
     let kept = c.in-Waits.ensures.kept in
     let pid = c.args.pid.0 in
     does-as (ap (λ (t : Tried). replied_or_joined s.limits pid c.args.parked s.state t) c.in-Waits.ensures.finish)
     (does-from (λ h. joins h.state pid c.args.parked (awaited_by c.args.parked.kind)) kept.1
     (does-as (λ i. joins c.try_kept.new.state.state pid (kept.0 i) (awaited_by (kept.0 i).kind)) c.join.ensures))
+
+pub returns-in-Finishes-clause-marked : goal.returns-in-Finishes-clause-marked
+returns-in-Finishes-clause-marked c o =
+    let s = c.args.state.now in
+    c.finish.ensures.marked o
+    ∙ ap (λ (b : Bool). is_marked c.args.changed.now.marks.items o || b)
+    (done-marks c.try_kept.new.state.state c.in-Finishes.answer c.in-Finishes.fired c.touched_by-touched.result
+    (touched_by s.state c.args.pid.0 c.args.parked.kind) (tried s.limits s.state c.args.pid.0 false c.args.parked.kind) o c.in-Finishes.ensures.finish
+    c.touched_by-touched.ensures)
+
+pub returns-in-Waits-clause-marked : goal.returns-in-Waits-clause-marked
+returns-in-Waits-clause-marked c o =
+    let s = c.args.state.now in
+    waits-marks (is_marked c.args.changed.now.marks.items o) (touched_by s.state c.args.pid.0 c.args.parked.kind)
+    (tried s.limits s.state c.args.pid.0 false c.args.parked.kind) o c.in-Waits.ensures.finish

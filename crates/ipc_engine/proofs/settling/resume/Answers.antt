@@ -1,4 +1,4 @@
-use Rattle.std.proofs.Common.{◌≡◌, true, List, ◌++◌, map, sym, ap, subst, ◌∙◌, append-nil, arith}
+use Rattle.std.proofs.Common.{◌≡◌, true, map, sym, ap, subst, ◌∙◌, append-nil, arith}
 use Rattle.ipc_base.specs.declared.identity.Pid.{Pid}
 use Rattle.ipc_state.specs.Finish.{finish_firing}
 use Rattle.ipc_state.specs.Held.{Held}
@@ -6,8 +6,7 @@ use Rattle.ipc_state.specs.Sound.{HasSoundParts}
 use Rattle.ipc_state.specs.State.{is_process}
 use Rattle.ipc_state.specs.Waiting.{PlainWaiting}
 use Rattle.ipc_state.proofs.CallerLemmas.{without_waiting-sound}
-use Rattle.ipc_engine.specs.Event.{PlainOutcome}
-use Rattle.ipc_engine.specs.Step.{Step, can_resume}
+use Rattle.ipc_engine.specs.Step.{can_resume}
 use Rattle.ipc_engine.specs.View.{plain_outcome}
 use Rattle.ipc_engine.proofs.Buffers.{finish-state, held-still}
 use Rattle.ipc_engine.proofs.Doing.{does-as}

@@ -1,9 +1,6 @@
-use Rattle.std.proofs.Common.{Option, ◌++◌, map, append-nil, sym, subst, ap, ◌∙◌}
+use Rattle.std.proofs.Common.{Option, sym, subst}
 use Rattle.ipc_state.specs.declared.parked.Object.{Object}
-use Rattle.ipc_state.specs.Held.{Held}
 use Rattle.ipc_engine.specs.Settling.{OthersWait}
-use Rattle.ipc_engine.specs.Step.{Step}
-use Rattle.ipc_engine.specs.View.{plain_outcome}
 use Rattle.ipc_engine.proofs.Doing.{does-as, does-nothing}
 use Rattle.ipc_engine.proofs.Going.{untouched-settled}
 use Rattle.ipc_engine.proofs.settling.settle.Goals as goal

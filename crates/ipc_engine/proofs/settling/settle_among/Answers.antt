@@ -1,13 +1,12 @@
-use Rattle.std.proofs.Common.{◌≡◌, ◌+◌, ◌-◌, ℕ, suc, ◌++◌, map, length, append-nil, refl, sym, subst, ap, ◌∙◌, arith}
+use Rattle.std.proofs.Common.{◌≡◌, ◌+◌, ◌-◌, ℕ, suc, map, length, sym, subst, ap, ◌∙◌, arith}
 use Rattle.std.proofs.lemmas.List.{length-map}
 use Rattle.ipc_base.specs.declared.limits.Limits.{Limits}
 use Rattle.ipc_wait.proofs.CallerLemmas.{found-in}
 use Rattle.ipc_state.specs.Held.{Held}
 use Rattle.ipc_state.specs.Sound.{HasSoundParts}
 use Rattle.ipc_engine.specs.Settling.{RestWaits}
-use Rattle.ipc_engine.specs.Step.{Step, can_resume, silent, settle, settle_within}
+use Rattle.ipc_engine.specs.Step.{can_resume, silent, settle, settle_within}
 use Rattle.ipc_engine.specs.View.{plain_outcome}
-use Rattle.ipc_engine.proofs.Buffers.{held-still, with_state}
 use Rattle.ipc_engine.proofs.Doing.{does-as, does-nothing, does-then}
 use Rattle.ipc_engine.proofs.Going.{goes-on, within-none, within-some, within-all, within-nothing}
 use Rattle.ipc_engine.proofs.settling.settle_among.Goals as goal

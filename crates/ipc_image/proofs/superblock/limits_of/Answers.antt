@@ -1,16 +1,16 @@
-use Rattle.std.proofs.Common.{◌≡◌, ◌≤◌, ◌++◌, ℕ, List, take, replicate, refl, sym, ap, subst, ◌∙◌, arith}
+use Rattle.std.proofs.Common.{◌≡◌, ◌≤◌, ◌++◌, ◌-◌, ℕ, List, take, replicate, refl, sym, ap, subst, ◌∙◌, arith}
 use Rattle.std.proofs.lemmas.Option.{none-some, same_Some}
 use Rattle.ipc_base.specs.declared.limits.Limits.{Limits}
 use Rattle.ipc_base.specs.Limits.{ArePassed}
 use Rattle.ipc_image.specs.Sizes.{need_of}
-use Rattle.ipc_image.specs.Superblock.{named_bytes}
+use Rattle.ipc_image.specs.Superblock.{named_bytes, named_length}
 use Rattle.ipc_image.proofs.Reading.{limits_fit, limits_stand, after_limits, differ, agree, refused, accepted}
 use Rattle.ipc_image.proofs.superblock.limits_of.Goals as goal
 use Rattle.ipc_image.proofs.superblock.limits_of.Goals.{then-ne-via-then-ne, then-ne-via-else-ne+then-is_err}
 use Rattle.ipc_image.proofs.superblock.limits_of.Goals.{then-ne-via-else-ne+else-is_err+then-need-sectors}
 
 -- what was written begins with the bytes that have a meaning
-written : (sectors : ℕ) (limits : Limits) → take 100 (named_bytes sectors limits ++ replicate 412 0) ≡ named_bytes sectors limits
+written : (sectors : ℕ) (limits : Limits) → take named_length (named_bytes sectors limits ++ replicate (512 - named_length) 0) ≡ named_bytes sectors limits
 unfolding named_bytes
 written sectors limits = refl
 
@@ -29,7 +29,7 @@ returns-then-ne-clause-only c limits is =
     (limits_stand c.args.sectors limits sector is)) in
     absurd (elim c.then-ne.branch [
       | then-ne-via-then-ne w ↦ differ c.named_bytes.result.now c.named_bytes-2.result.now c.ne.result c.ne.ensures w.if-ne.true
-          (c.named_bytes.ensures ∙ ap (take 100) c.superblock_of-again.ensures ∙ written c.args.sectors found ∙ ap (named_bytes c.args.sectors) own
+          (c.named_bytes.ensures ∙ ap (take named_length) c.superblock_of-again.ensures ∙ written c.args.sectors found ∙ ap (named_bytes c.args.sectors) own
           ∙ sym (c.named_bytes-2.ensures ∙ is.named))
       | then-ne-via-else-ne+then-is_err w ↦ refused found w.check.result w.check.ensures.first
           (sym w.is_err.ensures.value ∙ w.if-is_err.true) (subst ArePassed (sym own) is.passed)
@@ -43,7 +43,7 @@ returns-clause-some c =
     let found : Limits = c.in_ok-limits.limits in
     record {
       named = sym c.named_bytes-2.ensures ∙ sym (agree c.named_bytes.result.now c.named_bytes-2.result.now c.ne.result c.ne.ensures c.if-ne.false)
-          ∙ c.named_bytes.ensures ∙ ap (take 100) c.superblock_of-again.ensures ∙ written c.args.sectors found;
+          ∙ c.named_bytes.ensures ∙ ap (take named_length) c.superblock_of-again.ensures ∙ written c.args.sectors found;
       passed = accepted found c.check.result c.check.ensures.ok (sym c.is_err.ensures.value ∙ c.if-is_err.false);
       room = omega (arith, c.need.ensures.exact, c.if-need-sectors.false);
     }

@@ -7,6 +7,6 @@ returns-then-not-starts_with-clause-only c limits is =
     absurd (not_formatted c.args.sector.now c.starts_with.result c.starts_with.ensures.value c.if-not-starts_with.true
     (begins c.args.sectors limits c.args.sector.now is))
 
-pub returns-then-found-ne-VERSION-clause-only : goal.returns-then-found-ne-VERSION-clause-only
-returns-then-found-ne-VERSION-clause-only c limits is =
-    absurd (c.if-found-ne-VERSION.true (c.version_of-found.ensures ∙ has_version c.args.sectors limits c.args.sector.now is))
+pub returns-then-found-clause-only : goal.returns-then-found-clause-only
+returns-then-found-clause-only c limits is =
+    absurd (c.if-found.true (c.version_of-found.ensures ∙ has_version c.args.sectors limits c.args.sector.now is))

@@ -3,6 +3,7 @@ use Rattle.byteorder.specs.Endian.{big_bytes}
 use Rattle.ipc_engine.specs.View.{plain_event}
 use Rattle.std.proofs.lemmas.Bool.{OnTrue_at}
 use Rattle.std.proofs.lemmas.List.{append_assoc}
+use Rattle.ipc_image.specs.Format.{longest_record}
 use Rattle.ipc_image.specs.Records.{record_bytes}
 use Rattle.ipc_store.proofs.Batches.{records_behind, record-length, record-goes}
 use Rattle.ipc_store.proofs.batch.put_record.Goals as goal
@@ -12,7 +13,8 @@ returns-clause-least c = omega (arith, record-length (plain_event c.args.event.n
 
 pub returns-clause-record : goal.returns-clause-record
 returns-clause-record c =
-    let most : length (record_bytes (plain_event c.args.event.now)) ≤ 8465 = omega (arith, c.record_len.ensures.exact, c.record_len.ensures.bounded) in
+    let most : length (record_bytes (plain_event c.args.event.now)) ≤ longest_record =
+    omega (arith, c.record_len.ensures.exact, c.record_len.ensures.bounded) in
     let goes = record-goes (plain_event c.args.event.now) c.args.bytes.now c.args.len (omega (arith, c.requires.size, c.requires.room)) most in
     OnTrue_at (c.write_event.ensures.fits.1 goes) c.write_event.ensures.has
 
@@ -21,7 +23,7 @@ returns-clause-records c =
     let rec : List ℕ = record_bytes (plain_event c.args.event.now) in
     let part : List ℕ = take (length c.args.bytes.now - c.args.len) (drop c.args.len c.args.bytes.now) in
     let post : List ℕ = drop (length c.args.bytes.now - c.args.len) (drop c.args.len c.args.bytes.now) in
-    let most : length rec ≤ 8465 = omega (arith, c.record_len.ensures.exact, c.record_len.ensures.bounded) in
+    let most : length rec ≤ longest_record = omega (arith, c.record_len.ensures.exact, c.record_len.ensures.bounded) in
     let goes = record-goes (plain_event c.args.event.now) c.args.bytes.now c.args.len (omega (arith, c.requires.size, c.requires.room)) most in
     let written = OnTrue_at (c.write_event.ensures.fits.1 goes) c.write_event.ensures.written in
     rw c.record_len.ensures.exact

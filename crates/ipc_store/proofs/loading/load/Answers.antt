@@ -1,5 +1,5 @@
 -- Each exit: what was read is what stood there before.
-use Rattle.std.proofs.Common.{◌≡◌, inl, inr, ⊎_elim, ◌<◌, ◌^◌, Err, length, sym, ap, subst, ◌∙◌, arith}
+use Rattle.std.proofs.Common.{◌≡◌, inl, inr, ⊎_elim, ◌<◌, ◌^◌, Err, List, length, sym, ap, subst, ◌∙◌, arith}
 use Rattle.ipc_base.specs.declared.limits.Limits.{Limits}
 use Rattle.ipc_checkpoint.specs.View.{epoch_of as saved_epoch}
 use Rattle.ipc_checkpoint.proofs.CallerLemmas.{CheckpointMatches-stays}
@@ -8,6 +8,8 @@ use Rattle.ipc_disk.specs.Calls.{IsSameDisk}
 use Rattle.ipc_disk.specs.Medium.{Image, Medium, IsHonest, IsDurable, Stays}
 use Rattle.ipc_journal.specs.Journal.{header_epoch, header_used}
 use Rattle.ipc_journal.specs.View.{epoch_of, used_of}
+use Rattle.ipc_state.specs.declared.parked.Object.{Object}
+use Rattle.ipc_engine.specs.Changes.{IsTracked}
 use Rattle.ipc_store.specs.declared.fault.OpenError.TheVariants as errors
 use Rattle.ipc_store.specs.Image.{journal_range, IsDevice, HasBase, IsDamaged, IsFirstFault}
 use Rattle.ipc_store.proofs.Faults.{passed_on, passed-device}
@@ -178,7 +180,7 @@ returns-clause-current g c = λ honest some.
 pub returns-clause-on_disk : goal.returns-clause-on_disk
 returns-clause-on_disk g c =
     on-disk c.in_ok-limits.limits (g.D.SectorDisk.size c.read_limits.new.disk) c.in_ok-checkpoint.checkpoint c.in_ok-checkpoint.ensures.layout
-    c.in_ok-journal.journal c.in_ok-journal.ensures.range c.in_ok-journal.ensures.epoch c.load_journal.new.engine.limits
+    c.in_ok-journal.journal c.in_ok-journal.ensures.range c.in_ok-journal.ensures.epoch c.load_journal.new.engine
     (c.load_journal.ensures.limits ∙ c.in_ok-checkpoint.ensures.limits) (g.D.SectorDisk.size c.load_journal.new.disk)
     (c.load_journal.ensures.reads.same.sectors ∙ c.load_base.ensures.reads.same.sectors) c.in_ok-limits.ensures.passed
     (omega (arith, c.in_ok-limits.ensures.room, c.read_limits.ensures.reads.same.sectors))
@@ -195,15 +197,18 @@ returns-clause-matches g c = λ honest.
     let d3 = (durable-base g here honest).1 in
     let from = c.in_ok-checkpoint.engine.state in
     let was = kept g here honest in
+    let tracked : IsTracked c.load_journal.new.engine.changed from c.load_journal.new.engine.state =
+    c.load_journal.ensures.tracked from
+    (subst (λ (marks : List Object). IsTracked marks from from) (sym c.in_ok-checkpoint.ensures.changed) (λ o off e is. is)) in
     let led : Led limits from c.load_journal.new.engine.state c.in_ok-journal.journal m4 =
     subst (λ (l : Limits). Led l from c.load_journal.new.engine.state c.in_ok-journal.journal m4) c.in_ok-checkpoint.ensures.limits
     (c.in_ok-journal.ensures.leads h3 d3) in
     loaded limits (g.D.SectorDisk.size c.read_limits.new.disk) c.in_ok-checkpoint.checkpoint c.in_ok-checkpoint.ensures.layout
-    c.in_ok-journal.journal c.in_ok-journal.ensures.range c.in_ok-journal.ensures.epoch c.load_journal.new.engine.limits
-    (c.load_journal.ensures.limits ∙ c.in_ok-checkpoint.ensures.limits) m4 from c.load_journal.new.engine.state h4
+    c.in_ok-journal.journal c.in_ok-journal.ensures.range c.in_ok-journal.ensures.epoch c.load_journal.new.engine
+    (c.load_journal.ensures.limits ∙ c.in_ok-checkpoint.ensures.limits) m4 from h4
     (stays-durable m3 m4 h3 s34 d3) (subst (IsDevice limits) (sym (s34.contents h3)) (device-base g here honest))
     (ap length (s34.contents h3) ∙ count g here honest)
-    (was.0, was.1, CheckpointMatches-stays c.in_ok-checkpoint.checkpoint was.0 m3 m4 s34 was.2) led
+    (was.0, was.1, CheckpointMatches-stays c.in_ok-checkpoint.checkpoint was.0 m3 m4 s34 was.2) led tracked
 
 -- ---- counts
 

@@ -61,8 +61,12 @@ loop-at-preserved c =
     ap (λ (limits : Limits). (step limits c.loop-at.engine.state e).state) (sym c.loop-at.invariant.limits) ∙ sym c.in_ok-step.ensures.state in
     record {
       limits = c.step.ensures.limits ∙ c.loop-at.invariant.limits;
+      tracked = λ base is. c.step.ensures.tracked base (c.loop-at.invariant.tracked base is);
       gone = subst (λ (s : State). GoneThrough from.limits from.state bytes (at + c.in-Some.len) s) stepped more;
     }
 
 pub returns-clause-only : goal.returns-clause-only
 returns-clause-only c = λ events s are. (refl, gone_only _ _ _ _ _ c.loop-at.invariant.gone c.loop-at-test.false events s are)
+
+pub returns-in_err-step-clause-tracked : goal.returns-in_err-step-clause-tracked
+returns-in_err-step-clause-tracked c = λ base is. c.step.ensures.tracked base (c.loop-at.invariant.tracked base is)

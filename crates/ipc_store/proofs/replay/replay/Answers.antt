@@ -96,6 +96,7 @@ loop-len-init g c = record {
   room = refl;
   within = omega arith;
   limits = refl;
+  tracked = λ base is. is;
   replayed = λ honest. replayed_none c.args.engine.now.limits c.args.engine.now.state c.args.journal.now (g.D.SectorDisk.medium c.args.disk.now).contents;
   reads = OnlyReads-start c.args.disk.now;
 }
@@ -205,6 +206,7 @@ loop-len-preserved g c =
       room = omega (arith, c.next_batch.auto.into, inv.room);
       within = omega (arith, e.inside len c.in-Some.is);
       limits = c.in_ok-go_through.ensures.limits ∙ inv.limits;
+      tracked = λ base is. c.go_through.ensures.tracked base (inv.tracked base is);
       replayed = λ honest.
           subst
           (λ (n : ℕ). Replayed c.args.engine.now.limits c.args.engine.now.state c.args.journal.now (g.D.SectorDisk.medium c.args.disk.now).contents n t)
@@ -212,3 +214,9 @@ loop-len-preserved g c =
           (replayed_more _ _ _ _ _ s _ (inv.replayed honest) (found_there g here honest) events.0 t are (λ es to good. (only_there g here es to good).1));
       reads = reads_well g (goal.at.loop-len-preserved g c).After-next_batch c.in_ok-len.field-0 c.in_ok-len.was;
     }
+
+pub returns-in_err-go_through-clause-tracked : goal.returns-in_err-go_through-clause-tracked
+returns-in_err-go_through-clause-tracked g c = λ base is. c.go_through.ensures.tracked base (c.loop-len.invariant.tracked base is)
+
+pub returns-then-not-branch-clause-tracked : goal.returns-then-not-branch-clause-tracked
+returns-then-not-branch-clause-tracked g c = λ base is. c.go_through.ensures.tracked base (c.loop-len.invariant.tracked base is)

@@ -3,6 +3,8 @@ use Rattle.std.proofs.Common.{◌≡◌, ◌-◌, ◌≤◌, length}
 use Rattle.ipc_disk.specs.Calls.{OnlyReads}
 use Rattle.ipc_disk.specs.Medium.{IsHonest}
 use Rattle.ipc_journal.specs.View.{used_of}
+use Rattle.ipc_state.specs.State.{State}
+use Rattle.ipc_engine.specs.Changes.{IsTracked}
 use Rattle.ipc_store.proofs.Replaying.{Replayed}
 use Rattle.ipc_store.proofs.replay.replay.Given as goal
 
@@ -13,6 +15,7 @@ invariant-loop-len g l =
       room : length l.room ≡ length l.fn.room;
       within : l.place.sector ≤ used_of l.journal;
       limits : l.engine.limits ≡ l.fn.engine.limits;
+      tracked : (base : State) → IsTracked l.fn.engine.changed base l.fn.engine.state → IsTracked l.engine.changed base l.engine.state;
       replayed : IsHonest (medium l.fn.disk)
           → Replayed l.fn.engine.limits l.fn.engine.state l.journal (medium l.fn.disk).contents l.place.sector l.engine.state;
       reads : OnlyReads g.D.SectorDisk.size medium g.D.SectorDisk.counts ⊥ l.fn.disk l.disk;

@@ -1,33 +1,43 @@
-use Rattle.std.proofs.Common.{◌≡◌, ◌≤◌, ℕ, ◌++◌, List, map, vec_capacity, sym, subst, ap, ◌∙◌, rules}
+use Rattle.std.proofs.Common.{◌≡◌, ◌<◌, ◌≤◌, ◌*◌, ℕ, false, ◌++◌, List, map, vec_capacity, refl, sym, subst, ap, ◌∙◌, arith, rules}
+use Rattle.std.specs.Prelude.{Some}
+use Rattle.ipc_base.specs.declared.limits.Limits.{Limits}
 use Rattle.std.specs.Global.{Vec}
 use Rattle.ipc_base.specs.Limits.{ArePassed}
 use Rattle.ipc_wire.specs.View.{plain_request}
 use Rattle.ipc_state.specs.Held.{Held, Ready, left}
 use Rattle.ipc_state.specs.Held.Ready.{Nothing}
+use Rattle.ipc_state.specs.declared.parked.Object.{Object}
 use Rattle.ipc_state.specs.State.{State, exit, is_waiting}
+use Rattle.ipc_state.specs.Touching.{IsSameIn, changes_by_exit}
 use Rattle.ipc_engine.specs.declared.event.Outcome.{Outcome}
 use Rattle.ipc_engine.specs.Buffer.{HasBuffer}
-use Rattle.ipc_engine.specs.Event.{PlainOutcome, Connect, Call, Interrupt, Tick, Exit, Restart}
+use Rattle.ipc_engine.specs.Changes.{HasMarked, IsTracked, changes, changes_by_call, most_objects}
+use Rattle.ipc_engine.specs.Event.{PlainEvent, PlainOutcome, Connect, Call, Interrupt, Tick, Exit, Restart}
 use Rattle.ipc_engine.specs.Reserved.{IsReserved}
 use Rattle.ipc_engine.specs.Sound.{IsSound}
-use Rattle.ipc_engine.specs.Step.{Step, asked, connect, due, interrupt, most_replies, settle}
+use Rattle.ipc_engine.specs.Step.{Step, asked, connect, due, interrupt, most_replies, settle, step}
 use Rattle.ipc_engine.specs.View.{plain_outcome}
 use Rattle.ipc_engine.proofs.Buffers.{buffer-spare, after-sound, after-fits, pushed}
-use Rattle.ipc_engine.proofs.engine.Engine.step.Goals.{After-advance-in-Call}
+use Rattle.ipc_engine.proofs.Marks.{none-marked}
+use Rattle.ipc_engine.proofs.Tracking.{step-same, tracked-on}
+use Rattle.ipc_engine.proofs.engine.Engine.step.Goals.{After-advance-in-Call, After-ask, After-leave}
 use Rattle.ipc_engine.proofs.engine.Engine.step.Goals as goal
 
 -- what the machine keeps over an event, after which nothing is reserved
-keeps : (before after : Held) (t : State) (capacity : ℕ) (spare : Vec ℕ) (os : List Outcome) → after ≡ left before t → most_replies before.limits ≤ capacity
+keeps : (before after : Held) (t : State) (capacity marks : ℕ) (spare : Vec ℕ) (os : List Outcome) → after ≡ left before t
+    → most_replies before.limits ≤ capacity
     → IsSound after.limits after.state → ArePassed before.limits → HasBuffer after.limits spare os → before.limits.processes ≤ before.waits
+    → 2 * most_objects before.limits < marks
     → (most_replies after.limits ≤ capacity) × IsSound after.limits after.state × ArePassed after.limits × HasBuffer after.limits spare os
-    × (after.limits.processes ≤ after.waits) × (after.ready ≡ Nothing)
-keeps before after t capacity spare os is places sound passed buffer waits = (
+    × (after.limits.processes ≤ after.waits) × (after.ready ≡ Nothing) × (2 * most_objects after.limits < marks)
+keeps before after t capacity marks spare os is places sound passed buffer waits room = (
   subst (λ (h : Held). most_replies h.limits ≤ capacity) (sym is) places,
   sound,
   subst (λ (h : Held). ArePassed h.limits) (sym is) passed,
   buffer,
   subst (λ (h : Held). h.limits.processes ≤ h.waits) (sym is) waits,
   ap (λ (h : Held). h.ready) is,
+  subst (λ (h : Held). 2 * most_objects h.limits < marks) (sym is) room,
 )
 
 -- a moment has come
@@ -68,13 +78,14 @@ invariant_of-self-in-Connect c =
     let same : new.limits ≡ old.limits = search rules in
     let begun = c.advance.ensures.state ∙ ap (came c.in-Connect.moment.0) c.in_ok-reserve_hello-in-Connect.ensures.ok in
     let held = c.connect-outcome.ensures.held ∙ ap (λ (h : Held). left h new.state) begun in
-    keeps old new new.state (vec_capacity c.push.new.outcomes) c.advance.new.spare c.push.new.outcomes.items held (search rules)
+    keeps old new new.state (vec_capacity c.push.new.outcomes)
+    (vec_capacity c.self.inside.changed.marks) c.advance.new.spare c.push.new.outcomes.items held (search rules)
     (after-sound old.limits new.limits old.state new.state (Connect c.in-Connect.cred c.in-Connect.serial c.in-Connect.moment.0) same (search rules)
     c.self.invariant.1 tt tt)
     c.self.invariant.2
     (buffer-spare old.limits new.limits c.self.inside.spare c.advance.new.spare c.self.inside.outcomes.items c.push.new.outcomes.items same c.self.invariant.3
     c.advance.ensures.buffer)
-    c.self.invariant.4
+    c.self.invariant.4 c.self.invariant.6
 
 -- the moment has come, and what was reserved is ready still
 begun : (c : After-advance-in-Call) → c.advance-in-Call.new.state ≡ came c.in-Call.moment.0 (record c.self.inside.state { ready = c.prepare.new.state.ready })
@@ -107,12 +118,12 @@ invariant_of-self-in-Call c =
     let same : new.limits ≡ old.limits = search rules in
     let mid = begun (goal.at.invariant_of-self-in-Call c).After-advance-in-Call in
     let held = c.ask.ensures.does.state ∙ (λ i. left (mid i) (asked (mid i).limits pid request request.kind (mid i).state).state) in
-    keeps old new _ (vec_capacity c.ask.new.outcomes) c.ask.new.spare c.ask.new.outcomes.items held (search rules)
+    keeps old new _ (vec_capacity c.ask.new.outcomes) (vec_capacity c.ask.new.changed.marks) c.ask.new.spare c.ask.new.outcomes.items held (search rules)
     (after-sound old.limits new.limits old.state new.state (Call c.in-Call.pid.0 (plain_request c.in-Call.request) c.in-Call.moment.0) same (search rules)
     c.self.invariant.1 (search rules) c.in-Call.request.frame)
     c.self.invariant.2
     (subst (λ (h : Held). HasBuffer h.limits c.ask.new.spare c.ask.new.outcomes.items) (sym c.ask.ensures.does.state) c.ask.ensures.buffer)
-    c.self.invariant.4
+    c.self.invariant.4 (omega (arith, c.self.invariant.6, c.ask.ensures.room))
 
 pub returns-in-Interrupt-clause-sound : goal.returns-in-Interrupt-clause-sound
 returns-in-Interrupt-clause-sound c =
@@ -136,13 +147,14 @@ invariant_of-self-in-Interrupt c =
     let pid = c.in-Interrupt.pid.0 in
     let step : Held → Held = λ h. record h { state = (interrupt pid c.in-Interrupt.serial h.state).state } in
     let held = c.interrupt.ensures.state ∙ (ap step c.advance-in-Interrupt.ensures.state ∙ nothing-ready old _ c.self.invariant.5) in
-    keeps old new _ (vec_capacity c.interrupt.new.outcomes) c.advance-in-Interrupt.new.spare c.interrupt.new.outcomes.items held (search rules)
+    keeps old new _ (vec_capacity c.interrupt.new.outcomes)
+    (vec_capacity c.self.inside.changed.marks) c.advance-in-Interrupt.new.spare c.interrupt.new.outcomes.items held (search rules)
     (after-sound old.limits new.limits old.state new.state (Interrupt c.in-Interrupt.pid.0 c.in-Interrupt.serial c.in-Interrupt.moment.0) same (search rules)
     c.self.invariant.1 (search rules) tt)
     c.self.invariant.2
     (buffer-spare old.limits new.limits c.self.inside.spare c.advance-in-Interrupt.new.spare c.self.inside.outcomes.items c.interrupt.new.outcomes.items same
     c.self.invariant.3 c.advance-in-Interrupt.ensures.buffer)
-    c.self.invariant.4
+    c.self.invariant.4 c.self.invariant.6
 
 pub returns-in-Tick-clause-fits : goal.returns-in-Tick-clause-fits
 returns-in-Tick-clause-fits c =
@@ -169,13 +181,14 @@ invariant_of-self-in-Exit c =
     let new = c.leave.new.state in
     let same : new.limits ≡ old.limits = search rules in
     let mid = c.advance-in-Exit.ensures.state in
-    let held = c.leave.ensures.state ∙ (λ i. left (mid i) (settle (mid i).limits (exit (mid i).state c.in-Exit.pid.0)).state) in
-    keeps old new _ (vec_capacity c.leave.new.outcomes) c.advance-in-Exit.new.spare c.leave.new.outcomes.items held (search rules)
+    let held = c.leave.ensures.does.state ∙ (λ i. left (mid i) (settle (mid i).limits (exit (mid i).state c.in-Exit.pid.0)).state) in
+    keeps old new _ (vec_capacity c.leave.new.outcomes)
+    (vec_capacity c.leave.new.changed.marks) c.advance-in-Exit.new.spare c.leave.new.outcomes.items held (search rules)
     (after-sound old.limits new.limits old.state new.state (Exit c.in-Exit.pid.0 c.in-Exit.moment.0) same (search rules) c.self.invariant.1 (search rules) tt)
     c.self.invariant.2
     (buffer-spare old.limits new.limits c.self.inside.spare c.advance-in-Exit.new.spare c.self.inside.outcomes.items c.leave.new.outcomes.items same
     c.self.invariant.3 c.advance-in-Exit.ensures.buffer)
-    c.self.invariant.4
+    c.self.invariant.4 (omega (arith, c.self.invariant.6, c.leave.ensures.room))
 
 pub returns-in-Restart-clause-sound : goal.returns-in-Restart-clause-sound
 returns-in-Restart-clause-sound c =
@@ -188,8 +201,107 @@ invariant_of-self-in-Restart c =
     let old = c.self.inside.state in
     let new = c.restart.new.self in
     let same : new.limits ≡ old.limits = search rules in
-    keeps old new _ (vec_capacity c.take_back.new.outcomes) c.take_back.new.spare c.take_back.new.outcomes.items c.restart.ensures (search rules)
+    keeps old new _ (vec_capacity c.take_back.new.outcomes)
+    (vec_capacity c.mark_leaving.new.self.marks) c.take_back.new.spare c.take_back.new.outcomes.items c.restart.ensures (search rules)
     (after-sound old.limits new.limits old.state new.state Restart same (search rules) c.self.invariant.1 tt tt) c.self.invariant.2
     (buffer-spare old.limits new.limits c.self.inside.spare c.take_back.new.spare c.self.inside.outcomes.items c.take_back.new.outcomes.items same
     c.self.invariant.3 c.take_back.ensures.room)
-    c.self.invariant.4
+    c.self.invariant.4 (omega (arith, c.self.invariant.6, c.mark_leaving.ensures.capacity))
+
+-- ---- what has changed
+
+-- an event that changes nothing marks nothing
+still : (limits : Limits) (s u base : State) (e : PlainEvent) (marks : List Object) → IsSound limits s → u ≡ (step limits s e).state
+    → ((o : Object) → changes limits s e o ≡ false) → IsTracked marks base s → IsTracked marks base u
+still limits s u base e marks h is none =
+    tracked-on s u base (changes limits s e) marks marks (none-marked s (changes limits s e) marks none)
+    (λ o off. subst (λ (t : State). IsSameIn o s t) (sym is) (step-same limits s e h o off))
+
+pub returns-in_ok-reserve_hello-in-Connect-clause-tracked : goal.returns-in_ok-reserve_hello-in-Connect-clause-tracked
+returns-in_ok-reserve_hello-in-Connect-clause-tracked c =
+    rw (sym c.self.view_is) (λ base.
+    let old = c.self.inside.state in
+    still old.limits old.state c.connect-outcome.new.state.state base (Connect c.in-Connect.cred c.in-Connect.serial c.in-Connect.moment.0)
+    c.self.inside.changed.marks.items c.self.invariant.1 (search rules) (λ o. refl))
+
+pub returns-in-Interrupt-clause-tracked : goal.returns-in-Interrupt-clause-tracked
+returns-in-Interrupt-clause-tracked c =
+    rw (sym c.self.view_is) (λ base.
+    let old = c.self.inside.state in
+    still old.limits old.state c.interrupt.new.state.state base (Interrupt c.in-Interrupt.pid.0 c.in-Interrupt.serial c.in-Interrupt.moment.0)
+    c.self.inside.changed.marks.items c.self.invariant.1 (search rules) (λ o. refl))
+
+pub returns-in-Tick-clause-tracked : goal.returns-in-Tick-clause-tracked
+returns-in-Tick-clause-tracked c =
+    rw (sym c.self.view_is) (λ base.
+    let old = c.self.inside.state in
+    still old.limits old.state c.advance-in-Tick.new.state.state base (Tick c.in-Tick.moment.0) c.self.inside.changed.marks.items c.self.invariant.1
+    (search rules) (λ o. refl))
+
+-- what a call has marked
+call-marked : (c : After-ask) (mid : c.advance-in-Call.new.state ≡ came c.in-Call.moment.0 (record c.self.inside.state { ready = c.prepare.new.state.ready }))
+    → HasMarked (due c.in-Call.moment.0 c.self.inside.state.state).state
+    (changes c.self.inside.state.limits c.self.inside.state.state (Call c.in-Call.pid.0 (plain_request c.in-Call.request) c.in-Call.moment.0))
+    c.self.inside.changed.marks.items c.ask.new.changed.marks.items
+call-marked c mid =
+    subst (λ (h : Held). HasMarked h.state (changes_by_call h.limits h.state c.in-Call.pid.0 (plain_request c.in-Call.request).kind)
+    c.self.inside.changed.marks.items c.ask.new.changed.marks.items) mid c.ask.ensures.marked
+
+pub returns-in_ok-kept-in-Call-clause-tracked : goal.returns-in_ok-kept-in-Call-clause-tracked
+returns-in_ok-kept-in-Call-clause-tracked c =
+    rw (sym c.self.view_is) (λ base.
+    let old = c.self.inside.state in
+    let event = Call c.in-Call.pid.0 (plain_request c.in-Call.request) c.in-Call.moment.0 in
+    let is : c.ask.new.state.state ≡ (step old.limits old.state event).state = search rules in
+    tracked-on (due c.in-Call.moment.0 old.state).state c.ask.new.state.state base (changes old.limits old.state event) c.self.inside.changed.marks.items
+    c.ask.new.changed.marks.items (call-marked (goal.at.returns-in_ok-kept-in-Call-clause-tracked c).After-ask
+    (begun (goal.at.returns-in_ok-kept-in-Call-clause-tracked c).After-advance-in-Call))
+    (λ o off. subst (λ (t : State). IsSameIn o old.state t) (sym is) (step-same old.limits old.state event c.self.invariant.1 o off)))
+
+pub returns-in_ok-kept-in-Call-clause-only : goal.returns-in_ok-kept-in-Call-clause-only
+returns-in_ok-kept-in-Call-clause-only c = rw (sym c.self.view_is, c.in-Call.is) (call-marked
+    (goal.at.returns-in_ok-kept-in-Call-clause-only c).After-ask (begun (goal.at.returns-in_ok-kept-in-Call-clause-only c).After-advance-in-Call)).only
+
+-- what an exit has marked
+exit-marked : (c : After-leave)
+    → HasMarked (due c.in-Exit.moment.0 c.self.inside.state.state).state
+    (changes c.self.inside.state.limits c.self.inside.state.state (Exit c.in-Exit.pid.0 c.in-Exit.moment.0))
+    c.self.inside.changed.marks.items c.leave.new.changed.marks.items
+exit-marked c =
+    subst (λ (h : Held). HasMarked h.state (changes_by_exit (Some c.in-Exit.pid.0) h.state) c.self.inside.changed.marks.items c.leave.new.changed.marks.items)
+    c.advance-in-Exit.ensures.state c.leave.ensures.marked
+
+pub returns-in-Exit-clause-tracked : goal.returns-in-Exit-clause-tracked
+returns-in-Exit-clause-tracked c =
+    rw (sym c.self.view_is) (λ base.
+    let old = c.self.inside.state in
+    let event = Exit c.in-Exit.pid.0 c.in-Exit.moment.0 in
+    let is : c.leave.new.state.state ≡ (step old.limits old.state event).state = search rules in
+    tracked-on (due c.in-Exit.moment.0 old.state).state c.leave.new.state.state base (changes old.limits old.state event) c.self.inside.changed.marks.items
+    c.leave.new.changed.marks.items (exit-marked (goal.at.returns-in-Exit-clause-tracked c).After-leave)
+    (λ o off. subst (λ (t : State). IsSameIn o old.state t) (sym is) (step-same old.limits old.state event c.self.invariant.1 o off)))
+
+pub returns-in-Exit-clause-only : goal.returns-in-Exit-clause-only
+returns-in-Exit-clause-only c = rw (sym c.self.view_is, c.in-Exit.is) (exit-marked (goal.at.returns-in-Exit-clause-only c).After-leave).only
+
+pub returns-in-Restart-clause-tracked : goal.returns-in-Restart-clause-tracked
+returns-in-Restart-clause-tracked c =
+    rw (sym c.self.view_is) (λ base.
+    let old = c.self.inside.state in
+    let is : c.restart.new.self.state ≡ (step old.limits old.state Restart).state = search rules in
+    tracked-on old.state c.restart.new.self.state base (changes old.limits old.state Restart) c.self.inside.changed.marks.items
+    c.mark_leaving.new.self.marks.items c.mark_leaving.ensures.marked
+    (λ o off. subst (λ (t : State). IsSameIn o old.state t) (sym is) (step-same old.limits old.state Restart c.self.invariant.1 o off)))
+
+pub returns-in-Restart-clause-only : goal.returns-in-Restart-clause-only
+returns-in-Restart-clause-only c = rw (sym c.self.view_is, c.in-Restart.is) c.mark_leaving.ensures.marked.only
+
+pub returns-in_err-reserve_hello-in-Connect-clause-tracked : goal.returns-in_err-reserve_hello-in-Connect-clause-tracked
+returns-in_err-reserve_hello-in-Connect-clause-tracked c =
+    let same : c.reserve_hello.new.state.state ≡ c.self.inside.state.state = search rules in
+    rw (sym c.self.view_is) (λ base is. subst (λ (s : State). IsTracked c.self.inside.changed.marks.items base s) (sym same) is)
+
+pub returns-in_err-kept-in-Call-clause-tracked : goal.returns-in_err-kept-in-Call-clause-tracked
+returns-in_err-kept-in-Call-clause-tracked c =
+    let same : c.prepare.new.state.state ≡ c.self.inside.state.state = search rules in
+    rw (sym c.self.view_is) (λ base is. subst (λ (s : State). IsTracked c.self.inside.changed.marks.items base s) (sym same) is)

@@ -1,6 +1,6 @@
 -- Each exit: what a crash leaves, and the history of the store.
 use Rattle.std.proofs.Common.{inl, sym, ap, ◌∙◌}
-use Rattle.ipc_store.proofs.Committing.{stands_now, any_moment-none}
+use Rattle.ipc_store.proofs.Committing.{stands_now, any_moment-none, append-counts, none-waits}
 use Rattle.ipc_store.proofs.Lives.{takes-none, takes-either, leaves-either}
 use Rattle.ipc_store.proofs.store.Store.commit.Goals as goal
 
@@ -44,3 +44,13 @@ returns-else-fits-clause-left g c =
     leaves-either g.D.SectorDisk.medium g.met.D.SectorDisk.only_now c.args.self.now c.save_state.new.self
     (sym (ap (λ v. v.stopped) c.self.view_is) ∙ c.if-self.false) (ap (λ v. v.limits) c.save_state.ensures.commits.machine)
     c.save_state.ensures.any_moment c.save_state.ensures.same.honest.0
+
+pub returns-then-count-eq0-clause-matches : goal.returns-then-count-eq0-clause-matches
+returns-then-count-eq0-clause-matches g c = λ base pending at.
+    none-waits (g.D.SectorDisk.medium c.args.self.now.disk) c.args.self.now base pending at
+    (sym (ap (λ v. v.waiting) c.self.view_is) ∙ sym c.count.ensures.count ∙ c.if-count-eq0.true)
+
+pub returns-then-fits-clause-faults : goal.returns-then-fits-clause-faults
+returns-then-fits-clause-faults g c =
+    append-counts g.D.SectorDisk.counts c.args.self.now.disk c.append.new.self.disk _ c.append.result c.append.ensures.stopped c.append.ensures.failure
+    c.append.ensures.counts

@@ -5,6 +5,7 @@ use Rattle.ipc_disk.specs.Counts.{counted}
 use Rattle.ipc_disk.specs.Medium.{IsHonest}
 use Rattle.ipc_journal.specs.View.{used_of, epoch_of as journal_epoch}
 use Rattle.std.specs.Prelude.{⊤, Result}
+use Rattle.ipc_image.specs.Format.{format}
 use Rattle.ipc_store.specs.declared.fault.OpenError.{OpenError}
 use Rattle.ipc_store.specs.declared.fault.OpenError.TheVariants as errors
 use Rattle.ipc_base.specs.declared.limits.Limits.{Limits}
@@ -22,7 +23,8 @@ abbrev restarted : OpenError → Result ⊤ OpenError
 restarted e = Err e
 
 -- the epochs are at their end
-ended : (g : Over) (c : In-Err-restart g) → IsHonest (g.D.SectorDisk.medium c.args.disk) → restarted c.in-Err-restart.error ≡ restarted (errors.Damaged 1)
+ended : (g : Over) (c : In-Err-restart g) → IsHonest (g.D.SectorDisk.medium c.args.disk) → restarted c.in-Err-restart.error
+    ≡ restarted (errors.Damaged format.root)
     → IsAtEnd (g.D.SectorDisk.medium c.args.disk).contents
 ended g c honest is =
     let m = g.D.SectorDisk.medium in

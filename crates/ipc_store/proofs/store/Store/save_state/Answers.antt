@@ -1,13 +1,14 @@
 -- Each exit: the images since the start, and the store after it.
-use Rattle.std.proofs.Common.{◌≡◌, inr, ℕ, ◌+◌, [], sym, ap, subst, ◌∙◌, arith}
+use Rattle.std.proofs.Common.{◌≡◌, inr, ℕ, ◌+◌, Bool, [], sym, ap, subst, ◌∙◌, arith}
 use Rattle.ipc_base.specs.declared.limits.Limits.{Limits}
-use Rattle.ipc_base.specs.Objects.{PlainObjects, Fit}
+use Rattle.ipc_base.specs.Objects.{PlainObjects, Fit, OthersAreThere}
 use Rattle.ipc_state.specs.State.{State}
-use Rattle.ipc_checkpoint.specs.Matches.{sectors_of}
+use Rattle.ipc_checkpoint.specs.Matches.{changed_sectors, sectors_of, table_sectors}
+use Rattle.ipc_disk.specs.Counts.{with_calls}
 use Rattle.ipc_checkpoint.specs.View.{free_of, layout_of as saved_layout}
 use Rattle.ipc_image.specs.Saved.{StandForState, saved as saved_objects}
 use Rattle.ipc_engine.specs.Step.{run}
-use Rattle.ipc_store.proofs.Committing.{any_moment-none, any_moment-save, saved}
+use Rattle.ipc_store.proofs.Committing.{any_moment-none, any_moment-save, saved, unchanged}
 use Rattle.ipc_store.proofs.Devices.{has-spare, stays-on-disk}
 use Rattle.ipc_store.proofs.store.Store.save_state.Goals as goal
 
@@ -36,7 +37,7 @@ pub save-requires-clause-old_fits : goal.save-requires-clause-old_fits
 save-requires-clause-old_fits g c = c.self.invariant.3 (ap (λ v. v.stopped) c.self.view_is ∙ c.requires.running)
 
 pub returns-clause-matches : goal.returns-clause-matches
-returns-clause-matches g c = rw (sym c.self.view_is, c.clear.ensures) (λ base pending at.
+returns-clause-matches g c = rw (sym c.self.view_is, c.mark_saved.ensures, c.clear.ensures) (λ base pending at.
     saved _ _ _ base pending at _ (omega (arith, c.epoch.ensures, c.in-Some.ensures)) _
     (stands c.objects_of-objects.ensures.objects c.objects_of-objects.ensures.stand)
     (c.save.ensures.others at.device.honest) _ _ _ _
@@ -44,7 +45,7 @@ returns-clause-matches g c = rw (sym c.self.view_is, c.clear.ensures) (λ base p
     c.in_default-save.ensures.matches)
 
 pub invariant_of-self-2 : goal.invariant_of-self-2
-invariant_of-self-2 g c = (
+invariant_of-self-2 g c = rw c.mark_saved.ensures (
   stays-on-disk _ _ _ _ _ _ _ c.save.ensures.same.sectors c.save.ensures.layout c.turn.ensures.range
       (c.turn.ensures.epoch ∙ sym c.in_default-save.ensures.epoch) c.self.invariant.0,
   omega (arith, c.self.invariant.1, c.count.ensures.count, ap (λ b. b.count) c.clear.ensures),
@@ -70,3 +71,23 @@ invariant_of-self-2 g c = (
 
 pub returns-clause-faults : goal.returns-clause-faults
 returns-clause-faults g c = rw (sym c.self.view_is) (record { failure = λ bad. cc; no_failure = inr c.in_default-save.ensures.counts.ok })
+
+-- ---- what is written
+
+pub save-requires-clause-unchanged : goal.save-requires-clause-unchanged
+save-requires-clause-unchanged g c = λ objects there.
+    let m = g.D.SectorDisk.medium in
+    let at = (c.self.invariant.2 (ap (λ v. v.stopped) c.self.view_is ∙ c.requires.running) there.matches.honest).1.1 in
+    let given = c.objects_of-objects.ensures in
+    subst (λ (p : (ℕ → Bool) × PlainObjects). OthersAreThere p.0 p.1 objects) (sym (λ i. (given.differs i, given.objects i)))
+    (unchanged (m c.self.inside.disk) (m c.self.inside.disk) _ _ _ at given.stand objects there)
+
+pub returns-clause-writes : goal.returns-clause-writes
+returns-clause-writes g c = rw (sym c.self.view_is) (λ honest.
+    let counts = g.D.SectorDisk.counts in
+    let at = (c.self.invariant.2 (ap (λ v. v.stopped) c.self.view_is ∙ c.requires.running) honest).1.1 in
+    let given = c.objects_of-objects.ensures in
+    subst
+    (λ (p : (ℕ → Bool) × PlainObjects).
+    counts c.save.new.disk ≡ with_calls (changed_sectors p.0 p.1 + table_sectors p.1 + 1) 2 (counts c.self.inside.disk))
+    (λ i. (given.differs i, given.objects i)) (c.in_default-save.ensures.writes at.device.objects at.device.saved))

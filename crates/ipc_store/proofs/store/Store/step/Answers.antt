@@ -16,7 +16,7 @@ returns-clause-matches g c =
     subst (λ v. IsForProcess v.machine.state (plain_event c.args.event)) (sym c.self.view_is) c.requires.process in
     rw (sym c.self.view_is) (λ base pending at.
     accepted _ _ base pending at (plain_event c.args.event) c.push.ensures.record for c.step.new.self c.step.ensures.limits
-    c.in_default.ensures.state c.push.new.self.records c.push.ensures.records c.push.new.self.count c.push.ensures.count)
+    c.in_default.ensures.state c.step.ensures.tracked c.push.new.self.records c.push.ensures.records c.push.new.self.count c.push.ensures.count)
 
 pub returns-clause-passed : goal.returns-clause-passed
 returns-clause-passed g c = subst (λ v. ArePassed v.machine.limits) c.self.view_is c.step.ensures.passed
@@ -63,7 +63,7 @@ invariant_of-self-2 g c =
         (
           found.1.0 ++ plain_event c.args.event ∷ [],
           accepted _ _ found.0 found.1.0 found.1.1 (plain_event c.args.event) c.push.ensures.record for c.step.new.self c.step.ensures.limits
-              c.in_default.ensures.state c.push.new.self.records c.push.ensures.records c.push.new.self.count c.push.ensures.count,
+              c.in_default.ensures.state c.step.ensures.tracked c.push.new.self.records c.push.ensures.records c.push.new.self.count c.push.ensures.count,
         ),
       ),
       c.self.invariant.3,

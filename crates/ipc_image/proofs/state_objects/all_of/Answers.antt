@@ -5,7 +5,7 @@ use Rattle.ipc_state.specs.Named.{Named}
 use Rattle.ipc_state.specs.State.{State}
 use Rattle.ipc_image.specs.Saved.{saved, HasAllPlaces}
 use Rattle.ipc_image.proofs.SavedObjects.{seen-is, saved-are, saved-fit}
-use Rattle.ipc_image.proofs.state_objects.objects_of.Goals as goal
+use Rattle.ipc_image.proofs.state_objects.all_of.Goals as goal
 
 pub invariant_of-result : goal.invariant_of-result
 invariant_of-result c =

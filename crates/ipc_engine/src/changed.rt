@@ -1,0 +1,250 @@
+//! Which objects have changed since the state was saved. None of this takes memory but the room, once.
+
+ghost use Rattle.std.specs.Prelude.{◌≡◌, ◌+◌, ◌*◌, ◌^◌, ◌<◌, ◌≤◌, ◌&&◌, ◌||◌, true, [], None, IfOk};
+ghost use Rattle.std.specs.Prelude.{filter, length, map, nat_eq, vec_capacity};
+ghost use Rattle.std.specs.List.{IsDistinct, list_any};
+ghost use Rattle.std.proofs.Props.{props};
+ghost use Rattle.sem_undo.specs.Undo.{entry_of};
+ghost use Rattle.ipc_keys.specs.declared.check.NameKind.TheVariants as names;
+ghost use Rattle.ipc_state.specs.declared.parked.Object.{Object as PlainObject};
+ghost use Rattle.ipc_state.specs.declared.parked.ObjectKind.TheVariants as kinds;
+ghost use Rattle.ipc_state.specs.Opening.{is_on, is_or_any, is_there_for, object_as, opened_as};
+ghost use Rattle.ipc_state.specs.Sound.{HasSoundParts};
+ghost use Rattle.ipc_state.specs.State.{objects_in};
+ghost use Rattle.ipc_state.specs.Tables.{item_row};
+ghost use Rattle.ipc_state.specs.Touching.{changes_by_exit, is_adjusted, is_adjusted_in, is_made_by};
+ghost use Rattle.ipc_engine.specs.Changes.{HasMarked, is_marked, is_object, is_one, most_objects};
+
+use ipc_base::Limits;
+use ipc_keys::NameKind;
+use ipc_state::{Item, Object, ObjectKind, State, is_on};
+use posix_mq::Registration;
+use sem_undo::{SemUndo, UndoRow};
+use std::alloc::{AllocError, Global};
+
+/// The objects that may be otherwise than when the state was saved, each once; some may be gone.
+#[derive(Drop)]
+pub(crate) struct Changed {
+    pub(crate) marks: Vec<Object>,
+    ghost once: { IsDistinct is_on marks.items } by { Prim.hlevel props },
+}
+
+impl Changed {
+    /// None, with room for twice as many as there may be objects under these limits, and one. Refused for want of
+    /// memory.
+    pub(crate) fn new(alloc: Global, limits: &Limits) -> Result<Changed, AllocError>
+        ensures none { IfOk result (λ changed. changed.marks.items ≡ []) }
+        ensures room { IfOk result (λ changed. 2 * most_objects limits.now < vec_capacity changed.marks) }
+    {
+        let marks = Vec::with_capacity(alloc, 2 * most_objects(limits) + 1)?;
+        Ok(Changed { marks })
+    }
+
+    /// None any more.
+    pub(crate) fn clear(&mut self)
+        ensures none { self.new.marks.items ≡ [] }
+        ensures capacity { vec_capacity self.new.marks ≡ vec_capacity self.old.marks }
+    {
+        self.marks.clear();
+    }
+
+    /// Whether an object is among them.
+    pub(crate) fn has(&self, object: Object) -> bool
+        ensures { result ≡ is_marked self.now.marks.items object }
+    {
+        has_mark(&self.marks, object)
+    }
+
+    /// There is room for as many more as there may be objects, and one: if there is not, those go that are not there
+    /// any more.
+    pub(crate) fn make_room(&mut self, state: &State)
+        requires parts { HasSoundParts state.now.limits state.now.state }
+        requires capacity { 2 * most_objects state.now.limits < vec_capacity self.old.marks }
+        ensures only { (o : PlainObject) → is_marked self.new.marks.items o ≡ true
+            → is_marked self.old.marks.items o ≡ true }
+        ensures kept { (o : PlainObject) → is_there_for (objects_in state.now.state) o ≡ true
+            → is_marked self.old.marks.items o ≡ true → is_marked self.new.marks.items o ≡ true }
+        ensures room { length self.new.marks.items + most_objects state.now.limits < vec_capacity self.new.marks }
+        ensures capacity { vec_capacity self.new.marks ≡ vec_capacity self.old.marks }
+    {
+        if self.marks.len() + most_objects(state.limits()) < self.marks.capacity() {
+            return;
+        }
+        keep_there(&mut self.marks, state);
+    }
+
+    /// Marks an object, for which there is room.
+    pub(crate) fn mark(&mut self, object: Object)
+        requires { length self.old.marks.items < vec_capacity self.old.marks }
+        ensures marked { (o : PlainObject) → is_marked self.new.marks.items o
+            ≡ (is_marked self.old.marks.items o || is_on object o) }
+        ensures few { length self.new.marks.items ≤ length self.old.marks.items + 1 }
+        ensures capacity { vec_capacity self.new.marks ≡ vec_capacity self.old.marks }
+    {
+        if self.has(object) {
+            return;
+        }
+        self.marks.push_reserved(object);
+    }
+
+    /// Marks an object, if it is one and this is so. There is room.
+    pub(crate) fn mark_if(&mut self, changes: bool, object: Option<Object>)
+        requires { length self.old.marks.items < vec_capacity self.old.marks }
+        ensures marked { (o : PlainObject) → is_marked self.new.marks.items o
+            ≡ (is_marked self.old.marks.items o || changes && is_one object o) }
+        ensures few { length self.new.marks.items ≤ length self.old.marks.items + 1 }
+        ensures capacity { vec_capacity self.new.marks ≡ vec_capacity self.old.marks }
+    {
+        let Some(object) = object else {
+            return;
+        };
+        if changes {
+            self.mark(object);
+        }
+    }
+
+    /// Marks what the exit of a process changes, or of each: the sets at which it has an adjustment, and the queues
+    /// with which it is registered.
+    pub(crate) fn mark_leaving(&mut self, state: &State, pid: Option<u32>)
+        requires parts { HasSoundParts state.now.limits state.now.state }
+        requires capacity { 2 * most_objects state.now.limits < vec_capacity self.old.marks }
+        ensures marked { HasMarked state.now.state (changes_by_exit pid state.now.state)
+            self.old.marks.items self.new.marks.items }
+        ensures capacity { vec_capacity self.new.marks ≡ vec_capacity self.old.marks }
+    {
+        self.make_room(state);
+        self.mark_exit(state, pid);
+    }
+
+    /// The same, if there is room.
+    fn mark_exit(&mut self, state: &State, pid: Option<u32>)
+        requires { length self.old.marks.items + length state.now.state.semset.entries
+            + length state.now.state.mq.entries ≤ vec_capacity self.old.marks }
+        ensures marked { (o : PlainObject) → is_marked self.new.marks.items o
+            ≡ (is_marked self.old.marks.items o || changes_by_exit pid state.now.state o) }
+        ensures capacity { vec_capacity self.new.marks ≡ vec_capacity self.old.marks }
+    {
+        self.mark_sets(state, pid);
+        self.mark_queues(state, pid);
+    }
+
+    fn mark_sets(&mut self, state: &State, pid: Option<u32>)
+        requires { length self.old.marks.items + length state.now.state.semset.entries ≤ vec_capacity self.old.marks }
+        ensures marked { (o : PlainObject) → is_marked self.new.marks.items o ≡ (is_marked self.old.marks.items o
+            || list_any (λ e. is_on (object_as kinds.Semset e.0) o && is_adjusted pid state.now.state.undo e.0)
+            state.now.state.semset.entries) }
+        ensures few { length self.new.marks.items
+            ≤ length self.old.marks.items + length state.now.state.semset.entries }
+        ensures capacity { vec_capacity self.new.marks ≡ vec_capacity self.old.marks }
+    {
+        for item in state.semsets() {
+            let set = Object {
+                kind: ObjectKind::Semset,
+                number: item.number,
+            };
+            self.mark_if(is_adjusted(state, pid, item.number), Some(set));
+        }
+    }
+
+    fn mark_queues(&mut self, state: &State, pid: Option<u32>)
+        requires { length self.old.marks.items + length state.now.state.mq.entries ≤ vec_capacity self.old.marks }
+        ensures marked { (o : PlainObject) → is_marked self.new.marks.items o ≡ (is_marked self.old.marks.items o
+            || list_any (λ e. is_on (opened_as names.Mq e.0) o && is_made_by pid None e.1.object.registration)
+            state.now.state.mq.entries) }
+        ensures capacity { vec_capacity self.new.marks ≡ vec_capacity self.old.marks }
+    {
+        for item in state.mqs() {
+            let queue = Object {
+                kind: ObjectKind::Named(NameKind::Mq),
+                number: item.number,
+            };
+            self.mark_if(
+                is_made_by(pid, item.value.object.registration()),
+                Some(queue),
+            );
+        }
+    }
+}
+
+/// How many objects there may be.
+fn most_objects(limits: &Limits) -> usize
+    ensures exact { result ≡ most_objects limits.now }
+    ensures few { result < 2 ^ 35 }
+{
+    limits.msgmni as usize
+        + limits.semmni as usize
+        + limits.queues as usize
+        + limits.named_semaphores as usize
+        + limits.segments as usize
+}
+
+fn has_mark(marks: &[Object], object: Object) -> bool
+    ensures { result ≡ is_marked marks.now object }
+{
+    marks.iter().any(|mark| is_on(object, *mark))
+}
+
+/// Those that are not there go.
+fn keep_there(marks: &mut Vec<Object>, state: &State)
+    ensures items { marks.new.items ≡ filter (λ m. is_there_for (objects_in state.now.state) m) marks.old.items }
+    ensures capacity { vec_capacity marks.new ≡ vec_capacity marks.old }
+{
+    marks.retain(|mark| is_there(state, *mark));
+}
+
+#[tactic(auto, unfolding(crate::specs::Changes::is_object))]
+fn is_there(state: &State, object: Object) -> bool
+    ensures { result ≡ is_object state.now.state object }
+{
+    state.has_object(object)
+}
+
+/// Whether the process, or any, has an adjustment at a set.
+fn is_adjusted(state: &State, pid: Option<u32>, set: u32) -> bool
+    ensures { result ≡ is_adjusted pid state.now.state.undo set }
+{
+    some_adjust(state.adjustments(), pid, set)
+}
+
+fn some_adjust(items: &[Item<SemUndo>], pid: Option<u32>, set: u32) -> bool
+    ensures { result ≡ list_any (λ i. is_or_any pid i.number && is_adjusted_in set i.value) items.now }
+{
+    items.iter().any(|item| adjusts(item, pid, set))
+}
+
+fn adjusts(item: &Item<SemUndo>, pid: Option<u32>, set: u32) -> bool
+    ensures { result ≡ (is_or_any pid item.now.number && is_adjusted_in set item.now.value) }
+{
+    is_or_any(pid, item.number) && adjusts_at(&item.value, set)
+}
+
+fn adjusts_at(undo: &SemUndo, set: u32) -> bool
+    ensures { result ≡ is_adjusted_in set undo.now }
+{
+    some_is_at(undo.rows(), set)
+}
+
+fn some_is_at(rows: &[UndoRow], set: u32) -> bool
+    ensures { result ≡ list_any (λ r. nat_eq r.set.0 set) rows.now }
+{
+    rows.iter().any(|row| row.set.0 == set)
+}
+
+/// Whether a registration, if there is one, is by this process, or any.
+fn is_made_by(pid: Option<u32>, registration: Option<Registration>) -> bool
+    ensures { result ≡ is_made_by pid None registration }
+{
+    match registration {
+        Some(registration) => is_or_any(pid, registration.pid.0),
+        None => false,
+    }
+}
+
+fn is_or_any(wanted: Option<u32>, number: u32) -> bool
+    ensures { result ≡ is_or_any wanted number }
+{
+    match wanted {
+        Some(wanted) => wanted == number,
+        None => true,
+    }
+}

@@ -1,0 +1,22 @@
+-- The form of a device: what a version of it fixes, and the places that are the same on each.
+use Rattle.std.specs.Prelude.{ℕ, ◌+◌}
+use Rattle.ipc_image.specs.declared.format.Format.{Format}
+
+-- the one of the devices that are made and opened
+abbrev pub format : Format
+format = record { version = 1; root = 1; limits = 16; numbers = 5; request = 8448; batch = 32768 }
+
+-- the journal: its first sector, which is its header, and how many it has with that
+abbrev pub journal_first : ℕ
+journal_first = 3
+
+abbrev pub journal_count : ℕ
+journal_count = 257
+
+-- the first sector of the object area, which goes on to the end of the device
+abbrev pub objects_first : ℕ
+objects_first = journal_first + journal_count
+
+-- the longest record of an event is that of a call: its length, its kind, its moment and its process, and the request
+abbrev pub longest_record : ℕ
+longest_record = 17 + format.request
