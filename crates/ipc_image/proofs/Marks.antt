@@ -94,3 +94,14 @@ length-most bytes_of n (x ∷ xs) each =
       length-most bytes_of n xs (All-tail (λ y. length (bytes_of y) ≤ n) x xs each),
       suc-mul (length xs) n,
     )
+
+same_told : {Y : Type 0} (y z : Y) → Some y ≡ Some z → y ≡ z
+same_told y z same = cc
+
+-- the one at a place, and what is told of it
+pub told-at : {X Y : Type 0} (f : X → Y) (xs : List X) (at : ℕ) (y : Y) → at < length xs → option_map f (slice_get xs at) ≡ Some y
+    → (x : X) × (slice_get xs at ≡ Some x) × (y ≡ f x)
+told-at f [] at y within told = absurd (omega (arith, within))
+told-at f (x ∷ xs) at y within told =
+    let here = slice_get-get_or (x ∷ xs) at x within in
+    (get_or (x ∷ xs) at x, here, same_told _ _ (sym told ∙ ap (option_map f) here))

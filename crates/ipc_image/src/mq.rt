@@ -12,7 +12,7 @@ ghost use Rattle.ipc_image.specs.Relations.Mqs.{mq_message_one, mq_one};
 
 use crate::fields::{FOUR, put_row};
 use crate::perm::own_perm;
-use crate::saved::{Saved, list_len, put_list, read_list};
+use crate::saved::{Listed, Saved, list_len, put_list, read_list};
 use crate::stored::Stored;
 use crate::window::Window;
 use ipc_base::{Field, Mark, Pid, take_fields};
@@ -81,6 +81,28 @@ impl Saved for Message {
     }
 }
 
+impl Listed for Mq {
+    ghost Plain = { PlainMessage };
+
+    ghost bytes = { mq_message_bytes };
+
+    ghost Fits = { FitsMqMessage };
+
+    ghost items = { λ q. q.messages };
+
+    fn count(&self) -> usize {
+        self.len()
+    }
+
+    fn len_at(&self, at: usize) -> u64 {
+        self.message(at).len()
+    }
+
+    fn put_at(&self, at: usize, window: &mut Window) {
+        self.message(at).put(window);
+    }
+}
+
 impl Stored for NamedEntry<Mq> {
     ghost bytes_of = { mq_bytes };
 
@@ -111,7 +133,7 @@ impl Stored for NamedEntry<Mq> {
     }
 
     fn len(&self) -> u64 {
-        QUEUE_NUMBERS + self.bound.bytes().len() as u64 + list_len(self.object.messages())
+        QUEUE_NUMBERS + self.bound.bytes().len() as u64 + list_len(&self.object)
     }
 
     fn put(&self, window: &mut Window, mark: &mut Mark) {
@@ -135,7 +157,7 @@ impl Stored for NamedEntry<Mq> {
             ],
             name,
         );
-        put_list(window, self.object.messages(), mark);
+        put_list(window, &self.object, mark);
     }
 
     fn read(alloc: Global, bytes: &[u8]) -> Result<NamedEntry<Mq>, StateFault> {

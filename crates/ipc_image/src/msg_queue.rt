@@ -15,7 +15,7 @@ ghost use Rattle.ipc_image.specs.Relations.Shapes.{plain_one};
 
 use crate::fields::{EIGHT, FOUR, put_fields, put_row};
 use crate::kind::Kind;
-use crate::saved::{Saved, put_counted, read_counted};
+use crate::saved::{Listed, Saved, put_counted, read_counted};
 use crate::window::Window;
 use ipc_base::{Field, Id, Mark, Moment, Pid, take_fields};
 use ipc_engine::StateFault;
@@ -79,6 +79,28 @@ impl Saved for Message {
     }
 }
 
+impl Listed for MsgQueue {
+    ghost Plain = { PlainMessage };
+
+    ghost bytes = { message_bytes };
+
+    ghost Fits = { FitsMessage };
+
+    ghost items = { λ q. q.messages };
+
+    fn count(&self) -> usize {
+        self.len()
+    }
+
+    fn len_at(&self, at: usize) -> u64 {
+        self.message(at).len()
+    }
+
+    fn put_at(&self, at: usize, window: &mut Window) {
+        self.message(at).put(window);
+    }
+}
+
 impl Kind for MsgQueue {
     ghost sizes = { queue_sizes };
 
@@ -138,7 +160,7 @@ impl Kind for MsgQueue {
     }
 
     fn put_parts(&self, window: &mut Window, mark: &mut Mark) {
-        put_counted(window, self.messages(), mark);
+        put_counted(window, self, mark);
     }
 
     fn read_head(alloc: Global, bytes: &[u8]) -> Result<(MsgQueue, &[u8]), StateFault>

@@ -15,7 +15,7 @@ ghost use Rattle.ipc_image.specs.SavedParts.{put_processes};
 ghost use Rattle.ipc_image.specs.Relations.Trees.{descriptor_one, process_one};
 
 use crate::fields::{FOUR, put_fields};
-use crate::saved::{Saved, put_from, take_list};
+use crate::saved::{InSlice, Saved, put_from, take_list};
 use crate::window::Window;
 use ipc_base::{Cred, Field, Pid, take_fields};
 use ipc_engine::StateFault;
@@ -164,7 +164,7 @@ impl Saved for Item<Process> {
                 Field::U32(rows.len() as u32),
             ],
         );
-        put_from(window, rows, 0);
+        put_from(window, &InSlice(rows), 0);
     }
 
     fn take<'b>(into: &mut State, bytes: &'b [u8]) -> Result<&'b [u8], StateFault> {

@@ -1,7 +1,7 @@
 //! What every list of things in a saved object has, whatever they are: it passes a window, and is read back.
 
 ghost use Rattle.std.specs.Prelude.{◌≡◌, ◌≢◌, ◌<◌, ◌^◌, ◌++◌, ◌∷◌, [], ℕ, List, All};
-ghost use Rattle.std.specs.Prelude.{length, map, Err, IfOk, OnOk};
+ghost use Rattle.std.specs.Prelude.{length, map, option_map, slice_get, Err, IfOk, OnOk, Some};
 ghost use Rattle.std.specs.List.{flat_map};
 ghost use Rattle.ipc_engine.specs.declared.fault.StateFault.{StateFault};
 ghost use Rattle.ipc_image.specs.Shape.{Shape, Tree, tree_bytes, bytes_in, IsTree};
@@ -72,26 +72,81 @@ pub(crate) trait Saved {
     ghost place: { IsPlace items put };
 }
 
+/// Things of one kind in their order, each of which is told by its place.
+pub(crate) trait Listed {
+    /// What one is for the definitions, its bytes, and that each of its numbers has its place.
+    ghost Plain: { Type 0 };
+
+    ghost bytes: { Plain → List ℕ };
+
+    ghost Fits: { Plain → Type 0 };
+
+    /// All of them.
+    ghost items: { Self → List Plain };
+
+    /// How many there are.
+    fn count(&self) -> usize
+        ensures { result ≡ length (items self.now) };
+
+    /// How many bytes the one at this place has.
+    fn len_at(&self, at: usize) -> u64
+        requires there { at < length (items self.now) }
+        requires fit { All Fits (items self.now) }
+        ensures { option_map (λ x. length (bytes x)) (slice_get (items self.now) at) ≡ Some result };
+
+    /// The one at this place passes the window.
+    fn put_at(&self, at: usize, window: &mut Window)
+        requires there { at < length (items self.now) }
+        requires fit { All Fits (items self.now) }
+        ensures { option_map (λ x. passed (bytes x) window.old) (slice_get (items self.now) at) ≡ Some window.new };
+}
+
+/// The things of a slice.
+#[derive(Drop)]
+pub(crate) struct InSlice<'a, T>(pub(crate) &'a [T]);
+
+impl<'a, T: Saved> Listed for InSlice<'a, T> {
+    ghost Plain = { T.Plain };
+
+    ghost bytes = { bytes_in T.shape T.tree };
+
+    ghost Fits = { T.Fits };
+
+    ghost items = { λ s. map T.plain s.0.now };
+
+    fn count(&self) -> usize {
+        self.0.len()
+    }
+
+    fn len_at(&self, at: usize) -> u64 {
+        self.0[at].len()
+    }
+
+    fn put_at(&self, at: usize, window: &mut Window) {
+        self.0[at].put(window);
+    }
+}
+
 /// How many bytes all of them have.
-pub(crate) fn list_len<T: Saved>(items: &[T]) -> u64
-    requires fit { All T.Fits (map T.plain items.now) }
-    requires short { length (flat_map (bytes_in T.shape T.tree) (map T.plain items.now)) < 2 ^ 64 }
-    ensures { result ≡ length (flat_map (bytes_in T.shape T.tree) (map T.plain items.now)) }
+pub(crate) fn list_len<L: Listed>(items: &L) -> u64
+    requires fit { All L.Fits (L.items items.now) }
+    requires short { length (flat_map L.bytes (L.items items.now)) < 2 ^ 64 }
+    ensures { result ≡ length (flat_map L.bytes (L.items items.now)) }
 {
     let mut len = 0;
-    for item in items {
-        len += item.len();
+    for at in 0..items.count() {
+        len += items.len_at(at);
     }
     len
 }
 
 /// All of them pass the window. The mark is of them.
-pub(crate) fn put_list<T: Saved>(window: &mut Window, items: &[T], mark: &mut Mark)
-    requires fit { All T.Fits (map T.plain items.now) }
-    requires short { length (flat_map (bytes_in T.shape T.tree) (map T.plain items.now)) < 2 ^ 64 }
-    requires mark { IsMarkIn (bytes_in T.shape T.tree) (map T.plain items.now) mark.old }
-    ensures passed { window.new ≡ passed (flat_map (bytes_in T.shape T.tree) (map T.plain items.now)) window.old }
-    ensures mark { IsMarkIn (bytes_in T.shape T.tree) (map T.plain items.now) mark.new }
+pub(crate) fn put_list<L: Listed>(window: &mut Window, items: &L, mark: &mut Mark)
+    requires fit { All L.Fits (L.items items.now) }
+    requires short { length (flat_map L.bytes (L.items items.now)) < 2 ^ 64 }
+    requires mark { IsMarkIn L.bytes (L.items items.now) mark.old }
+    ensures passed { window.new ≡ passed (flat_map L.bytes (L.items items.now)) window.old }
+    ensures mark { IsMarkIn L.bytes (L.items items.now) mark.new }
 {
     if !window.passes_over(mark.bytes) {
         *mark = START;
@@ -101,17 +156,17 @@ pub(crate) fn put_list<T: Saved>(window: &mut Window, items: &[T], mark: &mut Ma
 }
 
 // The mark goes on over those that end before the window begins; they have passed then.
-fn pass_over<T: Saved>(window: &mut Window, items: &[T], mark: &mut Mark)
-    requires fit { All T.Fits (map T.plain items.now) }
-    requires short { length (flat_map (bytes_in T.shape T.tree) (map T.plain items.now)) < 2 ^ 64 }
-    requires mark { IsMarkIn (bytes_in T.shape T.tree) (map T.plain items.now) mark.old }
+fn pass_over<L: Listed>(window: &mut Window, items: &L, mark: &mut Mark)
+    requires fit { All L.Fits (L.items items.now) }
+    requires short { length (flat_map L.bytes (L.items items.now)) < 2 ^ 64 }
+    requires mark { IsMarkIn L.bytes (L.items items.now) mark.old }
     ensures passed { (begun : Shown)
-        → window.old ≡ passed (first_bytes (bytes_in T.shape T.tree) mark.old.parts (map T.plain items.now)) begun
-        → window.new ≡ passed (first_bytes (bytes_in T.shape T.tree) mark.new.parts (map T.plain items.now)) begun }
-    ensures mark { IsMarkIn (bytes_in T.shape T.tree) (map T.plain items.now) mark.new }
+        → window.old ≡ passed (first_bytes L.bytes mark.old.parts (L.items items.now)) begun
+        → window.new ≡ passed (first_bytes L.bytes mark.new.parts (L.items items.now)) begun }
+    ensures mark { IsMarkIn L.bytes (L.items items.now) mark.new }
 {
-    while mark.parts < items.len() {
-        let len = items[mark.parts].len();
+    while mark.parts < items.count() {
+        let len = items.len_at(mark.parts);
         if !window.passes_over(len) {
             return;
         }
@@ -121,17 +176,17 @@ fn pass_over<T: Saved>(window: &mut Window, items: &[T], mark: &mut Mark)
 }
 
 /// Those after the first ones pass the window, as many as are seen.
-pub(crate) fn put_from<T: Saved>(window: &mut Window, items: &[T], first: usize)
-    requires { All T.Fits (map T.plain items.now) }
+pub(crate) fn put_from<L: Listed>(window: &mut Window, items: &L, first: usize)
+    requires { All L.Fits (L.items items.now) }
     ensures { (begun : Shown)
-        → window.old ≡ passed (first_bytes (bytes_in T.shape T.tree) first (map T.plain items.now)) begun
-        → window.new ≡ passed (flat_map (bytes_in T.shape T.tree) (map T.plain items.now)) begun }
+        → window.old ≡ passed (first_bytes L.bytes first (L.items items.now)) begun
+        → window.new ≡ passed (flat_map L.bytes (L.items items.now)) begun }
 {
-    for at in first..items.len() {
+    for at in first..items.count() {
         if window.is_full() {
             return;
         }
-        items[at].put(window);
+        items.put_at(at, window);
     }
 }
 
@@ -188,14 +243,14 @@ pub(crate) fn read_counted<T: Saved>(into: &mut T::Into, bytes: &[u8]) -> Result
 }
 
 /// How many there are, and all of them, pass the window. The mark is of them.
-pub(crate) fn put_counted<T: Saved>(window: &mut Window, items: &[T], mark: &mut Mark)
-    requires few { length items.now < 2 ^ 32 }
-    requires fit { All T.Fits (map T.plain items.now) }
-    requires short { length (flat_map (bytes_in T.shape T.tree) (map T.plain items.now)) < 2 ^ 64 }
-    requires mark { IsMarkIn (bytes_in T.shape T.tree) (map T.plain items.now) mark.old }
-    ensures passed { window.new ≡ passed (counted_bytes (bytes_in T.shape T.tree) (map T.plain items.now)) window.old }
-    ensures mark { IsMarkIn (bytes_in T.shape T.tree) (map T.plain items.now) mark.new }
+pub(crate) fn put_counted<L: Listed>(window: &mut Window, items: &L, mark: &mut Mark)
+    requires few { length (L.items items.now) < 2 ^ 32 }
+    requires fit { All L.Fits (L.items items.now) }
+    requires short { length (flat_map L.bytes (L.items items.now)) < 2 ^ 64 }
+    requires mark { IsMarkIn L.bytes (L.items items.now) mark.old }
+    ensures passed { window.new ≡ passed (counted_bytes L.bytes (L.items items.now)) window.old }
+    ensures mark { IsMarkIn L.bytes (L.items items.now) mark.new }
 {
-    put_count(window, items.len() as u32);
+    put_count(window, items.count() as u32);
     put_list(window, items, mark);
 }

@@ -17,7 +17,7 @@ ghost use Rattle.ipc_image.specs.Relations.Shapes.{plain_one};
 
 use crate::fields::{EIGHT, FOUR, TWO, put_fields};
 use crate::kind::Kind;
-use crate::saved::{Saved, put_counted, read_counted};
+use crate::saved::{InSlice, Saved, put_counted, read_counted};
 use crate::widths::{Wide, read_each};
 use crate::window::Window;
 use ipc_base::{Field, Id, Mark, Moment, Pid, take_fields};
@@ -138,7 +138,7 @@ impl Kind for SemSet {
     }
 
     fn put_parts(&self, window: &mut Window, mark: &mut Mark) {
-        put_counted(window, self.semaphores(), mark);
+        put_counted(window, &InSlice(self.semaphores()), mark);
     }
 
     fn read_head(alloc: Global, bytes: &[u8]) -> Result<(SemSet, &[u8]), StateFault>

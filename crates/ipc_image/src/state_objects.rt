@@ -14,7 +14,7 @@ ghost use Rattle.ipc_image.specs.Window.{passed};
 use crate::adjustment_list::{adjustments_len, put_adjustments};
 use crate::clock::put_clock;
 use crate::restoring::ALWAYS;
-use crate::saved::{START, list_len, put_counted};
+use crate::saved::{InSlice, START, list_len, put_counted};
 use crate::stored::Stored;
 use crate::widths::read_state;
 use crate::window::Window;
@@ -172,8 +172,8 @@ impl<'a> Objects for StateObjects<'a> {
     fn len(&self, i: u32) -> u64 {
         match i {
             0 => 32,
-            1 => 4 + list_len(self.processes),
-            2 => 4 + list_len(self.waits),
+            1 => 4 + list_len(&InSlice(self.processes)),
+            2 => 4 + list_len(&InSlice(self.waits)),
             3 => adjustments_len(self.undo),
             _ => thing_len(&thing_at(self, i)),
         }
@@ -266,8 +266,8 @@ fn put_object(window: &mut Window, objects: &StateObjects<'_>, i: u32, mark: &mu
 {
     match i {
         0 => put_clock(window, objects.numbers),
-        1 => put_counted(window, objects.processes, mark),
-        2 => put_counted(window, objects.waits, mark),
+        1 => put_counted(window, &InSlice(objects.processes), mark),
+        2 => put_counted(window, &InSlice(objects.waits), mark),
         3 => put_adjustments(window, objects.undo),
         _ => put_thing(window, &thing_at(objects, i), mark),
     }

@@ -21,3 +21,4 @@ mod Few
 mod Inside
 mod Opening
 mod Steps
+mod Walks

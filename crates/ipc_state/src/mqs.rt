@@ -277,14 +277,18 @@ fn is_sound_mq(queue: &Mq, limits: &Limits) -> bool
 fn has_sound_messages(queue: &Mq, msgsize: u32) -> bool
     ensures { result ≡ list_all (is_sound_mq_message msgsize) queue.now.messages }
 {
-    are_sound(queue.messages(), msgsize)
+    for at in 0..queue.len() {
+        if !is_sound_message(queue.message(at), msgsize) {
+            return false;
+        }
+    }
+    true
 }
 
-fn are_sound(messages: &[Message], msgsize: u32) -> bool
-    ensures { result ≡ list_all (λ m. is_sound_mq_message msgsize (plain m)) messages.now }
+fn is_sound_message(message: &Message, msgsize: u32) -> bool
+    ensures { result ≡ is_sound_mq_message msgsize (plain message.now) }
 {
-    messages.iter().all(|message| message.priority < 32768
-        && message.text.len() <= msgsize as usize)
+    message.priority < 32768 && message.text.len() <= msgsize as usize
 }
 
 /// Registrations with these queues go that this process made, or any, by this descriptor, or any.

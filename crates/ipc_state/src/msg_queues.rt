@@ -168,11 +168,16 @@ fn is_sound_msg_queue(queue: &MsgQueue, limits: &Limits) -> bool
 fn has_sound_messages(queue: &MsgQueue, limits: &Limits) -> bool
     ensures { result ≡ list_all (is_sound_message limits.now) queue.now.messages }
 {
-    are_sound(queue.messages(), limits)
+    for at in 0..queue.len() {
+        if !is_sound_message(queue.message(at), limits) {
+            return false;
+        }
+    }
+    true
 }
 
-fn are_sound(messages: &[Message], limits: &Limits) -> bool
-    ensures { result ≡ list_all (λ m. is_sound_message limits.now (plain m)) messages.now }
+fn is_sound_message(message: &Message, limits: &Limits) -> bool
+    ensures { result ≡ is_sound_message limits.now (plain message.now) }
 {
-    messages.iter().all(|message| 0 < message.mtype && message.text.len() <= limits.msgmax as usize)
+    0 < message.mtype && message.text.len() <= limits.msgmax as usize
 }

@@ -2,6 +2,7 @@
 
 ghost use Rattle.std.specs.Prelude.{◌≡◌, ◌<◌, ◌+◌, ◌^◌, ◌≤◌, ◌++◌, length, vec_len, vec_capacity, IfOk};
 
+use ipc_arrivals::Ranked;
 use std::alloc::{AllocError, Global};
 
 /// A message: its priority, which mq_send(3) wants below 32768, and of which the greatest is received
@@ -27,6 +28,15 @@ impl Message {
             priority,
             text: buffer,
         })
+    }
+}
+
+/// Messages are found by priority.
+impl Ranked for Message {
+    ghost rank = { λ m. m.priority };
+
+    fn rank(&self) -> u64 {
+        u64::from(self.priority)
     }
 }
 

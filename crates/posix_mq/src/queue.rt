@@ -1,10 +1,12 @@
 //! A message queue.
 
 ghost use Rattle.std.specs.Prelude.{◌≡◌, ◌<◌, ◌^◌, ◌↔◌, None, length, map, All};
-ghost use Rattle.std.specs.Prelude.{IsTrue, OnOk, OnErr, IfOk, vec_capacity};
+ghost use Rattle.std.specs.Prelude.{IsTrue, OnOk, OnErr, IfOk, ℕ, List, Some, slice_get, vec_capacity};
+ghost use Rattle.std.specs.List.Sorted.{IsNonDecreasing, IsPermutation};
 
 use crate::greatest::first_of_greatest;
 use crate::message::Message;
+use ipc_arrivals::Arrivals;
 use ipc_base::Pid;
 use std::alloc::{AllocError, Global};
 use std::marker::Model;
@@ -40,14 +42,14 @@ const MOST_MESSAGES: usize = 10;
 /// start, so that a send takes no memory; the memory of its texts is their bytes.
 #[derive(Drop)]
 pub struct Mq {
-    messages: Vec<Message>,
+    messages: Arrivals<Message>,
     maxmsg: u32,
     msgsize: u32,
     registration: Option<Registration>,
 }
 
 impl Model for Mq {
-    ghost use Rattle.std.specs.Prelude.{◌≤◌, map, vec_capacity};
+    ghost use Rattle.std.specs.Prelude.{◌≤◌, map};
     ghost use Rattle.posix_mq.specs.Queue.{Queue, plain, most_messages};
 
     ghost Value = { Queue };
@@ -59,7 +61,7 @@ impl Model for Mq {
       registration = q.registration;
     } };
 
-    ghost invariant = { λ q. most_messages ≤ vec_capacity q.messages };
+    ghost invariant = { λ q. most_messages ≤ q.messages.places };
 }
 
 impl Mq {
@@ -95,7 +97,7 @@ impl Mq {
     ) -> Result<Mq, AllocError>
         ensures { IfOk result (λ q. q ≡ empty_queue maxmsg msgsize registration) }
     {
-        let messages = Vec::with_capacity(alloc, MOST_MESSAGES)?;
+        let messages = Arrivals::with_places(alloc, MOST_MESSAGES)?;
         Ok(Mq {
             messages,
             maxmsg,
@@ -127,7 +129,7 @@ impl Mq {
         requires { length self.old.messages < most_messages }
         ensures { self.new ≡ with_message self.old (plain message) }
     {
-        self.messages.push_reserved(message);
+        self.messages.push(message);
     }
 
     /// Appends a message that was read, also to a full queue. Where there are more than the queue has
@@ -136,7 +138,8 @@ impl Mq {
         ensures ok { OnOk result (self.new ≡ with_message self.old (plain message)) }
         ensures err { OnErr result (self.new ≡ self.old) }
     {
-        self.messages.push(message)?;
+        self.messages.reserve(1)?;
+        self.messages.push(message);
         Ok(())
     }
 
@@ -187,16 +190,28 @@ impl Mq {
         }
     }
 
-    /// The messages, the oldest first.
-    pub fn messages(&self) -> &[Message]
-        ensures { map plain result.now ≡ self.now.messages }
+    /// The message at this position, counted from the oldest.
+    pub fn message(&self, at: usize) -> &Message
+        requires { at < length self.now.messages }
+        ensures { slice_get self.now.messages at ≡ Some (plain result.now) }
     {
-        &self.messages
+        self.messages.get(at)
+    }
+
+    /// The priority at this place if those of the messages are put in rising order, equal ones each; none past the
+    /// last.
+    pub fn by_priority(&self, place: usize) -> Option<u32>
+        ensures { (priorities : List ℕ) → IsNonDecreasing priorities
+            → IsPermutation (map (λ m. m.priority) self.now.messages) priorities
+            → result ≡ slice_get priorities place }
+    {
+        let rank = self.messages.rank_at(place)?;
+        Some(rank as u32)
     }
 
     /// Where its memory is from.
     pub fn allocator(&self) -> Global {
-        *self.messages.allocator()
+        self.messages.allocator()
     }
 
     /// How many messages there are.

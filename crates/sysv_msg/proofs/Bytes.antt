@@ -1,5 +1,5 @@
 -- The bytes of the texts that memory can hold are less than 2 ^ 128.
-use Rattle.std.proofs.Common.{◌+◌, ◌^◌, ◌<◌, ◌≤◌, ℕ, Vec, Global, length, get_or, sum_by, arith}
+use Rattle.std.proofs.Common.{◌+◌, ◌^◌, ◌<◌, ◌≤◌, ℕ, List, length, get_or, sum_by, arith}
 use Rattle.std.proofs.lemmas.List.Sums.{sum_by-le}
 use Rattle.sysv_msg.specs.declared.message.Message.{Message}
 
@@ -11,11 +11,7 @@ text_is_short m =
     omega arith
 
 -- of all texts and a further one
-pub bytes_fit : (ms : Vec Message Global) (n : ℕ) → n < 2 ^ 64
-    → sum_by (λ m. length m.text.items) ms.items + n < 2 ^ 128
-bytes_fit ms n below =
-    let most = sum_by-le (λ (m : Message). length m.text.items) (2 ^ 63) ms.items (λ k d h. text_is_short (get_or ms.items k d)) in
-    let is = ms.ok.0 in
-    let inside = ms.ok.1 in
-    let small = ms.small in
+pub bytes_fit : (ms : List Message) (n : ℕ) → length ms < 2 ^ 64 → n < 2 ^ 64 → sum_by (λ m. length m.text.items) ms + n < 2 ^ 128
+bytes_fit ms n few below =
+    let most = sum_by-le (λ (m : Message). length m.text.items) (2 ^ 63) ms (λ k d h. text_is_short (get_or ms k d)) in
     omega arith

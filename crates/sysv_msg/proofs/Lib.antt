@@ -1,5 +1,6 @@
+mod Picked
 pub mod Bytes
 pub mod CallerLemmas
 pub mod Lists
-mod Picked
 pub mod Picks
+pub mod Ranks

@@ -1,23 +1,16 @@
 -- Which messages a receive looks for, whatever others there are: it picks none only if none is there.
-use Rattle.std.proofs.Common.{◌≡◌, ℕ, zero, suc, ℤ, pos, negsuc, ◌≤ℤ◌, ◌<ℤ◌, int_le, Bool, true, false, not, ◌&&◌, if◌then◌else◌}
-use Rattle.std.proofs.Common.{refl, sym, ap, subst, ◌∙◌, arith, List, [], ◌∷◌, take, drop, All, Contains, None}
+use Rattle.std.proofs.Common.{◌≡◌, ℕ, zero, suc, ℤ, pos, negsuc, ◌≤ℤ◌, ◌<ℤ◌, int_le, Bool, true, false, ◌&&◌}
+use Rattle.std.proofs.Common.{refl, sym, ap, subst, ◌∙◌, arith, List, [], ◌∷◌, ◌++◌, take, drop, All, Contains, None}
 use Rattle.std.specs.List.{remove}
-use Rattle.std.specs.Ordering.{int_eq}
 use Rattle.std.proofs.lemmas.Int.{ints, by_lt_z}
 use Rattle.std.proofs.lemmas.Bool.{and_left}
 use Rattle.std.proofs.lemmas.List.Elements.{All-append, All-cons, All-nil, All-take, All-drop, All-weaker}
 use Rattle.std.proofs.lemmas.List.Sums.{list_all-from_AllPass}
-use Rattle.sysv_msg.specs.Queue.{PlainMessage, pick, is_allowed, is_of_least_type}
+use Rattle.sysv_msg.specs.Queue.{PlainMessage, pick, is_allowed, is_of_least_type, is_sought}
 use Rattle.sysv_msg.proofs.Lists.{position_none, position-None}
 
--- a receive of this type would take the message if it were the only one
-abbrev is_sought : ℤ → Bool → PlainMessage → Bool
-is_sought (pos zero) except m = true
-is_sought (pos (suc n)) except m = if except then not (int_eq m.mtype (pos (suc n))) else int_eq m.mtype (pos (suc n))
-is_sought (negsuc n) except m = int_le m.mtype (pos (suc n))
-
 abbrev NoneSought : ℤ → Bool → List PlainMessage → Type 0
-NoneSought type except = All (λ m. is_sought type except m ≡ false)
+NoneSought type except = All (λ (m : PlainMessage). is_sought type except m.mtype ≡ false)
 
 -- ---- the least type
 
@@ -95,7 +88,15 @@ none_picked messages (negsuc n) except none =
 pub pick-removed : (messages : List PlainMessage) (type : ℤ) (except : Bool) (at : ℕ) → pick messages type except ≡ None
     → pick (remove messages at) type except ≡ None
 pick-removed messages type except at none =
-    let P : PlainMessage → Type 0 = λ m. is_sought type except m ≡ false in
+    let P : PlainMessage → Type 0 = λ m. is_sought type except m.mtype ≡ false in
     let all = none_sought messages type except none in
     none_picked (remove messages at) type except
     (All-append P (take at messages) (drop (suc at) messages) (All-take P at messages all) (All-drop P (suc at) messages all))
+
+-- nor after one has come that it does not look for
+pub pick-added : (messages : List PlainMessage) (type : ℤ) (except : Bool) (m : PlainMessage) → is_sought type except m.mtype ≡ false
+    → pick messages type except ≡ None → pick (messages ++ m ∷ []) type except ≡ None
+pick-added messages type except m other none =
+    let P : PlainMessage → Type 0 = λ o. is_sought type except o.mtype ≡ false in
+    none_picked (messages ++ m ∷ []) type except
+    (All-append P messages (m ∷ []) (none_sought messages type except none) (All-cons P m [] other (All-nil P)))

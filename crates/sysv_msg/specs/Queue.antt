@@ -47,6 +47,12 @@ is_allowed messages (negsuc n) except m = int_le m.mtype (pos (suc n)) && is_of_
 abbrev pub pick : List PlainMessage → ℤ → Bool → Option ℕ
 pick messages type except = position (is_allowed messages type except) messages
 
+-- whether a receive of this type would take a message of that type if it were the only one
+abbrev pub is_sought : ℤ → Bool → ℤ → Bool
+is_sought (pos zero) except mtype = true
+is_sought (pos (suc n)) except mtype = if except then not (int_eq mtype (pos (suc n))) else int_eq mtype (pos (suc n))
+is_sought (negsuc n) except mtype = int_le mtype (pos (suc n))
+
 -- how many bytes of text there are
 abbrev pub byte_count : List PlainMessage → ℕ
 byte_count messages = sum_by (λ m. length m.text) messages

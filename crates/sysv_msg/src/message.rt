@@ -3,7 +3,9 @@
 ghost use Rattle.std.specs.Prelude.{◌≡◌, ◌+◌, ◌≤◌, ◌++◌, length, vec_len, vec_capacity};
 ghost use Rattle.std.specs.Prelude.{FitsSigned, IfOk};
 ghost use Rattle.std.specs.Int.{w64};
+ghost use Rattle.sysv_msg.specs.Ranks.{rank_of};
 
+use ipc_arrivals::Ranked;
 use std::alloc::{AllocError, Global};
 
 /// A message: its type, which msgsnd(2) wants above 0, and the bytes of its text. The text's buffer has
@@ -29,6 +31,33 @@ impl Message {
             mtype,
             text: buffer,
         })
+    }
+}
+
+/// Messages are found by type: the ranks of types rise with them.
+impl Ranked for Message {
+    ghost rank = { λ m. rank_of m.mtype };
+
+    fn rank(&self) -> u64 {
+        rank_of(self.mtype)
+    }
+}
+
+/// The rank of a type, counted from the least one that there is.
+pub(crate) fn rank_of(mtype: i64) -> u64
+    ensures { result ≡ rank_of mtype }
+{
+    mtype.abs_diff(i64::MIN)
+}
+
+/// The type of a rank.
+pub(crate) fn type_of(rank: u64) -> i64
+    ensures { rank_of result ≡ rank }
+{
+    if rank < 1 << 63 {
+        i64::MIN + rank as i64
+    } else {
+        (rank - (1 << 63)) as i64
     }
 }
 

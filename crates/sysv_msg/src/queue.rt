@@ -2,11 +2,15 @@
 
 ghost use Rattle.std.specs.Prelude.{◌≡◌, ◌<◌, ◌↔◌, not, length, slice_get, map, All, FitsSigned};
 ghost use Rattle.std.specs.Prelude.{IsTrue, OnOk, OnErr, IfOk, IfSome, vec_capacity};
+ghost use Rattle.std.specs.Prelude.{List, ℤ};
 ghost use Rattle.std.specs.Int.{w64};
+ghost use Rattle.std.specs.List.Sorted.{IsPermutation};
+ghost use Rattle.sysv_msg.specs.Ranks.{DoNotFall};
 ghost use Rattle.sysv_msg.specs.Queue.{empty_queue, new_queue};
 
-use crate::message::Message;
+use crate::message::{Message, type_of};
 use crate::select::{first_of_least_type, first_of_type};
+use ipc_arrivals::Arrivals;
 use ipc_base::{Moment, Pid};
 use std::alloc::{AllocError, Global};
 use std::marker::Model;
@@ -51,7 +55,7 @@ const MOST_MESSAGES: usize = 16384;
 /// no memory; the memory of its texts is their bytes.
 #[derive(Drop)]
 pub struct MsgQueue {
-    messages: Vec<Message>,
+    messages: Arrivals<Message>,
     /// The bytes of all texts. No memory holds so many that they are too many for it.
     bytes: u128,
     qbytes: u32,
@@ -63,7 +67,7 @@ pub struct MsgQueue {
 }
 
 impl Model for MsgQueue {
-    ghost use Rattle.std.specs.Prelude.{◌≡◌, ◌≤◌, map, length, sum_by, vec_capacity};
+    ghost use Rattle.std.specs.Prelude.{◌≡◌, ◌≤◌, map, length, sum_by};
     ghost use Rattle.sysv_msg.specs.Queue.{Queue, plain, most_messages};
 
     ghost Value = { Queue };
@@ -79,7 +83,7 @@ impl Model for MsgQueue {
     } };
 
     ghost invariant = { λ q. (q.bytes ≡ sum_by (λ m. length m.text.items) q.messages.items)
-        × (most_messages ≤ vec_capacity q.messages) };
+        × (most_messages ≤ q.messages.places) };
 }
 
 impl MsgQueue {
@@ -110,7 +114,7 @@ impl MsgQueue {
     pub fn restored(alloc: Global, numbers: QueueNumbers) -> Result<MsgQueue, AllocError>
         ensures { IfOk result (λ q. q ≡ empty_queue numbers) }
     {
-        let messages = Vec::with_capacity(alloc, MOST_MESSAGES)?;
+        let messages = Arrivals::with_places(alloc, MOST_MESSAGES)?;
         Ok(MsgQueue {
             messages,
             bytes: 0,
@@ -142,8 +146,8 @@ impl MsgQueue {
     pub fn fits(&self, len: usize) -> bool
         ensures { result ≡ not (full self.now len) }
     {
-        self.bytes + len as u128 <= u128::from(self.qbytes)
-            && (self.messages.len() as u64) < u64::from(self.qbytes)
+        let count = self.messages.len() as u64;
+        self.bytes + len as u128 <= u128::from(self.qbytes) && count < u64::from(self.qbytes)
     }
 
     /// Appends a message, and notes who sent it and when. It takes no memory.
@@ -152,7 +156,7 @@ impl MsgQueue {
         ensures { self.new ≡ sent self.old (plain message) pid.0 now.0 }
     {
         self.bytes += message.text.len() as u128;
-        self.messages.push_reserved(message);
+        self.messages.push(message);
         self.lspid = pid;
         self.stime = now;
     }
@@ -166,7 +170,7 @@ impl MsgQueue {
     {
         self.messages.reserve(1)?;
         self.bytes += message.text.len() as u128;
-        self.messages.push_reserved(message);
+        self.messages.push(message);
         Ok(())
     }
 
@@ -185,12 +189,21 @@ impl MsgQueue {
         }
     }
 
-    /// The message at this position.
+    /// The message at this position, counted from the oldest.
     pub fn message(&self, at: usize) -> &Message
         requires { at < length self.now.messages }
         ensures { slice_get self.now.messages at ≡ Some (plain result.now) }
     {
-        &self.messages[at]
+        self.messages.get(at)
+    }
+
+    /// The type at this place if the types of the messages are put in order, equal ones each; none past the last.
+    pub fn by_type(&self, place: usize) -> Option<i64>
+        ensures { (types : List ℤ) → DoNotFall types → IsPermutation (map (λ m. m.mtype) self.now.messages) types
+            → result ≡ slice_get types place }
+    {
+        let rank = self.messages.rank_at(place)?;
+        Some(type_of(rank))
     }
 
     /// Removes and gives the message at this position, and notes who received it and when. It takes no
@@ -234,16 +247,9 @@ impl MsgQueue {
         }
     }
 
-    /// The messages, the oldest first.
-    pub fn messages(&self) -> &[Message]
-        ensures { map plain result.now ≡ self.now.messages }
-    {
-        &self.messages
-    }
-
     /// Where its memory is from.
     pub fn allocator(&self) -> Global {
-        *self.messages.allocator()
+        self.messages.allocator()
     }
 
     /// How many messages there are.

@@ -1,12 +1,15 @@
-use Rattle.std.proofs.Common.{sym, ap, ◌∙◌}
-use Rattle.std.specs.List.{list_all}
-use Rattle.std.proofs.lemmas.List.Folds.{list_all-map}
+use Rattle.std.proofs.Common.{sym, ◌∙◌}
 use Rattle.sysv_msg.specs.Queue.{plain}
 use Rattle.ipc_state.specs.Tests.{is_sound_message}
+use Rattle.ipc_state.proofs.Walks.{not_all, one_more}
 use Rattle.ipc_state.proofs.msg_queues.has_sound_messages.Goals as goal
 
-pub returns : goal.returns
-returns c =
-    c.are_sound.ensures
-    ∙ (sym (list_all-map (is_sound_message c.args.limits.now) plain c.messages.result.now)
-    ∙ ap (list_all (is_sound_message c.args.limits.now)) c.messages.ensures)
+pub returns-then-not-is_sound_message : goal.returns-then-not-is_sound_message
+returns-then-not-is_sound_message c =
+    not_all (is_sound_message c.args.limits.now) c.args.queue.now.messages c.loop-at.at (plain c.message.result.now) c.message.ensures
+    (sym c.is_sound_message.ensures ∙ c.if-not-is_sound_message.true)
+
+pub loop-at-preserved : goal.loop-at-preserved
+loop-at-preserved c =
+    one_more (is_sound_message c.args.limits.now) c.args.queue.now.messages c.loop-at.at (plain c.message.result.now) c.message.ensures
+    c.loop-at.invariant (sym c.is_sound_message.ensures ∙ c.if-not-is_sound_message.false)

@@ -4,5 +4,5 @@ use Rattle.posix_mq.proofs.greatest.first_of_greatest.Goals as goal
 
 pub returns : goal.returns
 returns c =
-    c.first_of_priority.ensures
-    ∙ greatest_position c.args.messages.now c.in_ok-greatest.greatest c.in_ok-greatest.ensures.greatest c.in_ok-greatest.ensures.found
+    c.first_of.ensures
+    ∙ greatest_position c.args.messages.now.items c.in_ok-greatest.greatest c.in_ok-greatest.ensures.greatest c.in_ok-greatest.ensures.found

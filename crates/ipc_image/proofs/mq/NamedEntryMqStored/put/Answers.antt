@@ -1,7 +1,7 @@
 use Rattle.std.proofs.Common.{ℕ, List, [], ◌∷◌, ◌++◌, get_or, length, sym, ap, ◌∙◌}
 use Rattle.std.specs.List.{flat_map}
 use Rattle.ipc_base.specs.Numbers.{fields_bytes}
-use Rattle.posix_mq.specs.Queue.{attr_of, PlainMessage as MqMessage}
+use Rattle.posix_mq.specs.Queue.{attr_of}
 use Rattle.posix_mq.specs.declared.queue.MqAttr.{MqAttr}
 use Rattle.ipc_image.specs.Saved.{registration_numbers, mq_sizes, mq_message_bytes}
 use Rattle.ipc_image.specs.Window.{passed}
@@ -18,8 +18,7 @@ returns-clause-passed c =
     let front : MqAttr → List ℕ → List ℕ → List ℕ =
     λ a r name. fields_bytes mq_sizes (head a (get_or r 0 0 ∷ get_or r 1 0 ∷ get_or r 2 0 ∷ get_or r 3 0 ∷ a.curmsgs ∷ length name ∷ [])) ++ name in
     let known = numbers-spelled e.object.registration (length e.object.messages) (length e.bound) in
-    c.put_list.ensures.passed ∙ ap (λ (ms : List MqMessage). passed (flat_map mq_message_bytes ms) c.put_row.new.window) c.messages.ensures
-    ∙ ap (passed texts) c.put_row.ensures
+    c.put_list.ensures.passed ∙ ap (passed texts) c.put_row.ensures
     ∙ passed-both w (front c.attr-attr.result c.registration_numbers-registration.result c.bytes-name.result.now) texts
     ∙ ap (λ (a : MqAttr). passed (front a c.registration_numbers-registration.result c.bytes-name.result.now ++ texts) w) c.attr-attr.ensures.attr
     ∙ ap (λ (l : List ℕ). passed (front (attr_of e.object) l c.bytes-name.result.now ++ texts) w)

@@ -1,10 +1,14 @@
-use Rattle.std.proofs.Common.{◌+◌, ◌^◌, ◌<◌, rules}
+use Rattle.std.proofs.Common.{◌+◌, ◌^◌, ◌<◌, ap, length, arith, rules}
 use Rattle.std.proofs.Math.Facts.{Fits-of_lt}
+use Rattle.std.proofs.lemmas.List.{length-map}
+use Rattle.sysv_msg.specs.Queue.{Queue, plain}
 use Rattle.sysv_msg.proofs.Bytes.{bytes_fit}
 use Rattle.sysv_msg.proofs.queue.MsgQueue.send.Goals as goal
 
 pub overflow_add-self : goal.overflow_add-self
 overflow_add-self c =
     let long : c.len.result < 2 ^ 64 = search rules in
-    let fits : c.self.inside.bytes + c.len.result < 2 ^ 128 = rw (c.self.invariant.0) (bytes_fit c.self.inside.messages c.len.result long) in
+    let few : length c.self.inside.messages.items < 2 ^ 64 =
+    omega (arith, c.requires, ap (λ (q : Queue). length q.messages) c.self.view_is, length-map c.self.inside.messages.items plain) in
+    let fits : c.self.inside.bytes + c.len.result < 2 ^ 128 = rw (c.self.invariant.0) (bytes_fit c.self.inside.messages.items c.len.result few long) in
     Fits-of_lt fits
