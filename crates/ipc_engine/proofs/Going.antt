@@ -1,36 +1,41 @@
 -- Which calls can go on when one object has changed: those that wait on it, and no other.
-use Rattle.std.proofs.Common.{◌≡◌, ◌≢◌, ℕ, zero, suc, ℤ, ◌⊎◌, inl, inr, Bool, true, false, not, List, [], ◌∷◌, ◌++◌}
+use Rattle.std.proofs.Common.{◌≡◌, ◌≢◌, ℕ, zero, suc, ◌⊎◌, inl, inr, Bool, true, false, not, List, [], ◌∷◌, ◌++◌}
 use Rattle.std.proofs.Common.{Option, Some, None, is_some, get_or, length, length-append, ◌+◌, ◌*◌, ◌≤◌}
 use Rattle.std.proofs.Common.{refl, sym, ap, subst, ◌∙◌, arith}
-use Rattle.std.specs.Prelude.{All, find, nat_eq, if◌then◌else◌}
+use Rattle.std.specs.Prelude.{All, find, nat_eq, if◌then◌else◌, Result, Ok, Err}
+use Rattle.std.specs.Result.{is_ok}
+use Rattle.std.specs.Global.{Vec}
 use Rattle.std.proofs.lemmas.Bool.Decides.{nat_tests}
 use Rattle.std.proofs.lemmas.List.Elements.{All-nil, All-cons, All-filter}
+use Rattle.ipc_base.specs.declared.errno.Errno.{Errno}
 use Rattle.ipc_base.specs.declared.limits.Limits.{Limits}
 use Rattle.ipc_base.proofs.CallerLemmas.{test_cases}
 use Rattle.ipc_wait.specs.Waits.{waiting_call_of, is_of, without}
 use Rattle.ipc_wait.proofs.CallerLemmas.{found-in}
-use Rattle.ipc_wire.specs.Request.{PlainSysv, PlainKind, Hello, Interrupt as Interrupts, Sysv, Posix}
-use Rattle.ipc_wire.specs.Request as requests
+use Rattle.ipc_wire.specs.Request.{PlainKind, Hello, Interrupt as Interrupts, Sysv, Posix}
+use Rattle.ipc_wire.specs.declared.reply.Body.{Body}
+use Rattle.posix_mq.specs.declared.queue.Registration.{Registration}
 use Rattle.ipc_keys.specs.declared.check.NameKind.TheVariants as names
 use Rattle.ipc_state.specs.declared.parked.Object.{Object}
 use Rattle.ipc_state.specs.declared.parked.ObjectKind.{ObjectKind}
 use Rattle.ipc_state.specs.declared.parked.ObjectKind.TheVariants as kinds
-use Rattle.ipc_state.specs.Finish.{Finish, Finishes, IfFinishes, has_to_wait}
+use Rattle.ipc_state.specs.Finish.{Finish, Tried, Finishes, Waits, IfFinishes, finish_firing, has_to_wait}
 use Rattle.ipc_state.specs.Sound.{HasSoundParts}
 use Rattle.ipc_state.specs.State.{State, is_process, is_waiting, without_waiting}
 use Rattle.ipc_state.specs.Touching.{object_of, is_there}
 use Rattle.ipc_state.specs.Waiting.{PlainWaiting, IsSoundWaiting}
 use Rattle.ipc_state.proofs.CallerLemmas.{IsGood, same-connected}
-use Rattle.sysv_calls.specs.Calls.{attempt, is_receive, touched}
-use Rattle.sysv_calls.proofs.CallerLemmas.{attempt-good, by-waiting, received-waits}
+use Rattle.sysv_calls.specs.Concern.{change_of, concerns, joined}
+use Rattle.sysv_calls.specs.declared.concern.Change.{Change}
+use Rattle.sysv_calls.proofs.CallerLemmas.{call-spares, posix-concerned, spared-both}
 use Rattle.ipc_engine.specs.Event.{PlainOutcome}
-use Rattle.ipc_engine.specs.Settling.{AreLinked, HaveSameObjects, OthersWait, ReceivesWait, RestWaits}
+use Rattle.ipc_engine.specs.Settling.{AreLinked, HaveSameObjects, OthersWait, RestWaits, SparedWait}
 use Rattle.ipc_engine.specs.Sound.{IsSound}
-use Rattle.ipc_engine.specs.Step.{silent, after, resumed, resumed_first, settle_within, settle, can_resume, tried}
+use Rattle.ipc_engine.specs.Step.{silent, after, answered, resumed, resumed_first, settle_within, settle, can_resume, tried}
 use Rattle.ipc_engine.proofs.Lists.{found-all, found-passes}
-use Rattle.ipc_engine.proofs.Settled.{left-free, resumed-has, settle-nothing}
+use Rattle.ipc_engine.proofs.Settled.{as-before, left-free, resumed-has, settle-nothing}
 use Rattle.ipc_engine.proofs.Soundness.{still-waits}
-use Rattle.ipc_engine.proofs.Tries.{HasEnded, there-object, tried-there}
+use Rattle.ipc_engine.proofs.Tries.{HasEnded, refused-state, there-object, tried-there}
 
 -- an object is the one that is named, or not
 abbrev IsOrNot : Object → Option Object → Type 0
@@ -88,14 +93,14 @@ all-waiting (w ∷ ws) =
     by_test false r (inl is) = cc
     by_test false r (inr is) = is
 
+opposite : (b : Bool) → not b ≡ false → b ≡ true
+opposite true is = refl
+opposite false is = cc
+
 module _ (limits : Limits) where
   -- the object on which a call waits is there
   pub there-of : (s : State) (w : PlainWaiting) → IsSoundWaiting w → can_resume limits s w ≡ false → is_there w.pid.0 w.on s ≡ true
   there-of s w sound waits = tried-there limits s w.pid.0 true w.call.kind w.on sound.on (opposite _ waits)
-    where
-      opposite : (b : Bool) → not b ≡ false → b ≡ true
-      opposite true is = refl
-      opposite false is = cc
 
   -- one that waits on another object than the one that a call may have changed has to
   after-waits : (s : State) (touches : Option Object) (f : Finish) (w : PlainWaiting) → IsGood limits s touches f → HasSoundParts limits s
@@ -120,48 +125,38 @@ module _ (limits : Limits) where
       after-waits s (Some changed) f (get_or s.wait k d) good h.parts (h.parts.wait.each k d i) (all-waiting s.wait k d i) (h.waits k d i).waits
       (λ one. apart (one ∙ sym (same k d i))))
 
-  -- after a receive the other receives have to wait on
-  module _ (s : State) (pid : ℕ) (f : Finish) (h : IsSound limits s) where
-    abbrev StillReceive : PlainSysv → Type 0
-    StillReceive call = attempt limits s pid false call ≡ Finishes f → is_receive (Sysv call) ≡ true → ReceivesWait limits f.state
+  -- one that had to wait has to wait on, if what another process's call has changed does not concern it
+  pub spared-waits : (s : State) (pid : ℕ) (again : Bool) (kind : PlainKind) (f : Finish) → tried limits s pid again kind ≡ Finishes f
+      → (other : ℕ) → other ≢ pid → (waits : PlainKind) → concerns (change_of kind) waits ≡ false
+      → not (has_to_wait (tried limits s other true waits)) ≡ false → not (has_to_wait (tried limits f.state other true waits)) ≡ false
+  spared-waits s pid again (Sysv call) f is other apart (Sysv waits) free had =
+      ap not (call-spares limits s pid again call f is other apart waits free (opposite _ had))
+  spared-waits s pid again (Sysv call) f is other apart (Posix waits) free had = let yes = posix-concerned (change_of (Sysv call)) waits in cc
+  spared-waits s pid again (Sysv call) f is other apart (Hello cred) free had = cc
+  spared-waits s pid again (Sysv call) f is other apart Interrupts free had = cc
+  spared-waits s pid again (Posix call) f is other apart waits free had = cc
+  spared-waits s pid again (Hello cred) f is other apart waits free had = cc
+  spared-waits s pid again Interrupts f is other apart waits free had = cc
 
-    -- one that had to wait, if it is a receive
-    abbrev StillWaits : ℕ → PlainKind → Type 0
-    StillWaits other kind = is_receive kind ≡ true → not (has_to_wait (tried limits s other true kind)) ≡ false
-        → not (has_to_wait (tried limits f.state other true kind)) ≡ false
+  -- so do all of them that wait, after a call
+  pub spared-after : (s : State) (pid : ℕ) (kind : PlainKind) (f : Finish) → IsSound limits s → is_waiting s pid ≡ false
+      → f.state.wait ≡ s.wait → tried limits s pid false kind ≡ Finishes f → SparedWait limits f.state (change_of kind)
+  spared-after s pid kind f h free same is =
+      subst (λ (ws : List PlainWaiting). All (λ (w : PlainWaiting). concerns (change_of kind) w.call.kind ≡ false → can_resume limits f.state w ≡ false) ws)
+      (sym same)
+      (λ k d i spared.
+      let w = get_or s.wait k d in
+      spared-waits s pid false kind f is w.pid.0
+      (λ one. absurd (let waits : is_waiting s pid ≡ true = subst (λ (p : ℕ). is_waiting s p ≡ true) one (all-waiting s.wait k d i) in cc))
+      w.call.kind spared (h.waits k d i).waits)
 
-    after-receive : (id flags size : ℕ) (mtype : ℤ) → StillReceive (requests.Msgrcv id flags size mtype)
-    after-receive id flags size mtype is receive =
-        subst (λ (ws : List PlainWaiting). All (λ (w : PlainWaiting). is_receive w.call.kind ≡ true → can_resume limits f.state w ≡ false) ws) (sym good.wait)
-        (λ k d i other. by_kind (get_or s.wait k d).pid.0 (get_or s.wait k d).call.kind other (h.waits k d i).waits)
-      where
-        good : IsGood limits s (touched s (requests.Msgrcv id flags size mtype)) f
-        good = subst (IfFinishes (IsGood limits s (touched s (requests.Msgrcv id flags size mtype)))) is
-            (attempt-good limits s pid false (requests.Msgrcv id flags size mtype))
-
-        opposite : (b : Bool) → not b ≡ false → b ≡ true
-        opposite true is = refl
-        opposite false is = cc
-
-        by_kind : (other : ℕ) (kind : PlainKind) → StillWaits other kind
-        by_kind other (Sysv call) = by-waiting (λ (c : PlainSysv). StillWaits other (Sysv c)) (λ i fs mt text one. cc)
-            (λ i fs sz mt one waits. ap not (received-waits limits s pid false id flags size mtype f is other i fs sz mt (opposite _ waits)))
-            (λ i timeout operations one. cc) (λ c none one. let both = sym none.no_receive ∙ one in cc) call
-        by_kind other (Posix call) = λ one. cc
-        by_kind other (Hello cred) = λ one. cc
-        by_kind other Interrupts = λ one. cc
-
-    pub receives-after : (call : PlainSysv) → attempt limits s pid false call ≡ Finishes f → is_receive (Sysv call) ≡ true → ReceivesWait limits f.state
-    receives-after = by-waiting StillReceive (λ id flags mtype text is one. cc) after-receive (λ id timeout operations is one. cc)
-        (λ call none is one. let both = sym none.no_receive ∙ one in cc)
-
-  -- the same of any kind, told as the program tells it
-  pub receives-tried : (s : State) (pid : ℕ) (kind : PlainKind) (f : Finish) → IsSound limits s → tried limits s pid false kind ≡ Finishes f
-      → is_receive kind ≡ true → ReceivesWait limits f.state
-  receives-tried s pid (Sysv call) f h is receive = receives-after s pid f h call is receive
-  receives-tried s pid (Posix call) f h is receive = cc
-  receives-tried s pid (Hello cred) f h is receive = cc
-  receives-tried s pid Interrupts f h is receive = cc
+  -- what a call is refused that leaves this state, the state is the one before it, so that all wait still
+  pub refused-waits : (s u : State) (pid : ℕ) (kind : PlainKind) (answer : Result (Body (Vec ℕ)) Errno) (fired : Option Registration) → IsSound limits s
+      → tried limits s pid false kind ≡ Finishes (finish_firing u answer fired) → is_ok answer ≡ false → OthersWait limits u None
+  refused-waits s u pid kind (Ok body) fired h is bad = cc
+  refused-waits s u pid kind (Err e) fired h is bad =
+      let same : u ≡ s = subst (IfFinishes (λ (f : Finish). is_some f.errno ≡ true → f.state ≡ s)) is (refused-state limits s pid false kind) refl in
+      subst (λ (t : State). OthersWait limits t None) (sym same) (λ k d i. (h.waits k d i).waits)
 
   pub linked-after : (s : State) (touches : Option Object) (f : Finish) → IsSound limits s → IsGood limits s touches f → AreLinked f.state
   linked-after s touches f h good =
@@ -222,6 +217,32 @@ module _ (limits : Limits) where
         (λ (v : PlainWaiting). Some on ≢ object_of s v.pid.0 v.on → can_resume limits s v ≡ false) s.wait others k d i other in
         still-waits limits s t v sound (r.kept.creds v.pid.0)
         (r.others h v.pid.0 v.on waiting (λ one. other (first-on ∙ one)) (there-of s v sound waits)) ∙ waits)
+
+  -- besides one that goes on, those have to wait that neither its change concerns nor those before
+  pub spared-resumed : (s : State) (change : Change) (w : PlainWaiting) → HasSoundParts limits s → SparedWait limits s change
+      → find (can_resume limits s) s.wait ≡ Some w → SparedWait limits (resumed limits s w).state (joined change (change_of w.call.kind))
+  spared-resumed s change w h spared first =
+      let r = resumed-has limits s w (found-all (can_resume limits s) IsSoundWaiting s.wait w h.wait.each first) in
+      let t = (resumed limits s w).state in
+      let rest = without w.pid s.wait in
+      let more = joined change (change_of w.call.kind) in
+      subst (λ (ws : List PlainWaiting). All (λ (v : PlainWaiting). concerns more v.call.kind ≡ false → can_resume limits t v ≡ false) ws) (sym r.wait)
+      (λ k d i free.
+      let v = get_or rest k d in
+      let both = spared-both change (change_of w.call.kind) v.call.kind free in
+      let sound = All-filter (λ (v : PlainWaiting). not (is_of w.pid v)) IsSoundWaiting s.wait h.wait.each k d i in
+      let had = All-filter (λ (v : PlainWaiting). not (is_of w.pid v))
+      (λ (v : PlainWaiting). concerns change v.call.kind ≡ false → can_resume limits s v ≡ false) s.wait spared k d i both.0 in
+      by_tried v (left-apart s w v.pid.0 (all-waiting rest k d i)) both.1 (still-waits limits s left v sound refl
+      (as-before v.pid.0 v.on s left refl refl refl refl (λ p q. refl) refl) ∙ had) (tried limits left w.pid.0 true w.call.kind) refl)
+    where
+      left : State
+      left = without_waiting s w.pid.0
+
+      by_tried : (v : PlainWaiting) → v.pid.0 ≢ w.pid.0 → concerns (change_of w.call.kind) v.call.kind ≡ false → can_resume limits left v ≡ false
+          → (r : Tried) → tried limits left w.pid.0 true w.call.kind ≡ r → can_resume limits (answered w left r).state v ≡ false
+      by_tried v apart free had (Finishes f) is = spared-waits left w.pid.0 true w.call.kind f is v.pid.0 apart v.call.kind free had
+      by_tried v apart free had Waits is = had
 
   pub linked-resumed : (s : State) (w : PlainWaiting) → IsSoundWaiting w → AreLinked s → AreLinked (resumed limits s w).state
   linked-resumed s w sound linked =

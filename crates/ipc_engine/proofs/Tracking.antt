@@ -1,6 +1,11 @@
 -- What an event does not change stays as it is, or goes: each object of which no call, no close and no exit is.
-use Rattle.std.proofs.Common.{◌≡◌, ◌≢◌, ℕ, zero, suc, Bool, true, false, not, List, Option, Some, None, [], get_or, length, refl, sym, ap, subst, ◌∙◌}
-use Rattle.std.specs.Prelude.{All, find, is_some, nat_eq, option_map, unwrap_or, ◌&&◌, if◌then◌else◌}
+use Rattle.std.proofs.Common.{◌≡◌, ◌≢◌, ℕ, ℤ, zero, suc, ◌∷◌, arith, Bool, true, false, not}
+use Rattle.std.proofs.Common.{List, Option, Some, None, [], get_or, length, refl, sym, ap, subst, ◌∙◌}
+use Rattle.std.specs.Prelude.{All, find, is_some, nat_eq, option_map, unwrap_or, ◌&&◌, ◌||◌, ◌==◌, if◌then◌else◌}
+use Rattle.std.specs.FinMap as fin
+use Rattle.std.specs.List.{list_any}
+use Rattle.std.proofs.lemmas.Bool.Decides.{nat_tests}
+use Rattle.std.proofs.lemmas.List.Folds.{list_any_none}
 use Rattle.std.proofs.lemmas.List.Elements.{All-filter}
 use Rattle.ipc_base.specs.declared.errno.Errno.TheVariants.{EALREADY}
 use Rattle.ipc_base.specs.declared.limits.Limits.{Limits}
@@ -15,15 +20,21 @@ use Rattle.ipc_state.specs.declared.parked.Object.{Object}
 use Rattle.ipc_state.specs.declared.processes.Process.{Process}
 use Rattle.ipc_state.specs.Finish.{Finish, Tried, Finishes, Waits, IfFinishes, refused}
 use Rattle.ipc_state.specs.Numbered.{entry_of}
-use Rattle.ipc_state.specs.Opening.{is_on, is_there_for}
+use Rattle.ipc_state.specs.Keyed.{KeyedEntry}
+use Rattle.ipc_state.specs.Named.{NamedEntry}
+use Rattle.ipc_state.specs.Opening.{is_on, is_or_any, is_there_for, object_as, opened_as}
 use Rattle.ipc_state.specs.Sound.{HasSoundParts}
 use Rattle.ipc_state.specs.State.{State, exit, has_all_processes, is_waiting, objects_in, objects_of}
-use Rattle.ipc_state.specs.Touching.{IsSameIn, changes_by_exit, object_of}
+use Rattle.ipc_state.specs.Touching.{IsSameIn, changes_by_exit, is_adjusted, is_adjusted_in, is_made_by, object_of}
 use Rattle.ipc_state.specs.Waiting.{PlainWaiting, IsSoundWaiting, awaited_by}
-use Rattle.ipc_state.proofs.CallerLemmas.{by-finish, elsewhere-exit, exit-sound, is_on-same, same_in-exit, same_in-restart}
-use Rattle.sysv_calls.specs.Calls as sysv
-use Rattle.posix_calls.specs.Calls as posix
-use Rattle.ipc_engine.specs.Changes.{HasMarked, IsTracked, changes, changes_by_call, changes_if_done, is_marked, is_one}
+use Rattle.ipc_state.proofs.CallerLemmas.{elsewhere-exit, exit-sound, is_on-same, same_in-exit, same_in-restart}
+use Rattle.sem_undo.specs.Undo.{Key, Undo}
+use Rattle.sysv_sem.specs.Set.{Set}
+use Rattle.posix_mq.specs.Queue.{Queue as Mq}
+use Rattle.ipc_keys.specs.declared.check.NameKind.TheVariants as names
+use Rattle.ipc_state.specs.declared.parked.ObjectKind.TheVariants as kinds
+use Rattle.ipc_engine.specs.Changes.{HasMarked, IsTracked, changes, changes_by_call, changes_if_done, has_adjustments, is_marked, is_one}
+use Rattle.ipc_engine.specs.Changes.{is_registered_with, may_leave_changes}
 use Rattle.ipc_engine.specs.Event.{PlainEvent, Connect, Call, Interrupt, Tick, Exit, Restart}
 use Rattle.ipc_engine.specs.Settling.{OthersWait, touched_by}
 use Rattle.ipc_engine.specs.Sound.{IsSound}
@@ -33,7 +44,7 @@ use Rattle.ipc_engine.proofs.Going.{all-waiting, left-apart, objects-after, othe
 use Rattle.ipc_engine.proofs.Lists.{found-all, found-passes}
 use Rattle.ipc_engine.proofs.Settled.{resumed-has}
 use Rattle.ipc_engine.proofs.Soundness.{apart as exit-apart, due-sound, sound-settled, still-waits}
-use Rattle.ipc_engine.proofs.Tries.{HasEnded, tried-ended}
+use Rattle.ipc_engine.proofs.Tries.{HasEnded, refused-state, tried-ended}
 
 -- the object is this one
 is_one-so : (touched : Option Object) (o : Object) → is_one touched o ≡ false → touched ≢ Some o
@@ -42,6 +53,61 @@ is_one-so (Some this) o off = λ is.
     let it : this ≡ o = cc in
     let so : is_on this o ≡ true = subst (λ (k : Object). is_on this k ≡ true) it (is_on-same this) in
     cc
+
+-- ---- an exit that changes nothing
+
+-- a test that none passes, since none passes another
+none-of : {X : Type 0} (p q : X → Bool) → ((x : X) → q x ≡ false → p x ≡ false) → (xs : List X) → list_any q xs ≡ false → list_any p xs ≡ false
+none-of p q fewer [] is = refl
+none-of p q fewer (x ∷ xs) is = by_first (q x) refl (none-of p q fewer xs)
+  where
+    by_first : (b : Bool) → q x ≡ b → (list_any q xs ≡ false → list_any p xs ≡ false) → (p x || list_any p xs) ≡ false
+    by_first true so rest = let no-first : (q x || list_any q xs) ≡ true = ap (λ (c : Bool). c || list_any q xs) so in cc
+    by_first false no-first rest =
+        let later : list_any q xs ≡ false = sym (ap (λ (c : Bool). c || list_any q xs) no-first) ∙ is in
+        ap (λ (c : Bool). c || list_any p xs) (fewer x no-first) ∙ rest later
+
+neither-of : (a b : Bool) → (a || b) ≡ false → (a ≡ false) × (b ≡ false)
+neither-of true b is = cc
+neither-of false b is = (refl, is)
+
+and-false : (b : Bool) → (b && false) ≡ false
+and-false true = refl
+and-false false = refl
+
+-- a process that has no adjustments is none that adjusts a set
+unadjusted : (undo : List (ℕ × Undo)) (pid n : ℕ) → has_adjustments pid undo ≡ false → is_adjusted (Some pid) undo n ≡ false
+unadjusted undo pid n none =
+    none-of (λ (p : ℕ × Undo). is_or_any (Some pid) p.0 && is_adjusted_in n p.1) (λ (p : ℕ × Undo). nat_eq pid p.0 && not (length (fin.entries p.1) == 0))
+    (λ p off. by_owner (nat_eq pid p.0) (fin.entries p.1) off) undo none
+  where
+    by_rows : (es : List (Key × ℤ)) → not (length es == 0) ≡ false → list_any (λ (a : Key × ℤ). nat_eq a.0.0 n) es ≡ false
+    by_rows [] off = refl
+    by_rows (e ∷ es) off = absurd (grind (arith, nat_tests))
+
+    by_owner : (b : Bool) (es : List (Key × ℤ)) → (b && not (length es == 0)) ≡ false → (b && list_any (λ (a : Key × ℤ). nat_eq a.0.0 n) es) ≡ false
+    by_owner true es off = by_rows es off
+    by_owner false es off = refl
+
+-- so its exit changes no object, if it is registered with no queue
+unchanged-by-exit : (s : State) (pid : ℕ) → may_leave_changes pid s ≡ false → (o : Object) → changes_by_exit (Some pid) s o ≡ false
+unchanged-by-exit s pid none o = λ i. sets i || queues i
+  where
+    both : (has_adjustments pid s.undo ≡ false) × (is_registered_with pid s.mq.entries ≡ false)
+    both = neither-of _ _ none
+
+    sets : list_any (λ (e : ℕ × KeyedEntry Set). is_on (object_as kinds.Semset e.0) o && is_adjusted (Some pid) s.undo e.0) s.semset.entries ≡ false
+    sets =
+        list_any_none (λ (e : ℕ × KeyedEntry Set). is_on (object_as kinds.Semset e.0) o && is_adjusted (Some pid) s.undo e.0) s.semset.entries
+        (λ k d i.
+        let n = (get_or s.semset.entries k d).0 in
+        ap (λ (b : Bool). is_on (object_as kinds.Semset n) o && b) (unadjusted s.undo pid n both.0) ∙ and-false (is_on (object_as kinds.Semset n) o))
+
+    queues : list_any (λ (e : ℕ × NamedEntry Mq). is_on (opened_as names.Mq e.0) o && is_made_by (Some pid) None e.1.object.registration) s.mq.entries ≡ false
+    queues =
+        none-of (λ (e : ℕ × NamedEntry Mq). is_on (opened_as names.Mq e.0) o && is_made_by (Some pid) None e.1.object.registration)
+        (λ (e : ℕ × NamedEntry Mq). is_made_by (Some pid) None e.1.object.registration)
+        (λ e off. ap (λ (b : Bool). is_on (opened_as names.Mq e.0) o && b) off ∙ and-false (is_on (opened_as names.Mq e.0) o)) s.mq.entries both.1
 
 module _ (limits : Limits) where
   -- ---- those that go on wait on what has changed
@@ -129,16 +195,6 @@ module _ (limits : Limits) where
   others-rest s (Some changed) others = λ k d i elsewhere. others k d i (λ one.
       let off = elsewhere changed (sym one) in let so = is_on-same changed in cc)
 
-  -- a call that is refused leaves the state
-  refused-state : (s : State) (pid : ℕ) (again : Bool) (kind : PlainKind)
-      → IfFinishes (λ (f : Finish). is_some f.errno ≡ true → f.state ≡ s) (tried limits s pid again kind)
-  refused-state s pid again (Sysv call) =
-      by-finish (λ (f : Finish). is_some f.errno ≡ true → f.state ≡ s) s (sysv.definition_of limits s pid again call) (λ d is off. cc) (λ e off. refl)
-  refused-state s pid again (Posix call) =
-      by-finish (λ (f : Finish). is_some f.errno ≡ true → f.state ≡ s) s (posix.definition_of limits s pid call) (λ d is off. cc) (λ e off. refl)
-  refused-state s pid again (Hello cred) = λ off. refl
-  refused-state s pid again Interrupts = λ off. refl
-
   joins-same : (s : State) (pid : ℕ) (request : PlainRequest) (on : Option Awaited) (o : Object) → IsSameIn o s (joins s pid request on).state
   joins-same s pid request None o = λ e is. is
   joins-same s pid request (Some on) o =
@@ -174,7 +230,7 @@ module _ (limits : Limits) where
         by_waiting true waits off = λ e is. is
         by_waiting false free off =
             done-same (tried limits s pid false request.kind) free (tried-ended limits s pid false request.kind free)
-            (refused-state s pid false request.kind) off
+            (refused-state limits s pid false request.kind) off
 
   interrupt-same : (s : State) (pid serial : ℕ) (o : Object) → IsSameIn o s (interrupt pid serial s).state
   interrupt-same s pid serial o = by_call (waiting_call_of (record { 0 = pid }) s.wait)
@@ -197,7 +253,7 @@ module _ (limits : Limits) where
   -- ---- an exit
 
   -- those that wait on no object that it changes
-  exit-rest : (s : State) (pid : ℕ) → IsSound limits s → RestWait (changes_by_exit (Some pid) s) (exit s pid)
+  pub exit-rest : (s : State) (pid : ℕ) → IsSound limits s → RestWait (changes_by_exit (Some pid) s) (exit s pid)
   exit-rest s pid h = λ k d i elsewhere.
       let v = get_or (without (record { 0 = pid }) s.wait) k d in
       let sound = All-filter (λ (w : PlainWaiting). not (is_of (record { 0 = pid }) w)) IsSoundWaiting s.wait h.parts.wait.each k d i in
@@ -217,6 +273,10 @@ module _ (limits : Limits) where
       exit-object s pid p (awaited.Descriptor fd) other =
           ap (λ (r : Option Process). option_map (λ (d : Descriptor). d.on) (value_at nat_eq (unwrap_or (option_map (λ (q : Process). q.descriptors) r) []) fd))
           (value_at-without s.processes.entries pid p other)
+
+  -- all of them, if it changes none
+  pub exit-waits : (s : State) (pid : ℕ) → IsSound limits s → may_leave_changes pid s ≡ false → OthersWait limits (exit s pid) None
+  exit-waits s pid h none = λ k d i. exit-rest s pid h k d i (λ o at. unchanged-by-exit s pid none o)
 
   pub exited-same : (s : State) (pid : ℕ) → IsSound limits s → (o : Object) → changes_by_exit (Some pid) s o ≡ false
       → IsSameIn o s (settle limits (exit s pid)).state

@@ -19,12 +19,12 @@ use Rattle.ipc_state.specs.Opening.{descriptor_at}
 use Rattle.ipc_state.specs.State.{State, cred_of, is_waiting}
 use Rattle.ipc_state.specs.Touching.{object_of, is_there, IsAsBefore}
 use Rattle.ipc_state.specs.Waiting.{awaited_by}
-use Rattle.ipc_state.proofs.CallerLemmas.{IsGood, refused-good, same-objects}
+use Rattle.ipc_state.proofs.CallerLemmas.{IsGood, by-finish, refused-good, same-objects}
 use Rattle.posix_calls.specs.Calls as posix
 use Rattle.posix_calls.specs.Registrations.{own}
 use Rattle.posix_calls.proofs.CallerLemmas as posixly
 use Rattle.posix_calls.proofs.CallerLemmas.{LeavesOf, call-leaves}
-use Rattle.sysv_calls.specs.Calls.{attempt, touched}
+use Rattle.sysv_calls.specs.Calls.{attempt, definition_of, touched}
 use Rattle.sysv_calls.proofs.CallerLemmas.{IsApart, attempt-apart, attempt-good, by-waiting, never-waits, waits-alike, waits-there}
 use Rattle.ipc_engine.specs.Settling.{touched_by}
 use Rattle.ipc_engine.specs.Step.{tried}
@@ -116,6 +116,16 @@ module _ (limits : Limits) where
       (tried-ended s pid true (Posix call) free)
   waited-ended s pid (Hello cred) on free is = cc
   waited-ended s pid Interrupts on free is = cc
+
+  -- one that is refused leaves the state
+  pub refused-state : (s : State) (pid : ℕ) (again : Bool) (kind : PlainKind)
+      → IfFinishes (λ (f : Finish). is_some f.errno ≡ true → f.state ≡ s) (tried limits s pid again kind)
+  refused-state s pid again (Sysv call) =
+      by-finish (λ (f : Finish). is_some f.errno ≡ true → f.state ≡ s) s (definition_of limits s pid again call) (λ d is off. cc) (λ e off. refl)
+  refused-state s pid again (Posix call) =
+      by-finish (λ (f : Finish). is_some f.errno ≡ true → f.state ≡ s) s (posix.definition_of limits s pid call) (λ d is off. cc) (λ e off. refl)
+  refused-state s pid again (Hello cred) = λ off. refl
+  refused-state s pid again Interrupts = λ off. refl
 
   -- ---- whether it has to wait
 

@@ -2,18 +2,22 @@
 -- keeps of it: what it is bound to, whose it is and what it holds. Processes with their descriptors, adjustments and
 -- calls that wait are no objects here.
 use Rattle.std.specs.Prelude.{◌≡◌, ◌==◌, ◌+◌, ℕ, Bool, true, false, not, ◌&&◌, ◌||◌, if◌then◌else◌}
-use Rattle.std.specs.Prelude.{List, Option, Some, None, is_some, option_map, unwrap_or}
+use Rattle.std.specs.Prelude.{List, Option, Some, None, is_some, option_map, unwrap_or, length, nat_eq}
+use Rattle.std.specs.FinMap as fin
 use Rattle.std.specs.List.{list_any}
 use Rattle.ipc_base.specs.declared.limits.Limits.{Limits}
+use Rattle.sem_undo.specs.Undo.{Undo}
 use Rattle.ipc_keys.specs.declared.check.NameKind.TheVariants as names
+use Rattle.posix_mq.specs.Queue.{Queue as Mq}
 use Rattle.ipc_wire.specs.Request.{PlainKind}
 use Rattle.ipc_state.specs.declared.parked.Object.{Object}
 use Rattle.ipc_state.specs.declared.parked.ObjectKind.{ObjectKind}
 use Rattle.ipc_state.specs.declared.parked.ObjectKind.TheVariants as kinds
 use Rattle.ipc_state.specs.Finish.{Tried, Finishes, Waits}
+use Rattle.ipc_state.specs.Named.{NamedEntry}
 use Rattle.ipc_state.specs.Opening.{is_on, is_there_for, object_as}
 use Rattle.ipc_state.specs.State.{State, is_waiting, objects_in}
-use Rattle.ipc_state.specs.Touching.{IsSameIn, changes_by_exit}
+use Rattle.ipc_state.specs.Touching.{IsSameIn, changes_by_exit, is_made_by}
 use Rattle.ipc_engine.specs.Event.{PlainEvent, Call, Exit, Restart}
 use Rattle.ipc_engine.specs.Settling.{touched_by}
 use Rattle.ipc_engine.specs.Step.{due, tried}
@@ -40,6 +44,16 @@ changes limits s (Call pid request moment) o = changes_by_call limits (due momen
 changes limits s (Exit pid moment) o = changes_by_exit (Some pid) s o
 changes limits s Restart o = changes_by_exit None s o
 changes limits s e o = false
+
+-- whether a process has adjustments, and whether it is registered with a queue; if neither, its exit changes nothing
+abbrev pub has_adjustments : ℕ → List (ℕ × Undo) → Bool
+has_adjustments pid undo = list_any (λ p. nat_eq pid p.0 && not (length (fin.entries p.1) == 0)) undo
+
+abbrev pub is_registered_with : ℕ → List (ℕ × NamedEntry Mq) → Bool
+is_registered_with pid queues = list_any (λ e. is_made_by (Some pid) None e.1.object.registration) queues
+
+abbrev pub may_leave_changes : ℕ → State → Bool
+may_leave_changes pid s = has_adjustments pid s.undo || is_registered_with pid s.mq.entries
 
 -- ---- marks
 

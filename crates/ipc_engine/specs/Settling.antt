@@ -1,4 +1,5 @@
--- What is known when calls that waited go on: only those can that wait on the object which has changed.
+-- What is known when calls that waited go on: only those can that wait on the object which has changed, and which its
+-- change concerns.
 use Rattle.std.specs.Prelude.{◌≡◌, ◌≢◌, ℕ, Bool, true, false, All, List, Option, Some, None, find}
 use Rattle.ipc_base.specs.declared.identity.Pid.{Pid}
 use Rattle.ipc_base.specs.declared.limits.Limits.{Limits}
@@ -7,7 +8,9 @@ use Rattle.ipc_state.specs.declared.parked.Object.{Object}
 use Rattle.ipc_state.specs.State.{State, is_process}
 use Rattle.ipc_state.specs.Touching.{object_of}
 use Rattle.ipc_state.specs.Waiting.{PlainWaiting}
-use Rattle.sysv_calls.specs.Calls.{is_receive, touched}
+use Rattle.sysv_calls.specs.Calls.{touched}
+use Rattle.sysv_calls.specs.Concern.{concerns}
+use Rattle.sysv_calls.specs.declared.concern.Change.{Change}
 use Rattle.posix_calls.specs.Calls.{touched as touched_posix}
 use Rattle.ipc_engine.specs.Step.{can_resume}
 
@@ -42,10 +45,10 @@ abbrev pub RestWaits : Limits → State → Option Object → Type 0
 RestWaits limits s among =
     All (λ (w : PlainWaiting). ¬ MayBe among (object_of s w.pid.0 w.on) → can_resume limits s w ≡ false) s.wait
 
--- the receives that wait have to
-abbrev pub ReceivesWait : Limits → State → Type 0
-ReceivesWait limits s =
-    All (λ (w : PlainWaiting). is_receive w.call.kind ≡ true → can_resume limits s w ≡ false) s.wait
+-- those that a change does not concern have to
+abbrev pub SparedWait : Limits → State → Change → Type 0
+SparedWait limits s change =
+    All (λ (w : PlainWaiting). concerns change w.call.kind ≡ false → can_resume limits s w ≡ false) s.wait
 
 -- the process of the first that passes, or none
 abbrev pub IsFirst : (PlainWaiting → Bool) → List PlainWaiting → Option Pid → Type 0

@@ -1,6 +1,7 @@
 //! What a process asks: its calls, one at a time, and INTERRUPT; and that it leaves.
 
-ghost use Rattle.std.specs.Prelude.{◌≡◌, ◌+◌, ◌*◌, ◌<◌, ◌≤◌, ◌++◌, ◌&&◌, ◌||◌, true, false, Some};
+ghost use Rattle.std.specs.Prelude.{◌≡◌, ◌+◌, ◌*◌, ◌<◌, ◌≤◌, ◌++◌, ◌&&◌, ◌||◌, true, false, if◌then◌else◌};
+ghost use Rattle.std.specs.Prelude.{Some, None};
 ghost use Rattle.std.specs.Prelude.{length, map, vec_capacity};
 ghost use Rattle.std.specs.Result.{is_ok};
 ghost use Rattle.ipc_wait.specs.Waits.{waiting_call_of};
@@ -18,22 +19,23 @@ ghost use Rattle.ipc_engine.specs.Changes.{HasMarked, changes_by_call, changes_i
 ghost use Rattle.ipc_engine.specs.Changes.{is_marked, is_one, most_objects};
 ghost use Rattle.ipc_engine.specs.Does.{Does, emptied};
 ghost use Rattle.ipc_engine.specs.Reserved.{IsReserved, needs};
-ghost use Rattle.ipc_engine.specs.Settling.{HaveSameObjects, ReceivesWait, touched_by};
+ghost use Rattle.ipc_engine.specs.Settling.{HaveSameObjects, OthersWait, SparedWait, touched_by};
 ghost use Rattle.ipc_engine.specs.Sound.{IsSound};
 ghost use Rattle.ipc_engine.specs.Step.{after, asked, called, interrupt as interrupt_step, interrupted, joins};
 ghost use Rattle.ipc_engine.specs.Step.{replied, settle as settled, replied_or_joined, tried};
 ghost use Rattle.ipc_engine.specs.View.{plain_outcome};
 
-use crate::changed::Changed;
+use crate::changed::{Changed, may_leave_changes};
 use crate::event::Outcome;
 use crate::replies::{push, push_reply, reply_to};
 use crate::settling::{settle, settle_all};
-use crate::trying::{is_receive, touched_by, try_at_once, try_kept};
+use crate::trying::{change_of, touched_by, try_at_once, try_kept};
 use ipc_base::{Errno, Pid};
 use ipc_state::{Answer, Object, Parked, State, Tried};
 use ipc_wait::Waiting;
 use ipc_wire::{Body, Request, RequestKind};
 use posix_mq::Registration;
+use sysv_calls::Change;
 
 /// What a process is told at a request whose memory is reserved. It takes none.
 pub(crate) fn ask(
@@ -143,7 +145,7 @@ fn at_once(
         answer,
         None,
         touched,
-        false,
+        change_of(&request.kind),
     );
 }
 
@@ -171,10 +173,10 @@ fn try_once(
 {
     let serial = parked.serial();
     let touched = touched_by(state, pid, &parked);
-    let received = is_receive(&parked);
+    let change = change_of(&parked.request().kind);
     match try_kept(state, pid, false, parked) {
         Tried::Finishes(answer, fired) => finish(
-            state, outcomes, changed, pid, serial, answer, fired, touched, received,
+            state, outcomes, changed, pid, serial, answer, fired, touched, change,
         ),
         Tried::Waits(parked) => join(state, outcomes, pid, parked),
     }
@@ -206,7 +208,7 @@ fn join(state: &mut State, outcomes: &mut Vec<Outcome>, pid: Pid, parked: Parked
 
 /// A call has ended so, and may have changed this object, which counts as changed unless the call was refused: it is
 /// answered, then the process is told of the registration that it fired, if one, and then those go on that wait on the
-/// object and can. `received`, if it was a receive.
+/// object and can, of those that the change concerns; none, if it was refused.
 fn finish(
     state: &mut State,
     outcomes: &mut Vec<Outcome>,
@@ -216,12 +218,13 @@ fn finish(
     answer: Answer,
     fired: Option<Registration>,
     touched: Option<Object>,
-    received: bool,
+    change: Change,
 )
     requires good { (s : PlainState) × IsSound state.old.limits s
         × IsGood state.old.limits s touched (finish_firing state.old.state answer fired)
         × HaveSameObjects s state.old.state }
-    requires receives { received ≡ true → ReceivesWait state.old.limits state.old.state }
+    requires spared { SparedWait state.old.limits state.old.state change }
+    requires refused { is_ok answer ≡ false → OthersWait state.old.limits state.old.state None }
     requires places { length outcomes.old.items + 2 * (length state.old.state.wait + 1) ≤ vec_capacity outcomes.old }
     requires mark { length changed.old.marks.items < vec_capacity changed.old.marks }
     ensures does { Does (after (replied pid.0 serial (finish_firing state.old.state answer fired))
@@ -231,9 +234,18 @@ fn finish(
         ≡ (is_marked changed.old.marks.items o || is_ok answer && is_one touched o) }
     ensures capacity { vec_capacity changed.new.marks ≡ vec_capacity changed.old.marks }
 {
-    changed.mark_if(answer.is_ok(), touched);
+    let is_done = answer.is_ok();
+    changed.mark_if(is_done, touched);
+    let touched = if_done(is_done, touched);
     push_reply(outcomes, pid, serial, answer, fired);
-    settle(state, outcomes, touched, received);
+    settle(state, outcomes, touched, change);
+}
+
+/// The object that a call may have changed: none, if it was refused.
+fn if_done(is_done: bool, touched: Option<Object>) -> Option<Object>
+    ensures { result ≡ if is_done then touched else None }
+{
+    if is_done { touched } else { None }
 }
 
 /// A request is refused.
@@ -258,7 +270,8 @@ pub(crate) fn interrupt(state: &mut State, outcomes: &mut Vec<Outcome>, pid: Pid
     push(outcomes, reply_to(pid, serial, Ok(Body::Empty)));
 }
 
-/// The process leaves, and then calls go on that wait for what its adjustments have changed. It takes no memory.
+/// The process leaves, and then calls go on that wait for what its adjustments have changed; if it leaves nothing
+/// changed, none is looked at. It takes no memory.
 pub(crate) fn leave(state: &mut State, outcomes: &mut Vec<Outcome>, changed: &mut Changed, pid: Pid)
     requires sound { IsSound state.old.limits state.old.state }
     requires places { length outcomes.old.items + 2 * length state.old.state.wait ≤ vec_capacity outcomes.old }
@@ -269,9 +282,10 @@ pub(crate) fn leave(state: &mut State, outcomes: &mut Vec<Outcome>, changed: &mu
         changed.old.marks.items changed.new.marks.items }
     ensures room { vec_capacity changed.old.marks ≤ vec_capacity changed.new.marks }
 {
+    let may_have_changed = may_leave_changes(state, pid);
     changed.mark_leaving(state, Some(pid.0));
     state.remove_process(pid);
-    settle_all(state, outcomes);
+    settle_all(state, outcomes, may_have_changed);
 }
 
 /// The call of a process that waits, if there is one, ends with EINTR.

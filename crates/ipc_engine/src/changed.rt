@@ -1,7 +1,8 @@
 //! Which objects have changed since the state was saved. None of this takes memory but the room, once.
 
-ghost use Rattle.std.specs.Prelude.{◌≡◌, ◌+◌, ◌*◌, ◌^◌, ◌<◌, ◌≤◌, ◌&&◌, ◌||◌, true, [], None, IfOk};
+ghost use Rattle.std.specs.Prelude.{◌≡◌, ◌+◌, ◌*◌, ◌^◌, ◌<◌, ◌≤◌, ◌&&◌, ◌||◌, ◌==◌, true, not, [], Some, None, IfOk};
 ghost use Rattle.std.specs.Prelude.{filter, length, map, nat_eq, vec_capacity};
+ghost use Rattle.std.specs.FinMap as fin;
 ghost use Rattle.std.specs.List.{IsDistinct, list_any};
 ghost use Rattle.std.proofs.Props.{props};
 ghost use Rattle.sem_undo.specs.Undo.{entry_of};
@@ -13,12 +14,12 @@ ghost use Rattle.ipc_state.specs.Sound.{HasSoundParts};
 ghost use Rattle.ipc_state.specs.State.{objects_in};
 ghost use Rattle.ipc_state.specs.Tables.{item_row};
 ghost use Rattle.ipc_state.specs.Touching.{changes_by_exit, is_adjusted, is_adjusted_in, is_made_by};
-ghost use Rattle.ipc_engine.specs.Changes.{HasMarked, is_marked, is_object, is_one, most_objects};
+ghost use Rattle.ipc_engine.specs.Changes.{HasMarked, is_marked, is_object, is_one, may_leave_changes, most_objects};
 
-use ipc_base::Limits;
+use ipc_base::{Limits, Pid};
 use ipc_keys::NameKind;
-use ipc_state::{Item, Object, ObjectKind, State, is_on};
-use posix_mq::Registration;
+use ipc_state::{Item, NamedEntry, Object, ObjectKind, State, is_on};
+use posix_mq::{Mq, Registration};
 use sem_undo::{SemUndo, UndoRow};
 use std::alloc::{AllocError, Global};
 
@@ -228,6 +229,31 @@ fn some_is_at(rows: &[UndoRow], set: u32) -> bool
     ensures { result ≡ list_any (λ r. nat_eq r.set.0 set) rows.now }
 {
     rows.iter().any(|row| row.set.0 == set)
+}
+
+/// Whether the exit of a process may change an object: it has adjustments, or is registered with a queue.
+pub(crate) fn may_leave_changes(state: &State, pid: Pid) -> bool
+    ensures { result ≡ may_leave_changes pid.0 state.now.state }
+{
+    has_adjustments(state.adjustments(), pid.0) || is_registered_with(state.mqs(), pid.0)
+}
+
+fn has_adjustments(items: &[Item<SemUndo>], pid: u32) -> bool
+    ensures { result ≡ list_any (λ i. nat_eq pid i.number && not (length (fin.entries i.value) == 0)) items.now }
+{
+    items.iter().any(|item| adjusts_some(item, pid))
+}
+
+fn adjusts_some(item: &Item<SemUndo>, pid: u32) -> bool
+    ensures { result ≡ (nat_eq pid item.now.number && not (length (fin.entries item.now.value) == 0)) }
+{
+    pid == item.number && !item.value.rows().is_empty()
+}
+
+fn is_registered_with(items: &[Item<NamedEntry<Mq>>], pid: u32) -> bool
+    ensures { result ≡ list_any (λ i. is_made_by (Some pid) None i.value.object.registration) items.now }
+{
+    items.iter().any(|item| is_made_by(Some(pid), item.value.object.registration()))
 }
 
 /// Whether a registration, if there is one, is by this process, or any.

@@ -1,6 +1,6 @@
 //! Laws of the definitions alone. A call of one does nothing; its contract is the law.
 
-ghost use Rattle.std.specs.Prelude.{◌≡◌, ◌≢◌, ◌+◌, ◌<◌, ◌≤◌, ℕ, true, false};
+ghost use Rattle.std.specs.Prelude.{◌≡◌, ◌≢◌, ◌+◌, ◌<◌, ◌≤◌, ℕ, Bool, true, false};
 ghost use Rattle.std.specs.Prelude.{List, [], ◌∷◌, ◌++◌, length, map, max};
 ghost use Rattle.std.specs.Prelude.{None, Some, All, is_some, nat_eq};
 ghost use Rattle.std.specs.List.{fold};
@@ -10,11 +10,11 @@ ghost use Rattle.ipc_base.specs.declared.errno.Errno.{Errno};
 ghost use Rattle.ipc_base.specs.declared.errno.Errno.TheVariants.{EALREADY};
 ghost use Rattle.ipc_base.specs.declared.limits.Limits.{Limits};
 ghost use Rattle.ipc_base.specs.declared.identity.Cred.{Cred};
-ghost use Rattle.ipc_wire.specs.Request.{PlainRequest, Interrupt as Interrupts};
+ghost use Rattle.ipc_wire.specs.Request.{PlainKind, PlainRequest, Interrupt as Interrupts};
 ghost use Rattle.ipc_keys.specs.declared.check.NameKind.{NameKind};
 ghost use Rattle.ipc_state.specs.declared.parked.Awaited.{Awaited};
 ghost use Rattle.ipc_state.specs.declared.parked.ObjectKind.TheVariants as kinds;
-ghost use Rattle.ipc_state.specs.Finish.{Finishes, Waits, refused};
+ghost use Rattle.ipc_state.specs.Finish.{Finish, Finishes, Waits, refused};
 ghost use Rattle.ipc_state.specs.Bound.{kept_if, holding};
 ghost use Rattle.ipc_state.specs.Kinds.{Content};
 ghost use Rattle.ipc_state.specs.Named.{NamedEntry, has_name};
@@ -23,6 +23,7 @@ ghost use Rattle.posix_mq.specs.Queue.{Queue as Mq, deregistered};
 ghost use Rattle.ipc_state.specs.State.{State, start, cred_of, is_process, is_waiting, restart, undone, with_waiting};
 ghost use Rattle.ipc_state.specs.Waiting.{PlainWaiting, awaited_by, expiry};
 ghost use Rattle.ipc_wait.specs.Waits.{calls_due, calls_left, is_due};
+ghost use Rattle.sysv_calls.specs.Concern.{change_of, concerns};
 ghost use Rattle.ipc_engine.specs.Event.{PlainEvent, Connect, Call, Interrupt, Tick, Exit, Restart, moment_of};
 ghost use Rattle.ipc_engine.specs.Step.{step, run, silent, replied, after, settle, resumed, can_resume, most_replies};
 ghost use Rattle.ipc_engine.specs.Step.{due, expired, is_call, tried, waiting_on};
@@ -63,6 +64,14 @@ pub fn the_earliest_goes_on_first()
     ensures left { (limits : Limits) (s : State) (before later : List PlainWaiting) (w : PlainWaiting)
         → HasSoundParts limits s → s.wait ≡ before ++ w ∷ later
         → (resumed limits s w).state.wait ≡ before ++ later }
+{}
+
+/// A call that waits has to wait on when a call of another process has come to its end, if what that changes does not
+/// concern it. So those are tried again that it concerns, and no other.
+pub fn calls_of_no_concern_wait_on()
+    ensures { (limits : Limits) (s : State) (pid other : ℕ) (again : Bool) (kind waiting : PlainKind) (f : Finish)
+        → tried limits s pid again kind ≡ Finishes f → other ≢ pid → concerns (change_of kind) waiting ≡ false
+        → tried limits s other true waiting ≡ Waits → tried limits f.state other true waiting ≡ Waits }
 {}
 
 /// No body of a reply is longer than the longest one.

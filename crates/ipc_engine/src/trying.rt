@@ -1,4 +1,5 @@
-//! What differs by the kind of a call: what it needs of memory, how it is tried, and which object it may change.
+//! What differs by the kind of a call: what it needs of memory, how it is tried, which object it may change, and whom
+//! that concerns.
 
 ghost use Rattle.std.specs.Prelude.{◌≡◌, true, false, IfOk, IsOk, OnOk, OnErr};
 ghost use Rattle.ipc_wire.specs.Request.{plain_kind};
@@ -10,7 +11,7 @@ ghost use Rattle.ipc_state.specs.Spare.{KeepsBuffer, IsSpare};
 ghost use Rattle.ipc_state.specs.State.{is_process};
 ghost use Rattle.ipc_state.specs.Tries.{WaitsUnchanged, tried_of};
 ghost use Rattle.ipc_state.specs.Waiting.{may_wait};
-ghost use Rattle.sysv_calls.specs.Calls as sysv;
+ghost use Rattle.sysv_calls.specs.Concern as sysv;
 ghost use Rattle.ipc_engine.specs.Reserved.{kept_of, needs, takes_memory};
 ghost use Rattle.ipc_engine.specs.Settling.{touched_by};
 ghost use Rattle.ipc_engine.specs.Step.{tried};
@@ -19,6 +20,7 @@ use ipc_base::{Errno, Pid};
 use ipc_state::{Answer, Object, Parked, ParkedKind, State, Tried};
 use ipc_wire::{Request, RequestKind};
 use std::alloc::{AllocError, Global};
+use sysv_calls::Change;
 
 /// Takes the memory that a request may need, and gives what is kept of one that may wait. Refused, the state is as
 /// before.
@@ -104,13 +106,23 @@ pub(crate) fn has_to_wait(state: &State, pid: Pid, parked: &Parked) -> bool
     }
 }
 
-/// Whether a call is a receive from a System V queue: one takes a message away, so that no other receive goes on by it.
-pub(crate) fn is_receive(parked: &Parked) -> bool
-    ensures { result ≡ sysv.is_receive parked.now.kind }
+/// What a request changes in its object if it is done.
+pub(crate) fn change_of(kind: &RequestKind<'_>) -> Change
+    ensures { result ≡ sysv.change_of (plain_kind kind.now) }
+{
+    match kind {
+        RequestKind::Sysv(call) => sysv_calls::change_of(call),
+        RequestKind::Posix(_) | RequestKind::Hello(_) | RequestKind::Interrupt => Change::Anything,
+    }
+}
+
+/// Whether a call that waits on an object may go on by a change of it.
+pub(crate) fn concerns(change: Change, parked: &Parked) -> bool
+    ensures { result ≡ sysv.concerns change parked.now.kind }
 {
     match parked.kind() {
-        ParkedKind::Sysv(call) => sysv_calls::is_receive(call),
-        ParkedKind::Posix(_) => false,
+        ParkedKind::Sysv(call) => sysv_calls::concerns(change, call),
+        ParkedKind::Posix(_) => true,
     }
 }
 

@@ -25,3 +25,4 @@ pub mod Finish
 pub mod Spare
 pub mod Steps
 pub mod Tries
+pub mod Bits

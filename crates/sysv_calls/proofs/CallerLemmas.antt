@@ -4,4 +4,5 @@ pub use Rattle.sysv_calls.proofs.Ending.{IsApart}
 pub use Rattle.sysv_calls.proofs.EveryCall.{attempt-apart, attempt-good, never-waits}
 pub use Rattle.sysv_calls.proofs.Families.{IsOther, by-waiting}
 pub use Rattle.sysv_calls.proofs.Kept.{kept-is, never-kept}
-pub use Rattle.sysv_calls.proofs.Waits.{received-waits, waits-alike, waits-there}
+pub use Rattle.sysv_calls.proofs.Waits.{waits-alike, waits-there}
+pub use Rattle.sysv_calls.proofs.Sparing.{call-spares, posix-concerned, spared-both}

@@ -1,14 +1,12 @@
 -- The calls that may wait, each by itself, and all others together.
-use Rattle.std.proofs.Common.{◌≡◌, ℕ, ℤ, false, List, None, refl}
+use Rattle.std.proofs.Common.{◌≡◌, ℕ, ℤ, List, None, refl}
 use Rattle.ipc_wire.specs.Request.{PlainSysv, Sysv}
 use Rattle.ipc_wire.specs.Request as requests
 use Rattle.ipc_state.specs.Waiting.{awaited_by}
-use Rattle.sysv_calls.specs.Calls.{is_receive}
 
--- a call that never waits: it waits on nothing, and is no receive
+-- a call that never waits: it waits on nothing
 pub record IsOther (call : PlainSysv) : Type 0 where
   pub never : awaited_by (Sysv call) ≡ None
-  pub no_receive : is_receive (Sysv call) ≡ false
 
 -- what holds of the calls that may wait, and of all others, holds of every call
 pub by-waiting : (P : PlainSysv → Type 0) → ((id flags : ℕ) (mtype : ℤ) (text : List ℕ) → P (requests.Msgsnd id flags mtype text))
@@ -18,4 +16,4 @@ pub by-waiting : (P : PlainSysv → Type 0) → ((id flags : ℕ) (mtype : ℤ) 
 by-waiting P sends receives operates others (requests.Msgsnd id flags mtype text) = sends id flags mtype text
 by-waiting P sends receives operates others (requests.Msgrcv id flags size mtype) = receives id flags size mtype
 by-waiting P sends receives operates others (requests.Semop id timeout operations) = operates id timeout operations
-by-waiting P sends receives operates others call = others _ (record { never = refl; no_receive = refl })
+by-waiting P sends receives operates others call = others _ (record { never = refl })

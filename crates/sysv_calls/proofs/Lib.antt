@@ -3,12 +3,15 @@ mod Ending
 mod EveryCall
 mod Families
 mod Kept
+mod Lists
 mod Lent
 mod MsgCalls
 mod Noting
 mod Reaching
 mod SemCalls
 mod SemopCalls
+mod Sparing
 mod Stopping
 mod Trying
 mod Waits
+mod Words

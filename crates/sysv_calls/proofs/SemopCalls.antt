@@ -30,7 +30,7 @@ use Rattle.sysv_calls.proofs.Reaching.{Operates, operates, semaphore-ends}
 use Rattle.sysv_calls.proofs.Noting.{has-within, noted-all, noted-kept}
 
 -- if a process has the same there as before, all have
-put-apart : (undo : List (ℕ × Undo)) (pid : ℕ) (new : Undo) (k : Key) → adjustment new k ≡ adjustment (those undo pid) k
+pub put-apart : (undo : List (ℕ × Undo)) (pid : ℕ) (new : Undo) (k : Key) → adjustment new k ≡ adjustment (those undo pid) k
     → (p : ℕ) → adjustment (those (with_value nat_eq undo pid new) p) k ≡ adjustment (those undo p) k
 put-apart [] pid new k same p = refl
 put-apart (e ∷ es) pid new k same p = by_owner (nat_eq e.0 pid) same (λ later. put-apart es pid new k later p)
@@ -48,7 +48,7 @@ put-apart (e ∷ es) pid new k same p = by_owner (nat_eq e.0 pid) same (λ later
     by_owner false first later = by_reader (nat_eq e.0 p) e.1 e.1 (value_at nat_eq (with_value nat_eq es pid new) p) (value_at nat_eq es p) refl (later first)
 
 -- operations on a set change no adjustment at another
-noted-apart : (id : ℕ) (undo : Undo) (ops : List Operation) (k : Key) → k.0 ≢ id → adjustment (fold (noted id) undo ops) k ≡ adjustment undo k
+pub noted-apart : (id : ℕ) (undo : Undo) (ops : List Operation) (k : Key) → k.0 ≢ id → adjustment (fold (noted id) undo ops) k ≡ adjustment undo k
 noted-apart id undo [] k apart = refl
 noted-apart id undo (o ∷ rest) k apart = noted-apart id (noted id undo o) rest k apart ∙ by_test (has_undo o)
   where

@@ -1,39 +1,38 @@
--- Whether a call has to wait depends on the limits, who makes it and its own object alone; and after a receive, which takes a
--- message away, each other receive that had to wait has to wait on.
-use Rattle.std.proofs.Common.{◌≡◌, ◌∙◌, ℕ, ℤ, Bool, true, false, not, List, length, Option, Some, None, refl, sym, ap, subst}
-use Rattle.std.specs.Prelude.{Ok, nat_eq, nat_lt}
+-- Whether a call has to wait depends on the limits, who makes it and its own object alone; and when a queue has changed, a
+-- receive has to wait on that finds none still, and a send for which it is still full.
+use Rattle.std.proofs.Common.{◌≡◌, ◌∙◌, ℕ, ℤ, pos, Bool, true, false, not, List, length, Option, Some, None, refl, sym, ap, subst}
+use Rattle.std.specs.Prelude.{Ok, int_lt, nat_eq, nat_lt}
 use Rattle.std.proofs.lemmas.Bool.{eqb-false, eqb-true}
 use Rattle.std.proofs.lemmas.Option.{none-some}
-use Rattle.ipc_base.specs.declared.errno.Errno.TheVariants.{E2BIG, EACCES, EINVAL, ENOMSG}
+use Rattle.ipc_base.specs.declared.errno.Errno.TheVariants.{E2BIG, EACCES, EAGAIN, EINVAL, ENOMSG}
 use Rattle.ipc_base.specs.declared.identity.Cred.{Cred}
 use Rattle.ipc_base.specs.declared.limits.Limits.{Limits}
 use Rattle.ipc_base.proofs.CallerLemmas.{at-with, other-with}
+use Rattle.ipc_perm.specs.declared.perm.Perm.{Perm}
 use Rattle.ipc_perm.specs.Perm.{may}
-use Rattle.ipc_wire.specs.declared.reply.Body.TheVariants.{Empty}
 use Rattle.ipc_wire.specs.Request.{PlainSysv, Sysv}
 use Rattle.ipc_wire.specs.Request as requests
-use Rattle.sysv_msg.specs.Queue.{Queue, pick, taken}
-use Rattle.sysv_msg.proofs.CallerLemmas.{pick-removed}
+use Rattle.sysv_msg.specs.Queue.{Queue, full, pick}
 use Rattle.sysv_sem.specs.declared.operation.Operation.{Operation}
 use Rattle.sysv_sem.specs.Operation.{outcome}
 use Rattle.sysv_sem.specs.Set.{values_of}
 use Rattle.ipc_state.specs.declared.parked.Awaited.{Awaited}
 use Rattle.ipc_state.specs.declared.parked.Awaited.TheVariants as awaited
-use Rattle.ipc_state.specs.Finish.{Attempt, Finish, Finishes, Halt, IfFinishes, done_firing, has_to_wait, refuse, ◌orelse◌, ◌orstop◌, ◌>>◌, ◌>>=◌}
+use Rattle.ipc_state.specs.Finish.{Attempt, Halt, has_to_wait, refuse, stop, ◌orelse◌, ◌orstop◌, ◌>>◌, ◌>>=◌}
 use Rattle.ipc_state.specs.Bound.{holding}
 use Rattle.ipc_state.specs.Keyed.{Keyed, KeyedEntry}
 use Rattle.ipc_state.specs.Numbered.{entry_of, last_number}
 use Rattle.ipc_state.specs.State.{State, cred_of, semset_of, with_msg_queue}
 use Rattle.ipc_state.specs.Touching.{IsAsBefore, is_there}
 use Rattle.ipc_state.specs.Waiting.{awaited_by}
-use Rattle.ipc_state.proofs.CallerLemmas.{AreAlike, after, alike-waits, at-all, at-value, by-finish, is_blocked, orelse-alike, past-alike, same-alike}
+use Rattle.ipc_state.proofs.CallerLemmas.{AreAlike, alike-waits, is_blocked, orelse-alike, past-alike, same-alike}
 use Rattle.ipc_state.proofs.CallerLemmas.{then-alike, waits-as-tested, waits-for}
 use Rattle.sysv_calls.specs.Access.{accessible, gone, has, read, write}
 use Rattle.sysv_calls.specs.Calls.{attempt}
-use Rattle.sysv_calls.specs.Msg.{except, is_too_long, message_at, msgrcv, receivable, sendable, waits_or}
+use Rattle.sysv_calls.specs.Msg.{except, is_too_long, message_at, receivable, sendable, waits_or}
 use Rattle.sysv_calls.specs.Semop.{held_by, operable, operations_of, performable, tried_list}
 use Rattle.sysv_calls.proofs.Families.{by-waiting}
-use Rattle.sysv_calls.proofs.Reaching.{Receives, operates, receives, sends}
+use Rattle.sysv_calls.proofs.Reaching.{operates, receives, sends}
 
 -- ---- on what a call waits
 
@@ -107,15 +106,22 @@ module _ (limits : Limits) (s : State) (pid : ℕ) (again : Bool) where
       IsFound : Awaited → Type 0
       IsFound on = is_there pid on s ≡ true
 
--- ---- receives
+-- ---- queues
 
--- what is blocked on an entry is blocked on another with the same permissions, if its last steps are
-still-blocked : (b1 b2 : Bool) (e f : KeyedEntry Queue) (k : KeyedEntry Queue → Attempt (KeyedEntry Queue × ℕ))
+-- what is blocked by its last steps on an entry is blocked on another with the same permissions, if its last steps are
+still-blocked : {X : Type 0} (access : ℕ) (cred : Cred) (b : Bool) (e f : KeyedEntry Queue) (k : KeyedEntry Queue → Attempt X) → f.perm ≡ e.perm
     → (is_blocked (k e) ≡ true → is_blocked (k f) ≡ true)
-    → is_blocked (refuse EINVAL b1 >> (refuse EACCES b2 >> Ok e >>= k)) ≡ true → is_blocked (refuse EINVAL b1 >> (refuse EACCES b2 >> Ok f >>= k)) ≡ true
-still-blocked true b2 e f k still is = cc
-still-blocked false true e f k still is = cc
-still-blocked false false e f k still is = still is
+    → is_blocked (refuse EINVAL b >> (refuse EACCES (not (may cred e.perm access)) >> Ok e >>= k)) ≡ true
+    → is_blocked (refuse EINVAL b >> (refuse EACCES (not (may cred f.perm access)) >> Ok f >>= k)) ≡ true
+still-blocked {X} access cred b e f k perm still is =
+    subst (λ (p : Perm). is_blocked (refuse EINVAL b >> (refuse EACCES (not (may cred p access)) >> Ok f >>= k)) ≡ true) (sym perm)
+    (by_tests b (not (may cred e.perm access)) is)
+  where
+    by_tests : (b1 b2 : Bool) → is_blocked (refuse EINVAL b1 >> (refuse EACCES b2 >> Ok e >>= k)) ≡ true
+        → is_blocked (refuse EINVAL b1 >> (refuse EACCES b2 >> Ok f >>= k)) ≡ true
+    by_tests true b2 is = cc
+    by_tests false true is = cc
+    by_tests false false is = still is
 
 -- if none is picked where none was
 still-none : {X : Type 0} (o p : Option ℕ) (h : Halt) (long other : ℕ → Bool) (x y : ℕ → X) → (o ≡ None → p ≡ None)
@@ -128,55 +134,89 @@ still-none {X} (Some at) p h long other x y fewer is = absurd (by_test (long at)
     by_test true is = cc
     by_test false is = cc
 
--- after a receive has come to its end, each other receive that had to wait has to wait on
-pub received-waits : (limits : Limits) (s : State) (pid : ℕ) (again : Bool) (id flags size : ℕ) (mtype : ℤ) (f : Finish)
-    → attempt limits s pid again (requests.Msgrcv id flags size mtype) ≡ Finishes f
-    → (other other_id other_flags other_size : ℕ) (other_type : ℤ)
-    → has_to_wait (attempt limits s other true (requests.Msgrcv other_id other_flags other_size other_type)) ≡ true
-    → has_to_wait (attempt limits f.state other true (requests.Msgrcv other_id other_flags other_size other_type)) ≡ true
-received-waits limits s pid again id flags size mtype f is other n flags' size' mtype' waits =
-    subst (IfFinishes P) is (by-finish P s (msgrcv s (cred_of s pid) pid again id flags size mtype)
-    (after {P = λ d. P (done_firing d.state d.body d.fired)} (at-all (receives s (cred_of s pid) again id flags size mtype))
-    (λ found ok. at-value _ (still found ok))).holds (λ e. waits))
-  where
-    P : Finish → Type 0
-    P g = has_to_wait (attempt limits g.state other true (requests.Msgrcv n flags' size' mtype')) ≡ true
+-- if it is full where it was
+still-full : {X : Type 0} (h : Halt) (b c : Bool) (x y : X) → (b ≡ true → c ≡ true) → is_blocked (stop h b >> Ok x) ≡ true
+    → is_blocked (stop h c >> Ok y) ≡ true
+still-full h true c x y more is = rw (more refl) is
+still-full h false c x y more is = cc
 
-    -- the tests of the other
-    mine : KeyedEntry Queue → Attempt (KeyedEntry Queue × ℕ)
-    mine e = pick e.object.messages mtype' (has flags' except) orstop waits_or flags' ENOMSG
-        >>= (λ at. refuse E2BIG (is_too_long flags' size' (length (message_at e.object at).text)) >> Ok (e, at))
+-- a receive of a process that had to wait has to wait on when a queue has changed, if it finds no message where it found none
+module _ (limits : Limits) (s : State) (other n flags size : ℕ) (mtype : ℤ) where
+  abbrev receive : PlainSysv
+  receive = requests.Msgrcv n flags size mtype
 
-    IsBlocked : Option (KeyedEntry Queue) → Type 0
-    IsBlocked o = is_blocked (refuse EINVAL (nat_lt last_number size')
-        >> ((o orelse gone true >>= (λ e. refuse EACCES (not (may (cred_of s other) e.perm read)) >> Ok e)) >>= mine)) ≡ true
+  -- its last steps, and its tests where the queue is found, or not
+  abbrev found-receive : KeyedEntry Queue → Attempt (KeyedEntry Queue × ℕ)
+  found-receive e = pick e.object.messages mtype (has flags except) orstop waits_or flags ENOMSG
+      >>= (λ at. refuse E2BIG (is_too_long flags size (length (message_at e.object at).text)) >> Ok (e, at))
 
-    still : (found : KeyedEntry Queue × ℕ) → Receives s id found
-        → has_to_wait (attempt limits (with_msg_queue s id (holding found.0 (taken found.0.object found.1 pid s.clock))) other true
-        (requests.Msgrcv n flags' size' mtype')) ≡ true
-    still found ok = by_id (nat_eq n id) refl
-      where
-        e : KeyedEntry Queue
-        e = found.0
+  abbrev IsReceiveBlocked : Option (KeyedEntry Queue) → Type 0
+  IsReceiveBlocked o = is_blocked (refuse EINVAL (nat_lt last_number size)
+      >> ((o orelse gone true >>= (λ e. refuse EACCES (not (may (cred_of s other) e.perm read)) >> Ok e)) >>= found-receive)) ≡ true
 
-        new : KeyedEntry Queue
-        new = holding e (taken e.object found.1 pid s.clock)
+  pub still-receives : (id : ℕ) (e : KeyedEntry Queue) (q : Queue) → entry_of s.msg id ≡ Some e
+      → (pick e.object.messages mtype (has flags except) ≡ None → pick q.messages mtype (has flags except) ≡ None)
+      → has_to_wait (attempt limits s other true receive) ≡ true
+      → has_to_wait (attempt limits (with_msg_queue s id (holding e q)) other true receive) ≡ true
+  still-receives id e q there none waits = by_id (nat_eq n id) refl
+    where
+      t : State
+      t = with_msg_queue s id (holding e q)
 
-        t : State
-        t = with_msg_queue s id new
+      tests : State → Attempt (KeyedEntry Queue × ℕ)
+      tests u = receivable u (cred_of s other) true n flags size mtype
 
-        tests : State → Attempt (KeyedEntry Queue × ℕ)
-        tests u = receivable u (cred_of s other) true n flags' size' mtype'
+      on_same : n ≡ id → IsReceiveBlocked (entry_of t.msg n)
+      on_same same =
+          let before : IsReceiveBlocked (Some e) = subst IsReceiveBlocked (ap (entry_of s.msg) same ∙ there) (sym (waits-as-tested s (tests s) _) ∙ waits) in
+          subst IsReceiveBlocked (sym (ap (entry_of t.msg) same ∙ at-with s.msg.entries id (holding e q) e there))
+          (still-blocked read (cred_of s other) (nat_lt last_number size) e (holding e q) found-receive refl
+          (still-none _ _ (waits_or flags ENOMSG) _ _ _ _ none) before)
 
-        on_same : n ≡ id → IsBlocked (entry_of t.msg n)
-        on_same same =
-            let before : IsBlocked (Some e) = subst IsBlocked (ap (entry_of s.msg) same ∙ ok.there) (sym (waits-as-tested s (tests s) _) ∙ waits) in
-            subst IsBlocked (sym (ap (entry_of t.msg) same ∙ at-with s.msg.entries id new e ok.there))
-            (still-blocked (nat_lt last_number size') (not (may (cred_of s other) e.perm read)) e new mine
-            (still-none _ _ (waits_or flags' ENOMSG) _ _ _ _ (pick-removed e.object.messages mtype' (has flags' except) found.1)) before)
+      by_id : (b : Bool) → nat_eq n id ≡ b → has_to_wait (attempt limits t other true receive) ≡ true
+      by_id true is = waits-as-tested t (tests t) _ ∙ on_same (eqb-true n id is)
+      by_id false is =
+          waits-alike limits s t other true true receive (awaited.MsgQueue (record { 0 = n })) refl refl
+          (other-with s.msg.entries id n (holding e q) (eqb-false n id is)) ∙ waits
 
-        by_id : (b : Bool) → nat_eq n id ≡ b → P (record { state = t; errno = None; body = Empty; fired = None })
-        by_id true is = waits-as-tested t (tests t) _ ∙ on_same (eqb-true n id is)
-        by_id false is =
-            waits-alike limits s t other true true (requests.Msgrcv n flags' size' mtype') (awaited.MsgQueue (record { 0 = n })) refl refl
-            (other-with s.msg.entries id n new (eqb-false n id is)) ∙ waits
+-- a send of a process, if the queue is full where it was
+module _ (limits : Limits) (s : State) (other n flags : ℕ) (mtype : ℤ) (text : List ℕ) where
+  abbrev send : PlainSysv
+  send = requests.Msgsnd n flags mtype text
+
+  abbrev found-send : KeyedEntry Queue → Attempt (KeyedEntry Queue)
+  found-send e = stop (waits_or flags EAGAIN) (full e.object (length text)) >> Ok e
+
+  abbrev IsSendBlocked : Option (KeyedEntry Queue) → Type 0
+  IsSendBlocked o = is_blocked (refuse EINVAL (not (int_lt (pos 0) mtype)) >> (refuse EINVAL (nat_lt limits.msgmax (length text))
+      >> ((o orelse gone true >>= (λ e. refuse EACCES (not (may (cred_of s other) e.perm write)) >> Ok e)) >>= found-send))) ≡ true
+
+  pub still-sends : (id : ℕ) (e : KeyedEntry Queue) (q : Queue) → entry_of s.msg id ≡ Some e
+      → (full e.object (length text) ≡ true → full q (length text) ≡ true)
+      → has_to_wait (attempt limits s other true send) ≡ true
+      → has_to_wait (attempt limits (with_msg_queue s id (holding e q)) other true send) ≡ true
+  still-sends id e q there more waits = by_id (nat_eq n id) refl
+    where
+      t : State
+      t = with_msg_queue s id (holding e q)
+
+      tests : State → Attempt (KeyedEntry Queue)
+      tests u = sendable limits u (cred_of s other) true n flags mtype text
+
+      past : (b : Bool) (x y : Attempt (KeyedEntry Queue)) → (is_blocked x ≡ true → is_blocked y ≡ true) → is_blocked (refuse EINVAL b >> x) ≡ true
+          → is_blocked (refuse EINVAL b >> y) ≡ true
+      past true x y still is = cc
+      past false x y still is = still is
+
+      on_same : n ≡ id → IsSendBlocked (entry_of t.msg n)
+      on_same same =
+          let before : IsSendBlocked (Some e) = subst IsSendBlocked (ap (entry_of s.msg) same ∙ there) (sym (waits-as-tested s (tests s) _) ∙ waits) in
+          subst IsSendBlocked (sym (ap (entry_of t.msg) same ∙ at-with s.msg.entries id (holding e q) e there))
+          (past (not (int_lt (pos 0) mtype)) _ _ (still-blocked write (cred_of s other) (nat_lt limits.msgmax (length text)) e (holding e q) found-send refl
+          (still-full (waits_or flags EAGAIN) (full e.object (length text)) (full q (length text)) e (holding e q) more)) before)
+
+      by_id : (b : Bool) → nat_eq n id ≡ b → has_to_wait (attempt limits t other true send) ≡ true
+      by_id true is = waits-as-tested t (tests t) _ ∙ on_same (eqb-true n id is)
+      by_id false is =
+          waits-alike limits s t other true true send (awaited.MsgQueue (record { 0 = n })) refl refl
+          (other-with s.msg.entries id n (holding e q) (eqb-false n id is)) ∙ waits

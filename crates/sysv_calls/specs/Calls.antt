@@ -1,7 +1,7 @@
 -- What each call answers and leaves, and which object it may change.
 use Rattle.std.specs.Prelude.{ℕ, ℤ, Bool, true, false, if◌then◌else◌, Option, Some, None, is_some}
 use Rattle.ipc_base.specs.declared.limits.Limits.{Limits}
-use Rattle.ipc_wire.specs.Request.{PlainSysv, PlainKind, Sysv}
+use Rattle.ipc_wire.specs.Request.{PlainSysv}
 use Rattle.ipc_wire.specs.Request as requests
 use Rattle.ipc_state.specs.declared.parked.Object.{Object}
 use Rattle.ipc_state.specs.declared.parked.ObjectKind.TheVariants.{MsgQueue, Semset}
@@ -64,11 +64,6 @@ touched s (requests.SemctlSetAll id values) = Some (set_at id)
 touched s (requests.SemctlSet id uid gid mode) = Some (set_at id)
 touched s (requests.SemctlRmid id) = Some (set_at id)
 touched s call = None
-
--- whether it is a receive from a queue: one takes a message away, so that no other receive goes on by it
-abbrev pub is_receive : PlainKind → Bool
-is_receive (Sysv (requests.Msgrcv id flags size mtype)) = true
-is_receive _ = false
 
 -- what comes of it
 abbrev pub attempt : Limits → State → ℕ → Bool → PlainSysv → Tried

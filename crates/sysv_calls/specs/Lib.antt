@@ -5,5 +5,6 @@ pub mod Sem
 pub mod Semop
 pub mod Relations
 pub mod Calls
+pub mod Concern
 pub mod Needs
 pub mod Seen

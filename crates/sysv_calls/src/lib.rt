@@ -4,10 +4,12 @@
 
 mod access;
 mod calls;
+mod concern;
 mod msg;
 mod sem;
 mod semop;
 mod waiting;
 
 pub use calls::{attempt, reserve, touched};
-pub use waiting::{has_to_wait, is_receive, try_parked};
+pub use concern::{Change, change_of, concerns};
+pub use waiting::{has_to_wait, try_parked};

@@ -2,7 +2,6 @@
 
 ghost use Rattle.std.specs.Prelude.{◌≡◌, true, OnOk};
 ghost use Rattle.ipc_base.specs.Limits.{ArePassed};
-ghost use Rattle.ipc_wire.specs.Request.{Sysv};
 ghost use Rattle.ipc_state.specs.Finish as finish;
 ghost use Rattle.ipc_state.specs.Sound.{HasSoundParts};
 ghost use Rattle.ipc_state.specs.State.{is_process};
@@ -83,16 +82,5 @@ fn ready(state: &State, cred: Cred, pid: Pid, again: bool, call: &ParkedSysv) ->
             ready_to_operate(state, cred, pid, again, *id, &operations.lend())?;
             Ok(0)
         }
-    }
-}
-
-/// Whether a call that waits is a receive from a queue: one takes a message away, so that no other receive goes on by
-/// it.
-pub fn is_receive(call: &ParkedSysv) -> bool
-    ensures { result ≡ defined.is_receive (Sysv (parked_sysv call.now)) }
-{
-    match call {
-        ParkedSysv::Msgrcv { .. } => true,
-        ParkedSysv::Msgsnd { .. } | ParkedSysv::Semop { .. } => false,
     }
 }

@@ -6,11 +6,16 @@ use Rattle.ipc_wire.specs.View.{plain_request}
 use Rattle.ipc_state.specs.declared.parked.Object.{Object}
 use Rattle.ipc_state.specs.Finish.{Tried, finish_of}
 use Rattle.ipc_state.specs.Held.{Held}
+use Rattle.ipc_base.specs.declared.limits.Limits.{Limits}
+use Rattle.ipc_state.specs.State.{State}
+use Rattle.sysv_calls.specs.Concern.{change_of}
+use Rattle.sysv_calls.specs.declared.concern.Change.{Change}
 use Rattle.ipc_engine.specs.Changes.{is_marked}
-use Rattle.ipc_engine.specs.Settling.{touched_by}
+use Rattle.ipc_engine.specs.Settling.{OthersWait, SparedWait, touched_by}
 use Rattle.ipc_engine.specs.Step.{after, replied, settle, replied_or_joined, tried}
 use Rattle.ipc_engine.proofs.Buffers.{finish-state, waits-kept}
 use Rattle.ipc_engine.proofs.Doing.{does-as, does-from}
+use Rattle.ipc_engine.proofs.Going.{refused-waits, spared-after}
 use Rattle.ipc_engine.proofs.Marks.{done-marks}
 use Rattle.ipc_engine.proofs.Resumes.{ended-of, good-here}
 use Rattle.ipc_engine.proofs.Tries.{HasEnded}
@@ -25,6 +30,27 @@ finish-requires-clause-good c =
     (finish-state now.state c.try_at_once-answer.result.0 None) c.requires.sound c.requires.free
     (subst (λ (o : Option Object). HasEnded s.limits s.state c.args.pid.0 o f) (sym c.try_at_once-answer.ensures.touched)
     (ended-of s.limits s.state c.args.pid.0 (plain_kind c.args.request.now.kind) f c.requires.free c.try_at_once-answer.ensures.finish))
+
+pub finish-requires-clause-spared : goal.finish-requires-clause-spared
+finish-requires-clause-spared c =
+    let s = c.args.state.now in
+    let now = c.try_at_once-answer.new.state in
+    let kind = plain_kind c.args.request.now.kind in
+    let f = finish_of now.state c.try_at_once-answer.result.0 in
+    let ended = ended-of s.limits s.state c.args.pid.0 kind f c.requires.free c.try_at_once-answer.ensures.finish in
+    let wait = spared-after s.limits s.state c.args.pid.0 kind f c.requires.sound c.requires.free ended.good.wait
+    (sym c.try_at_once-answer.ensures.finish) in
+    subst (λ (l : Limits). SparedWait l now.state c.change_of.result) (sym (ap (λ (h : Held). h.limits) c.try_at_once-answer.ensures.held))
+    (subst (λ (x : Change). SparedWait s.limits now.state x) (sym c.change_of.ensures)
+    (subst (λ (t : State). SparedWait s.limits t (change_of kind)) (finish-state now.state c.try_at_once-answer.result.0 None) wait))
+
+pub finish-requires-clause-refused : goal.finish-requires-clause-refused
+finish-requires-clause-refused c bad =
+    let s = c.args.state.now in
+    let now = c.try_at_once-answer.new.state in
+    subst (λ (l : Limits). OthersWait l now.state None) (sym (ap (λ (h : Held). h.limits) c.try_at_once-answer.ensures.held))
+    (refused-waits s.limits s.state now.state c.args.pid.0 (plain_kind c.args.request.now.kind) c.try_at_once-answer.result.0 None c.requires.sound
+    (sym c.try_at_once-answer.ensures.finish) bad)
 
 pub finish-requires-clause-places : goal.finish-requires-clause-places
 finish-requires-clause-places c =

@@ -1,4 +1,6 @@
-use Rattle.std.proofs.Common.{sym, subst, ap}
+use Rattle.std.proofs.Common.{Option, None, sym, subst, ap, ◌∙◌}
+use Rattle.ipc_base.proofs.CallerLemmas.{choice}
+use Rattle.ipc_state.specs.declared.parked.Object.{Object}
 use Rattle.ipc_state.specs.Finish.{finish_firing}
 use Rattle.ipc_state.specs.State.{State}
 use Rattle.ipc_state.specs.Sound.{HasSoundParts}
@@ -28,8 +30,11 @@ settle-requires-clause-others c =
     let g = c.requires.good in
     let f = finish_firing s.state c.args.answer c.args.fired in
     let is = finish-state s.state c.args.answer c.args.fired in
-    subst (λ (t : State). OthersWait s.limits t c.args.touched) is
-    (others-after s.limits g.0 c.args.touched f g.1 g.2 (subst (λ (t : State). HaveSameObjects g.0 t) (sym is) g.3))
+    let done = subst (λ (t : State). OthersWait s.limits t c.args.touched) is
+    (others-after s.limits g.0 c.args.touched f g.1 g.2 (subst (λ (t : State). HaveSameObjects g.0 t) (sym is) g.3)) in
+    subst (λ (o : Option Object). OthersWait s.limits s.state o) (sym c.if_done-touched.ensures)
+    (choice (λ (o : Option Object). OthersWait s.limits s.state o) c.is_ok-is_done.result c.args.touched None (λ _. done)
+    (λ bad. c.requires.refused (sym c.is_ok-is_done.ensures.value ∙ bad)))
 
 pub returns-clause-does : goal.returns-clause-does
 returns-clause-does c =

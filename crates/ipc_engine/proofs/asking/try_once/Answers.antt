@@ -1,6 +1,6 @@
 use Rattle.std.proofs.Common.{◌≡◌, ◌<◌, length, sym, subst, ap, ◌∙◌, arith, false}
 use Rattle.std.proofs.Common.{Bool}
-use Rattle.std.specs.Prelude.{◌||◌, Option}
+use Rattle.std.specs.Prelude.{◌||◌, None, Option}
 use Rattle.ipc_base.specs.declared.limits.Limits.{Limits}
 use Rattle.ipc_state.specs.declared.parked.Object.{Object}
 use Rattle.ipc_state.specs.Finish.{Tried, finish_firing}
@@ -8,12 +8,15 @@ use Rattle.ipc_state.specs.Held.{Held}
 use Rattle.ipc_state.specs.State.{State}
 use Rattle.ipc_state.specs.Waiting.{awaited_by}
 use Rattle.ipc_state.proofs.CallerLemmas.{room-waiting}
+use Rattle.ipc_wire.specs.Request.{PlainRequest}
+use Rattle.sysv_calls.specs.Concern.{change_of}
+use Rattle.sysv_calls.specs.declared.concern.Change.{Change}
 use Rattle.ipc_engine.specs.Changes.{is_marked}
-use Rattle.ipc_engine.specs.Settling.{ReceivesWait, touched_by}
+use Rattle.ipc_engine.specs.Settling.{OthersWait, SparedWait, touched_by}
 use Rattle.ipc_engine.specs.Step.{after, replied, settle, replied_or_joined, joins, tried}
 use Rattle.ipc_engine.proofs.Buffers.{finish-state, waits-kept}
 use Rattle.ipc_engine.proofs.Doing.{does-as, does-from}
-use Rattle.ipc_engine.proofs.Going.{receives-tried}
+use Rattle.ipc_engine.proofs.Going.{refused-waits, spared-after}
 use Rattle.ipc_engine.proofs.Marks.{done-marks, waits-marks}
 use Rattle.ipc_engine.proofs.Resumes.{ended-of, good-here}
 use Rattle.ipc_engine.proofs.Soundness.{linked}
@@ -43,15 +46,27 @@ finish-requires-clause-good c =
     (subst (λ (o : Option Object). HasEnded s.limits s.state c.args.pid.0 o f) (sym c.touched_by-touched.ensures) (ended
     (goal.at.finish-requires-clause-good c).In-Finishes))
 
-pub finish-requires-clause-receives : goal.finish-requires-clause-receives
-finish-requires-clause-receives c received =
+pub finish-requires-clause-spared : goal.finish-requires-clause-spared
+finish-requires-clause-spared c =
     let s = c.args.state.now in
     let now = c.try_kept.new.state in
     let f = finish_firing now.state c.in-Finishes.answer c.in-Finishes.fired in
-    let wait = receives-tried s.limits s.state c.args.pid.0 c.args.parked.kind f c.requires.sound (sym c.in-Finishes.ensures.finish)
-    (sym c.is_receive-received.ensures ∙ received) in
-    subst (λ (l : Limits). ReceivesWait l now.state) (sym (limits (goal.at.finish-requires-clause-receives c).In-Finishes))
-    (subst (λ (t : State). ReceivesWait s.limits t) (finish-state now.state c.in-Finishes.answer c.in-Finishes.fired) wait)
+    let ends = (goal.at.finish-requires-clause-spared c).In-Finishes in
+    let change : change_of c.args.parked.kind ≡ c.change_of-change.result =
+    ap (λ (r : PlainRequest). change_of r.kind) (sym c.request.ensures) ∙ sym c.change_of-change.ensures in
+    let wait = spared-after s.limits s.state c.args.pid.0 c.args.parked.kind f c.requires.sound c.requires.free (ended ends).good.wait
+    (sym c.in-Finishes.ensures.finish) in
+    subst (λ (l : Limits). SparedWait l now.state c.change_of-change.result) (sym (limits ends))
+    (subst (λ (x : Change). SparedWait s.limits now.state x) change
+    (subst (λ (t : State). SparedWait s.limits t (change_of c.args.parked.kind)) (finish-state now.state c.in-Finishes.answer c.in-Finishes.fired) wait))
+
+pub finish-requires-clause-refused : goal.finish-requires-clause-refused
+finish-requires-clause-refused c bad =
+    let s = c.args.state.now in
+    let now = c.try_kept.new.state in
+    subst (λ (l : Limits). OthersWait l now.state None) (sym (limits (goal.at.finish-requires-clause-refused c).In-Finishes))
+    (refused-waits s.limits s.state now.state c.args.pid.0 c.args.parked.kind c.in-Finishes.answer c.in-Finishes.fired c.requires.sound
+    (sym c.in-Finishes.ensures.finish) bad)
 
 pub finish-requires-clause-places : goal.finish-requires-clause-places
 finish-requires-clause-places c =

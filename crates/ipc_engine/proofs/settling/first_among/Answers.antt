@@ -5,7 +5,7 @@ use Rattle.std.proofs.lemmas.List.Elements.{All-more}
 use Rattle.ipc_state.specs.State.{is_process}
 use Rattle.ipc_state.specs.Touching.{object_of}
 use Rattle.ipc_state.specs.Waiting.{PlainWaiting, IsSoundWaiting}
-use Rattle.sysv_calls.specs.Calls.{is_receive}
+use Rattle.sysv_calls.specs.Concern.{concerns}
 use Rattle.ipc_engine.specs.Settling.{MayBe}
 use Rattle.ipc_engine.specs.Step.{can_resume}
 use Rattle.ipc_engine.proofs.Lists.{found-at, nothing-found}
@@ -26,10 +26,11 @@ can_go-requires-clause-other c =
     subst (λ (w : PlainWaiting). ¬ MayBe c.args.among (object_of s.state w.pid.0 w.on) → can_resume s.limits s.state w ≡ false) (sym c.waiting-item.is)
     (c.requires.rest c.loop-waiting.waiting-index c.waiting-item.result c.loop-waiting-test.true)
 
-pub can_go-requires-clause-receive : goal.can_go-requires-clause-receive
-can_go-requires-clause-receive c after =
-    subst (λ (w : PlainWaiting). is_receive w.call.kind ≡ true → can_resume c.args.state.now.limits c.args.state.now.state w ≡ false) (sym c.waiting-item.is)
-    (c.requires.receives after c.loop-waiting.waiting-index c.waiting-item.result c.loop-waiting-test.true)
+pub can_go-requires-clause-spared : goal.can_go-requires-clause-spared
+can_go-requires-clause-spared c =
+    let s = c.args.state.now in
+    subst (λ (w : PlainWaiting). concerns c.args.change w.call.kind ≡ false → can_resume s.limits s.state w ≡ false) (sym c.waiting-item.is)
+    (c.requires.spared c.loop-waiting.waiting-index c.waiting-item.result c.loop-waiting-test.true)
 
 pub returns-then-can_go : goal.returns-then-can_go
 returns-then-can_go c =

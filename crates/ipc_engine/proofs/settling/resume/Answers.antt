@@ -1,4 +1,5 @@
-use Rattle.std.proofs.Common.{◌≡◌, true, map, sym, ap, subst, ◌∙◌, append-nil, arith}
+use Rattle.std.proofs.Common.{◌≡◌, Some, true, map, sym, ap, subst, ◌∙◌, append-nil, arith}
+use Rattle.std.specs.Prelude.{find}
 use Rattle.ipc_base.specs.declared.identity.Pid.{Pid}
 use Rattle.ipc_state.specs.Finish.{finish_firing}
 use Rattle.ipc_state.specs.Held.{Held}
@@ -6,12 +7,15 @@ use Rattle.ipc_state.specs.Sound.{HasSoundParts}
 use Rattle.ipc_state.specs.State.{is_process}
 use Rattle.ipc_state.specs.Waiting.{PlainWaiting}
 use Rattle.ipc_state.proofs.CallerLemmas.{without_waiting-sound}
+use Rattle.ipc_wire.specs.Request.{PlainRequest}
+use Rattle.sysv_calls.specs.Concern.{change_of}
 use Rattle.ipc_engine.specs.Step.{can_resume}
 use Rattle.ipc_engine.specs.View.{plain_outcome}
 use Rattle.ipc_engine.proofs.Buffers.{finish-state, held-still}
 use Rattle.ipc_engine.proofs.Doing.{does-as}
 use Rattle.ipc_engine.proofs.Lists.{found-all}
 use Rattle.ipc_engine.proofs.Resumes.{left-is, left-some, resumed-finishes, resumed-waits}
+use Rattle.ipc_engine.proofs.settling.resume.Goals.{After-change_of-change}
 use Rattle.ipc_engine.proofs.settling.resume.Goals as goal
 
 pub returns-in_default-clause-does : goal.returns-in_default-clause-does
@@ -19,6 +23,31 @@ returns-in_default-clause-does c w also =
     let s = c.args.state.now in
     absurd (left-some s.limits s.state c.args.pid c.requires.first.0 c.leave_wait.result c.requires.parts c.requires.first.1 c.requires.first.2
     c.leave_wait.ensures.call c.in_default.is)
+
+pub returns-in_default-clause-change : goal.returns-in_default-clause-change
+returns-in_default-clause-change c w also =
+    let s = c.args.state.now in
+    absurd (left-some s.limits s.state c.args.pid c.requires.first.0 c.leave_wait.result c.requires.parts c.requires.first.1 c.requires.first.2
+    c.leave_wait.ensures.call c.in_default.is)
+
+-- what has left the list changes what the call changes that was found
+changes : (c : After-change_of-change) (w : PlainWaiting)
+    → find (can_resume c.args.state.now.limits c.args.state.now.state) c.args.state.now.state.wait ≡ Some w
+    → c.change_of-change.result ≡ change_of w.call.kind
+changes c w also =
+    let s = c.args.state.now in
+    let first = c.requires.first in
+    let its = left-is s.limits s.state c.args.pid first.0 c.in-Some.waiting c.leave_wait.result c.requires.parts first.1 first.2 c.leave_wait.ensures.call
+    c.in-Some.is in
+    let both : Some first.0 ≡ Some w = sym first.1 ∙ also in
+    let one : first.0 ≡ w = cc in
+    c.change_of-change.ensures ∙ ap (λ (r : PlainRequest). change_of r.kind) c.request.ensures ∙ ap (λ (u : PlainWaiting). change_of u.call.kind) (its ∙ one)
+
+pub returns-in-Finishes-clause-change : goal.returns-in-Finishes-clause-change
+returns-in-Finishes-clause-change c w also = changes (goal.at.returns-in-Finishes-clause-change c).After-change_of-change w also
+
+pub returns-in-Waits-clause-change : goal.returns-in-Waits-clause-change
+returns-in-Waits-clause-change c w also = changes (goal.at.returns-in-Waits-clause-change c).After-change_of-change w also
 
 pub try_kept-requires-clause-sound : goal.try_kept-requires-clause-sound
 try_kept-requires-clause-sound c =

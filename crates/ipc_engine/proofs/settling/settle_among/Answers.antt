@@ -4,11 +4,14 @@ use Rattle.ipc_base.specs.declared.limits.Limits.{Limits}
 use Rattle.ipc_wait.proofs.CallerLemmas.{found-in}
 use Rattle.ipc_state.specs.Held.{Held}
 use Rattle.ipc_state.specs.Sound.{HasSoundParts}
-use Rattle.ipc_engine.specs.Settling.{RestWaits}
+use Rattle.ipc_state.specs.State.{State}
+use Rattle.sysv_calls.specs.Concern.{change_of, joined}
+use Rattle.sysv_calls.specs.declared.concern.Change.{Change}
+use Rattle.ipc_engine.specs.Settling.{RestWaits, SparedWait}
 use Rattle.ipc_engine.specs.Step.{can_resume, silent, settle, settle_within}
 use Rattle.ipc_engine.specs.View.{plain_outcome}
 use Rattle.ipc_engine.proofs.Doing.{does-as, does-nothing, does-then}
-use Rattle.ipc_engine.proofs.Going.{goes-on, within-none, within-some, within-all, within-nothing}
+use Rattle.ipc_engine.proofs.Going.{goes-on, spared-resumed, within-none, within-some, within-all, within-nothing}
 use Rattle.ipc_engine.proofs.settling.settle_among.Goals as goal
 
 pub loop-gone-init : goal.loop-gone-init
@@ -20,7 +23,7 @@ loop-gone-init c =
       parts = c.requires.parts;
       linked = c.requires.linked;
       rest = c.requires.rest;
-      receives = c.requires.receives;
+      spared = c.requires.spared;
       room = c.requires.room;
       buffer = omega arith;
       does = λ new last. does-as all;
@@ -51,12 +54,18 @@ loop-gone-preserved c =
     (map plain_outcome c.resume.new.outcomes.items) first.0 l.invariant.parts l.invariant.linked l.invariant.rest first.1
     (ap (λ (h : Held). h.state) went.state) went.outcomes in
     let same = ap (λ (h : Held). h.limits) went.state in
+    let goes = spared-resumed l.state.limits l.state.state l.change first.0 l.invariant.parts l.invariant.spared first.1 in
+    let change : joined l.change (change_of first.0.call.kind) ≡ c.and-change.result =
+    ap (joined l.change) (sym (c.resume.ensures.change first.0 first.1)) ∙ sym c.and-change.ensures in
+    let spared : SparedWait l.state.limits c.resume.new.state.state c.and-change.result =
+    subst (λ (x : Change). SparedWait l.state.limits c.resume.new.state.state x) change
+    (subst (λ (t : State). SparedWait l.state.limits t (joined l.change (change_of first.0.call.kind))) (sym (ap (λ (h : Held). h.state) went.state)) goes) in
     let all = ap (λ (m : ℕ). settle_within l.state.limits m l.state.state) count ∙ within-some l.state.limits left l.state.state first.0 first.1 in
     record {
       parts = subst (λ (x : Limits). HasSoundParts x c.resume.new.state.state) (sym same) on.parts;
       linked = on.linked;
       rest = subst (λ (x : Limits). RestWaits x c.resume.new.state.state c.args.among) (sym same) on.rest;
-      receives = λ again. cc;
+      spared = subst (λ (x : Limits). SparedWait x c.resume.new.state.state c.and-change.result) (sym same) spared;
       room = omega (
         arith,
         on.room,
