@@ -141,8 +141,9 @@ def waits_if_nothing_is_left(them: list[Call]) -> None:
 
 
 def waits() -> None:
-    """While a client has more there is none: after requests of 82 kB, of which a turn takes 16 times 4096 bytes, and
-    after 100 connections, of which it takes 64. There is one while a client has sent and does not read."""
+    """While a client has more there is none: after requests of 82 kB, of which a turn takes what fits into a batch,
+    three in 7 reads of 4096 bytes, and after 100 connections, of which it takes 64. There is one while a client has
+    sent and does not read."""
     printed("format", "device")
     with watched(most=0), serving() as server, process() as client:
         queue = client.msgget(1, IPC_CREAT | 0o600)
@@ -172,7 +173,7 @@ def waits() -> None:
     them = calls()
     waits_if_nothing_is_left(them)
     reads = [sum(call.name == "recv" and call.result == 4096 for call in turn) for turn in turns_of(them)]
-    check(max(reads) == 16, f"the most reads in a turn are {max(reads)}")
+    check(max(reads) == 7, f"the most reads in a turn are {max(reads)}")
     accepts = [sum(call.name == "accept4" and call.result >= 0 for call in turn) for turn in turns_of(them)]
     check(max(accepts) == 64, f"the most connections in a turn are {max(accepts)}")
 

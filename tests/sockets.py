@@ -184,6 +184,61 @@ def a_hundred_requests_are_answered_in_one_turn() -> None:
     check(data.startswith(wanted), "the batch is another one")
 
 
+# Requests whose records fill a batch so far that a feed may just begin; a call that has to wait, and the next one. The
+# texts are too long, but these are events like others. With the first of them a failure may begin.
+FILLING = [
+    frame(number, msgsnd_request(1, 5, text.ljust(size)))
+    for number, text, size in ((2, b"fault", 8023), (3, b"", 8024), (4, b"", 8024))
+]
+WAITS, AFTER = frame(3, msgrcv_request(1, 64, 0)), frame(4, msgrcv_request(1, 64, 0))
+
+
+def a_feed_releases_if_the_batch_is_full() -> None:
+    """After a call that has to wait the batch has no room for a record of the greatest length, and the connection has
+    no frame. So all that waits is committed, and the rest of the piece is taken. What came before is one commit, and
+    what comes after it another."""
+    with fresh() as server, process() as first, process() as second:
+        fill(server, first, second)
+        first.is_answered(b"".join(reply(number, errno.EINVAL) for number in (2, 3, 4)))
+        second.is_answered(reply(4, errno.EALREADY))
+        turn = turn_of(WAITS + AFTER)
+    follows("E<+BSHS<BSHS>+", turn)
+    full, rest = [call.data for call in turn if call.name == "pwrite" and call.sector >= BODY]
+    moment = int.from_bytes(full[9:17], "big")
+    ends = list(itertools.accumulate(len(one) for one in FILLING))
+    pieces = [tick(moment)]
+    for begin in range(0, ends[-1], 4096):
+        whole = (one for one, end in zip(FILLING, ends) if begin < end <= begin + 4096)
+        pieces += [tick(moment), *(request(moment, 1, one[4:]) for one in whole)]
+    last = request(moment, 2, WAITS[4:])
+    wanted = batch(*pieces, tick(moment), last)
+    check(full.startswith(wanted), "the first batch is another one")
+    room = 32768 - len(wanted)
+    check(room < 8465 <= room + len(last), f"the first batch has room for {room} bytes more")
+    check(rest.startswith(batch(request(moment, 2, AFTER[4:]))), "the second batch is another one")
+
+
+def a_release_within_a_feed_that_fails() -> None:
+    """The first write of the same commit is refused. Each connection has an EIO frame as its last."""
+    with failing(f"pwrite 1 {errno.EIO}") as server:
+        first, second, other = process(), process(), Client()
+        fill(server, first, second)
+        for one in (first, second, other):
+            one.is_answered(FAILED)
+            one.is_ended()
+    turn = "E" + order(calls()).rpartition("E")[2]
+    check(turn.partition("x")[0] == "E<<<<<<<<", f"the turn is {turn}")
+
+
+def fill(server: Server, first: Client, second: Client) -> None:
+    """In one turn the batch is filled by the first client, and the second has a call that waits and one more."""
+    second.send_bytes(GET)
+    second.is_answered(GOT)
+    with server.stopped():
+        first.send_bytes(b"".join(FILLING))
+        second.send_bytes(WAITS + AFTER)
+
+
 # ---- clients that come and go
 
 
@@ -327,8 +382,8 @@ def long_sends(count: int, text: bytes = b"x") -> list[bytes]:
 
 
 def a_release_within_a_turn_that_fails() -> None:
-    """A client has sent more than one batch can hold. The commit that makes room is refused while the client is read,
-    and it is the last that is read."""
+    """A client has sent more than one batch can hold. The commit that makes room for the next client is refused while
+    that one is read, and it is the last that is read."""
     with failing(f"pwrite 1 {errno.EIO}") as server:
         client, others = process(), [process(), Client()]
         with server.stopped():
@@ -496,46 +551,72 @@ def a_client_that_reads_nothing_is_not_read() -> None:
 
 
 def what_is_left_after_16_reads_waits() -> None:
-    """16 reads of 4096 bytes are HELLO, seven of the longest requests and a piece of the eighth. The next turn waits
-    for nothing, and takes the other 10549 bytes. No batch has more than 32768 bytes, and together they have each
-    event."""
+    """16 reads of 1000 bytes are HELLO, one of the longest requests and a piece of the second. The next turn waits for
+    nothing, and takes the other 9373 bytes."""
+    asked = [HELLO, *long_sends(3)]
+    answers = [welcome(1), *(reply(number, errno.EINVAL) for number in range(1, 4))]
+    with fresh(recv=(1, *(16 * [1000]), ALL)) as server:
+        turns, file = turns_on(server, asked, answers, 3)
+    reads = [results("recv", file, turn) for turn in turns]
+    check(reads == [16 * [1000], [4096, 4096, 1181, BLOCKS], []], f"the reads of the turns are {reads}")
+    sent = [sent_to(file, turn) for turn in turns]
+    check(sent == [b"".join(answers[:2]), b"".join(answers[2:]), b""], "a turn sends other replies")
+    check([turn[0].size for turn in turns[1:]] == [0, LONGEST], "the waits are others")
+    for turn in turns:
+        follows(TURN, turn)
+
+
+def a_turn_takes_of_a_client_what_fits_into_a_batch() -> None:
+    """Of nine of the longest requests three are read with HELLO and a piece of the fourth, and a record of the greatest
+    length has no room any more. So the rest of the piece is fed in the next turn, which waits for nothing. Each turn
+    makes one commit, of at most 32768 bytes."""
     asked = [HELLO, *long_sends(9)]
     answers = [welcome(1), *(reply(number, errno.EINVAL) for number in range(1, 10))]
     with fresh() as server:
-        with server.stopped():
-            client = Client()
-            client.send_bytes(b"".join(asked))
-        client.is_answered(b"".join(answers))
-        until(lambda: len(turns_from(1)) > 3, "the server makes no turns")
-        file = descriptor(1, calls())
-        turns = turns_from(1)[:3]
+        turns, file = turns_on(server, asked, answers, 4)
     reads = [results("recv", file, turn) for turn in turns]
-    check(reads == [16 * [4096], [4096, 4096, 2357, BLOCKS], []], f"the reads of the turns are {reads}")
+    check(reads == [7 * [4096], 6 * [4096], [*(5 * [4096]), 2357, BLOCKS], []], f"the reads of the turns are {reads}")
     sent = [sent_to(file, turn) for turn in turns]
-    check(sent == [b"".join(answers[:8]), b"".join(answers[8:]), b""], "a turn sends other replies")
-    check([turn[0].size for turn in turns[1:]] == [0, LONGEST], "the waits are others")
-    batches = [call.data for call in turns[0] if call.name == "pwrite" and call.sector >= BODY]
-    check(len(batches) > 1 and max(map(len, batches)) <= 32768, f"the batches have {list(map(len, batches))} bytes")
-    found = [number for data in batches for number in range(1, 10) if asked[number][4:] in data]
-    check(found == list(range(1, 8)), f"the batches of the first turn have the requests {found}")
-    for turn in turns:
+    wanted = [b"".join(them) for them in (answers[:4], answers[4:7], answers[7:], [])]
+    check(sent == wanted, "a turn sends other replies")
+    check([turn[0].size for turn in turns[1:]] == [0, 0, LONGEST], "the waits are others")
+    for turn, numbers in zip(turns, (range(1, 4), range(4, 7), range(7, 10))):
         follows(TURN, turn)
+        (data,) = [call.data for call in turn if call.name == "pwrite" and call.sector >= BODY]
+        check(len(data) <= 32768, f"a batch has {len(data)} bytes")
+        found = [number for number in range(1, 10) if asked[number][4:] in data]
+        check(found == list(numbers), f"a batch has the requests {found}")
+
+
+def turns_on(
+    server: Server, asked: list[bytes], answers: list[bytes], count: int
+) -> tuple[list[list[Call]], int]:
+    """So many turns from that on which takes a client who has sent all this, and the client's descriptor."""
+    with server.stopped():
+        client = Client()
+        client.send_bytes(b"".join(asked))
+    client.is_answered(b"".join(answers))
+    until(lambda: len(turns_from(1)) > count, "the server makes no turns")
+    return turns_from(1)[:count], descriptor(1, calls())
 
 
 TESTS = [
     each_request_is_answered_in_its_turn,
     all_requests_are_answered_in_one_turn,
     a_hundred_requests_are_answered_in_one_turn,
+    a_feed_releases_if_the_batch_is_full,
     a_client_that_closes_makes_room,
     more_connections_wait_for_the_next_turn,
     all_clients_of_a_turn_share_a_batch,
     a_disk_that_fails_ends_all,
     what_was_released_before_a_failure_stays,
     a_release_within_a_turn_that_fails,
+    a_release_within_a_feed_that_fails,
     sockets_that_answer_by_a_script,
     a_client_is_read_once_it_is_woken,
     a_client_that_reads_nothing_is_not_read,
     what_is_left_after_16_reads_waits,
+    a_turn_takes_of_a_client_what_fits_into_a_batch,
 ]
 
 

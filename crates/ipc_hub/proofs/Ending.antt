@@ -1,5 +1,5 @@
 -- The server ends a connection: what it is then, step by step over its rows, and what is the definitions' end of it.
-use Rattle.std.proofs.Common.{◌≡◌, ◌≤◌, ℕ, true, false, [], ◌++◌, Option, Some, None, refl, sym, ◌∙◌, subst, append-nil, arith}
+use Rattle.std.proofs.Common.{◌≡◌, ◌≤◌, ◌<◌, ℕ, true, false, [], ◌++◌, Option, Some, None, refl, sym, ◌∙◌, subst, append-nil, arith}
 use Rattle.std.proofs.Common.{ap, ◌⊎◌, inl, inr, rules}
 use Rattle.std.specs.Prelude.{length, nat_eq, IfSome}
 use Rattle.ipc_base.specs.Table.{value_at, with_value, keys_of}
@@ -7,12 +7,13 @@ use Rattle.ipc_base.specs.declared.errno.Errno.TheVariants.{EPROTO}
 use Rattle.ipc_base.specs.declared.limits.Limits.{Limits}
 use Rattle.ipc_base.proofs.CallerLemmas.{paired-at, paired-none, paired-with, each-at, at-with}
 use Rattle.ipc_wire.proofs.CallerLemmas.{first_short, length-reply_bytes}
+use Rattle.ipc_state.specs.State.{State}
 use Rattle.ipc_engine.specs.Engine.{Machine}
 use Rattle.ipc_engine.specs.View.{reply_of}
 use Rattle.ipc_hub.specs.Hub.{Endpoint, Hub, accepted, client_at, with_client, refusal, leave, break_off}
 use Rattle.ipc_hub.specs.Clients.{Client, Clients}
 use Rattle.ipc_hub.specs.View.{ConnectionView, HubView, HasNoFrame}
-use Rattle.ipc_hub.specs.Relations.Delivery.{pushed, closed, last_frame, owed_to, view_endpoint}
+use Rattle.ipc_hub.specs.Relations.Delivery.{pushed, closed, last_frame, owed_to, unanswered_of, view_endpoint}
 use Rattle.ipc_hub.specs.Relations.Invariant.{IsSoundIn, HubInvariant, Continues, IsNobodys, LeavesOthers}
 use Rattle.ipc_hub.specs.Relations.Matches.{ClientMatches, HubMatches}
 use Rattle.ipc_hub.specs.Relations.Requests.{Left, exit_of}
@@ -31,6 +32,11 @@ leave-adds kind limits h (Some pid) moment = refl
 pub exit-few : (p : Option ℕ) (moment : ℕ) → length (exit_of p moment) ≤ 1
 exit-few None moment = omega arith
 exit-few (Some pid) moment = omega arith
+
+-- and there is, if a call of it waits
+pub exit-some : (s : State) (p : Option ℕ) (moment : ℕ) → 0 < unanswered_of s p → 0 < length (exit_of p moment)
+exit-some s None moment waits = absurd (omega (arith, waits))
+exit-some s (Some pid) moment waits = omega arith
 
 -- a hub of which the process of a connection has left
 left-becomes : (old new : HubView) (p : Option ℕ) (moment : ℕ) → Left old new p moment → Becomes old new (leave view_endpoint old.limits (hub_of old) p moment)

@@ -1,9 +1,9 @@
 -- One theorem for whatever a hub keeps of its connections: a relation of endpoints that is kept by what is done to one of
 -- them is kept by every event, request and piece of bytes.
-use Rattle.std.proofs.Common.{◌≡◌, ℕ, ◌≤◌, Bool, arith, true, false, ◌&&◌, List, [], ◌∷◌, ◌++◌}
+use Rattle.std.proofs.Common.{◌≡◌, ◌⊎◌, ℕ, ◌≤◌, ◌<◌, Bool, arith, true, false, ◌&&◌, List, [], ◌∷◌, ◌++◌}
 use Rattle.std.proofs.Common.{length, drop, Option, Some, None, refl, sym, ap, subst, ◌∙◌, inl, inr}
 use Rattle.std.specs.Prelude.{nat_eq, if◌then◌else◌, All}
-use Rattle.std.proofs.lemmas.Bool.{eqb-true}
+use Rattle.std.proofs.lemmas.Bool.{and_parts, eqb-true}
 use Rattle.std.proofs.lemmas.List.{length-append}
 use Rattle.std.proofs.lemmas.List.Elements.{All-head, All-tail}
 use Rattle.ipc_base.specs.declared.errno.Errno.{Errno}
@@ -43,6 +43,11 @@ last-of P (p ∷ q ∷ os) o all last = last-of P (q ∷ os) o (All-tail P p (q 
 pub heard-none : {E : Type 0} (kind : Endpoint E) (mark : ℕ) (os : List PlainOutcome) (c : E) → kind.process c ≡ None → heard kind mark os c ≡ c
 heard-none kind mark [] c none = refl
 heard-none kind mark (o ∷ os) c none = let same : delivered kind mark o c ≡ c = rw none refl in ap (heard kind mark os) same ∙ heard-none kind mark os c none
+
+-- After these events a refusal may follow: others have come since, or memory was refused, or the endpoint has no process.
+pub record MayRefuse {E : Type 0} (kind : Endpoint E) (h : Hub E) (c : E) (refused : Bool) (es : List PlainEvent) : Type 0 where
+  pub known : accepted h ≤ length es
+  pub cause : (accepted h < length es) ⊎ ((refused ≡ true) ⊎ (kind.process c ≡ None))
 
 -- what bytes of a connection come to, by what stands at the front of them then
 abbrev pub comes_of : {E : Type 0} (kind : Endpoint E) (limits : Limits) (h : Hub E) (conn moment : ℕ) (c : E) (next : List ℕ) → PlainFrame → Bool → Hub E
@@ -152,16 +157,18 @@ module _ {E F : Type 0} (one : Endpoint E) (two : Endpoint F) (S : List PlainEve
       left-later h None moment c d s = s
       left-later h (Some pid) moment c d s = k.later h.events (Exit pid moment) c d s
 
-      left-more : (h : Hub F) (p : Option ℕ) (moment : ℕ) → accepted h ≤ accepted (leave two limits h p moment)
-      left-more h None moment = omega arith
-      left-more h (Some pid) moment = omega (arith, length-append h.events (Exit pid moment ∷ []))
+      left-more : (h : Hub F) (d : F) (refused : Bool) (p : Option ℕ) (moment : ℕ) → two.process d ≡ p
+          → MayRefuse two h d refused (leave two limits h p moment).events
+      left-more h d refused None moment is = record { known = omega arith; cause = inr (inr is) }
+      left-more h d refused (Some pid) moment is =
+          let more = length-append h.events (Exit pid moment ∷ []) in record { known = omega (arith, more); cause = inl (omega (arith, more)) }
 
       -- ---- requests
 
       -- two related endpoints that go on, of hubs in which each event would pass, and refusals from now on
-      module _ (conn moment : ℕ) {g : Hub E} {h : Hub F} (c : E) (d : F) (live : two.ended d ≡ false) (all : (e : PlainEvent) → Passes g h e)
-          (refusals : (es : List PlainEvent) → accepted h ≤ length es → (serial : ℕ) (error : Errno) → IsRefusal error → CanPush es (refusal serial error))
-          (r : Related Q g h) (s : S h.events c d) where
+      module _ (conn moment : ℕ) {g : Hub E} {h : Hub F} (c : E) (d : F) (live : two.ended d ≡ false) (all : (e : PlainEvent) → Passes g h e) (refused : Bool)
+          (refusals : (es : List PlainEvent) → MayRefuse two h d refused es → (serial : ℕ) (error : Errno) → IsRefusal error
+          → CanPush es (refusal serial error)) (r : Related Q g h) (s : S h.events c d) where
         break-kept : (serial : ℕ) → Related Q (break_off one limits g conn c serial moment) (break_off two limits h conn d serial moment)
         break-kept serial =
             let over : S h.events (one.over c) (two.over d) = k.ends h.events c d s in
@@ -169,11 +176,13 @@ module _ {E F : Type 0} (one : Endpoint E) (two : Endpoint F) (S : List PlainEve
             let p : Option ℕ = two.process d in
             let gone : Hub F = with_client h conn (two.over d) in
             let h' : Hub F = leave two limits gone p moment in
+            let m = left-more gone d refused p moment refl in
+            let may : MayRefuse two h d refused h'.events = record { known = m.known; cause = m.cause } in
             let last : Option ℕ → E = λ q. one.push (one.over c) (accepted (g' q)) (refusal serial EPROTO) in
             subst (λ (q : Option ℕ). Related Q (with_client (g' q) conn (last q)) (break_off two limits h conn d serial moment))
             (sym (k.process h.events c d s)) (put-kept conn (last p) (two.push (two.over d) (accepted h') (refusal serial EPROTO))
             (leave-kept p moment all (put-kept conn (one.over c) (two.over d) r over))
-            (refusals h'.events (left-more gone p moment) serial EPROTO (inr (inl refl)) (accepted (g' p)) (one.over c) (two.over d) (inr refl)
+            (refusals h'.events may serial EPROTO (inr (inl refl)) (accepted (g' p)) (one.over c) (two.over d) (inr refl)
             (left-later gone p moment (one.over c) (two.over d) over)))
 
         serve-kept : (e : PlainEvent) → Related Q (serve one limits g conn c e) (serve two limits h conn d e)
@@ -189,31 +198,33 @@ module _ {E F : Type 0} (one : Endpoint E) (two : Endpoint F) (S : List PlainEve
             (paired-with (S es) g.clients h.clients conn c' d' (later-kept e r)
             (welcomed-kept es mark (last_reply os) c d live (λ o is. last-of (CanPush es) os o (all e).1 is) (k.later h.events e c d s))))
 
-        event-kept : (serial : ℕ) (refused : Bool) (made : Option PlainEvent)
+        event-kept : (serial : ℕ) (made : Option PlainEvent)
             → Related Q (on_event one limits g conn c serial moment refused made) (on_event two limits h conn d serial moment refused made)
-        event-kept serial refused None = break-kept serial
-        event-kept serial refused (Some e) =
+        event-kept serial None = break-kept serial
+        event-kept serial (Some e) =
             both_choose (Related Q) (refused && event_takes_memory limits g.state e) (refused && event_takes_memory limits h.state e)
             (refuse one g conn c serial) (serve one limits g conn c e) (refuse two h conn d serial) (serve two limits h conn d e)
             (ap (λ (t : State). refused && event_takes_memory limits t e) r.state)
-            (λ _. put-kept conn (one.push c (accepted g) (refusal serial ENOMEM)) (two.push d (accepted h) (refusal serial ENOMEM)) r
-            (refusals h.events (omega arith) serial ENOMEM (inl refl) (accepted g) c d (inr refl) s))
+            (λ takes. put-kept conn (one.push c (accepted g) (refusal serial ENOMEM)) (two.push d (accepted h) (refusal serial ENOMEM)) r
+            (refusals h.events (record { known = omega arith; cause = inr (inl (and_parts refused (event_takes_memory limits h.state e) takes).0) })
+            serial ENOMEM (inl refl) (accepted g) c d (inr refl) s))
             (λ _. serve-kept e)
 
-        request-kept : (request : PlainRequest) (refused : Bool)
+        request-kept : (request : PlainRequest)
             → Related Q (on_request one limits g conn c moment request refused) (on_request two limits h conn d moment request refused)
-        request-kept request refused =
+        request-kept request =
             subst (λ (p : Option ℕ). Related Q (on_event one limits g conn c request.serial moment refused (event_of p request moment))
             (on_request two limits h conn d moment request refused)) (sym (k.process h.events c d s))
-            (event-kept request.serial refused (event_of (two.process d) request moment))
+            (event-kept request.serial (event_of (two.process d) request moment))
 
       -- what stands at the front of bytes
       pub frame-kept : (conn moment : ℕ) {g : Hub E} {h : Hub F} (c : E) (d : F) (next : List ℕ) → two.ended d ≡ false
-          → ((e : PlainEvent) → Passes g h e)
-          → ((es : List PlainEvent) → accepted h ≤ length es → (serial : ℕ) (error : Errno) → IsRefusal error → CanPush es (refusal serial error))
-          → Related Q g h → S h.events c d → (f : PlainFrame) (refused : Bool)
+          → ((e : PlainEvent) → Passes g h e) → (refused : Bool)
+          → ((es : List PlainEvent) → MayRefuse two h (two.keeping d []) refused es → (serial : ℕ) (error : Errno) → IsRefusal error
+          → CanPush es (refusal serial error))
+          → Related Q g h → S h.events c d → (f : PlainFrame)
           → Related Q (comes_of one limits g conn moment c next f refused) (comes_of two limits h conn moment d next f refused)
-      frame-kept conn moment {g} {h} c d next live all refusals r s f refused = by_frame f
+      frame-kept conn moment {g} {h} c d next live all refused refusals r s f = by_frame f
         where
           goes : two.ended (two.keeping d []) ≡ false
           goes = k.goes_on d [] ∙ live
@@ -224,13 +235,17 @@ module _ {E F : Type 0} (one : Endpoint E) (two : Endpoint F) (S : List PlainEve
           emptied : Related Q (with_client g conn (one.keeping c [])) (with_client h conn (two.keeping d []))
           emptied = put-kept conn (one.keeping c []) (two.keeping d []) r bare
 
+          mine : (es : List PlainEvent) → MayRefuse two (with_client h conn (two.keeping d [])) (two.keeping d []) refused es → (serial : ℕ) (error : Errno)
+              → IsRefusal error → CanPush es (refusal serial error)
+          mine es may = refusals es (record { known = may.known; cause = may.cause })
+
           by_frame : (f : PlainFrame) → Related Q (comes_of one limits g conn moment c next f refused) (comes_of two limits h conn moment d next f refused)
           by_frame More =
               subst (λ (i : List ℕ). Related Q (with_client g conn (one.keeping c (i ++ next))) (comes_of two limits h conn moment d next More refused))
               (sym (k.input h.events c d s))
               (put-kept conn (one.keeping c (two.input d ++ next)) (two.keeping d (two.input d ++ next)) r (k.keeps h.events c d (two.input d ++ next) s))
-          by_frame (Fault serial) = break-kept conn moment (one.keeping c []) (two.keeping d []) goes all refusals emptied bare serial
-          by_frame (Whole used request) = request-kept conn moment (one.keeping c []) (two.keeping d []) goes all refusals emptied bare request refused
+          by_frame (Fault serial) = break-kept conn moment (one.keeping c []) (two.keeping d []) goes all refused mine emptied bare serial
+          by_frame (Whole used request) = request-kept conn moment (one.keeping c []) (two.keeping d []) goes all refused mine emptied bare request
 
       -- ---- bytes
 
@@ -266,7 +281,7 @@ module _ {E F : Type 0} (one : Endpoint E) (two : Endpoint F) (S : List PlainEve
               let act : E → Hub E = λ c. on_request one limits g conn c moment q (first_of refused) in
               let does : F → Hub F = λ d. on_request two limits h conn d moment q (first_of refused) in
               requests-kept (unless_ended one g conn act) (unless_ended two h conn does) qs (drop 1 refused)
-              (unless-kept g h act does r (λ c d live s. request-kept conn moment c d live (passes r) (λ es more. a.refusals es) r s q (first_of refused)))
+              (unless-kept g h act does r (λ c d live s. request-kept conn moment c d live (passes r) (first_of refused) (λ es may. a.refusals es) r s q))
 
           ending-kept : (g : Hub E) (h : Hub F) (ending : Ending) → Related Q g h
               → Related Q (on_ending one limits g conn moment ending) (on_ending two limits h conn moment ending)
@@ -275,7 +290,7 @@ module _ {E F : Type 0} (one : Endpoint E) (two : Endpoint F) (S : List PlainEve
               (λ c d live s. put-kept conn (one.keeping c bytes) (two.keeping d bytes) r (k.keeps h.events c d bytes s))
           ending-kept g h (Broken serial) r =
               unless-kept g h (λ c. break_off one limits g conn c serial moment) (λ d. break_off two limits h conn d serial moment) r
-              (λ c d live s. break-kept conn moment c d live (passes r) (λ es more. a.refusals es) r s serial)
+              (λ c d live s. break-kept conn moment c d live (passes r) false (λ es may. a.refusals es) r s serial)
 
           pub taken-kept : (g : Hub E) (h : Hub F) (bytes : List ℕ) (refused : List Bool) → Related Q g h
               → Related Q (take_in one limits g conn bytes moment refused) (take_in two limits h conn bytes moment refused)

@@ -7,7 +7,8 @@ pub mod Ending
 pub mod Requests
 pub mod Answering
 pub mod Pieces
-pub mod Framed
+pub mod Feeding
+mod Framed
 pub mod Unmarked
 pub mod Taking
 pub mod Receiving

@@ -1,7 +1,8 @@
 -- What an event comes to for the processes: what each is sent, and owed then. What the machine does on a request of a
 -- connection: no process asks by it but that of the connection, or a new one, and none leaves.
 use Rattle.std.proofs.Common.{◌≡◌, ◌≢◌, ℕ, ◌+◌, ◌<◌, ◌≤◌, Bool, true, false, List, [], ◌∷◌, ◌++◌, length, Option, Some, None, refl, sym, ap, ◌∙◌, subst, arith}
-use Rattle.std.specs.Prelude.{nat_eq, if◌then◌else◌}
+use Rattle.std.specs.Prelude.{nat_eq, if◌then◌else◌, ◌&&◌, not}
+use Rattle.std.proofs.Math.Bool.{and-false}
 use Rattle.std.proofs.lemmas.Bool.Decides.{nat_tests}
 use Rattle.ipc_base.specs.Limits.{ArePassed, longest_reply}
 use Rattle.ipc_base.specs.declared.identity.Cred.{Cred}
@@ -13,14 +14,16 @@ use Rattle.ipc_wire.specs.Request.{PlainRequest, PlainKind, Hello, Interrupt as 
 use Rattle.ipc_wire.proofs.CallerLemmas.{length-reply_bytes}
 use Rattle.ipc_state.specs.Sound.{FitsBody}
 use Rattle.ipc_engine.specs.Sound.{IsSound}
-use Rattle.ipc_state.specs.State.{State, is_process}
+use Rattle.ipc_state.specs.State.{State, is_process, is_waiting}
 use Rattle.ipc_engine.specs.Bytes.{IsGreeted, asks, bytes_to, owed}
-use Rattle.ipc_engine.specs.Event.{PlainEvent, PlainOutcome, Connect, Call, Interrupt}
-use Rattle.ipc_engine.specs.Step.{step}
+use Rattle.ipc_engine.specs.Engine.{event_takes_memory}
+use Rattle.ipc_engine.specs.Event.{PlainEvent, PlainOutcome, Connect, Call, Interrupt, Tick, moment_of}
+use Rattle.ipc_engine.specs.Reserved.{takes_memory}
+use Rattle.ipc_engine.specs.Step.{Step, due, silent, step}
 use Rattle.ipc_engine.specs.View.{reply_of}
 use Rattle.ipc_engine.proofs.CallerLemmas.{step-fits, step-owes, hello-greets, connect-stays, call-stays, interrupt-stays}
 use Rattle.ipc_hub.specs.Hub.{event_of, last_reply}
-use Rattle.ipc_hub.specs.Relations.Delivery.{IsShort}
+use Rattle.ipc_hub.specs.Relations.Delivery.{unanswered_of, IsShort}
 use Rattle.ipc_hub.proofs.Kept.{last-of}
 
 -- ---- replies
@@ -104,27 +107,51 @@ process-asks limits s q e asks-it stay =
       stay = stay;
     }
 
+-- what holds of the event of each HELLO, INTERRUPT and call, holds of the event that a request makes
+module _ (P : Option ℕ → PlainEvent → Type 0) (moment : ℕ) (hello : (cred : Cred) (serial : ℕ) → P None (Connect cred serial moment))
+    (interrupt : (q serial : ℕ) → P (Some q) (Interrupt q serial moment)) (call : (q : ℕ) (request : PlainRequest) → P (Some q) (Call q request moment)) where
+  pub of-made : (process : Option ℕ) (request : PlainRequest) (e : PlainEvent) → event_of process request moment ≡ Some e → P process e
+  of-made process request e made = by_case process request.kind made
+    where
+      one : (a : PlainEvent) (p : Option ℕ) → P p a → Some a ≡ Some e → P p e
+      one a p it is = let same : a ≡ e = cc in subst (P p) same it
+
+      by_case : (p : Option ℕ) (kind : PlainKind) → event_of p (record request { kind = kind }) moment ≡ Some e → P p e
+      by_case None (Hello cred) is = one (Connect cred request.serial moment) None (hello cred request.serial) is
+      by_case None Interrupts is = cc
+      by_case None (Sysv call') is = cc
+      by_case None (Posix call') is = cc
+      by_case (Some q) (Hello cred) is = cc
+      by_case (Some q) Interrupts is = one (Interrupt q request.serial moment) (Some q) (interrupt q request.serial) is
+      by_case (Some q) (Sysv c) is = let r = record request { kind = Sysv c } in one (Call q r moment) (Some q) (call q r) is
+      by_case (Some q) (Posix c) is = let r = record request { kind = Posix c } in one (Call q r moment) (Some q) (call q r) is
+
 -- whatever event a request makes
 pub request-asks : (limits : Limits) (s : State) (process : Option ℕ) (request : PlainRequest) (moment : ℕ) (e : PlainEvent)
     → IsSound limits s → event_of process request moment ≡ Some e → Asks limits s process e
-request-asks limits s process request moment e sound made = by_case process request.kind made
+request-asks limits s process request moment e sound made =
+    of-made (Asks limits s) moment (λ cred serial. hello-asks limits s cred serial moment sound)
+    (λ q serial. process-asks limits s q (Interrupt q serial moment) (λ _. refl) (λ pid. interrupt-stays limits s q serial moment pid))
+    (λ q called. process-asks limits s q (Call q called moment) (λ _. refl) (λ pid. call-stays limits s q called moment pid)) process request e made
+
+-- it is of the moment at which the request came
+pub made-at : (process : Option ℕ) (request : PlainRequest) (moment : ℕ) (e : PlainEvent) → event_of process request moment ≡ Some e → moment_of e ≡ moment
+made-at process request moment e made =
+    of-made (λ p a. moment_of a ≡ moment) moment (λ cred serial. refl) (λ q serial. refl) (λ q called. refl) process request e made
+
+-- if a call of the process waits, at a moment that has been, the event needs no memory
+pub waits-served : (limits : Limits) (s : State) (process : Option ℕ) (request : PlainRequest) (moment : ℕ) (e : PlainEvent)
+    → step limits s (Tick moment) ≡ silent s → 0 < unanswered_of s process → event_of process request moment ≡ Some e → event_takes_memory limits s e ≡ false
+waits-served limits s process request moment e late some made =
+    of-made (λ p a. 0 < unanswered_of s p → event_takes_memory limits s a ≡ false) moment (λ cred serial none. absurd (omega (arith, none)))
+    (λ q serial _. refl) (λ q called waits. by_call q called (is_waiting s q) refl waits) process request e made some
   where
-    one : (a : PlainEvent) (p : Option ℕ) → Asks limits s p a → Some a ≡ Some e → Asks limits s p e
-    one a p it is = let same : a ≡ e = cc in subst (Asks limits s p) same it
+    on : (due moment s).state ≡ s
+    on = ap (λ (t : Step). t.state) late
 
-    by_call : (q : ℕ) (called : PlainRequest) → Some (Call q called moment) ≡ Some e → Asks limits s (Some q) e
-    by_call q called is =
-        let e' : PlainEvent = Call q called moment in
-        one e' (Some q) (process-asks limits s q e' (λ _. refl) (λ pid. call-stays limits s q called moment pid)) is
-
-    by_case : (p : Option ℕ) (kind : PlainKind) → event_of p (record request { kind = kind }) moment ≡ Some e → Asks limits s p e
-    by_case None (Hello cred) is = one (Connect cred request.serial moment) None (hello-asks limits s cred request.serial moment sound) is
-    by_case None Interrupts is = cc
-    by_case None (Sysv call) is = cc
-    by_case None (Posix call) is = cc
-    by_case (Some q) (Hello cred) is = cc
-    by_case (Some q) Interrupts is =
-        let e' : PlainEvent = Interrupt q request.serial moment in
-        one e' (Some q) (process-asks limits s q e' (λ _. refl) (λ pid. interrupt-stays limits s q request.serial moment pid)) is
-    by_case (Some q) (Sysv call) is = by_call q (record request { kind = Sysv call }) is
-    by_case (Some q) (Posix call) is = by_call q (record request { kind = Posix call }) is
+    by_call : (q : ℕ) (called : PlainRequest) (b : Bool) → is_waiting s q ≡ b → 0 < (if b then 1 else 0)
+        → event_takes_memory limits s (Call q called moment) ≡ false
+    by_call q called false is waits = absurd (omega (arith, waits))
+    by_call q called true is waits =
+        ap (λ (t : State). takes_memory called.kind && not (is_waiting t q)) on ∙ ap (λ (w : Bool). takes_memory called.kind && not w) is
+        ∙ and-false (takes_memory called.kind)

@@ -92,11 +92,11 @@ module _ {D : Type 0} (medium : D → Medium) (law : Law medium) where
   same-accepts old new h now stay same = record { events = []; adds = stay ∙ sym (append-nil h.events); pends = same-pends old new same }
 
   -- the hub is as it was, and so is the hub of the definitions
-  takes-none : (old : StoredHub D) (conn moment : ℕ) (bytes : List ℕ) → ((limits : Limits) (confirmed : ℕ) (h : Clients) → IsAhead limits confirmed old.hub h
-      → take_in limits h conn bytes moment [] ≡ h) → TakesIn medium old old conn bytes moment
+  takes-none : (old : StoredHub D) (conn moment : ℕ) (bytes : List ℕ) → ((limits : Limits) (confirmed : ℕ) (h : Clients)
+      → IsAhead limits confirmed old.hub conn moment h → take_in limits h conn bytes moment [] ≡ h) → TakesIn medium old old conn bytes moment
   takes-none old conn moment next stays limits confirmed h ahead = (
     [],
-    subst (Follows medium limits confirmed old old h) (sym (stays limits confirmed h ahead))
+    subst (Follows medium limits confirmed old old conn moment h) (sym (stays limits confirmed h ahead))
         (record { ahead = ahead; accepts = same-accepts old.store old.store h h refl refl }),
   )
 
@@ -131,7 +131,7 @@ module _ {D : Type 0} (medium : D → Medium) (law : Law medium) where
       let x = a.1.accepts in
       let y = b.1.accepts in (
         fitted (length (arriving (client_at h conn) part)) a.0 ++ b.0,
-        subst (Follows medium limits confirmed one three h) (take_in-pieces limits h conn moment part more a.0 b.0) (record {
+        subst (Follows medium limits confirmed one three conn moment h) (take_in-pieces limits h conn moment part more a.0 b.0) (record {
           ahead = b.1.ahead;
           accepts = record {
             events = x.events ++ y.events;

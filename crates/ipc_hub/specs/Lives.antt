@@ -30,7 +30,8 @@ pub data ClientCall (limits : Limits) (h : Clients) : Clients → Type 0 where
 
 -- A call on a hub, and what it makes of the clients. It serves them; or it is about connections alone, and leaves the
 -- store as it is; or what waited could not be made to last, before the call did anything else. Each clause of a call on
--- a hub gives one of these.
+-- a hub gives one of these. Only a feed that fails when it has taken some bytes gives two, one after the other: a feed
+-- of these bytes, and then the failure.
 pub data HubCall {D : Type 0} (medium : D → Medium) (limits : Limits) (old : StoredHub D) (h : Clients)
     (new : StoredHub D) : Clients → Type 0 where
   Serves : (next : Clients) → ClientCall limits h next → Comes medium limits old new h next

@@ -39,7 +39,7 @@ pub record StoredHub (D : Type 0) : Type 0 where
   pub store : StoreView D
 
 -- how many events a call may come to while a connection keeps no frame, and one more: a tick, a request whose reply
--- comes later, and the next one, which has its reply at once
+-- comes later, and the next one, which has its reply at once; so many have to be left to count
 abbrev pub most_events : ℕ
 most_events = 3
 

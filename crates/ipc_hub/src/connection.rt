@@ -8,6 +8,7 @@ ghost use Rattle.ipc_wire.specs.Stream.{first, missing};
 ghost use Rattle.ipc_wire.specs.Stream.PlainFrame.{More};
 ghost use Rattle.ipc_engine.specs.View.{reply_of};
 ghost use Rattle.ipc_hub.specs.Hub.{is_for};
+ghost use Rattle.ipc_hub.specs.View.{kept};
 ghost use Rattle.ipc_hub.specs.Clients.{refusal as refusal_of};
 
 use crate::outbox::Outbox;
@@ -68,7 +69,8 @@ pub(crate) struct Session {
 }
 
 impl Model for Session {
-    ghost use Rattle.std.specs.Prelude.{◌≤◌, option_map, vec_capacity};
+    ghost use Rattle.std.specs.Prelude.{◌≤◌, ◌+◌, option_map, vec_capacity};
+    ghost use Rattle.ipc_wire.specs.Stream.{greatest_length};
     ghost use Rattle.ipc_hub.specs.View.{ConnectionView};
 
     ghost Value = { ConnectionView };
@@ -80,7 +82,7 @@ impl Model for Session {
       ended = s.ended;
     } };
 
-    ghost invariant = { λ s. 8452 ≤ vec_capacity s.input };
+    ghost invariant = { λ s. 4 + greatest_length ≤ vec_capacity s.input };
 }
 
 impl Session {
@@ -147,6 +149,13 @@ impl Session {
         ensures { IsTrue result ↔ ((self.now.outbox.visible ≡ []) × (self.now.ended ≡ false)) }
     {
         !self.ended && self.outbox.visible().is_empty()
+    }
+
+    /// Whether it keeps no frame.
+    pub(crate) fn is_bare(&self) -> bool
+        ensures { IsTrue result ↔ (kept self.now.outbox ≡ []) }
+    {
+        self.outbox.is_empty()
     }
 
     /// Whether what its process is owed has room, and behind it a reply of so many bytes and the last frames. What it

@@ -9,6 +9,7 @@ ghost use Rattle.ipc_base.specs.Table.{keys_of, value_at, with_entry, without, s
 ghost use Rattle.ipc_engine.specs.View.{plain_outcome};
 ghost use Rattle.ipc_hub.specs.declared.connection.Connection.{Connection};
 ghost use Rattle.ipc_hub.specs.Hub.{is_for};
+ghost use Rattle.ipc_hub.specs.View.{IsBare};
 ghost use Rattle.ipc_hub.specs.Relations.Delivery.{released, failed, consumed, put_for, put_all};
 ghost use Rattle.ipc_hub.specs.Relations.Delivery.{HasSpare, IsShort, HasSpaceIn, HaveSpace, HasSpaceFor};
 ghost use Rattle.ipc_hub.specs.Relations.Invariant.{AreApart};
@@ -100,6 +101,16 @@ impl Connections {
         match self.get(conn) {
             Some(session) => session.ended(),
             None => false,
+        }
+    }
+
+    /// Whether no frame is kept of the connection that has the number, if there is one.
+    pub(crate) fn is_bare(&self, conn: u32) -> bool
+        ensures { IsTrue result ↔ IsBare (value_at nat_eq self.now conn) }
+    {
+        match self.get(conn) {
+            Some(session) => session.is_bare(),
+            None => true,
         }
     }
 

@@ -7,15 +7,19 @@ ghost use Rattle.ipc_base.specs.declared.limits.Limits.{Limits};
 ghost use Rattle.ipc_disk.specs.Medium.{IsHonest};
 ghost use Rattle.ipc_engine.specs.Event.{PlainEvent};
 ghost use Rattle.ipc_store.specs.Histories.{Takes};
-ghost use Rattle.ipc_store.specs.View.{HasTurned, IsReadyFor, Spends};
+ghost use Rattle.ipc_image.specs.Format.{longest_record};
+ghost use Rattle.ipc_store.specs.Batch.{most_records};
+ghost use Rattle.ipc_store.specs.View.{HasRoomFor, HasTurned, IsReadyFor, Spends, events_left};
 ghost use Rattle.ipc_wait.specs.Waits.{next_deadline};
 ghost use Rattle.ipc_hub.specs.Clients.{Clients, no_clients, connect, hangup, tick, consume, shown_at, ended_at};
 ghost use Rattle.ipc_hub.specs.View.{HasFewFrames, HasNoFrame, HasStopped, ended_of, is_connected, numbers_of};
 ghost use Rattle.ipc_hub.specs.View.{output_of};
 ghost use Rattle.ipc_hub.specs.View.{most_events};
 ghost use Rattle.ipc_hub.specs.Relations.Matches.{HubMatches, StoredMatches, Simulates, Serves, ServesFeed};
-ghost use Rattle.ipc_hub.specs.Relations.Faults.{Advances, Halts, Joins, Lasts, Refuses, Settles};
+ghost use Rattle.ipc_hub.specs.Relations.Faults.{Advances, Halts, Joins, Lasts, Refuses, RefusesFeed, Settles};
+ghost use Rattle.ipc_hub.specs.Relations.Faults.{TakesPiece};
 ghost use Rattle.ipc_hub.specs.Relations.Invariant.{SameButSeen};
+ghost use Rattle.ipc_hub.specs.Relations.Requests.{CanTake};
 
 use crate::connection::{Connection, Session};
 use crate::connections::Connections;
@@ -23,12 +27,13 @@ use crate::fault::{ConnectError, ServeError};
 use crate::serving;
 use ipc_base::Moment;
 use ipc_disk::SectorDisk;
-use ipc_store::{CommitError, Store};
+use ipc_image::LONGEST_RECORD;
+use ipc_store::{CommitError, EXIT_RECORD, Store, TICK_RECORD};
 use std::alloc::{AllocError, Global};
 use std::marker::Model;
 
 /// How many events a call may come to while a connection keeps no frame, and one more: a tick, a request whose reply
-/// comes later, and the next one, which has its reply at once.
+/// comes later, and the next one, which has its reply at once. So many have to be left to count.
 const MOST_EVENTS: usize = 3;
 
 /// The server as its clients see it: bytes in, bytes out. A frame is seen once its event was made to last. A contract
@@ -115,10 +120,11 @@ impl<D: SectorDisk> Hub<D> {
 
     /// Gives a connection the next bytes of its stream, at a moment. Answers how many it took: all of them if
     /// no frame of the connection is kept when it returns, or if the server has ended it. Requests are taken
-    /// while the longest reply has room behind the frames that are kept and those that are owed, and an event has room
-    /// among those that wait; of a connection that keeps at most 4096 bytes of frames at least one byte is taken. Where
-    /// the first events may have none, the call begins with a release, which may be
-    /// `Stopped` once if the epochs are at their end.
+    /// while the longest reply has room behind the frames that are kept and those that are owed, and the longest record
+    /// among those that wait; of a connection that keeps at most 4096 bytes of frames at least one byte is taken. If
+    /// the records of a tick and of a longest request may have no room, the call begins with a release; if later a
+    /// longest record has none and no frame of the connection is kept, it releases then, and goes on. Either release
+    /// may fail, and be `Stopped` once if the epochs are at their end.
     pub fn feed(&mut self, conn: u32, piece: &[u8], moment: Moment) -> Result<usize, ServeError>
         ensures ok { IfOk result (λ taken.
             ServesFeed D.medium self.old self.new conn (take taken piece.now) moment.0) }
@@ -127,11 +133,12 @@ impl<D: SectorDisk> Hub<D> {
         ensures starts { HasFewFrames self.old.hub conn → 0 < length piece.now → IfOk result (λ taken. 0 < taken) }
         ensures dropped { ended_of self.old.hub conn ≡ true → IfOk result (λ taken. taken ≡ length piece.now) }
         ensures numbers { numbers_of self.new.hub ≡ numbers_of self.old.hub }
-        ensures refused { IfErr result (λ e. Refuses D.medium D.counts self.old self.new conn e) }
+        ensures refused { IfErr result (λ e.
+            RefusesFeed D.medium D.counts self.old self.new conn piece.now moment.0 e) }
         ensures stopped { HasStopped self.old → result ≡ Err ServeError.Stopped }
         ensures unknown { ¬ HasStopped self.old → is_connected self.old.hub conn ≡ false
             → result ≡ Err ServeError.Unknown }
-        ensures spends { IfOk result (λ taken. Spends D.counts (2 + taken) self.old.store self.new.store) }
+        ensures spends { IfOk result (λ taken. Spends D.counts (3 + taken) self.old.store self.new.store) }
         ensures honest { IsHonest (D.medium self.old.store.disk) → IsHonest (D.medium self.new.store.disk) }
     {
         if self.has_stopped() {
@@ -140,11 +147,36 @@ impl<D: SectorDisk> Hub<D> {
         if !self.connections.contains(conn) {
             return Err(ServeError::Unknown);
         }
-        if let Err(error) = self.advance(moment) {
+        if let Err(error) = self.advance(moment, LONGEST_RECORD as usize) {
             return Err(ServeError::from(error));
         }
+        match self.serve(conn, piece, moment) {
+            Ok(taken) => Ok(taken),
+            Err(error) => Err(ServeError::from(error)),
+        }
+    }
+
+    // Takes in bytes of a piece, once time has passed. If the connection keeps no frame, all are to be taken. So if the
+    // store then has no room for its next request, what waits is made to last, and the rest is taken in. That is so
+    // once at most: one of these requests waits to be answered, and the next one leaves a frame.
+    fn serve(&mut self, conn: u32, piece: &[u8], moment: Moment) -> Result<usize, CommitError>
+        requires later { 0 < self.old.store.waiting }
+        requires can { CanTake self.old conn moment.0 }
+        ensures { TakesPiece D.medium D.counts self.old self.new conn piece.now moment.0 result }
+    {
         let taken = serving::take_in(&mut self.store, &mut self.connections, conn, piece, moment);
-        Ok(taken)
+        if taken == piece.len() {
+            return Ok(taken);
+        }
+        if !self.connections.is_bare(conn) {
+            return Ok(taken);
+        }
+        if let Err(error) = self.make_last(false) {
+            return Err(error);
+        }
+        let rest = &piece[taken..];
+        let more = serving::take_in(&mut self.store, &mut self.connections, conn, rest, moment);
+        Ok(taken + more)
     }
 
     /// The client is gone, at a moment: its process leaves, its frames are dropped, its number is free.
@@ -166,7 +198,7 @@ impl<D: SectorDisk> Hub<D> {
         if !self.connections.contains(conn) {
             return Err(ServeError::Unknown);
         }
-        if let Err(error) = self.advance(moment) {
+        if let Err(error) = self.advance(moment, EXIT_RECORD) {
             return Err(ServeError::from(error));
         }
         let process = self.connections.remove(conn);
@@ -186,15 +218,17 @@ impl<D: SectorDisk> Hub<D> {
         if self.has_stopped() {
             return Err(CommitError::Stopped);
         }
-        self.advance(moment)
+        self.advance(moment, 0)
     }
 
-    // Time passes, and two events more have room then. The call begins with a release if three may have no room.
-    fn advance(&mut self, moment: Moment) -> Result<(), CommitError>
-        requires { ¬ HasStopped self.old }
-        ensures { Advances D.medium D.counts self.old self.new moment.0 result }
+    // Time passes, and records of `more` bytes have room then. The call begins with a release if these and the tick's
+    // have no room.
+    fn advance(&mut self, moment: Moment, more: usize) -> Result<(), CommitError>
+        requires running { ¬ HasStopped self.old }
+        requires fits { more ≤ longest_record }
+        ensures { Advances D.medium D.counts self.old self.new moment.0 more result }
     {
-        if let Err(error) = self.make_space() {
+        if let Err(error) = self.make_space(TICK_RECORD + more) {
             return Err(error);
         }
         serving::tick(&mut self.store, &mut self.connections, moment);
@@ -213,7 +247,7 @@ impl<D: SectorDisk> Hub<D> {
         ensures confirmed { OnOk result (self.new.store.confirmed
             ≡ self.old.store.confirmed + self.old.store.waiting) }
         ensures waiting { OnOk result (self.new.store.waiting ≡ 0) }
-        ensures ready { OnOk result (IsReadyFor self.new.store most_events) }
+        ensures ready { OnOk result (IsReadyFor self.new.store most_records most_events) }
         ensures nothing { self.old.store.waiting ≡ 0 → self.new.store ≡ self.old.store }
         ensures refused { IfErr result (λ e. Halts D.medium D.counts self.old self.new e) }
         ensures stopped { HasStopped self.old → result ≡ Err CommitError.Stopped }
@@ -236,7 +270,7 @@ impl<D: SectorDisk> Hub<D> {
         ensures confirmed { OnOk result (self.new.store.confirmed
             ≡ self.old.store.confirmed + self.old.store.waiting) }
         ensures waiting { OnOk result (self.new.store.waiting ≡ 0) }
-        ensures ready { OnOk result (IsReadyFor self.new.store most_events) }
+        ensures ready { OnOk result (IsReadyFor self.new.store most_records most_events) }
         // What stands on the disk is the whole state.
         ensures turned { OnOk result (HasTurned self.old.store self.new.store) }
         ensures refused { IfErr result (λ e. Halts D.medium D.counts self.old self.new e) }
@@ -252,7 +286,7 @@ impl<D: SectorDisk> Hub<D> {
 
     // Makes all events that wait last, by a commit, or by a checkpoint of the whole state, and tells the connections.
     fn make_last(&mut self, whole: bool) -> Result<(), CommitError>
-        requires { ¬ HasStopped self.old }
+        requires { 1 ≤ events_left self.old.store }
         ensures settles { Settles D.medium D.counts self.old self.new result }
         ensures lasts { OnOk result (Lasts self.old self.new) }
         ensures nothing { whole ≡ false → self.old.store.waiting ≡ 0 → self.new.store ≡ self.old.store }
@@ -282,13 +316,16 @@ impl<D: SectorDisk> Hub<D> {
         self.store.engine().next_deadline()
     }
 
-    // Releases if the events of a call may have no room among those that wait.
-    fn make_space(&mut self) -> Result<(), CommitError>
-        requires { ¬ HasStopped self.old }
+    // Releases if records of so many bytes have no room among those that wait.
+    fn make_space(&mut self, bytes: usize) -> Result<(), CommitError>
+        requires left { 1 ≤ events_left self.old.store }
+        requires fits { bytes ≤ most_records }
         ensures settles { Settles D.medium D.counts self.old self.new result }
         ensures same { OnOk result (SameButSeen self.old.hub self.new.hub) }
+        ensures room { OnOk result (HasRoomFor self.new.store bytes) }
+        ensures left { OnOk result (events_left self.new.store ≡ events_left self.old.store) }
     {
-        if self.store.is_ready_for(MOST_EVENTS) {
+        if self.store.has_room_for(bytes) {
             return Ok(());
         }
         self.make_last(false)

@@ -1,6 +1,6 @@
 //! The frames of a connection that the client has not consumed.
 
-ghost use Rattle.std.specs.Prelude.{◌≡◌, ◌+◌, ◌<◌, ◌≤◌, ◌^◌, [], length, drop, IfOk};
+ghost use Rattle.std.specs.Prelude.{◌≡◌, ◌+◌, ◌<◌, ◌≤◌, ◌^◌, ◌↔◌, [], length, drop, IfOk, IsTrue};
 ghost use Rattle.ipc_wire.specs.Reply.{plain_reply, reply_bytes, body_bytes};
 ghost use Rattle.ipc_hub.specs.View.{kept};
 ghost use Rattle.ipc_hub.specs.Relations.Delivery.{with_bytes, retracted};
@@ -57,6 +57,13 @@ impl Outbox {
         ensures { result.now ≡ self.now.visible }
     {
         &self.buffer[..self.released]
+    }
+
+    /// Whether no frame is kept.
+    pub(crate) fn is_empty(&self) -> bool
+        ensures { IsTrue result ↔ (kept self.now ≡ []) }
+    {
+        self.end == 0
     }
 
     /// Puts a frame behind those that wait.

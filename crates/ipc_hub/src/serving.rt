@@ -1,6 +1,6 @@
 //! Requests become events of the machine, and the replies of every event go to the connections of their processes.
 
-ghost use Rattle.std.specs.Prelude.{◌≡◌, ◌+◌, ◌<◌, ◌≤◌, true, false, [], ◌∷◌, length, map, take};
+ghost use Rattle.std.specs.Prelude.{◌≡◌, ◌⊎◌, ◌+◌, ◌<◌, ◌≤◌, ℕ, true, false, [], ◌∷◌, length, map, take};
 ghost use Rattle.std.specs.Prelude.{◌↔◌, Some, nat_eq, option_map, IfSome, IsTrue};
 ghost use Rattle.ipc_base.specs.Limits.{longest_reply, ArePassed};
 ghost use Rattle.ipc_base.specs.Table.{value_at};
@@ -20,15 +20,17 @@ ghost use Rattle.ipc_hub.specs.Relations.Invariant.{Continues, HasPassed, IsConn
 ghost use Rattle.ipc_hub.specs.Relations.Invariant.{AreApart, LeavesOthers};
 ghost use Rattle.ipc_hub.specs.Relations.Matches.{Adds, Simulates, TakesIn};
 ghost use Rattle.ipc_hub.specs.Relations.Requests.{ComesTo, IsQuiet, Left, Steps, exit_of, taken_off};
-ghost use Rattle.ipc_hub.specs.Relations.Requests.{HasAccepted, HasRoom, IsReady, Received, Took};
-ghost use Rattle.ipc_image.specs.Records.{HasRecord};
-ghost use Rattle.ipc_store.specs.View.{IsReadyFor};
+ghost use Rattle.ipc_hub.specs.Relations.Requests.{CanTake, HasAccepted, HasRoom, IsReady, Received, RunsOut, Took};
+ghost use Rattle.ipc_image.specs.Format.{longest_record};
+ghost use Rattle.ipc_image.specs.Records.{record_bytes, HasRecord};
+ghost use Rattle.ipc_store.specs.Batch.{exit_record, tick_record};
+ghost use Rattle.ipc_store.specs.View.{HasRoomFor, IsReadyFor, events_left};
 
 use crate::connection::{Session, refusal};
 use crate::connections::Connections;
 use ipc_base::{Errno, Moment, Pid};
 use ipc_disk::SectorDisk;
-use ipc_engine::{Event, Outcome};
+use ipc_engine::{Event, Outcome, event_sets_clock, late_tick_does_nothing};
 use ipc_store::{StepError, Store};
 use ipc_wire::{Frame, Request, RequestKind, read_frame};
 
@@ -74,7 +76,8 @@ fn event_of<'a>(process: Option<Pid>, request: &Request<'a>, moment: Moment) -> 
 /// The machine takes a step by which no process asks, and the replies go where they go.
 fn accept<D: SectorDisk>(store: &mut Store<D>, connections: &mut Connections, event: Event<'_>)
     requires quiet { IsQuiet store.old.machine.limits store.old.machine.state (plain_event event) }
-    requires ready { IsReady (stored_view store.old connections.old) 1 }
+    requires ready { IsReady (stored_view store.old connections.old)
+        (length (record_bytes (plain_event event))) 1 }
     ensures steps { Steps D.medium store.old store.new (plain_event event.entry) }
     ensures replies { connections.new ≡ put_all store.new.machine.outcomes connections.old }
 {
@@ -88,8 +91,9 @@ pub(crate) fn tick<D: SectorDisk>(
     connections: &mut Connections,
     moment: Moment,
 )
-    requires { IsReady (stored_view store.old connections.old) 3 }
-    ensures ready { IsReadyFor store.new 2 }
+    requires { IsReady (stored_view store.old connections.old) tick_record 1 }
+    ensures room { (bytes : ℕ) → HasRoomFor store.old (tick_record + bytes) → HasRoomFor store.new bytes }
+    ensures left { (n : ℕ) → n + 1 ≤ events_left store.old → n ≤ events_left store.new }
     ensures accepts { HasAccepted D.medium (stored_view store.old connections.old)
         (stored_view store.new connections.new) (Tick moment.0 ∷ []) }
     ensures ticks { Simulates (hub_view store.old.machine connections.old)
@@ -109,7 +113,7 @@ pub(crate) fn leave<D: SectorDisk>(
 )
     requires connected { IsConnected store.old.machine.state (pid_of process) }
     requires nobodys { IsNobodys connections.old (pid_of process) }
-    requires ready { IsReady (stored_view store.old connections.old) 1 }
+    requires ready { IsReady (stored_view store.old connections.old) exit_record 1 }
     ensures accepts { HasAccepted D.medium (stored_view store.old connections.old)
         (stored_view store.new connections.new) (exit_of (pid_of process) moment.0) }
     ensures leaves { Left (hub_view store.old.machine connections.old)
@@ -123,7 +127,7 @@ pub(crate) fn leave<D: SectorDisk>(
 
 /// Takes the frame at the front of a connection off it, if it is whole, and asks the machine.
 fn ask<D: SectorDisk>(store: &mut Store<D>, session: &mut Session, moment: Moment) -> Asked
-    requires ready { IsReadyFor store.old 1 }
+    requires ready { IsReadyFor store.old longest_record 1 }
     requires connected { IsConnected store.old.machine.state session.old.process }
     ensures comes { ComesTo D.medium store.old store.new session.old.process (first session.old.input) moment.0 result }
     ensures view { session.new ≡ taken_off result session.old }
@@ -138,7 +142,7 @@ fn ask<D: SectorDisk>(store: &mut Store<D>, session: &mut Session, moment: Momen
 
 /// Reads what stands at the front of a connection. If that is a request which makes an event, the machine takes a step.
 fn come_to<D: SectorDisk>(store: &mut Store<D>, session: &Session, moment: Moment) -> Asked
-    requires ready { IsReadyFor store.old 1 }
+    requires ready { IsReadyFor store.old longest_record 1 }
     requires connected { IsConnected store.old.machine.state session.now.process }
     ensures { ComesTo D.medium store.old store.new session.now.process (first session.now.input) moment.0 result }
 {
@@ -200,7 +204,7 @@ fn break_off<D: SectorDisk>(
     moment: Moment,
 )
     requires live { is_open_in connections.old conn ≡ true }
-    requires ready { IsReady (stored_view store.old connections.old) 1 }
+    requires ready { IsReady (stored_view store.old connections.old) exit_record 1 }
     ensures accepts { HasAccepted D.medium (stored_view store.old connections.old)
         (stored_view store.new connections.new) (exit_of (process_in connections.old conn) moment.0) }
     ensures ends { (c : ConnectionView) → value_at nat_eq connections.old conn ≡ Some c
@@ -255,6 +259,9 @@ fn take<D: SectorDisk>(
     if !connections.is_open(conn) {
         return piece.len();
     }
+    // A call that waits, at a moment that has been, waits on: its process is refused nothing for memory.
+    event_sets_clock();
+    late_tick_does_nothing();
     let (count, asked) = receive(store, connections, conn, piece, moment);
     match asked {
         Asked::More => {}
@@ -267,19 +274,21 @@ fn take<D: SectorDisk>(
 
 /// Whether a request of a connection has room: its event in the store, and its reply behind what its process is owed.
 fn has_room<D: SectorDisk>(store: &Store<D>, connections: &Connections, conn: u32) -> bool
-    ensures room { IsTrue result ↔ (IsReadyFor store.now 1 × HasSpaceFor (hub_view store.now.machine connections.now)
-        (longest_reply store.now.machine.limits) conn) }
+    ensures room { IsTrue result ↔ (IsReadyFor store.now longest_record 1
+        × HasSpaceFor (hub_view store.now.machine connections.now) (longest_reply store.now.machine.limits) conn) }
     ensures passed { ArePassed store.now.machine.limits }
     ensures sound { IsSound store.now.machine.limits store.now.machine.state }
 {
     let reply = store.engine().limits().longest_reply();
-    store.is_ready_for(1) && connections.has_space(conn, store.engine(), reply)
+    store.has_room()
+        && store.events_left() > 0
+        && connections.has_space(conn, store.engine(), reply)
 }
 
 /// Takes bytes of a piece while a request has room for its event and, behind what its process is owed, for its reply,
 /// and serves each request that they complete; of a connection that has ended it takes and drops all. Answers how many
-/// bytes it took. A request of a process of which no call waits may leave no frame, and the next one leaves one: so two
-/// events have room.
+/// bytes it took: all of them if the connection keeps no frame then, unless the store has run out of room. A request of
+/// a process of which no call waits may leave no frame, and the next one leaves one.
 pub(crate) fn take_in<D: SectorDisk>(
     store: &mut Store<D>,
     connections: &mut Connections,
@@ -287,14 +296,15 @@ pub(crate) fn take_in<D: SectorDisk>(
     piece: &[u8],
     moment: Moment,
 ) -> usize
-    requires { IsReady (stored_view store.old connections.old) 2 }
+    requires { CanTake (stored_view store.old connections.old) conn moment.0 }
     ensures continues { Continues (hub_view store.old.machine connections.old)
         (hub_view store.new.machine connections.new) }
     ensures bytes { TakesIn D.medium (stored_view store.old connections.old)
         (stored_view store.new connections.new) conn (take result piece.now) moment.0 }
     ensures within { result ≤ length piece.now }
     ensures whole { HasNoFrame (hub_view store.new.machine connections.new) conn
-        → result ≡ length piece.now }
+        → (result ≡ length piece.now) ⊎ RunsOut (stored_view store.old connections.old)
+        (stored_view store.new connections.new) conn moment.0 result }
     ensures starts { HasSpaceFor (hub_view store.old.machine connections.old)
         (longest_reply store.old.machine.limits) conn → 0 < length piece.now → 0 < result }
     ensures dropped { is_open_in connections.old conn ≡ false → result ≡ length piece.now }

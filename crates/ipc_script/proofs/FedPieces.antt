@@ -8,12 +8,15 @@ use Rattle.std.proofs.Math.Seq.{take-append_seam, drop-append_seam}
 use Rattle.std.proofs.lemmas.Bool.Decides.{nat_tests}
 use Rattle.std.proofs.lemmas.List.{take_rest, length-append, length-drop, take-append-drop}
 use Rattle.ipc_base.specs.declared.limits.Limits.{Limits}
+use Rattle.ipc_disk.specs.Counts.{Counts}
 use Rattle.ipc_disk.specs.Medium.{Image, Medium}
+use Rattle.ipc_store.specs.declared.fault.CommitError.{CommitError}
 use Rattle.ipc_store.specs.Histories.{Takes}
 use Rattle.ipc_store.specs.View.{StoreView}
 use Rattle.ipc_store.proofs.CallerLemmas.{Takes-none}
 use Rattle.ipc_hub.specs.Clients.{Client, client_at, feed}
 use Rattle.ipc_hub.specs.View.{StoredHub, is_connected, HasFewFrames}
+use Rattle.ipc_hub.specs.Relations.Faults.{HaltsFeed}
 use Rattle.ipc_hub.specs.Relations.Matches.{Comes, ServesFeed}
 use Rattle.ipc_script.specs.declared.report.Opened.{Opened}
 use Rattle.ipc_script.specs.declared.script.Sender.{Sender}
@@ -33,7 +36,9 @@ use Rattle.ipc_script.specs.Relations.Pieces.{SimulatesPiece, PieceBreaksOff, Pi
 use Rattle.ipc_script.specs.Relations.Simulation.{LineStops, SimulatesLine, text_of}
 use Rattle.ipc_base.proofs.CallerLemmas.{test_cases as test, at-map as value_mapped}
 use Rattle.ipc_script.proofs.FaultCases.{by_fault_both}
-use Rattle.ipc_script.proofs.Lasting.{lasts-as-both, lasts-as-none, lasts-as-more, fails-more}
+use Rattle.ipc_script.proofs.Lasting.{lasts-as-both, lasts-as-none, lasts-as-more, fails-more, takes-halted}
+use Rattle.ipc_script.proofs.Halting.{fails-by, halts-fails, matches-failed}
+use Rattle.ipc_script.specs.Relations.Numbers.{HasNumbers}
 use Rattle.ipc_script.proofs.WrittenText.{part_after, part_more}
 use Rattle.ipc_script.proofs.HubAndClients.{connected, few_frames, no_frame}
 use Rattle.ipc_script.proofs.UnchangedHeads.{heads, heads_feed, steady, same_open}
@@ -306,6 +311,34 @@ module _ {D : Type 0} (medium : D → Medium) (limits : Limits) (r : Run) (sende
   pub feeds_part : (w0 w2 : Option (List ℕ)) → ((limits : Limits) (r : Run) → RunMatches limits mid opened r → WritesPart w0 w2 (report r).text)
       → PieceBreaksOff medium limits r sender bytes hub.store next.store w0 w2
   feeds_part w0 w2 part = record { taken = taken; piece = piece_taken; text = part limits fed_run in_line }
+
+-- a feed was refused before it did anything else, or failed when some of the bytes were taken
+module _ {D : Type 0} (medium : D → Medium)
+    (law : (d : D) (image : Image) → (medium d).images_since (medium d).moment image → (medium d).images_now image) (counts : D → Counts)
+    (limits : Limits) (r : Run) (sender : Sender) (bytes : List ℕ) (hub next : StoredHub D) (opened : List Opened)
+    (b : RunMatchesBetween limits hub opened r) where
+  abbrev Halted : CommitError → Type 0
+  Halted = HaltsFeed medium counts hub next sender.conn bytes sender.moment.0
+
+  known-here : is_connected hub.hub sender.conn ≡ true → is_connected hub.hub sender.conn ≡ false → ⊥
+  known-here there none = let never : true ≡ false = sym there ∙ none in cc
+
+  pub halted_piece : (e : CommitError) → Halted e → PieceFails medium limits r sender bytes hub.store next.store
+  halted_piece e (inl halts) = inl (takes-halted medium law counts hub next e halts)
+  halted_piece e (inr w) =
+      let failed = fails-by medium counts w.fed next e w.fails in
+      inr (w.taken, piece_taken medium limits r sender bytes w.taken hub w.fed next opened b w.feeds (λ _ _. w.some) (known-here w.there) failed.takes)
+
+  pub halted_now : (n : ℕ) → HasNumbers n hub.store → (e : CommitError) → Halted e → PieceHalts limits r sender bytes next opened
+  halted_now n has e (inl halts) = (
+    r,
+    none_begun _,
+    matches-failed medium limits hub next opened r (halts-fails medium counts n hub next has e halts) b.run,
+  )
+  halted_now n has e (inr w) =
+      let failed = fails-by medium counts w.fed next e w.fails in
+      feeds_halt medium limits r sender bytes w.taken hub w.fed next opened b w.feeds (λ _ _. w.some) (known-here w.there) failed.takes opened
+      (λ limits r m. matches-failed medium limits w.fed next opened r failed m)
 
 -- ---- what is left, and what is refused
 

@@ -20,7 +20,7 @@ use Rattle.ipc_store.specs.declared.fault.CommitError.TheVariants as commit
 use Rattle.ipc_hub.specs.declared.fault.ServeError.{ServeError}
 use Rattle.ipc_hub.specs.declared.fault.ServeError.TheVariants as serve
 use Rattle.ipc_hub.specs.Clients.{Client, Frame, accepted, client_at, confirmed_frames, cut_off, fail, refusal}
-use Rattle.ipc_hub.specs.Relations.Faults.{Fails, Halts, Refuses}
+use Rattle.ipc_hub.specs.Relations.Faults.{Fails, FailsBy, Halts, Refuses}
 use Rattle.ipc_hub.specs.Relations.Matches.{ClientMatches, HubMatches, IsFrame}
 use Rattle.ipc_hub.specs.View.{ConnectionView, StoredHub}
 use Rattle.ipc_script.specs.declared.fault.ScriptFault.TheVariants.{Device, Unknown}
@@ -127,6 +127,12 @@ matches-failed medium limits old new opened r f i = record {
   whole = i.whole;
   rising = i.rising;
 }
+
+-- whatever the fault
+pub fails-by : {D : Type 0} (medium : D → Medium) (counts : D → Counts) (old new : StoredHub D) (e : CommitError) → FailsBy medium counts old new e
+    → Fails medium old new
+fails-by medium counts old new commit.Device fails = fails.0
+fails-by medium counts old new commit.Stopped fails = fails.0
 
 not-unknown : (number : ℕ) → Unknown number ≡ Device → ⊥
 not-unknown number is = cc

@@ -8,13 +8,10 @@ use Rattle.std.proofs.lemmas.Bool.Decides.{nat_tests}
 use Rattle.std.proofs.lemmas.Map.Keys.{IsDistinct-cons}
 use Rattle.ipc_base.specs.Table.{value_at, ArePaired, IsRising}
 use Rattle.ipc_base.proofs.CallerLemmas.{same_keys, paired-keys, paired-at, paired-none}
-use Rattle.ipc_disk.specs.Counts.{Counts}
-use Rattle.ipc_disk.specs.Medium.{Medium}
 use Rattle.ipc_hub.specs.declared.fault.ServeError.{ServeError}
 use Rattle.ipc_hub.specs.declared.fault.ServeError.TheVariants as serve
-use Rattle.ipc_script.specs.declared.fault.ScriptFault.TheVariants.{Unknown}
+use Rattle.ipc_script.specs.declared.fault.ScriptFault.TheVariants.{Device, Unknown}
 use Rattle.ipc_script.specs.Relations.Faults.{ByFault, IfRefused, of_serve_error}
-use Rattle.ipc_hub.specs.Relations.Faults.{Refuses}
 use Rattle.ipc_hub.specs.Clients.{accepted, Clients, client_at, all_bytes, shown_at, ended_at}
 use Rattle.ipc_hub.specs.View.{ConnectionView, HubView, StoredHub, HasFewFrames, HasNoFrame, HasStopped, IsBare, KeepsFew}
 use Rattle.ipc_hub.specs.View.{ended_of, is_connected, kept, output_of}
@@ -71,20 +68,26 @@ is_known hub conn result v is stopped unknown none =
     let running : ¬ HasStopped hub = λ has. let bad : Ok v ≡ Err serve.Stopped = sym is ∙ stopped has in cc in
     let bad : Ok v ≡ Err serve.Unknown = sym is ∙ unknown running none in cc
 
--- a call that was refused and did not fail named none
-pub is_unknown : {D : Type 0} (medium : D → Medium) (counts : D → Counts) (hub next : StoredHub D) (conn : ℕ) (P : Type 0) (e : ServeError) (number : ℕ)
-    → (is_connected hub.hub conn ≡ false → P) → Refuses medium counts hub next conn e → IfRefused (of_serve_error e number) P
-is_unknown medium counts hub next conn P serve.Unknown number makes r = makes r.1
-is_unknown medium counts hub next conn P serve.Device number makes r = tt
-is_unknown medium counts hub next conn P serve.Stopped number makes r = tt
+-- what says why a call was refused, as `Refuses` and `RefusesFeed`
+module _ (R : ServeError → Type 0) where
+  -- one that was refused and did not fail named none
+  pub is_unknown : (P : Type 0) (e : ServeError) (number : ℕ) → (R serve.Unknown → P) → R e → IfRefused (of_serve_error e number) P
+  is_unknown P serve.Unknown number makes r = makes r
+  is_unknown P serve.Device number makes r = tt
+  is_unknown P serve.Stopped number makes r = tt
 
--- so it has that fault, and the hub is as it was
-pub is_its_fault : {D : Type 0} (medium : D → Medium) (counts : D → Counts) (hub next : StoredHub D) (conn : ℕ) (W V P : Type 0) (e : ServeError)
-    (number : ℕ) → V → P → Refuses medium counts hub next conn e
-    → ByFault (of_serve_error e number) W V ((of_serve_error e number ≡ Unknown number) × P × (next ≡ hub))
-is_its_fault medium counts hub next conn W V P serve.Unknown number v p r = (refl, p, r.2)
-is_its_fault medium counts hub next conn W V P serve.Device number v p r = v
-is_its_fault medium counts hub next conn W V P serve.Stopped number v p r = v
+  -- so it has that fault, and the hub is as it was; or what waits could not be made to last
+  pub is_its_fault : (W V P Q : Type 0) (e : ServeError) (number : ℕ) → (R serve.Unknown → Q) → (R serve.Device → V) → (R serve.Stopped → V) → P → R e
+      → ByFault (of_serve_error e number) W V ((of_serve_error e number ≡ Unknown number) × P × Q)
+  is_its_fault W V P Q serve.Unknown number same device stopped p r = (refl, p, same r)
+  is_its_fault W V P Q serve.Device number same device stopped p r = device r
+  is_its_fault W V P Q serve.Stopped number same device stopped p r = stopped r
+
+  -- it failed by this fault
+  pub is_failed : (V : Type 0) (e : ServeError) (number : ℕ) → of_serve_error e number ≡ Device → (R serve.Device → V) → (R serve.Stopped → V) → R e → V
+  is_failed V serve.Unknown number is device stopped r = let never : Unknown number ≡ Device = is in cc
+  is_failed V serve.Device number is device stopped r = device r
+  is_failed V serve.Stopped number is device stopped r = stopped r
 
 -- ---- tables
 

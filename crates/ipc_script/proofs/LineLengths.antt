@@ -9,7 +9,7 @@ use Rattle.hex.specs.Hex.{decode_of}
 use Rattle.hex.specs.declared.error.FromHexError.{FromHexError}
 use Rattle.hex.proofs.HexLemmas.{decode_of-ok}
 use Rattle.ipc_script.specs.Line.{PlainLine, line_of, line_of_words, words_of, bytes_of_hex, moment_of, conn_of, ◌>>=◌, Open, Data, End, Tick, Save, Stop}
-use Rattle.ipc_script.specs.Relations.Numbers.{bytes_in, line_cost}
+use Rattle.ipc_script.specs.Relations.Numbers.{byte_cost, bytes_in, line_cost}
 
 -- words that are no longer than so many bytes
 abbrev AreShort : ℕ → List (List ℕ) → Type 0
@@ -87,9 +87,9 @@ line-gives : (text : List ℕ) → IfSome (line_of text) (λ line. length (bytes
 unfolding line_of words_of
 line-gives text = words-give (length text) (slice_split (λ b. b == 32) text) (split-short text)
 
--- what a line may use is eight numbers at most for each byte that it takes off a text
+-- what a line may use is so many numbers at most for each byte that it takes off a text
 pub cost-fits : (text : List ℕ) (line : PlainLine) {behind all : ℕ} → line_of text ≡ Some line → length text + behind ≤ all → behind < all
-    → line_cost line ≤ 8 * (all - behind)
+    → line_cost line ≤ byte_cost * (all - behind)
 cost-fits text line is parts shorter =
     let gives : Gives (length text) line = subst (λ (o : Option PlainLine). IfSome o (Gives (length text))) is (line-gives text) in
     omega (arith, gives, parts, shorter)

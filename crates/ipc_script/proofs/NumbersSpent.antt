@@ -14,7 +14,7 @@ use Rattle.ipc_script.specs.declared.fault.ScriptFault.TheVariants.{TooLong, Bad
 use Rattle.ipc_script.specs.Line.{longest_script}
 use Rattle.ipc_script.specs.Script.{DiskFailed, IsYoung}
 use Rattle.ipc_script.specs.Relations.Input.{IsReadFault}
-use Rattle.ipc_script.specs.Relations.Numbers.{HasNumbers}
+use Rattle.ipc_script.specs.Relations.Numbers.{HasNumbers, byte_cost}
 
 -- nor is one of the reader
 pub not-the-readers : (before after : ℕ) (e : ScriptFault) → IsReadFault e → DiskFailed e before after
@@ -75,5 +75,5 @@ failed-behind e after spent failed = subst (λ (before : ℕ). DiskFailed e befo
 
 -- a young store has numbers enough for a script that is not too long
 pub young-has : {D : Type 0} (store : StoreView D) (script : List ℕ) → IsYoung store → length script ≤ longest_script
-    → HasNumbers (8 * length script) store
+    → HasNumbers (byte_cost * length script) store
 young-has store script young short = record { running = young.running; left = omega (arith, young.numbers, short) }

@@ -23,7 +23,7 @@ ghost use Rattle.ipc_script.specs.Relations.Lasts.{LastsAs, StaysCommitted, Comm
 ghost use Rattle.ipc_script.specs.Relations.Lines.{plain_line};
 ghost use Rattle.ipc_script.specs.Relations.Faults.{ByFault, IfRefused, of_serve_error};
 ghost use Rattle.ipc_script.specs.Relations.Matches.{RunMatches, RunMatchesBetween, HaltsAt, MatchesFailed};
-ghost use Rattle.ipc_script.specs.Relations.Numbers.{HasNumbers, Costs, line_cost};
+ghost use Rattle.ipc_script.specs.Relations.Numbers.{HasNumbers, Costs, byte_cost, line_cost};
 ghost use Rattle.ipc_script.specs.Relations.Pieces.{SimulatesPiece, PieceBreaksOff, PieceFails, PieceHalts};
 ghost use Rattle.ipc_script.specs.Relations.Simulation.{SimulatesLine, SimulatesScript};
 
@@ -86,7 +86,7 @@ fn run_lines<D: SectorDisk, W: Write>(
     ensures leaves { (limits : Limits) (h : Clients) → StoredMatches limits hub h → h.clients ≡ [] →
         MayStop (D.medium hub.store.disk) script.now → Leaves D.medium limits h script.now
         (W.contents writer.old) (W.contents writer.new) hub.store result.1 result.0 }
-    ensures disk { HasNumbers (8 * length script.now) hub.store →
+    ensures disk { HasNumbers (byte_cost * length script.now) hub.store →
         MayStop (D.medium hub.store.disk) script.now →
         IfErr result.0 (λ e. DiskFailed e (D.counts hub.store.disk).failures
         (D.counts result.1).failures) }
@@ -322,14 +322,14 @@ fn feed<D: SectorDisk, W: Write>(
         SimulatesLine D.medium limits sender.number r
         (Data sender.moment.0 sender.conn bytes.now) hub.old
         hub.new opened.new (W.contents writer.old) (W.contents writer.new) result }
-    ensures halted { result ≡ Err ScriptFault.Device → HasNumbers (4 * length bytes.now) hub.old.store →
+    ensures halted { result ≡ Err ScriptFault.Device → HasNumbers (5 * length bytes.now) hub.old.store →
         (limits : Limits) (r : Run) → RunMatchesBetween limits hub.old opened.old r →
         HaltsAt limits r (Data sender.moment.0 sender.conn bytes.now) hub.new opened.new
         (W.contents writer.old) (W.contents writer.new) }
     ensures commits { CommitsOrFails hub.old.store hub.new.store result }
     ensures honest { IsHonest (D.medium hub.old.store.disk)
         → IsHonest (D.medium hub.new.store.disk) }
-    ensures costs { Costs D.counts (4 * length bytes.now) hub.old.store hub.new.store result }
+    ensures costs { Costs D.counts (5 * length bytes.now) hub.old.store hub.new.store result }
 {
     let mut rest = bytes;
     // A round takes at least one byte, since no frame waits as it begins.
@@ -372,12 +372,12 @@ fn feed_some<D: SectorDisk, W: Write>(
     ensures commits { CommitsOrFails hub.old.store hub.new.store result }
     ensures honest { IsHonest (D.medium hub.old.store.disk)
         → IsHonest (D.medium hub.new.store.disk) }
-    ensures halted { result ≡ Err ScriptFault.Device → HasNumbers (3 + length bytes.now) hub.old.store →
+    ensures halted { result ≡ Err ScriptFault.Device → HasNumbers (4 + length bytes.now) hub.old.store →
         (limits : Limits) (r : Run) → RunMatchesBetween limits hub.old opened.old r →
         PieceHalts limits r sender bytes.now hub.new opened.new }
-    ensures spends { HasNumbers (3 + length bytes.now) hub.old.store → IfOk result (λ taken.
-        Spends D.counts (3 + taken) hub.old.store hub.new.store) }
-    ensures disk { HasNumbers (3 + length bytes.now) hub.old.store → IfErr result (λ e.
+    ensures spends { HasNumbers (4 + length bytes.now) hub.old.store → IfOk result (λ taken.
+        Spends D.counts (4 + taken) hub.old.store hub.new.store) }
+    ensures disk { HasNumbers (4 + length bytes.now) hub.old.store → IfErr result (λ e.
         DiskFailed e (D.counts hub.old.store.disk).failures
         (D.counts hub.new.store.disk).failures) }
 {

@@ -1,18 +1,22 @@
 -- What a client's bytes come to, and what it is sent.
 use Rattle.std.proofs.Common.{◌≡◌, ◌≤◌, ◌==◌, ℕ, true, false, List, [], ◌∷◌, ◌++◌, Option}
 use Rattle.std.proofs.Common.{Some, None, is_some, option_map, unwrap_or, refl, sym, ap, subst, ◌∙◌}
-use Rattle.std.proofs.Common.{append_assoc, append-nil, take, drop, length, arith}
+use Rattle.std.proofs.Common.{append_assoc, append-nil, inl, inr, take, drop, length, arith}
 use Rattle.std.specs.Io.KnownBytes.{Appends, Consumes, Keeps, prepend_known}
 use Rattle.std.proofs.lemmas.List.{map-append, take-append-drop}
 use Rattle.std.proofs.lemmas.Grind.{flat_map-append}
+use Rattle.ipc_disk.specs.Counts.{Counts}
 use Rattle.ipc_disk.specs.Medium.{Image, Medium}
+use Rattle.ipc_store.specs.declared.fault.CommitError.{CommitError}
+use Rattle.ipc_store.specs.declared.fault.CommitError.TheVariants as commit
 use Rattle.ipc_hub.specs.Clients.{consume}
 use Rattle.ipc_hub.specs.View.{ConnectionView, HubView, StoredHub, connection_of, is_connected, output_of}
+use Rattle.ipc_hub.specs.Relations.Faults.{FailsWithin, Halts, HaltsFeed}
 use Rattle.ipc_hub.specs.Relations.Matches.{ServesFeed, Simulates}
 use Rattle.ipc_server.specs.Acts.{Piece, after, all_of, feeds, joined, sends}
 use Rattle.ipc_server.specs.Acts.Act.{Consumes as to_consume, Feeds}
-use Rattle.ipc_server.specs.Runs.{RunsCalls, FeedsInput, Sends, WritesOutput}
-use Rattle.ipc_server.proofs.Going.{makes-both, makes-none, makes-one, sends-both, sends-none, sends-one}
+use Rattle.ipc_server.specs.Runs.{RunsCalls, FeedsInput, Sends, StopsAt, WritesOutput}
+use Rattle.ipc_server.proofs.Going.{breaks-at, goes-none, makes-both, makes-none, makes-one, sends-both, sends-none, sends-one}
 
 -- ---- known bytes
 
@@ -145,3 +149,16 @@ module _ {D : Type 0} (medium : D → Medium) (conn moment : ℕ) where
   pub hears-none : (law : (d : D) (image : Image) → (medium d).images_since (medium d).moment image → (medium d).images_now image)
       (hub : StoredHub D) (known : Option (List ℕ)) → FeedsInput medium conn moment hub hub known known
   hears-none law hub known limits h m = ([], makes-none medium law moment limits hub h m, consumes-none known)
+
+  -- a feed was refused before it did anything else, or it failed when some of the bytes were taken
+  module _ (law : (d : D) (image : Image) → (medium d).images_since (medium d).moment image → (medium d).images_now image) (counts : D → Counts)
+      (old new : StoredHub D) (bytes : List ℕ) where
+    failed : (e : CommitError) (w : FailsWithin medium counts old new conn bytes moment e) → Halts medium counts w.fed new e
+    failed commit.Device w = w.fails
+    failed commit.Stopped w = inr w.fails
+
+    pub feed-breaks : (e : CommitError) → HaltsFeed medium counts old new conn bytes moment e → StopsAt medium counts moment old new e
+    feed-breaks e (inl halts) = breaks-at medium counts moment old old new e (goes-none medium law moment old) halts
+    feed-breaks e (inr w) =
+        breaks-at medium counts moment old w.fed new e
+        (hears-goes old w.fed None None (hears-one old w.fed bytes w.taken None w.feeds)) (failed e w)

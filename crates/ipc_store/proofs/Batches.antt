@@ -7,6 +7,7 @@ use Rattle.ipc_wire.specs.Spelling.{opcode_of, fields_of, request_bytes}
 use Rattle.ipc_engine.specs.Event.{PlainEvent, Connect, Call, Interrupt, Tick, Exit, Restart, moment_of}
 use Rattle.ipc_image.specs.Format.{longest_record}
 use Rattle.ipc_image.specs.Records.{record_bytes, details, text_of, HasDetails, HasRecord}
+use Rattle.ipc_store.specs.Batch.{tick_record}
 use Rattle.ipc_store.specs.Relations.Batch.{IsFilled}
 
 -- what means something in the buffer are the length and the records
@@ -59,12 +60,12 @@ records_behind old front new rec rest len least within four is =
     ∙ ap (drop 4) (take_at all rest (len + length rec) size) ∙ drop_at front (drop 4 (take len old) ++ rec) 4 four
 
 -- a record has its length, its kind, its moment and its details
-pub record-length : (e : PlainEvent) → length (record_bytes e) ≡ 13 + length (details e)
+pub record-length : (e : PlainEvent) → length (record_bytes e) ≡ tick_record + length (details e)
 unfolding record_bytes
 record-length e = omega (arith, length-append (to_be_bytes w32 (9 + length (details e))) (text_of e), length-append (to_be_bytes w64 (moment_of e)) (details e))
 
--- the details of an event have 8452 bytes at most: a pid, a serial, an opcode and 8443 bytes of fields
-details-most : (e : PlainEvent) → HasDetails e → length (details e) ≤ 8452
+-- the details of a call are the longest: a pid, a serial, an opcode and its fields
+details-most : (e : PlainEvent) → HasDetails e → tick_record + length (details e) ≤ longest_record
 details-most (Connect cred serial moment) has =
     omega (
       arith,
@@ -86,10 +87,10 @@ details-most Restart has = omega arith
 pub record-most : (e : PlainEvent) → HasRecord e → length (record_bytes e) ≤ longest_record
 record-most e has = omega (arith, record-length e, details-most e has.details)
 
--- a record goes into the bytes from a place on, if one of the greatest length does
-pub record-goes : (e : PlainEvent) (bytes : List ℕ) (len : ℕ) → len + longest_record ≤ length bytes → length (record_bytes e) ≤ longest_record
+-- a record goes into the bytes from a place on, if there are as many as it has
+pub record-goes : (e : PlainEvent) (bytes : List ℕ) (len : ℕ) → len + length (record_bytes e) ≤ length bytes → length (record_bytes e) ≤ longest_record
     → (length (record_bytes e) ≤ length (take (length bytes - len) (drop len bytes))) × (9 + length (details e) < 2 ^ 32)
 record-goes e bytes len room most = (
-  omega (arith, room, most, length-take (length bytes - len) (drop len bytes), length-drop len bytes),
+  omega (arith, room, length-take (length bytes - len) (drop len bytes), length-drop len bytes),
   omega (arith, record-length e, most),
 )

@@ -1,5 +1,5 @@
 -- What the crates above cite of a store: which events the bytes of a batch hold, which state an image stands for, what a list
--- of calls accepts, and for how many events a store is ready.
+-- of calls accepts, and how many events and bytes a store still takes.
 use Rattle.std.proofs.Common.{◌≡◌, ◌+◌, ◌-◌, ◌≤◌, ◌<◌, ◌^◌, ℕ, Bool, true, false, List, [], ◌∷◌, ◌++◌, length, drop, map, refl, sym, ap, subst, ◌∙◌, arith}
 use Rattle.std.specs.Prelude.{if◌then◌else◌, All}
 use Rattle.std.proofs.lemmas.List.{drop_at, length-append}
@@ -12,15 +12,16 @@ use Rattle.ipc_disk.specs.Medium.{Image, Medium}
 use Rattle.ipc_disk.specs.Standing.{sector_at}
 use Rattle.ipc_journal.proofs.CallerLemmas.{Holds-one}
 use Rattle.ipc_state.specs.State.{State}
-use Rattle.ipc_engine.specs.Event.{PlainEvent}
+use Rattle.ipc_engine.specs.Event.{PlainEvent, Exit, Tick}
 use Rattle.ipc_engine.specs.Step.{run}
+use Rattle.ipc_image.specs.Format.{longest_record}
 use Rattle.ipc_image.specs.Records.{record_bytes, HasRecord, BeginsWith}
 use Rattle.ipc_image.proofs.CallerLemmas.{one-superblock, one-record, record-read, stand-one}
 use Rattle.ipc_image.specs.Saved.{StandForState}
-use Rattle.ipc_store.specs.Batch.{records_of, batch_bytes, AreBatch}
+use Rattle.ipc_store.specs.Batch.{records_of, batch_bytes, exit_record, tick_record, AreBatch}
 use Rattle.ipc_store.specs.Histories.{Takes}
 use Rattle.ipc_store.specs.Image.{journal_range, layout_of, events_of, epoch_at, HasObjects, HasBatches, HasBase, StandsFor}
-use Rattle.ipc_store.specs.View.{StoreView, IsReadyFor, numbers_used}
+use Rattle.ipc_store.specs.View.{StoreView, HasRoomFor, events_left, numbers_used}
 use Rattle.ipc_store.proofs.Batches.{record-length, record-most}
 use Rattle.ipc_store.specs.Relations.Matches.{StoreMatches}
 use Rattle.ipc_store.proofs.Committing as committing
@@ -116,37 +117,57 @@ pub Takes-both : {D : Type 0} (medium : D → Medium) (first mid last : StoreVie
     → Takes medium first events mid → Takes medium mid others last → Takes medium first (events ++ others) last
 Takes-both = lives.takes-both
 
--- ---- for how many events a store is ready
+-- ---- how many events a store still takes
 
 -- what is left of so many events, if the store has stopped or not
 abbrev left_of : ℕ → Bool → ℕ
 left_of came stopped = if stopped then 0 else 2 ^ 64 - 1 - came
 
 -- a store that takes one more has not stopped
-left-goes-on : (came n : ℕ) (stopped : Bool) → 1 ≤ n → n ≤ left_of came stopped → stopped ≡ false
-left-goes-on came n true some fewer = absurd (omega (arith, some, fewer))
-left-goes-on came n false some fewer = refl
+still-going : (came n : ℕ) (stopped : Bool) → 1 ≤ n → n ≤ left_of came stopped → stopped ≡ false
+still-going came n true some fewer = absurd (omega (arith, some, fewer))
+still-going came n false some fewer = refl
 
 -- and so many more can be counted
-left-counts : (came n : ℕ) (stopped : Bool) → 1 ≤ n → n ≤ left_of came stopped → came + n < 2 ^ 64
-left-counts came n true some fewer = absurd (omega (arith, some, fewer))
-left-counts came n false some fewer = omega (arith, some, fewer)
+still-counted : (came n : ℕ) (stopped : Bool) → 1 ≤ n → n ≤ left_of came stopped → came + n < 2 ^ 64
+still-counted came n true some fewer = absurd (omega (arith, some, fewer))
+still-counted came n false some fewer = omega (arith, some, fewer)
 
--- it has not stopped
-pub ready-goes-on : {D : Type 0} (store : StoreView D) (n : ℕ) → 1 ≤ n → IsReadyFor store n → store.stopped ≡ false
-ready-goes-on store n some ready = left-goes-on (store.confirmed + store.waiting) n store.stopped some ready.1
+-- one that takes so many events more has not stopped
+pub left-goes-on : {D : Type 0} (store : StoreView D) → 1 ≤ events_left store → store.stopped ≡ false
+left-goes-on store some = still-going (store.confirmed + store.waiting) 1 store.stopped (omega arith) some
 
 -- so many events more can be counted
-pub ready-counts : {D : Type 0} (store : StoreView D) (n : ℕ) → 1 ≤ n → IsReadyFor store n → store.confirmed + store.waiting + n < 2 ^ 64
-ready-counts store n some ready = left-counts (store.confirmed + store.waiting) n store.stopped some ready.1
+pub left-counts : {D : Type 0} (store : StoreView D) (n : ℕ) → 1 ≤ n → n ≤ events_left store → store.confirmed + store.waiting + n < 2 ^ 64
+left-counts store n some left = still-counted (store.confirmed + store.waiting) n store.stopped some left
 
--- after a step it is ready for one event less
-pub ready-less : {D : Type 0} (old new : StoreView D) (e : PlainEvent) (n : ℕ) → HasRecord e → new.records ≡ old.records ++ record_bytes e
-    → new.waiting ≡ old.waiting + 1 → new.confirmed ≡ old.confirmed → new.stopped ≡ old.stopped → IsReadyFor old (n + 1) → IsReadyFor new n
-ready-less old new e n has records waiting confirmed stopped ready =
-    let going : old.stopped ≡ false = ready-goes-on old (n + 1) (omega arith) ready in
-    let counts : old.confirmed + old.waiting + (n + 1) < 2 ^ 64 = ready-counts old (n + 1) (omega arith) ready in
-    let fewer : n ≤ 2 ^ 64 - 1 - (new.confirmed + new.waiting) = omega (arith, counts, waiting, confirmed) in (
-      omega (arith, ready.0, ap length records, length-append old.records (record_bytes e), record-most e has),
-      subst (λ (b : Bool). n ≤ left_of (new.confirmed + new.waiting) b) (sym (stopped ∙ going)) fewer,
-    )
+-- after a step it takes one event less
+pub left-less : {D : Type 0} (old new : StoreView D) (n : ℕ) → new.waiting ≡ old.waiting + 1 → new.confirmed ≡ old.confirmed
+    → new.stopped ≡ old.stopped → n + 1 ≤ events_left old → n ≤ events_left new
+left-less old new n waiting confirmed stopped left =
+    let going : old.stopped ≡ false = left-goes-on old (omega (arith, left)) in
+    let counts : old.confirmed + old.waiting + (n + 1) < 2 ^ 64 = left-counts old (n + 1) (omega arith) left in
+    let fewer : n ≤ 2 ^ 64 - 1 - (new.confirmed + new.waiting) = omega (arith, counts, waiting, confirmed) in
+    subst (λ (b : Bool). n ≤ left_of (new.confirmed + new.waiting) b) (sym (stopped ∙ going)) fewer
+
+-- after a commit as many as before it
+pub left-same : {D : Type 0} (old new : StoreView D) → old.stopped ≡ false → new.stopped ≡ false
+    → new.confirmed + new.waiting ≡ old.confirmed + old.waiting → events_left new ≡ events_left old
+left-same old new going goes same = rw (going, goes, same) refl
+
+-- ---- how much room there is
+
+-- after a step, so much as its record leaves
+pub room-less : {D : Type 0} (old new : StoreView D) (e : PlainEvent) (bytes : ℕ) → new.records ≡ old.records ++ record_bytes e
+    → HasRoomFor old (length (record_bytes e) + bytes) → HasRoomFor new bytes
+room-less old new e bytes records room = omega (arith, room, ap length records, length-append old.records (record_bytes e))
+
+-- the records of a tick and of an exit have their lengths, and none is longer than the longest
+pub tick-length : (moment : ℕ) → length (record_bytes (Tick moment)) ≡ tick_record
+tick-length moment = record-length (Tick moment)
+
+pub exit-length : (pid moment : ℕ) → length (record_bytes (Exit pid moment)) ≡ exit_record
+exit-length pid moment = record-length (Exit pid moment)
+
+pub any-length : (e : PlainEvent) → HasRecord e → length (record_bytes e) ≤ longest_record
+any-length = record-most

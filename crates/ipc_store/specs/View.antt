@@ -1,5 +1,5 @@
 -- What a store shows.
-use Rattle.std.specs.Prelude.{◌≡◌, ◌≤◌, ◌+◌, ◌-◌, ◌*◌, ◌^◌, ℕ}
+use Rattle.std.specs.Prelude.{◌≡◌, ◌≤◌, ◌+◌, ◌-◌, ◌^◌, ℕ}
 use Rattle.std.specs.Prelude.{Bool, true, false, if◌then◌else◌, List, [], length, Result, OnOk, OnErr}
 use Rattle.ipc_disk.specs.Counts.{Counts}
 use Rattle.ipc_engine.specs.Engine.{Machine}
@@ -53,9 +53,13 @@ store_view disk machine checkpoint journal batch confirmed stopped = record {
   stopped = stopped;
 }
 
--- a record of the greatest length still fits into the batch
+-- records of so many bytes still fit into the batch
+abbrev pub HasRoomFor : {D : Type 0} → StoreView D → ℕ → Type 0
+HasRoomFor store bytes = 4 + length store.records + bytes ≤ most_bytes
+
+-- a record of the greatest length still fits into it
 abbrev pub HasRoom : {D : Type 0} → StoreView D → Type 0
-HasRoom store = 4 + length store.records + longest_record ≤ most_bytes
+HasRoom store = HasRoomFor store longest_record
 
 abbrev pub IsStopped : {D : Type 0} → StoreView D → Type 0
 IsStopped store = store.stopped ≡ true
@@ -87,9 +91,9 @@ pub record Spends {D : Type 0} (counts : D → Counts) (n : ℕ) (old new : Stor
   pub failures : (counts new.disk).failures ≡ (counts old.disk).failures
   pub numbers : numbers_used new ≤ numbers_used old + n
 
--- the longest records of so many events fit into the batch, and it takes so many events more
-abbrev pub IsReadyFor : {D : Type 0} → StoreView D → ℕ → Type 0
-IsReadyFor store n = (4 + length store.records + n * longest_record ≤ most_bytes) × (n ≤ events_left store)
+-- records of so many bytes fit into the batch, and it takes so many events more
+abbrev pub IsReadyFor : {D : Type 0} → StoreView D → ℕ → ℕ → Type 0
+IsReadyFor store bytes events = HasRoomFor store bytes × (events ≤ events_left store)
 
 -- the batch that waits fits into the journal
 abbrev pub HasPlace : {D : Type 0} → StoreView D → Type 0

@@ -3,17 +3,22 @@
 ghost use Rattle.std.specs.Prelude.{◌≡◌, ◌≤◌, ◌+◌, ◌-◌, ◌++◌, [], length, take, drop};
 ghost use Rattle.byteorder.specs.Endian.{big_bytes};
 ghost use Rattle.ipc_engine.specs.View.{plain_event};
-ghost use Rattle.ipc_image.specs.Format.{longest_record};
 ghost use Rattle.ipc_image.specs.Records.{record_bytes, HasRecord};
-ghost use Rattle.ipc_store.specs.Batch.{most_bytes};
+ghost use Rattle.ipc_store.specs.Batch.{most_bytes, most_records, tick_record};
 
 use byteorder::{BigEndian, ByteOrder};
 use ipc_engine::Event;
-use ipc_image::{FORMAT, LONGEST_RECORD, record_len, write_event};
+use ipc_image::{FORMAT, record_len, write_event};
 use std::marker::Model;
 
 /// The most bytes of a batch, with its length.
 pub(crate) const MOST_BYTES: usize = FORMAT.batch as usize;
+
+/// The bytes of the record of a tick, than which none is shorter: its length, its kind and its moment.
+pub const TICK_RECORD: usize = 13;
+
+/// The bytes of the record of an exit: it has the pid besides.
+pub const EXIT_RECORD: usize = TICK_RECORD + 4;
 
 /// The bytes of a batch as they go to the journal: each record is written straight into its place.
 #[derive(Drop)]
@@ -54,25 +59,18 @@ impl Batch {
         }
     }
 
-    /// Whether a record of the greatest length fits.
-    pub(crate) fn has_room(&self) -> bool
-        ensures { IsTrue result ↔ (4 + length self.now.records + longest_record ≤ most_bytes) }
+    /// Whether records of so many bytes fit.
+    pub(crate) fn has_room_for(&self, bytes: usize) -> bool
+        ensures { IsTrue result ↔ (4 + length self.now.records + bytes ≤ most_bytes) }
     {
-        self.has_room_for(1)
-    }
-
-    /// Whether so many records of the greatest length fit.
-    pub(crate) fn has_room_for(&self, events: usize) -> bool
-        ensures { IsTrue result ↔ (4 + length self.now.records + events * longest_record ≤ most_bytes) }
-    {
-        events <= (MOST_BYTES - self.len) / LONGEST_RECORD as usize
+        bytes <= MOST_BYTES - self.len
     }
 
     /// How many events wait.
     pub(crate) fn count(&self) -> u64
         ensures count { result ≡ self.now.count }
-        ensures few { 13 * self.now.count + 4 ≤ most_bytes }
-        ensures some { 13 * self.now.count ≤ length self.now.records }
+        ensures few { tick_record * self.now.count ≤ most_records }
+        ensures some { tick_record * self.now.count ≤ length self.now.records }
         ensures none { self.now.count ≡ 0 → self.now.records ≡ [] }
     {
         self.count
@@ -80,7 +78,7 @@ impl Batch {
 
     /// Adds the record of an event.
     pub(crate) fn push(&mut self, event: &Event<'_>)
-        requires room { 4 + length self.old.records + longest_record ≤ most_bytes }
+        requires room { 4 + length self.old.records + length (record_bytes (plain_event event.now)) ≤ most_bytes }
         ensures record { HasRecord (plain_event event.now) }
         ensures records { self.new.records ≡ self.old.records ++ record_bytes (plain_event event.now) }
         ensures count { self.new.count ≡ self.old.count + 1 }
@@ -112,11 +110,11 @@ impl Batch {
 fn put_record(bytes: &mut [u8], len: usize, event: &Event<'_>) -> usize
     requires size { length bytes.old ≡ most_bytes }
     requires least { 4 ≤ len }
-    requires room { len + longest_record ≤ most_bytes }
+    requires room { len + length (record_bytes (plain_event event.now)) ≤ most_bytes }
     ensures record { HasRecord (plain_event event.now) }
     ensures len { result ≡ len + length (record_bytes (plain_event event.now)) }
-    ensures least { len + 13 ≤ result }
-    ensures most { result ≤ len + longest_record }
+    ensures least { len + tick_record ≤ result }
+    ensures most { result ≤ most_bytes }
     ensures size { length bytes.new ≡ most_bytes }
     ensures field { take 4 bytes.new ≡ big_bytes 4 (result - 4) }
     ensures records { drop 4 (take result bytes.new)

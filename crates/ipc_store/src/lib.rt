@@ -12,6 +12,7 @@ mod places;
 mod replay;
 mod store;
 
+pub use batch::{EXIT_RECORD, TICK_RECORD};
 pub use fault::{CommitError, FormatError, OpenError, StepError};
 pub use laws::{
     a_batch_is_of_one_list, a_stop_leaves_what_was_acknowledged, an_image_stands_for_one_state,

@@ -17,7 +17,7 @@ ghost use Rattle.ipc_engine.specs.Step.{step as step_on, run};
 ghost use Rattle.ipc_engine.specs.View.{plain_event};
 ghost use Rattle.ipc_image.specs.Records.{record_bytes};
 ghost use Rattle.ipc_store.specs.Histories.{Takes};
-ghost use Rattle.ipc_store.specs.View.{HasRoom, HasPlace, HasTurned, IsStopped, IsAtLastEpoch, IsReadyFor};
+ghost use Rattle.ipc_store.specs.View.{HasRoom, HasRoomFor, HasPlace, HasTurned, IsStopped, IsAtLastEpoch};
 ghost use Rattle.ipc_store.specs.View.{events_left, save_sectors, store_view, IsCommitted, Spends};
 ghost use Rattle.ipc_store.specs.Relations.Matches.{AreOnDisk, MachineMatches, StoreMatches, StandsForEither};
 
@@ -26,7 +26,7 @@ use crate::fault::{CommitError, StepError};
 use ipc_checkpoint::Checkpoint;
 use ipc_disk::{DiskFault, SectorDisk};
 use ipc_engine::{Engine, Event};
-use ipc_image::objects_of;
+use ipc_image::{LONGEST_RECORD, objects_of};
 use ipc_journal::Journal;
 use std::alloc::AllocError;
 use std::marker::Model;
@@ -106,11 +106,18 @@ impl<D: SectorDisk> Store<D> {
         self.confirmed
     }
 
-    /// Whether the longest record still fits into what waits: the condition of `step`.
+    /// Whether the longest record still fits into what waits, and so that of any event.
     pub fn has_room(&self) -> bool
         ensures { IsTrue result ↔ HasRoom self.now }
     {
-        self.batch.has_room()
+        self.has_room_for(LONGEST_RECORD as usize)
+    }
+
+    /// Whether records of so many bytes still fit into what waits.
+    pub fn has_room_for(&self, bytes: usize) -> bool
+        ensures { IsTrue result ↔ HasRoomFor self.now bytes }
+    {
+        self.batch.has_room_for(bytes)
     }
 
     /// How many more events it takes until it is opened again; none after it has stopped.
@@ -123,18 +130,11 @@ impl<D: SectorDisk> Store<D> {
         u64::MAX - (self.confirmed + self.batch.count())
     }
 
-    /// Whether the longest records of so many events still fit into what waits, and it takes so many events more. If
-    /// so, so many steps one after another have room, and none of them is `Stopped`.
-    pub fn is_ready_for(&self, events: usize) -> bool
-        ensures { IsTrue result ↔ IsReadyFor self.now events }
-    {
-        self.batch.has_room_for(events) && events as u64 <= self.events_left()
-    }
-
     /// One step on an event, which then waits for a commit. It makes no call on the disk. After a refusal nothing has
     /// changed. It is `Stopped` after a failed commit, and once 18446744073709551615 events have come.
     pub fn step(&mut self, event: Event<'_>) -> Result<(), StepError>
-        requires room { HasRoom self.old }
+        // Its record has room among those that wait.
+        requires room { HasRoomFor self.old (length (record_bytes (plain_event event))) }
         requires process { IsForProcess self.old.machine.state (plain_event event) }
         // The machine takes the step, and the event waits.
         ensures state { OnOk result (self.new.machine.state

@@ -1,6 +1,6 @@
 -- The code's hub matches a hub of the definitions when so many events are confirmed: the state is the same, and each
 -- number has a connection and a client that match.
-use Rattle.std.specs.Prelude.{◌≡◌, ℕ, ◌+◌, ◌<◌, ◌≤◌, ◌^◌, Bool, List, ◌++◌, length, drop}
+use Rattle.std.specs.Prelude.{◌≡◌, ◌⊎◌, ℕ, ◌+◌, ◌<◌, ◌≤◌, ◌^◌, Bool, List, ◌++◌, length, drop}
 use Rattle.std.specs.Prelude.{All}
 use Rattle.ipc_base.specs.declared.limits.Limits.{Limits}
 use Rattle.ipc_base.specs.Table.{ArePaired}
@@ -12,6 +12,7 @@ use Rattle.ipc_store.specs.View.{StoreView}
 use Rattle.ipc_hub.specs.Clients.{Frame, Client, Clients, accepted, all_bytes, confirmed_bytes, own_process, shown}
 use Rattle.ipc_hub.specs.Clients.{take_in, feed}
 use Rattle.ipc_hub.specs.View.{ConnectionView, HubView, StoredHub, kept}
+use Rattle.ipc_hub.specs.Relations.Delivery.{unanswered_at}
 
 -- the bytes of a reply that is not too long for its length field
 abbrev pub IsFrame : List ℕ → Type 0
@@ -72,6 +73,13 @@ ServesFeed medium old new conn bytes moment =
     (limits : Limits) (h : Clients) → StoredMatches limits old h
     → (refused : List Bool) × Comes medium limits old new h (feed limits h conn bytes moment refused)
 
+-- the same of bytes that are taken in once time has passed
+abbrev pub ServesBytes : {D : Type 0} → (D → Medium) → StoredHub D → StoredHub D → ℕ → List ℕ → ℕ
+    → Type 0
+ServesBytes medium old new conn bytes moment =
+    (limits : Limits) (h : Clients) → StoredMatches limits old h
+    → (refused : List Bool) × Comes medium limits old new h (take_in limits h conn bytes moment refused)
+
 -- ---- within a call
 
 -- Events are pending in a store that goes on; nothing was committed, and its disk is as it was. What a crash leaves at
@@ -99,20 +107,27 @@ pub record Accepts {D : Type 0} (medium : D → Medium) (old new : StoreView D) 
   pub adds : next.events ≡ h.events ++ events
   pub pends : Pends medium old events new
 
--- the hub matches, and the last event is not confirmed yet
-pub record IsAhead (limits : Limits) (confirmed : ℕ) (v : HubView) (h : Clients) : Type 0 where
+-- a call of the process of a connection waits, and the moment has come: the next of its requests takes no memory
+pub record Awaits (v : HubView) (conn moment : ℕ) : Type 0 where
+  pub waits : 0 < unanswered_at v conn
+  pub come : moment ≤ v.state.clock
+
+-- The hub matches, and no frame that the connection's next request brings is seen at once: the last event is not
+-- confirmed yet, or that request comes to one more.
+pub record IsAhead (limits : Limits) (confirmed : ℕ) (v : HubView) (conn moment : ℕ) (h : Clients) : Type 0 where
   pub matches : HubMatches limits confirmed v h
-  pub later : confirmed < accepted h
+  pub later : (confirmed < accepted h) ⊎ Awaits v conn moment
 
 -- the hub of the definitions comes to another, which the code's then matches, and its events wait in the store
 pub record Follows {D : Type 0} (medium : D → Medium) (limits : Limits) (confirmed : ℕ) (old new : StoredHub D)
-    (h next : Clients) : Type 0 where
-  pub ahead : IsAhead limits confirmed new.hub next
+    (conn moment : ℕ) (h next : Clients) : Type 0 where
+  pub ahead : IsAhead limits confirmed new.hub conn moment next
   pub accepts : Accepts medium old.store new.store h next
 
 -- bytes of a connection are taken in, some requests in which may have been refused for memory
 abbrev pub TakesIn : {D : Type 0} → (D → Medium) → StoredHub D → StoredHub D → ℕ → List ℕ → ℕ
     → Type 0
 TakesIn medium old new conn bytes moment =
-    (limits : Limits) (confirmed : ℕ) (h : Clients) → IsAhead limits confirmed old.hub h
-    → (refused : List Bool) × Follows medium limits confirmed old new h (take_in limits h conn bytes moment refused)
+    (limits : Limits) (confirmed : ℕ) (h : Clients) → IsAhead limits confirmed old.hub conn moment h
+    → (refused : List Bool)
+    × Follows medium limits confirmed old new conn moment h (take_in limits h conn bytes moment refused)

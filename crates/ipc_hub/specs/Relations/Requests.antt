@@ -14,8 +14,9 @@ use Rattle.ipc_engine.specs.Bytes.{asks}
 use Rattle.ipc_engine.specs.Engine.{IsForProcess, event_takes_memory}
 use Rattle.ipc_engine.specs.Event.{PlainEvent, Exit}
 use Rattle.ipc_engine.specs.Step.{step}
-use Rattle.ipc_image.specs.Records.{HasRecord}
-use Rattle.ipc_store.specs.View.{StoreView, IsReadyFor}
+use Rattle.ipc_image.specs.Format.{longest_record}
+use Rattle.ipc_image.specs.Records.{record_bytes, HasRecord}
+use Rattle.ipc_store.specs.View.{StoreView, HasRoomFor, IsReadyFor, events_left}
 use Rattle.ipc_hub.specs.declared.serving.Asked.{Asked}
 use Rattle.ipc_hub.specs.declared.serving.Asked.TheVariants as asked
 use Rattle.ipc_hub.specs.Hub.{accept, event_of}
@@ -23,19 +24,34 @@ use Rattle.ipc_hub.specs.View.{ConnectionView, HubView, StoredHub, HasNoFrame}
 use Rattle.ipc_hub.specs.Relations.Rows.{Becomes, Table, hub_of, hub_view, stored_view}
 use Rattle.ipc_hub.specs.Relations.Delivery.{last_frames, unanswered_at, owed_to, view_endpoint, HasSpaceFor}
 use Rattle.ipc_hub.specs.Relations.Invariant.{HubInvariant, Continues}
-use Rattle.ipc_hub.specs.Relations.Matches.{Adds, Pends, TakesIn}
+use Rattle.ipc_hub.specs.Relations.Matches.{Adds, Awaits, Pends, TakesIn}
 
--- what holds of a hub holds, and so many events have room in its store
-pub record IsReady {D : Type 0} (v : StoredHub D) (n : ℕ) : Type 0 where
+-- what holds of a hub holds, and records of so many bytes and so many events have room in its store
+pub record IsReady {D : Type 0} (v : StoredHub D) (bytes count : ℕ) : Type 0 where
   pub invariant : HubInvariant v.hub
-  pub events : IsReadyFor v.store n
+  pub events : IsReadyFor v.store bytes count
+
+-- What holds of a hub holds, and its store has room for the next request of a connection. If that leaves no frame, so
+-- that the one after it is taken, its event can still be counted: two events can, or one if a call waits already.
+pub record CanTake {D : Type 0} (v : StoredHub D) (conn moment : ℕ) : Type 0 where
+  pub invariant : HubInvariant v.hub
+  pub room : HasRoomFor v.store longest_record
+  pub left : (2 ≤ events_left v.store) ⊎ (Awaits v.hub conn moment × (1 ≤ events_left v.store))
+
+-- A connection keeps no frame after it has taken bytes, and the store has no room for the next of its requests: one
+-- that came with these bytes waits, and none waited before.
+pub record RunsOut {D : Type 0} (old new : StoredHub D) (conn moment taken : ℕ) : Type 0 where
+  pub some : 0 < taken
+  pub none : unanswered_at old.hub conn ≡ 0
+  pub awaits : Awaits new.hub conn moment
+  pub left : 1 ≤ events_left new.store
 
 -- A request of the connection with a number has room: its event in the store, and its reply behind what its process is
 -- owed.
 pub record HasRoom {D : Type 0} (v : StoredHub D) (conn : ℕ) : Type 0 where
   pub passed : ArePassed v.hub.limits
   pub sound : IsSound v.hub.limits v.hub.state
-  pub ready : IsReady v 1
+  pub ready : IsReady v longest_record 1
   pub space : HasSpaceFor v.hub (longest_reply v.hub.limits) conn
 
 -- A hub has accepted events: the same connections go on, and the events are pending in its store.
@@ -68,8 +84,9 @@ pub record Steps {D : Type 0} (medium : D → Medium) (old new : StoreView D) (e
   pub passed : ArePassed old.machine.limits
   pub sound : IsSound old.machine.limits old.machine.state
   pub pends : Pends medium old (e ∷ []) new
-  -- it is ready for one event less
-  pub less : (n : ℕ) → IsReadyFor old (n + 1) → IsReadyFor new n
+  -- it has room for so many bytes less, and takes one event less
+  pub room : (bytes : ℕ) → HasRoomFor old (length (record_bytes e) + bytes) → HasRoomFor new bytes
+  pub left : (n : ℕ) → n + 1 ≤ events_left old → n ≤ events_left new
 
 -- no process asks by an event, which needs no memory and may come at any time
 pub record IsQuiet (limits : Limits) (s : State) (e : PlainEvent) : Type 0 where
@@ -141,12 +158,12 @@ pub record Received {D : Type 0} (medium : D → Medium) (old new : StoreView D)
 
 -- The connection with a number keeps no frame after it has taken bytes. It kept none before, and no event came of them,
 -- or one event to which the reply is still to come, and no request of its process was unanswered before.
-pub record Waits {D : Type 0} (old new : StoreView D) (before after : Table) (conn : ℕ) : Type 0 where
+pub record Waits {D : Type 0} (old new : StoreView D) (before after : Table) (conn moment : ℕ) : Type 0 where
   pub empty : HasNoFrame (hub_view old.machine before) conn
   pub event : ((new ≡ old)
       × (unanswered_at (hub_view old.machine before) conn ≡ unanswered_at (hub_view new.machine after) conn))
-      ⊎ ((unanswered_at (hub_view old.machine before) conn ≡ 0) × (0 < unanswered_at (hub_view new.machine after) conn)
-      × (IsReadyFor old 2 → IsReadyFor new 1))
+      ⊎ ((unanswered_at (hub_view old.machine before) conn ≡ 0) × Awaits (hub_view new.machine after) conn moment
+      × (2 ≤ events_left old → 1 ≤ events_left new))
 
 -- The connection with a number has taken bytes, and what they complete was served.
 pub record Took {D : Type 0} (medium : D → Medium) (old new : StoreView D) (before after : Table) (conn : ℕ)
@@ -154,4 +171,4 @@ pub record Took {D : Type 0} (medium : D → Medium) (old new : StoreView D) (be
   pub continues : Continues (hub_view old.machine before) (hub_view new.machine after)
   pub bytes : TakesIn medium (stored_view old before) (stored_view new after) conn piece moment
   pub adds : Adds 1 old new
-  pub answers : HasNoFrame (hub_view new.machine after) conn → Waits old new before after conn
+  pub answers : HasNoFrame (hub_view new.machine after) conn → Waits old new before after conn moment

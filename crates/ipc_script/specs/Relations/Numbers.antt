@@ -31,4 +31,8 @@ bytes_in Stop = []
 
 -- a line uses so many numbers at most
 abbrev pub line_cost : PlainLine → ℕ
-line_cost line = 4 * (length (bytes_in line) + 1)
+line_cost line = 5 * (length (bytes_in line) + 1)
+
+-- and a script so many for each of its bytes
+abbrev pub byte_cost : ℕ
+byte_cost = 10

@@ -3,7 +3,7 @@ use Rattle.ipc_engine.specs.Engine.{Machine}
 use Rattle.ipc_engine.specs.View.{plain_event, plain_outcome}
 use Rattle.ipc_hub.specs.Relations.Rows.{hub_view}
 use Rattle.ipc_hub.proofs.Keeping.{quiet-space}
-use Rattle.ipc_store.proofs.CallerLemmas.{ready-less}
+use Rattle.ipc_store.proofs.CallerLemmas.{left-less, room-less}
 use Rattle.ipc_hub.proofs.serving.accept.Given.{Over}
 use Rattle.ipc_hub.proofs.serving.accept.Goals.{After-outcomes}
 use Rattle.ipc_hub.proofs.serving.accept.Goals as goal
@@ -29,5 +29,6 @@ returns-clause-steps g c =
       passed = s.passed;
       sound = s.was_sound;
       pends = record { disk = s.disk; stopped = s.running; checkpoint = s.checkpoint; confirmed = s.confirmed; waiting = s.waiting; takes = s.takes.0 };
-      less = λ n. ready-less c.args.store.now c.step.new.self (plain_event c.args.event) n c.requires.quiet.has s.records s.waiting s.confirmed s.running;
+      room = λ bytes. room-less c.args.store.now c.step.new.self (plain_event c.args.event) bytes s.records;
+      left = λ n. left-less c.args.store.now c.step.new.self n s.waiting s.confirmed s.running;
     }

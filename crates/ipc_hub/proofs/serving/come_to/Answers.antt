@@ -1,4 +1,4 @@
-use Rattle.std.proofs.Common.{◌≡◌, inl, inr, true, Option, refl, sym, ap, ◌∙◌, rules}
+use Rattle.std.proofs.Common.{◌≡◌, inl, inr, true, Option, refl, sym, ap, ◌∙◌, arith, rules}
 use Rattle.std.specs.Prelude.{option_map}
 use Rattle.ipc_base.proofs.CallerLemmas.{test_cases}
 use Rattle.ipc_wire.specs.View.{plain_request}
@@ -6,7 +6,7 @@ use Rattle.ipc_wire.specs.Stream.{first}
 use Rattle.ipc_wire.specs.Stream.PlainFrame.{Whole}
 use Rattle.ipc_engine.specs.Engine.{event_takes_memory}
 use Rattle.ipc_engine.specs.View.{plain_event}
-use Rattle.ipc_store.proofs.CallerLemmas.{ready-less}
+use Rattle.ipc_store.proofs.CallerLemmas.{any-length, left-less, room-less}
 use Rattle.ipc_hub.specs.Relations.Requests.{IsRequest, Steps}
 use Rattle.ipc_engine.specs.declared.event.Event.{Event}
 use Rattle.ipc_hub.proofs.serving.come_to.Given.{Over}
@@ -25,6 +25,9 @@ asks g c is = record {
   whole = front g c;
   event = sym (rw c.process.ensures at c.event_of.ensures.event) ∙ ap (option_map plain_event) is;
 }
+
+pub step-requires-clause-room : goal.step-requires-clause-room
+step-requires-clause-room g c = omega (arith, c.requires.ready.0, any-length (plain_event c.in-Some.event) c.in-Some.ensures.record)
 
 pub returns-in_default : goal.returns-in_default
 returns-in_default g c = (refl, inr (asks g (goal.at.returns-in_default g c).After-event_of c.in_default.is, refl))
@@ -51,6 +54,7 @@ returns-in-Ok g c =
       passed = s.passed;
       sound = s.was_sound;
       pends = record { disk = s.disk; stopped = s.running; checkpoint = s.checkpoint; confirmed = s.confirmed; waiting = s.waiting; takes = s.takes.0 };
-      less = λ n. ready-less c.args.store.now c.step.new.self e n c.in-Some.ensures.record s.records s.waiting s.confirmed s.running;
+      room = λ bytes. room-less c.args.store.now c.step.new.self e bytes s.records;
+      left = λ n. left-less c.args.store.now c.step.new.self n s.waiting s.confirmed s.running;
     } in
     (e, (asks g (goal.at.returns-in-Ok g c).After-event_of c.in-Some.is, steps))

@@ -1,6 +1,7 @@
 use Rattle.std.proofs.Common.{◌≢◌, refl, rules}
 use Rattle.ipc_engine.specs.Event.{Exit}
 use Rattle.ipc_engine.proofs.CallerLemmas.{exit-stays}
+use Rattle.ipc_store.proofs.CallerLemmas.{exit-length}
 use Rattle.ipc_hub.specs.Relations.Requests.{Happened}
 use Rattle.ipc_hub.specs.Relations.Rows.{hub_view}
 use Rattle.ipc_hub.proofs.Keeping.{put-others, quiet-goes-on, quiet-happens}
@@ -12,6 +13,12 @@ use Rattle.ipc_hub.proofs.serving.leave.Goals as goal
 happened : (g : Over) (c : After-accept g) → Happened (hub_view c.args.store.now.machine c.args.connections.now)
     (hub_view c.accept.new.store.machine c.accept.new.connections) (Exit c.in-Some.pid.0 c.args.moment.0)
 happened g c = quiet-happens g.D.SectorDisk.medium c.args.store.now c.accept.new.store _ _ _ c.accept.ensures.steps c.accept.ensures.replies
+
+pub accept-requires-clause-ready : goal.accept-requires-clause-ready
+accept-requires-clause-ready g c = record {
+  invariant = c.requires.ready.invariant;
+  events = rw (exit-length c.in-Some.pid.0 c.args.moment.0) c.requires.ready.events;
+}
 
 pub returns-in-Some-clause-accepts : goal.returns-in-Some-clause-accepts
 returns-in-Some-clause-accepts g c =

@@ -5,7 +5,8 @@ use Rattle.ipc_hub.specs.Relations.Delivery.{with_answer, HasSpaceToAnswer}
 use Rattle.ipc_hub.specs.Relations.Invariant.{AreApart}
 use Rattle.ipc_hub.specs.Relations.Rows.{stored_view}
 use Rattle.ipc_hub.proofs.Taking.{over-takes, same-adds}
-use Rattle.ipc_hub.proofs.Receiving.{more-took, served-space, served-apart, served-took, refused-space, refused-took, broken-live, broken-took}
+use Rattle.ipc_hub.proofs.Receiving.{more-took, served-space, served-apart, served-took}
+use Rattle.ipc_hub.proofs.Receiving.{none-waits, refused-space, refused-took, broken-live, broken-ready, broken-took}
 use Rattle.ipc_hub.proofs.serving.take.Goals as goal
 
 -- the outcomes that a store lends
@@ -37,16 +38,22 @@ refuse-requires g c = refused-space g.met.D.SectorDisk.only_now (rw c.in-NoMemor
 pub break_off-requires-clause-live : goal.break_off-requires-clause-live
 break_off-requires-clause-live g c = broken-live (rw c.in-Broken.is at c.receive-count.ensures.received)
 
+pub break_off-requires-clause-ready : goal.break_off-requires-clause-ready
+break_off-requires-clause-ready g c = broken-ready (rw c.in-Broken.is at c.receive-count.ensures.received) c.requires.ready.events
+
 pub returns-in-More-clause-took : goal.returns-in-More-clause-took
 returns-in-More-clause-took g c = more-took g.met.D.SectorDisk.only_now (rw c.in-More.is at c.receive-count.ensures.received)
 
 pub returns-in-Served-clause-took : goal.returns-in-Served-clause-took
 returns-in-Served-clause-took g c =
     served-took (rw c.in-Served.is at c.receive-count.ensures.received) c.answer.new.connections
-    (rw (sym (outcomes-are c.engine.ensures c.outcomes.ensures)) at c.answer.ensures)
+    (rw (sym (outcomes-are c.engine.ensures c.outcomes.ensures)) at c.answer.ensures) c.event_sets_clock.ensures
 
 pub returns-in-NoMemory-clause-took : goal.returns-in-NoMemory-clause-took
-returns-in-NoMemory-clause-took g c = rw c.refuse.ensures (refused-took g.met.D.SectorDisk.only_now (rw c.in-NoMemory.is at c.receive-count.ensures.received))
+returns-in-NoMemory-clause-took g c =
+    let received = rw c.in-NoMemory.is at c.receive-count.ensures.received in
+    let late = c.late_tick_does_nothing.ensures in
+    rw c.refuse.ensures (refused-took g.met.D.SectorDisk.only_now received (none-waits g.met.D.SectorDisk.only_now received late.tick late.sound))
 
 pub returns-in-Broken-clause-took : goal.returns-in-Broken-clause-took
 returns-in-Broken-clause-took g c =

@@ -1,14 +1,18 @@
-use Rattle.std.proofs.Common.{◌≡◌, ◌⊎◌, ◌+◌, ◌-◌, ◌<◌, ℕ, false, List, ◌++◌, length, take, drop, true, refl, sym, ap, ◌∙◌, subst, arith, inl, inr, rules}
+use Rattle.std.proofs.Common.{◌≡◌, ◌⊎◌, ◌+◌, ◌-◌, ◌<◌, ◌≤◌, ℕ, false, List, ◌++◌, length, take, drop, true, refl, sym, ap, ◌∙◌, subst, arith, inl, inr, rules}
+use Rattle.std.proofs.Math.Nat.{eq-zero-or-pos}
 use Rattle.std.proofs.Math.Seq.{take-add}
 use Rattle.std.proofs.lemmas.List.{take_all, length-drop}
-use Rattle.ipc_store.specs.View.{StoreView, IsReadyFor}
-use Rattle.ipc_hub.specs.Relations.Matches.{TakesIn}
-use Rattle.ipc_hub.specs.Relations.Rows.{hub_view, stored_view}
+use Rattle.ipc_image.specs.Format.{longest_record}
+use Rattle.ipc_store.specs.View.{StoreView, IsReadyFor, events_left}
+use Rattle.ipc_hub.specs.Relations.Delivery.{unanswered_at}
+use Rattle.ipc_hub.specs.Relations.Matches.{Awaits, TakesIn}
+use Rattle.ipc_hub.specs.Relations.Requests.{CanTake, RunsOut}
+use Rattle.ipc_hub.specs.Relations.Rows.{Table, hub_view, stored_view}
 use Rattle.ipc_hub.proofs.Committing.{adds-both}
+use Rattle.ipc_hub.proofs.Feeding.{one-left}
+use Rattle.ipc_hub.proofs.Keeping.{empty-space}
 use Rattle.ipc_hub.proofs.Receiving.{goes-further}
 use Rattle.ipc_hub.proofs.Taking.{over-takes, nothing-takes, same-adds, takes-then}
-use Rattle.ipc_hub.specs.Relations.Delivery.{unanswered_at}
-use Rattle.ipc_hub.proofs.Keeping.{empty-space}
 use Rattle.ipc_hub.proofs.serving.take_in.Goals as goal
 
 pub returns-then-not-is_open-clause-bytes : goal.returns-then-not-is_open-clause-bytes
@@ -22,29 +26,61 @@ loop-taken-init g c = record {
       c.args.moment.0 c.requires.invariant;
   first = λ _. (refl, refl);
   adds = same-adds c.args.store.now c.args.store.now refl;
-  ready = λ _. inl c.requires.events;
+  quiet = λ _. inl (refl, refl);
 }
-
--- while no frame is kept an event has room
-has-ready : {D some : Type 0} (store : StoreView D) → (IsReadyFor store 2) ⊎ (some × IsReadyFor store 1) → IsReadyFor store 1
-has-ready store (inl two) = (omega (arith, two.0), omega (arith, two.1))
-has-ready store (inr one) = one.1
 
 pub returns-then-not-has_room-clause-whole : goal.returns-then-not-has_room-clause-whole
 returns-then-not-has_room-clause-whole g c none =
     let held = c.loop-taken.invariant in
     let space = empty-space (hub_view c.loop-taken.store.machine c.loop-taken.connections) c.args.conn c.has_room.ensures.sound
     held.continues.invariant none in
-    let never : true ≡ false = sym (c.has_room.ensures.room.1 (has-ready c.loop-taken.store (held.ready none), space)) ∙ c.if-not-has_room.true in cc
+    elim (held.quiet none) [
+      | inl same ↦
+          let ready : IsReadyFor c.loop-taken.store longest_record 1 = rw same.0 (c.requires.room, one-left c.requires) in
+          let never : true ≡ false = sym (c.has_room.ensures.room.1 (ready, space)) ∙ c.if-not-has_room.true in cc
+      | inr out ↦ inr out
+    ]
+
+pub returns-then-not-has_room-clause-starts : goal.returns-then-not-has_room-clause-starts
+returns-then-not-has_room-clause-starts g c space some =
+    elim (eq-zero-or-pos c.loop-taken.taken) [
+      | inl none ↦
+          let first = c.loop-taken.invariant.first none in
+          let ready : IsReadyFor c.loop-taken.store longest_record 1 = rw first.1 (c.requires.room, one-left c.requires) in
+          let never : true ≡ false = sym (c.has_room.ensures.room.1 (ready, rw (first.0, first.1) space)) ∙ c.if-not-has_room.true in cc
+      | inr more ↦ more
+    ]
 
 -- no event came, or one to which the reply is still to come
-still-ready : {D : Type 0} (old new : StoreView D) (before after : ℕ)
-    → ((new ≡ old) × (before ≡ after)) ⊎ ((before ≡ 0) × (0 < after) × (IsReadyFor old 2 → IsReadyFor new 1))
-    → (IsReadyFor old 2) ⊎ ((0 < before) × IsReadyFor old 1) → (IsReadyFor new 2) ⊎ ((0 < after) × IsReadyFor new 1)
-still-ready old new before after (inl none) (inl two) = inl (rw none.0 two)
-still-ready old new before after (inl none) (inr one) = inr (omega (arith, none.1, one.0), rw none.0 one.1)
-still-ready old new before after (inr some) (inl two) = inr (some.1, some.2 two)
-still-ready old new before after (inr some) (inr one) = absurd (omega (arith, some.0, one.0))
+module _ {D : Type 0} (first old new : StoreView D) (front before after : Table) (conn moment taken more : ℕ) (some : 0 < more)
+    (can : CanTake (stored_view first front) conn moment) where
+  still-quiet : ((new ≡ old) × (unanswered_at (hub_view old.machine before) conn ≡ unanswered_at (hub_view new.machine after) conn))
+      ⊎ ((unanswered_at (hub_view old.machine before) conn ≡ 0) × Awaits (hub_view new.machine after) conn moment
+      × (2 ≤ events_left old → 1 ≤ events_left new))
+      → ((old ≡ first) × (unanswered_at (hub_view first.machine front) conn ≡ unanswered_at (hub_view old.machine before) conn))
+      ⊎ RunsOut (stored_view first front) (stored_view old before) conn moment taken
+      → ((new ≡ first) × (unanswered_at (hub_view first.machine front) conn ≡ unanswered_at (hub_view new.machine after) conn))
+      ⊎ RunsOut (stored_view first front) (stored_view new after) conn moment (taken + more)
+  still-quiet (inl none) (inl same) = inl (none.0 ∙ same.0, same.1 ∙ none.1)
+  still-quiet (inl none) (inr out) = inr (record {
+    some = omega (arith, out.some);
+    none = out.none;
+    awaits = record {
+      waits = omega (arith, out.awaits.waits, none.1);
+      come = omega (arith, out.awaits.come, ap (λ (s : StoreView D). s.machine.state.clock) none.0);
+    };
+    left = omega (arith, out.left, ap (λ (s : StoreView D). events_left s) none.0);
+  })
+  still-quiet (inr came) (inl same) = inr (record {
+    some = omega (arith, some);
+    none = same.1 ∙ came.0;
+    awaits = came.1;
+    left = came.2 (elim can.left [
+      | inl two ↦ omega (arith, two, ap (λ (s : StoreView D). events_left s) same.0)
+      | inr waits ↦ absurd (omega (arith, waits.0.waits, same.1, came.0))
+    ]);
+  })
+  still-quiet (inr came) (inr out) = absurd (omega (arith, out.awaits.waits, came.0))
 
 pub loop-taken-preserved : goal.loop-taken-preserved
 loop-taken-preserved g c =
@@ -69,7 +105,8 @@ loop-taken-preserved g c =
           (takes-then med g.met.D.SectorDisk.only_now old mid new conn c.args.moment.0 (take i piece) (take n rest) held.bytes took.bytes);
       first = λ none. absurd (omega (arith, none, some));
       adds = adds-both (i + n) held.adds took.adds (omega (arith, some));
-      ready = λ none.
+      quiet = λ none.
           let waits = took.answers none in
-          still-ready mid.store new.store (unanswered_at mid.hub conn) (unanswered_at new.hub conn) waits.event (held.ready waits.empty);
+          still-quiet c.args.store.now mid.store new.store c.args.connections.now c.loop-taken.connections c.take-taken.new.connections conn
+          c.args.moment.0 i n some c.requires waits.event (held.quiet waits.empty);
     }

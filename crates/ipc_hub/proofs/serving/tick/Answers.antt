@@ -1,6 +1,7 @@
 use Rattle.std.proofs.Common.{refl, rules}
 use Rattle.ipc_engine.specs.Event.{Tick}
 use Rattle.ipc_engine.proofs.CallerLemmas.{tick-stays}
+use Rattle.ipc_store.proofs.CallerLemmas.{tick-length}
 use Rattle.ipc_hub.specs.Relations.Rows.{hub_view}
 use Rattle.ipc_hub.specs.Relations.Requests.{Happened}
 use Rattle.ipc_hub.proofs.Deliveries.{happened-matches}
@@ -32,5 +33,11 @@ returns-clause-passed g c =
 pub returns-clause-ticks : goal.returns-clause-ticks
 returns-clause-ticks g c limits confirmed h m = search (rules, happened, happened-matches)
 
-pub returns-clause-ready : goal.returns-clause-ready
-returns-clause-ready g c = c.accept.ensures.steps.less 2 c.requires.events
+pub accept-requires-clause-ready : goal.accept-requires-clause-ready
+accept-requires-clause-ready g c = record { invariant = c.requires.invariant; events = rw (tick-length c.args.moment.0) c.requires.events }
+
+pub returns-clause-room : goal.returns-clause-room
+returns-clause-room g c = λ bytes room. c.accept.ensures.steps.room bytes (rw (tick-length c.args.moment.0) room)
+
+pub returns-clause-left : goal.returns-clause-left
+returns-clause-left g c = c.accept.ensures.steps.left

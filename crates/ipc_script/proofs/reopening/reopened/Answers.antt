@@ -5,8 +5,6 @@ use Rattle.ipc_disk.specs.Medium.{IsHonest}
 use Rattle.ipc_disk.specs.Since.{EachImageSince}
 use Rattle.ipc_engine.specs.Event.{PlainEvent}
 use Rattle.ipc_state.specs.State.{State}
-use Rattle.ipc_store.proofs.CallerLemmas.{ready-goes-on}
-use Rattle.ipc_hub.specs.View.{most_events}
 use Rattle.ipc_store.specs.Histories.{OpensOn, Takes}
 use Rattle.ipc_store.specs.Relations.Matches.{OpensTo, StoreMatches}
 use Rattle.ipc_store.specs.View.{numbers_used}
@@ -26,7 +24,7 @@ there : (g : Over) (c : After-close-3 g) → IsHonest (g.D.SectorDisk.medium c.a
     × ((pending : List PlainEvent) × StoreMatches (g.D.SectorDisk.medium c.close-2.result.disk) c.close-2.result base pending)
 there g c honest =
     c.close-3.ensures.matches
-    (ap (λ s. s.stopped) c.close-2.ensures.store ∙ ready-goes-on c.release.new.self.store most_events (omega arith) c.in_default.ensures.ready)
+    (ap (λ s. s.stopped) c.close-2.ensures.store ∙ c.in_default.ensures.spends.running)
     (still g c honest)
 
 -- and its disk
@@ -71,7 +69,7 @@ returns-in-Ok-clause-stops g c honest =
       λ limits h m. c.close-2.ensures.state ∙ (c.in_default.ensures.ok limits h m).hub.state,
       record {
         running = ap (λ s. s.stopped) c.close-2.ensures.store
-            ∙ ready-goes-on c.release.new.self.store most_events (omega arith) c.in_default.ensures.ready;
+            ∙ c.in_default.ensures.spends.running;
         empty = none g d;
         honest = still g d honest;
         crash = subst (λ x. EachImageSince (med x) (med next.disk) (OpensTo (med x))) c.close-3.ensures.disk (c.in-Ok.ensures.any_moment is).0;

@@ -2,6 +2,7 @@ use Rattle.std.proofs.Common.{◌≡◌, map, refl, sym, ap, ◌∙◌}
 use Rattle.std.specs.Prelude.{nat_eq, position}
 use Rattle.ipc_base.proofs.CallerLemmas.{remove_at_place, without_nowhere}
 use Rattle.ipc_script.specs.declared.report.Opened.{Opened}
+use Rattle.ipc_hub.specs.Relations.Faults.{Refuses}
 use Rattle.ipc_script.proofs.HubAndClients.{connected, is_known, is_unknown, is_its_fault}
 use Rattle.std.specs.Prelude.{⊤}
 use Rattle.ipc_script.specs.Relations.Faults.{of_serve_error}
@@ -34,14 +35,15 @@ returns-in_default-clause-ok g c limits r b =
 pub returns-in-Err-clause-unknown : goal.returns-in-Err-clause-unknown
 returns-in-Err-clause-unknown g c =
     let hub = c.args.hub.now in
-    rw c.fault_of.ensures (is_unknown g.D.SectorDisk.medium g.D.SectorDisk.counts hub c.hangup.new.self c.args.conn _ c.in-Err.error c.args.number
-    (λ none limits r b. sym (connected limits hub.store.confirmed hub.hub r.hub c.args.conn b.run.matches.hub) ∙ none) c.in-Err.ensures.refused)
+    rw c.fault_of.ensures (is_unknown (Refuses g.D.SectorDisk.medium g.D.SectorDisk.counts hub c.hangup.new.self c.args.conn) _ c.in-Err.error
+    c.args.number (λ none limits r b. sym (connected limits hub.store.confirmed hub.hub r.hub c.args.conn b.run.matches.hub) ∙ none.1)
+    c.in-Err.ensures.refused)
 
 pub returns-in-Err-clause-err : goal.returns-in-Err-clause-err
 returns-in-Err-clause-err g c =
     rw c.fault_of.ensures (by_fault ⊤ ⊤ ⊤ ⊤ _ _ (of_serve_error c.in-Err.error c.args.number) (λ t. t) (λ t. t) (λ is. (is.0, is.2))
-    (is_its_fault g.D.SectorDisk.medium g.D.SectorDisk.counts c.args.hub.now c.hangup.new.self c.args.conn ⊤ ⊤ ⊤ c.in-Err.error c.args.number tt tt
-    c.in-Err.ensures.refused))
+    (is_its_fault (Refuses g.D.SectorDisk.medium g.D.SectorDisk.counts c.args.hub.now c.hangup.new.self c.args.conn) ⊤ ⊤ ⊤
+    (c.hangup.new.self ≡ c.args.hub.now) c.in-Err.error c.args.number (λ r. r.2) (λ _. tt) (λ _. tt) tt c.in-Err.ensures.refused))
 
 pub returns-in-Err-clause-takes : goal.returns-in-Err-clause-takes
 returns-in-Err-clause-takes g c =

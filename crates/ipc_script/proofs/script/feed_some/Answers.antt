@@ -1,16 +1,16 @@
-use Rattle.std.proofs.Common.{◌≡◌, refl, sym, ap, ◌∙◌, inl, inr, arith}
+use Rattle.std.proofs.Common.{◌≡◌, refl, sym, ap, ◌∙◌, inr, arith}
 use Rattle.std.specs.Prelude.{Err}
 use Rattle.std.proofs.KnownBytes.{Appends-nil}
 use Rattle.std.proofs.lemmas.Result.{err_from_is_err_and}
-use Rattle.ipc_script.proofs.HubAndClients.{connected, is_known, is_unknown, is_its_fault}
-use Rattle.ipc_script.proofs.FedPieces.{feeds_some, feeds_part, feeds_halt, piece_taken}
+use Rattle.ipc_store.specs.declared.fault.CommitError.TheVariants as commit
+use Rattle.ipc_hub.specs.Relations.Faults.{RefusesFeed}
+use Rattle.ipc_script.proofs.HubAndClients.{connected, is_known, is_unknown, is_its_fault, is_failed}
+use Rattle.ipc_script.proofs.FedPieces.{feeds_some, feeds_part, feeds_halt, halted_now, halted_piece, piece_taken}
 use Rattle.ipc_script.proofs.FaultCases.{by_fault, fault-is}
-use Rattle.ipc_script.proofs.Halting.{matches-failed, refuses-fails}
 use Rattle.ipc_script.proofs.NumbersSpent.{left-behind}
 use Rattle.ipc_script.specs.declared.fault.ScriptFault.TheVariants.{Device}
-use Rattle.ipc_script.specs.Halting.IsBegun.{None as none_begun}
 use Rattle.ipc_script.specs.Relations.Faults.{of_serve_error}
-use Rattle.ipc_script.proofs.Lasting.{takes-refused, commits-empty}
+use Rattle.ipc_script.proofs.Lasting.{commits-empty}
 use Rattle.ipc_script.proofs.script.feed_some.Goals as goal
 
 pub returns-in_err-report-in-Ok-clause-err : goal.returns-in_err-report-in-Ok-clause-err
@@ -43,16 +43,29 @@ pub returns-in-Err-clause-err : goal.returns-in-Err-clause-err
 returns-in-Err-clause-err g c =
     let w = Appends-nil (g.W.Write.contents c.args.writer.now) in
     let conn = c.args.sender.conn in
-    let none = takes-refused g.D.SectorDisk.medium g.met.D.SectorDisk.only_now g.D.SectorDisk.counts c.args.hub.now c.feed.new.self conn c.in-Err.error
-    c.in-Err.ensures.refused in
-    rw c.fault_of.ensures (is_its_fault g.D.SectorDisk.medium g.D.SectorDisk.counts c.args.hub.now c.feed.new.self conn _ _ _ c.in-Err.error
-    c.args.sender.number (λ limits r b. inl none, w) w c.in-Err.ensures.refused)
+    let med = g.D.SectorDisk.medium in
+    let counts = g.D.SectorDisk.counts in
+    let hub = c.args.hub.now in
+    let bytes = c.args.bytes.now in
+    rw c.fault_of.ensures (is_its_fault (RefusesFeed med counts hub c.feed.new.self conn bytes c.args.sender.moment.0) _ _ _ _ c.in-Err.error
+    c.args.sender.number (λ r. r.2)
+    (λ h. (
+      λ limits r b. halted_piece med g.met.D.SectorDisk.only_now counts limits r c.args.sender bytes hub c.feed.new.self c.args.opened.now b
+          commit.Device h,
+      w,
+    ))
+    (λ h. (
+      λ limits r b. halted_piece med g.met.D.SectorDisk.only_now counts limits r c.args.sender bytes hub c.feed.new.self c.args.opened.now b
+          commit.Stopped h,
+      w,
+    )) w c.in-Err.ensures.refused)
 
 pub returns-in-Err-clause-unknown : goal.returns-in-Err-clause-unknown
 returns-in-Err-clause-unknown g c =
     let hub = c.args.hub.now in
-    rw c.fault_of.ensures (is_unknown g.D.SectorDisk.medium g.D.SectorDisk.counts hub c.feed.new.self c.args.sender.conn _ c.in-Err.error
-    c.args.sender.number (λ none limits r b. sym (connected limits hub.store.confirmed hub.hub r.hub c.args.sender.conn b.run.matches.hub) ∙ none)
+    rw c.fault_of.ensures (is_unknown (RefusesFeed g.D.SectorDisk.medium g.D.SectorDisk.counts hub c.feed.new.self c.args.sender.conn c.args.bytes.now
+    c.args.sender.moment.0) _ c.in-Err.error c.args.sender.number
+    (λ none limits r b. sym (connected limits hub.store.confirmed hub.hub r.hub c.args.sender.conn b.run.matches.hub) ∙ none.1)
     c.in-Err.ensures.refused)
 
 pub returns-in_err-report-in-Ok-clause-commits : goal.returns-in_err-report-in-Ok-clause-commits
@@ -77,10 +90,8 @@ returns-in_err-report-in-Ok-clause-halted g c is has limits r b =
 
 pub returns-in-Err-clause-halted : goal.returns-in-Err-clause-halted
 returns-in-Err-clause-halted g c is has limits r b =
-    let device : of_serve_error c.in-Err.error c.args.sender.number ≡ Device = sym c.fault_of.ensures ∙ fault-is _ _ Device refl is in (
-      r,
-      none_begun _,
-      matches-failed g.D.SectorDisk.medium limits c.args.hub.now c.feed.new.self c.args.opened.now r
-          (refuses-fails g.D.SectorDisk.medium g.D.SectorDisk.counts _ c.args.hub.now c.feed.new.self has c.args.sender.conn c.in-Err.error
-          c.args.sender.number device c.in-Err.ensures.refused) b.run,
-    )
+    let device : of_serve_error c.in-Err.error c.args.sender.number ≡ Device = sym c.fault_of.ensures ∙ fault-is _ _ Device refl is in
+    let now = halted_now g.D.SectorDisk.medium g.met.D.SectorDisk.only_now g.D.SectorDisk.counts limits r c.args.sender c.args.bytes.now c.args.hub.now
+    c.feed.new.self c.args.opened.now b _ has in
+    is_failed (RefusesFeed g.D.SectorDisk.medium g.D.SectorDisk.counts c.args.hub.now c.feed.new.self c.args.sender.conn c.args.bytes.now
+    c.args.sender.moment.0) _ c.in-Err.error c.args.sender.number device (now commit.Device) (now commit.Stopped) c.in-Err.ensures.refused

@@ -6,7 +6,7 @@ use Rattle.ipc_store.specs.View.{Spends}
 use Rattle.ipc_script.specs.Script.{MayStop, HasNoStop}
 use Rattle.ipc_script.specs.Stops.{LivesOn}
 use Rattle.ipc_script.specs.Relations.Lasts.{Lasts, StaysCommitted}
-use Rattle.ipc_script.specs.Relations.Numbers.{HasNumbers}
+use Rattle.ipc_script.specs.Relations.Numbers.{HasNumbers, byte_cost}
 use Rattle.ipc_script.proofs.ScriptLines.{PartlyRun}
 use Rattle.ipc_script.proofs.script.run_lines.Given as goal
 
@@ -17,8 +17,8 @@ invariant-lines g l = record {
   few : l.number + length l.rest ≤ length l.initial.rest;
   may : MayStop (g.D.SectorDisk.medium l.fn.hub.store.disk) l.fn.script → MayStop (g.D.SectorDisk.medium l.hub.store.disk) l.rest;
   left : length l.rest ≤ length l.fn.script;
-  spends : HasNumbers (8 * length l.fn.script) l.fn.hub.store → MayStop (g.D.SectorDisk.medium l.fn.hub.store.disk) l.fn.script
-      → Spends g.D.SectorDisk.counts (8 * (length l.fn.script - length l.rest)) l.fn.hub.store l.hub.store;
+  spends : HasNumbers (byte_cost * length l.fn.script) l.fn.hub.store → MayStop (g.D.SectorDisk.medium l.fn.hub.store.disk) l.fn.script
+      → Spends g.D.SectorDisk.counts (byte_cost * (length l.fn.script - length l.rest)) l.fn.hub.store l.hub.store;
   none : HasNoStop l.fn.script → HasNoStop l.rest;
   lasts : (limits : Limits) (h : Clients) → StoredMatches limits l.fn.hub h → h.clients ≡ [] → HasNoStop l.fn.script
       → Lasts g.D.SectorDisk.medium l.fn.hub.store l.hub.store;

@@ -146,7 +146,7 @@ returns-in-Data-clause-halted g c is has limits r b =
     ∙ ap (λ (xs : List Opened). length xs) c.deref_mut.ensures.value) in
     let bytes : c.deref.result.now ≡ hex_bytes c.in-Data.hex = c.deref.ensures.value ∙ c.in_ok-bytes-in-Data.ensures in
     let all = rw c.in-Data.is at has in
-    let few : HasNumbers (4 * length c.deref.result.now) c.args.hub.now.store = record {
+    let few : HasNumbers (5 * length c.deref.result.now) c.args.hub.now.store = record {
       running = all.running;
       left = omega (arith, all.left, ap (λ (bs : List ℕ). length bs) bytes);
     } in

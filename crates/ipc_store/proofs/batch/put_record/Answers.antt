@@ -11,6 +11,9 @@ use Rattle.ipc_store.proofs.batch.put_record.Goals as goal
 pub returns-clause-least : goal.returns-clause-least
 returns-clause-least c = omega (arith, record-length (plain_event c.args.event.now), c.record_len.ensures.exact)
 
+pub returns-clause-most : goal.returns-clause-most
+returns-clause-most c = omega (arith, c.requires.room, c.record_len.ensures.exact)
+
 pub returns-clause-record : goal.returns-clause-record
 returns-clause-record c =
     let most : length (record_bytes (plain_event c.args.event.now)) ≤ longest_record =

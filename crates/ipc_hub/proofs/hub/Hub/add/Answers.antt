@@ -10,7 +10,7 @@ use Rattle.ipc_hub.specs.Relations.Matches.{HubMatches}
 use Rattle.ipc_hub.specs.Relations.Invariant.{IsNew}
 use Rattle.ipc_hub.specs.Relations.Rows.{Table, hub_view}
 use Rattle.ipc_hub.proofs.Changes.{entry-invariant, entry-joins, entry-matches}
-use Rattle.ipc_hub.proofs.Committing.{going}
+use Rattle.ipc_hub.proofs.Committing.{goes-on}
 use Rattle.ipc_hub.proofs.hub.Hub.add.Goals as goal
 
 -- the number is not in use
@@ -20,7 +20,7 @@ free {before} conn same none = nobody (value_at nat_eq before conn) (rw same non
 pub invariant_of-self-2 : goal.invariant_of-self-2
 invariant_of-self-2 g c _ =
     let is : IsNew (c.most_owed.result + c.longest_reply.result) c.in_ok-session.session = search rules in
-    let running = ap (λ v. v.store.stopped) c.self.view_is ∙ going c.args.self.now c.requires.running in
+    let running = ap (λ v. v.store.stopped) c.self.view_is ∙ goes-on c.args.self.now c.requires.running in
     let limits = ap (λ (m : Machine). m.limits) c.engine-engine.ensures in
     let long = c.longest_reply.ensures.longest ∙ ap longest_reply (c.limits.ensures.limits ∙ limits) in
     let most = c.most_owed.ensures.most ∙ ap most_owed limits in

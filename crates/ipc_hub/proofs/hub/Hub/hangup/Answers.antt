@@ -1,5 +1,6 @@
-use Rattle.std.proofs.Common.{ap, ◌∙◌, arith, rules}
-use Rattle.ipc_store.proofs.CallerLemmas.{ready-goes-on}
+use Rattle.std.proofs.Common.{length, ap, ◌∙◌, arith, rules}
+use Rattle.ipc_store.proofs.CallerLemmas.{left-goes-on}
+use Rattle.ipc_store.specs.View.{events_left}
 use Rattle.ipc_hub.specs.Relations.Invariant.{HubInvariant}
 use Rattle.ipc_hub.specs.Relations.Rows.{hub_view}
 use Rattle.ipc_hub.proofs.Changes.{without-invariant, without-leaves, without-nobodys}
@@ -13,10 +14,18 @@ use Rattle.ipc_hub.proofs.hub.Hub.hangup.Goals as goal
 invariant : (g : Over) (c : After-remove-process g) → HubInvariant (hub_view c.self-2.inside.store.machine c.self-2.inside.connections)
 invariant g c =
     c.self-2.invariant
-    (ap (λ v. v.store.stopped) c.self-2.view_is ∙ ready-goes-on c.advance.new.self.store 2 (omega arith) c.in_default.ensures.ready)
+    (ap (λ v. v.store.stopped) c.self-2.view_is ∙ left-goes-on c.advance.new.self.store (omega (arith, c.in_default.ensures.ready.1)))
 
 pub leave-requires-clause-ready : goal.leave-requires-clause-ready
-leave-requires-clause-ready g c = search (rules, without-invariant)
+leave-requires-clause-ready g c =
+    let inv = without-invariant (hub_view c.self-2.inside.store.machine c.self-2.inside.connections) c.args.conn
+    (invariant g (goal.at.leave-requires-clause-ready g c).After-remove-process) in
+    let ready = c.in_default.ensures.ready in
+    let store = c.self-2.view_is in
+    record {
+      invariant = rw c.remove-process.ensures.left inv;
+      events = (omega (arith, ready.0, ap (λ v. length v.store.records) store), omega (arith, ready.1, ap (λ v. events_left v.store) store));
+    }
 
 pub leave-requires-clause-nobodys : goal.leave-requires-clause-nobodys
 leave-requires-clause-nobodys g c = search (rules, without-nobodys)

@@ -1,6 +1,7 @@
-use Rattle.std.proofs.Common.{◌≡◌, inl, inr, ⊎_elim, ap, subst, rules}
+use Rattle.std.proofs.Common.{◌≡◌, inl, inr, ⊎_elim, ap, subst}
+use Rattle.ipc_store.proofs.CallerLemmas.{left-goes-on}
 use Rattle.ipc_hub.specs.Relations.Rows.{Table}
-use Rattle.ipc_hub.proofs.Committing.{Told, Wrote, told-settles, told-spare, told-stands}
+use Rattle.ipc_hub.proofs.Committing.{Told, Wrote, told-lasts, told-settles, told-spare, told-stands}
 use Rattle.ipc_hub.proofs.hub.Hub.make_last.Given.{Over}
 use Rattle.ipc_hub.proofs.hub.Hub.make_last.Goals.{Joined-whole, then-whole, else-whole}
 use Rattle.ipc_hub.proofs.hub.Hub.make_last.Goals as goal
@@ -14,7 +15,6 @@ wrote g c =
           rw (w.done-is, w.self-inside-is) (record {
             commits = s.commits;
             takes = s.takes;
-            ready = search rules;
             device = s.faults.failure;
             halted = s.stopped.0;
             spends = s.spends;
@@ -25,7 +25,6 @@ wrote g c =
           rw (w.done-is, w.self-inside-is) (record {
             commits = s.commits;
             takes = s.takes;
-            ready = search rules;
             device = s.faults.failure;
             halted = λ is. ⊎_elim inl (λ end. inr end.0) (s.stopped.0 is);
             spends = s.spends;
@@ -43,16 +42,23 @@ told g c after is = subst (λ (cs : Table). Told cs after c.if-whole.done) (same
 
 pub after_commit-requires : goal.after_commit-requires
 after_commit-requires g c =
-    rw (same g (goal.at.after_commit-requires g c).Joined-whole) (told-spare c.args.self.now c.self.view_is c.requires c.self.invariant)
+    rw (same g (goal.at.after_commit-requires g c).Joined-whole)
+    (told-spare c.args.self.now c.self.view_is (left-goes-on c.args.self.now.store c.requires) c.self.invariant)
 
 pub invariant_of-self : goal.invariant_of-self
 invariant_of-self g c =
     let here = (goal.at.invariant_of-self g c).Joined-whole in
-    told-stands c.args.self.now c.self.view_is c.requires c.self.invariant c.if-whole.done (wrote g here)
+    told-stands c.args.self.now c.self.view_is (left-goes-on c.args.self.now.store c.requires) c.self.invariant c.if-whole.done (wrote g here)
     (told g here _ (c.after_commit.ensures.ok, c.after_commit.ensures.err))
 
 pub returns-clause-settles : goal.returns-clause-settles
 returns-clause-settles g c =
     let here = (goal.at.returns-clause-settles g c).Joined-whole in
-    told-settles c.args.self.now c.self.view_is c.requires c.self.invariant c.if-whole.done (wrote g here)
+    told-settles c.args.self.now c.self.view_is (left-goes-on c.args.self.now.store c.requires) c.self.invariant c.if-whole.done (wrote g here)
+    (told g here _ (c.after_commit.ensures.ok, c.after_commit.ensures.err))
+
+pub returns-clause-lasts : goal.returns-clause-lasts
+returns-clause-lasts g c =
+    let here = (goal.at.returns-clause-lasts g c).Joined-whole in
+    told-lasts c.args.self.now c.self.view_is (left-goes-on c.args.self.now.store c.requires) _ _ c.if-whole.done (wrote g here)
     (told g here _ (c.after_commit.ensures.ok, c.after_commit.ensures.err))

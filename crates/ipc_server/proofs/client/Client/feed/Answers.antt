@@ -1,5 +1,4 @@
-use Rattle.ipc_server.proofs.Going.{goes-none, breaks-at}
-use Rattle.ipc_server.proofs.Talking.{hears-one, hears-none}
+use Rattle.ipc_server.proofs.Talking.{feed-breaks, hears-one, hears-none}
 use Rattle.ipc_server.proofs.client.Client.feed.Goals as goal
 
 pub returns-then-is_empty-clause-hears : goal.returns-then-is_empty-clause-hears
@@ -8,15 +7,13 @@ returns-then-is_empty-clause-hears g c =
 
 pub returns-in-Err-Device-clause-breaks : goal.returns-in-Err-Device-clause-breaks
 returns-in-Err-Device-clause-breaks g c =
-    breaks-at g.D.SectorDisk.medium g.D.SectorDisk.counts c.args.moment.0 c.args.hub.now c.args.hub.now _ _
-    (goes-none g.D.SectorDisk.medium g.met.D.SectorDisk.only_now c.args.moment.0 c.args.hub.now)
-    (rw c.in-Err-Device.field-0-is at c.in-Err-Device.ensures.refused)
+    feed-breaks g.D.SectorDisk.medium c.args.self.now.conn c.args.moment.0 g.met.D.SectorDisk.only_now g.D.SectorDisk.counts c.args.hub.now
+    c.feed.new.self _ _ (rw (c.in-Err-Device.field-0-is, c.as_slice.ensures) at c.in-Err-Device.ensures.refused)
 
 pub returns-in-Err-Stopped-clause-breaks : goal.returns-in-Err-Stopped-clause-breaks
 returns-in-Err-Stopped-clause-breaks g c =
-    breaks-at g.D.SectorDisk.medium g.D.SectorDisk.counts c.args.moment.0 c.args.hub.now c.args.hub.now _ _
-    (goes-none g.D.SectorDisk.medium g.met.D.SectorDisk.only_now c.args.moment.0 c.args.hub.now)
-    (rw c.in-Err-Stopped.field-0-is at c.in-Err-Stopped.ensures.refused)
+    feed-breaks g.D.SectorDisk.medium c.args.self.now.conn c.args.moment.0 g.met.D.SectorDisk.only_now g.D.SectorDisk.counts c.args.hub.now
+    c.feed.new.self _ _ (rw (c.in-Err-Stopped.field-0-is, c.as_slice.ensures) at c.in-Err-Stopped.ensures.refused)
 
 pub returns-in-Ok-clause-hears : goal.returns-in-Ok-clause-hears
 returns-in-Ok-clause-hears g c =

@@ -15,12 +15,6 @@ invariant_of-self c =
       size = p.size;
       least = omega (arith, p.least, c.self.invariant.least);
       none = λ zero. absurd (omega (arith, zero));
-      within = omega (
-        arith,
-        p.most,
-        c.requires.room,
-        filled-length c.self.inside.bytes.items c.self.inside.len c.self.inside.count c.self.invariant,
-        ap (λ v. length v.records) c.self.view_is,
-      );
+      within = p.most;
       field = p.field;
     })

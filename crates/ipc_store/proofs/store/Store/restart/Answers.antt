@@ -1,13 +1,17 @@
 -- The restart is the one event that waits.
-use Rattle.std.proofs.Common.{◌≡◌, ⊎_elim, ℕ, ◌+◌, List, [], ◌∷◌, ◌++◌, Err, true, false, sym, ap, subst, ◌∙◌}
+use Rattle.std.proofs.Common.{◌≡◌, ⊎_elim, ℕ, ◌+◌, List, [], ◌∷◌, ◌++◌, Err, true, false, length, sym, ap, subst, ◌∙◌, arith}
 use Rattle.ipc_checkpoint.specs.View.{CheckpointView, epoch_of}
 use Rattle.ipc_store.specs.Image.{last_epoch}
 use Rattle.ipc_journal.specs.declared.journal.Journal.{Journal}
 use Rattle.ipc_journal.specs.View.{range_of, used_of}
 use Rattle.ipc_engine.specs.Event.{Restart}
 use Rattle.ipc_image.specs.Records.{record_bytes}
+use Rattle.ipc_store.proofs.Batches.{record-length}
 use Rattle.ipc_store.proofs.Openings.{taken, full_journal}
 use Rattle.ipc_store.proofs.store.Store.restart.Goals as goal
+
+pub step-requires-clause-room : goal.step-requires-clause-room
+step-requires-clause-room g c = omega (arith, record-length Restart, ap length c.requires.empty)
 
 pub returns-in-Ok-clause-matches : goal.returns-in-Ok-clause-matches
 returns-in-Ok-clause-matches g c = λ base at. c.in-Ok.ensures.matches base (Restart ∷ []) (c.in_default.ensures.matches base [] at)
