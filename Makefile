@@ -36,11 +36,13 @@ help:
 	@echo "make trials scripts that are stopped at each call on their disk, with each choice of what a crash keeps, openings"
 	@echo "            and formats too: what opens is what was answered, or one line more"
 	@echo "make bench  processor time of runs, lines, saves and ticks, peak memory, what a commit and a save write, and"
-	@echo "            commits a second on a file beside the same writes and syncs done bare; it ends with an error while"
-	@echo "            calls that wait on other queues add more to a request than they may"
+	@echo "            commits a second on a file beside the same writes and syncs done bare; and of messages of deep queues,"
+	@echo "            as ratios. It ends with an error while calls that wait on other queues add more to a request than they"
+	@echo "            may, or a message of a deep queue costs more beside one of a short queue than it may"
 	@echo "make bench-clients  what a call through the library costs beside frames by hand, and the kernel's queues"
 	@echo "make bench-serve  sends and receives, locks, writes and reads of segments, and hand-overs by named semaphores"
-	@echo "            a second over the socket, beside the same, and their processor time"
+	@echo "            a second over the socket, beside the same, and their processor time; how many requests a sync puts on"
+	@echo "            the disk; and what calls that wait cost others. It ends with an error while one of them misses its bar"
 
 try:
 	@sh examples/try.sh
@@ -132,11 +134,14 @@ test: imports
 edits:
 	@python3 tests/edits.py $(CRATE)
 
-# Twenty groups of runs of each script, and turns of commits on a file. It needs awk, and for the turns a C compiler.
+# Twenty groups of runs of each script, and turns of commits on a file. It needs awk and Python, and for the turns a C
+# compiler. A bar that is missed ends it only when all is measured.
 bench: program
-	@sh bench/commits.sh crates/ipcd/out/ipcd
-	@sh bench/replay.sh crates/ipcd/out/ipcd
+	@sh bench/commits.sh $(BUILT)
+	@status=0; sh bench/replay.sh $(BUILT) || status=1; echo; python3 bench/queues.py $(BUILT) || status=1; exit $$status
 
-# Nine turns of thirteen loads on a server. It needs Python and a C compiler.
+# Nine turns of thirteen loads on a server, two loads of which the syncs are counted, and calls beside others that wait.
+# It needs Python and a C compiler.
 bench-serve: program
-	@python3 bench/serve.py crates/ipcd/out/ipcd
+	@status=0; python3 bench/serve.py $(BUILT) || status=1; echo; python3 bench/syncs.py $(BUILT) || status=1; echo; \
+		python3 bench/waiters.py $(BUILT) || status=1; exit $$status

@@ -10,8 +10,8 @@ bytes into a segment and reads them again, each time at another offset, in a seg
 and in one of 1 MiB; and 30 pairs of clients hand over to each other, by sem_post and sem_wait. These
 clients are in Python, and are no faster than that. What is printed are medians over the turns, and a ratio is
 always of numbers of one turn. The files are in a new folder in the repository, which should be on a
-real disk. Processor time is the server's, by /proc/PID/stat. Syncs are reckoned from its writes to
-files, by /proc/PID/io: a commit makes two, with a sync after each; so does a save of few objects.
+real disk. Processor time is the server's. Syncs are reckoned from its writes to files, by
+/proc/PID/io: a commit makes two, with a sync after each; so does a save of few objects.
 
 It needs a C compiler, and takes three minutes. The status is 1 if a bar is missed.
 """
@@ -20,19 +20,17 @@ from __future__ import annotations
 
 import os
 import select
-import subprocess
 import sys
-import tempfile
 import time
 from pathlib import Path
 from statistics import median
 from typing import NamedTuple
 
-BENCH = Path(__file__).resolve().parent
-sys.path.insert(0, str(BENCH.parent / "examples"))
+sys.path.insert(0, str(Path(__file__).resolve().parent.parent / "examples"))
 sys.dont_write_bytecode = True
 
 from client import O_CREAT, O_RDWR, Connection, sem_post_request, sem_wait_request  # noqa: E402
+from served import build, in_a_folder, load, processor_seconds, run, serving  # noqa: E402
 
 # How many clients, how many requests each has in flight, and what they do.
 Load = tuple[int, int, str]
@@ -68,20 +66,11 @@ class Sample(NamedTuple):
 Turn = dict[Load, Sample]
 
 
-def run(*words: str) -> str:
-    return subprocess.run(words, check=True, stdout=subprocess.PIPE, text=True).stdout
-
-
 def bare_rate(commits: int) -> float:
     """Commits a second, done bare."""
     begin = time.monotonic()
     run("./bare", "bare_device", str(commits))
     return commits / (time.monotonic() - begin)
-
-
-def processor_seconds(pid: int) -> float:
-    fields = Path(f"/proc/{pid}/stat").read_text().rpartition(")")[2].split()
-    return (int(fields[11]) + int(fields[12])) / os.sysconf("SC_CLK_TCK")
 
 
 def file_writes(pid: int) -> int:
@@ -154,33 +143,23 @@ def answers(client: Connection, waits: dict[Connection, int], own: dict[Connecti
     return count
 
 
-def replies_of(load: Load) -> tuple[int, float]:
+def replies_of(clients: int, ahead: int, what: str) -> tuple[int, float]:
     """Runs a load on the server that is there: how many replies came, and in how many seconds."""
-    clients, ahead, what = load
     if what == "8 KiB segment":
         return segment_load(PIECE)
     if what == "1 MiB segment":
         return segment_load(MOST)
     if what == "hand-overs":
         return hand_over_load(clients)
-    replies, seconds = run("./serve_load", "socket", str(clients), str(ahead), str(SECONDS), what).split()
-    return int(replies), float(seconds)
+    return load(clients, ahead, what, SECONDS)
 
 
-def sample(program: str, load: Load, bare: float) -> Sample:
+def sample(program: str, what: Load, bare: float) -> Sample:
     """Runs a load on a new server."""
-    words = [program, "serve", "device", "socket"]
-    with subprocess.Popen(words, stdout=subprocess.PIPE) as server:
-        try:
-            server.stdout.readline()
-            spent = processor_seconds(server.pid)
-            writes = file_writes(server.pid)
-            replies, seconds = replies_of(load)
-            spent = processor_seconds(server.pid) - spent
-            writes = file_writes(server.pid) - writes
-        finally:
-            server.terminate()
-    os.remove("socket")
+    with serving(program) as pid:
+        spent, writes = processor_seconds(pid), file_writes(pid)
+        replies, seconds = replies_of(*what)
+        spent, writes = processor_seconds(pid) - spent, file_writes(pid) - writes
     return Sample(replies / seconds, bare, spent / replies * 1e6, writes / seconds)
 
 
@@ -189,9 +168,9 @@ def measure(program: str, turns: int) -> list[Turn]:
     bare = bare_rate(100)
     for _ in range(turns):
         turn = {}
-        for load in LOADS:
+        for what in LOADS:
             bare = bare_rate(max(1, int(bare * BARE_SECONDS)))
-            turn[load] = sample(program, load, bare)
+            turn[what] = sample(program, what, bare)
         taken.append(turn)
     return taken
 
@@ -202,12 +181,12 @@ def print_rows(turns: list[Turn]) -> None:
         "| microseconds of processor a reply | syncs a second |"
     )
     print("|---|---|---|---|---|---|---|---|---|")
-    for load in LOADS:
-        samples = [turn[load] for turn in turns]
+    for what in LOADS:
+        samples = [turn[what] for turn in turns]
         replies, bare, microseconds, syncs = map(median, zip(*samples))
         ratios = sorted(sample.ratio for sample in samples)
         print(
-            f"| {load[2]} | {load[0]} | {load[1]} | {replies:.0f} | {bare:.0f} | {median(ratios):.2f} "
+            f"| {what[2]} | {what[0]} | {what[1]} | {replies:.0f} | {bare:.0f} | {median(ratios):.2f} "
             f"| {ratios[0]:.2f} to {ratios[-1]:.2f} | {microseconds:.1f} | {syncs:.0f} |"
         )
 
@@ -215,7 +194,7 @@ def print_rows(turns: list[Turn]) -> None:
 def bars_are_met(turns: list[Turn]) -> bool:
     """Prints what is wanted of the medians, and what they are."""
     one, ahead, sixty, all_ahead = (
-        [turn[*load, "messages"] for turn in turns] for load in ((1, 1), (1, 16), (60, 1), (60, 16))
+        [turn[*flight, "messages"] for turn in turns] for flight in ((1, 1), (1, 16), (60, 1), (60, 16))
     )
     gain = [many.replies / single.replies for many, single in zip(ahead, one)]
     spent = median(sample.microseconds for sample in sixty)
@@ -235,14 +214,12 @@ def main() -> int:
     program = os.path.realpath(sys.argv[1])
     turns = int(sys.argv[2]) if len(sys.argv) > 2 else 9
     print(f"Medians of {turns} turns. The machine's load before is {os.getloadavg()[0]:.1f}.\n")
-    with tempfile.TemporaryDirectory(prefix="bench-", dir=BENCH.parent) as folder:
-        os.chdir(folder)
-        for name in ("bare", "serve_load"):
-            run("cc", "-O2", "-o", name, str(BENCH / f"{name}.c"))
+    with in_a_folder():
+        for source in ("bare.c", "serve_load.c"):
+            build(source)
         for device in ("device", "bare_device"):
             run(program, "format", device)
         taken = measure(program, turns)
-        os.chdir(BENCH)
     print_rows(taken)
     print()
     return 0 if bars_are_met(taken) else 1

@@ -1,9 +1,10 @@
 /* A load on a server: so many clients with so many requests in flight each, for so many seconds. Each client sends
    messages of 64 bytes and receives them again, in turns, under a type of its own, on one of 30 queues; with `locks` it
    takes a semaphore of its own of one set and gives it back, in turns, with SEM_UNDO. It tests every byte of every
-   reply, and prints how many replies came, and in how many seconds.
+   reply, and prints how many replies came, and in how many seconds. If REQUESTS is given, each client makes so many
+   requests, and the load ends when all are answered; it fails if the seconds are over before.
 
-       serve_load SOCKET CLIENTS AHEAD SECONDS messages|locks */
+       serve_load SOCKET CLIENTS AHEAD SECONDS messages|locks [REQUESTS] */
 #define _GNU_SOURCE
 #include <endian.h>
 #include <stdint.h>
@@ -33,6 +34,9 @@ struct client {
 };
 
 static struct client clients[MOST_CLIENTS];
+
+/* How many requests each client makes. */
+static uint32_t most_requests = UINT32_MAX;
 
 static void die(const char *text)
 {
@@ -181,11 +185,13 @@ static void start(struct client *client, const struct sockaddr_un *address, int 
 		start_messages(client, number);
 }
 
-/* Sends so many more requests at once. */
-static void ask_more(struct client *client, int count)
+/* Sends so many more requests at once, or as many as it may still make. */
+static void ask_more(struct client *client, uint32_t count)
 {
 	unsigned char bytes[MOST_AHEAD * sizeof client->request[0].bytes];
 	size_t size = 0;
+	if (count > most_requests - client->asked)
+		count = most_requests - client->asked;
 	while (count-- > 0) {
 		struct frame *frame = &client->request[client->asked++ % 2];
 		finish(frame, client->asked);
@@ -237,12 +243,14 @@ int main(int argc, char **argv)
 	double begin, seconds;
 	long replies = 0;
 
-	if (argc != 6 || strlen(argv[1]) >= sizeof address.sun_path)
-		die("usage: serve_load SOCKET CLIENTS AHEAD SECONDS messages|locks");
+	if (argc < 6 || argc > 7 || strlen(argv[1]) >= sizeof address.sun_path)
+		die("usage: serve_load SOCKET CLIENTS AHEAD SECONDS messages|locks [REQUESTS]");
 	strcpy(address.sun_path, argv[1]);
 	many = atoi(argv[2]);
 	ahead = atoi(argv[3]);
 	locks = strcmp(argv[5], "locks") == 0;
+	if (argc == 7)
+		most_requests = atoi(argv[6]);
 	if (many < 1 || many > MOST_CLIENTS || ahead < 1 || ahead > MOST_AHEAD)
 		die("so many are not possible");
 	poll = epoll_create1(0);
@@ -265,7 +273,9 @@ int main(int argc, char **argv)
 			ask_more(events[i].data.ptr, count);
 		}
 		seconds = now() - begin;
-	} while (seconds < atof(argv[4]));
+	} while (seconds < atof(argv[4]) && replies < (long)most_requests * many);
+	if (argc == 7 && replies < (long)most_requests * many)
+		die("not every request is answered in time");
 	printf("%ld %.6f\n", replies, seconds);
 	return 0;
 }
