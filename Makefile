@@ -34,7 +34,8 @@ help:
 	@echo "make peers  other people's programs on the kernel's objects and through ipcd-run; as uid 0 it installs them"
 	@echo "make memory the program, with each allocation refused in turn"
 	@echo "make trials scripts that are stopped at each call on their disk, with each choice of what a crash keeps, openings"
-	@echo "            and formats too: what opens is what was answered, or one line more"
+	@echo "            and formats too: what opens is what was answered, or one line more; and what one release of requests"
+	@echo "            of one moment writes"
 	@echo "make bench  processor time of runs, lines, saves and ticks, peak memory, what a commit and a save write, and"
 	@echo "            commits a second on a file beside the same writes and syncs done bare; and of messages of deep queues,"
 	@echo "            as ratios. It ends with an error while calls that wait on other queues add more to a request than they"
@@ -76,7 +77,9 @@ memory: program
 	@$(REFUSE_EACH)
 
 # Each opening of each device that a stop leaves is stopped too; what the gate runs of it stops some.
-TRIALS = crates/trials/out/trials stopped 1 < crates/trials/stdin
+# Requests of one moment, fed to a hub by hand, are one batch: two writes and two syncs for three replies.
+TRIALS = crates/trials/out/trials stopped 1 < crates/trials/stdin && \
+	test "$$(crates/trials/out/trials batch)" = "a batch of 163 bytes, 2 writes, 2 syncs, 3 replies"
 
 trials:
 	@python3 tools/build.py trials

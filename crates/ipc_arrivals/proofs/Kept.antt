@@ -10,8 +10,7 @@ use Rattle.std.proofs.lemmas.Option.{none-some, slice_get-get_or, slice_get-map}
 use Rattle.std.proofs.Math.Seq.{get_or-append_seam}
 use Rattle.slab.specs.Slab.{Slab, Updates, get, slab_len}
 use Rattle.ipc_arrivals.specs.Arrivals.{AreKept, Row, values_at}
-use Rattle.ipc_arrivals.proofs.Places.{map-remove}
-use Rattle.ipc_arrivals.proofs.Rising.{position-seen}
+use Rattle.ipc_arrivals.proofs.CallerLemmas.{map-remove, position-seen}
 
 module _ {T : Type 0} where
   -- each row gives a value
@@ -60,6 +59,10 @@ module _ {T : Type 0} where
     -- the slot of a row has a value
     pub holds-value : (k : ℕ) (d : Row) → k < length rows → IsSome (get slots (get_or rows k d).slot)
     holds-value k d lt = some_if (get slots (get_or rows k d).slot) (full k d lt)
+
+    -- a slot that is free is of no row
+    pub vacant : (slot : ℕ) → get slots slot ≡ None → (k : ℕ) (d : Row) → k < length rows → (get_or rows k d).slot ≢ slot
+    vacant slot free k d lt same = full k d lt (ap (get slots) same ∙ free)
 
     pub length-values : length (values_at slots rows) ≡ length rows
     length-values = sym (length-map (values_at slots rows) Some) ∙ ap length (some_all at rows full) ∙ length-map rows at
@@ -112,14 +115,11 @@ module _ {T : Type 0} where
       abbrev row : Row
       row = record { rank = rank v; slot = slot }
 
-      elsewhere : (k : ℕ) (d : Row) → k < length rows → (get_or rows k d).slot ≢ slot
-      elsewhere k d lt same = full k d lt (ap (get slots) same ∙ free)
-
       pub values-push : values_at more (rows ++ row ∷ []) ≡ values_at slots rows ++ v ∷ []
       values-push =
           filter_map-append (λ r. get more r.slot) rows (row ∷ [])
           ∙ ap (λ vs. vs ++ filter_map (λ r. get more r.slot) (row ∷ []))
-          (same_values (λ r. get more r.slot) at rows (λ k d lt. put.others _ (elsewhere k d lt)))
+          (same_values (λ r. get more r.slot) at rows (λ k d lt. put.others _ (vacant slot free k d lt)))
           ∙ ap (λ o. values_at slots rows ++ cons_option o []) put.changed
 
       pub kept-push : AreKept rank more (rows ++ row ∷ [])
@@ -127,7 +127,8 @@ module _ {T : Type 0} where
           record {
             there = λ k d lt. elim (cases_lt k (length rows)) as
                 (λ _. option_map rank (get more (get_or (rows ++ row ∷ []) k d).slot) ≡ Some (get_or (rows ++ row ∷ []) k d).rank) [
-                  | inl old ↦ rw (get_or_append_left rows (row ∷ []) d k old) (ap (option_map rank) (put.others _ (elsewhere k d old)) ∙ kept.there k d old)
+                  | inl old ↦ rw (get_or_append_left rows (row ∷ []) d k old)
+                      (ap (option_map rank) (put.others _ (vacant slot free k d old)) ∙ kept.there k d old)
                   | inr new ↦ rw (at_end k new lt, get_or-append_seam rows row [] d) (ap (option_map rank) put.changed)
                 ];
             apart = λ i j d less lt. elim (cases_lt j (length rows)) as (λ _. (get_or (rows ++ row ∷ []) i d).slot ≢ (get_or (rows ++ row ∷ []) j d).slot) [
@@ -135,7 +136,7 @@ module _ {T : Type 0} where
                   (kept.apart i j d less old)
               | inr new ↦
                   let before : i < length rows = omega (arith, less, at_end j new lt) in
-                  rw (at_end j new lt, get_or-append_seam rows row [] d, get_or_append_left rows (row ∷ []) d i before) (elsewhere i d before)
+                  rw (at_end j new lt, get_or-append_seam rows row [] d, get_or_append_left rows (row ∷ []) d i before) (vacant slot free i d before)
             ];
             count = omega (arith, one, kept.count, length-append rows (row ∷ []));
           }

@@ -1,6 +1,7 @@
+pub mod CallerLemmas
 pub mod Finding
 pub mod Kept
+pub mod Marks
 pub mod Permutations
-pub mod Places
 pub mod Ranks
 pub mod Rising

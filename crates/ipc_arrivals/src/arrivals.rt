@@ -11,8 +11,8 @@ use std::alloc::{AllocError, Global};
 use std::marker::Model;
 
 /// Values, the oldest first, in slots that are reserved. The oldest of a rank is found by halving, as is what has
-/// another rank, the least or the greatest; to take one out moves what is shorter of two lists of addresses, never a
-/// value. A contract sees the values and for how many there are places.
+/// another rank, the least or the greatest. To take one out moves the shorter side of it in two lists of slots, of four
+/// bytes each, and never a value. A contract sees the values and for how many there are places.
 #[derive(Drop)]
 pub struct Arrivals<T: Ranked> {
     slots: Slab<T>,
@@ -20,42 +20,58 @@ pub struct Arrivals<T: Ranked> {
 }
 
 impl<T: Ranked> Model for Arrivals<T> {
-    ghost use Rattle.std.specs.Prelude.{◌≤◌};
+    ghost use Rattle.std.specs.Prelude.{◌≡◌};
     ghost use Rattle.ipc_arrivals.specs.Arrivals.{AreKept, Arrived, values_at};
 
     ghost Value = { Arrived T };
 
     ghost view = { λ a. record { items = values_at a.slots a.index.rows; places = a.index.places } };
 
-    ghost invariant = { λ a. AreKept T.rank a.slots a.index.rows × (a.index.places ≤ a.slots.capacity) };
+    ghost invariant = { λ a. AreKept T.rank a.slots a.index.rows × (a.index.places ≡ a.slots.capacity) };
 }
 
 impl<T: Ranked> Arrivals<T> {
-    /// None yet, with places for so many. Refused for want of memory.
+    /// None yet, with places for so many, and the memory of all. Refused for want of it, and past 2^32 places.
     pub fn with_places(alloc: Global, places: usize) -> Result<Arrivals<T>, AllocError>
     where
         T: Drop,
         ensures items { IfOk result (λ a. a.items ≡ []) }
         ensures places { IfOk result (λ a. places ≤ a.places) }
     {
-        let mut arrivals = Arrivals {
-            slots: Slab::new(alloc),
-            index: Index::new(alloc),
-        };
-        arrivals.reserve(places)?;
-        Ok(arrivals)
+        let slots = Slab::with_capacity(alloc, places)?;
+        let index = Index::with_places(alloc, slots.capacity())?;
+        Ok(Arrivals { slots, index })
     }
 
-    /// Takes the memory for so many more. Refused for want of it.
+    /// Takes the memory for so many more. If the places do not do, all values move to new ones, at least twice as many
+    /// as there are values. Refused for want of memory, and past 2^32 places; then nothing has changed.
     pub fn reserve(&mut self, more: usize) -> Result<(), AllocError>
+    where
+        T: Drop,
         ensures items { self.new.items ≡ self.old.items }
         ensures ok { OnOk result (length self.new.items + more ≤ self.new.places) }
         ensures few { OnOk result (length self.new.items + more < 2 ^ 64) }
         ensures places { self.old.places ≤ self.new.places }
     {
-        self.slots.reserve(more)?;
-        self.index.reserve(more)?;
+        let len = self.len();
+        let wanted = len.checked_add(more).ok_or(AllocError)?;
+        if wanted <= self.index.places() {
+            return Ok(());
+        }
+        let mut grown = Arrivals::with_places(self.allocator(), wanted.max(len.saturating_mul(2)))?;
+        grown.take_over(self);
+        *self = grown;
         Ok(())
+    }
+
+    /// Moves all values of another to the end, the oldest first. It takes no memory.
+    fn take_over(&mut self, other: &mut Arrivals<T>)
+        requires { length self.old.items + length other.old.items ≤ self.old.places }
+        ensures { self.new ≡ record self.old { items = self.old.items ++ other.old.items } }
+    {
+        while !other.is_empty() {
+            self.push(other.remove(0));
+        }
     }
 
     /// Where its memory is from.

@@ -20,9 +20,13 @@ abbrev pub StandsAt : ℕ → List ℕ → Image → Type 0
 StandsAt at bytes image = (i : ℕ) → i < sectors_for (length bytes)
     → take (length (piece i bytes)) (sector_at image (at + i)) ≡ piece i bytes
 
+-- bytes filled up with zeros to a sector
+abbrev pub filled : List ℕ → List ℕ
+filled bytes = bytes ++ replicate (512 - length bytes) 0
+
 -- the i-th of their sectors as it is written: the piece that stands in it, and zeros
 abbrev pub padded_piece : ℕ → List ℕ → List ℕ
-padded_piece i bytes = piece i bytes ++ replicate (512 - length (piece i bytes)) 0
+padded_piece i bytes = filled (piece i bytes)
 
 -- from this sector on stand these bytes and the zeros after them
 abbrev pub IsWrittenAt : ℕ → List ℕ → Image → Type 0

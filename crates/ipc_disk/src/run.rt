@@ -33,16 +33,6 @@ fn place(range: Range, at: u32) -> Option<usize>
     Some((at - range.first) as usize)
 }
 
-// The same sector.
-fn copied(from: &[u8; 512]) -> [u8; 512]
-    ensures same { result ≡ from.now }
-    ensures sector { IsSector result }
-{
-    let mut sector = [0; 512];
-    sector.copy_from_slice(from);
-    sector
-}
-
 impl Run {
     ghost use Rattle.ipc_disk.specs.Run.{run_values, IsNext, Joins};
 
@@ -88,7 +78,8 @@ impl Run {
             ≡ run_values self.old ++ from.now ∷ [] }
     {
         let place = at - self.range.first;
-        self.sectors[place as usize] = copied(from);
+        let sectors = &mut self.sectors;
+        sectors[place as usize].copy_from_slice(from);
         if place == self.range.count {
             self.range.count += 1;
         }

@@ -1,14 +1,13 @@
 //! Bytes as they stand on a disk: written and read sector by sector, and a sector that is to last.
 
-ghost use Rattle.std.specs.Prelude.{◌≡◌, ◌+◌, ◌*◌, ◌-◌, ◌<◌, ◌≤◌, ◌++◌};
-ghost use Rattle.std.specs.Prelude.{length, take, replicate, Some};
+ghost use Rattle.std.specs.Prelude.{◌≡◌, ◌+◌, ◌*◌, ◌<◌, ◌≤◌, length, take, Some};
 ghost use Rattle.std.specs.Prelude.{OnOk, IsErr, slice_get, slice_set};
-ghost use Rattle.ipc_disk.specs.Calls.{IsSameDisk, CountsCalls, OnlyReads};
-ghost use Rattle.ipc_disk.specs.Counts.{with_calls};
-ghost use Rattle.ipc_disk.specs.Medium.{IsHonest, IsDurable, SetOrNot};
+ghost use Rattle.ipc_disk.specs.Calls.{IsOneCall, IsSameDisk, CountsCalls, OnlyReads};
+ghost use Rattle.ipc_disk.specs.Counts.{with_calls, with_write};
+ghost use Rattle.ipc_disk.specs.Medium.{IsHonest, IsDurable, SetOrNot, Writes};
 ghost use Rattle.ipc_disk.specs.Range.{IsOutside};
 ghost use Rattle.ipc_disk.specs.Since.{EachImageSince, LeavesAlone};
-ghost use Rattle.ipc_disk.specs.Standing.{sectors_for, piece, IsWrittenAt, StandsAt};
+ghost use Rattle.ipc_disk.specs.Standing.{sectors_for, piece, filled, IsWrittenAt, StandsAt};
 
 use crate::{DiskFault, SectorDisk};
 
@@ -31,11 +30,26 @@ fn piece_of(bytes: &[u8], i: usize) -> &[u8]
 // These bytes, filled up with zeros.
 fn padded(bytes: &[u8]) -> [u8; 512]
     requires { length bytes.now ≤ 512 }
-    ensures { result ≡ bytes.now ++ replicate (512 - length bytes.now) 0 }
+    ensures { result ≡ filled bytes.now }
 {
     let mut sector = [0; 512];
     sector[..bytes.len()].copy_from_slice(bytes);
     sector
+}
+
+// Writes the sector `at`: these bytes, filled up with zeros. A whole sector is not copied for it.
+fn write_filled<D: SectorDisk>(disk: &mut D, at: u32, bytes: &[u8]) -> Result<(), DiskFault>
+    requires within { at < D.size disk.old }
+    requires short { length bytes.now ≤ 512 }
+    ensures written { OnOk result (IsHonest (D.medium disk.old)
+        → (D.medium disk.new).contents ≡ slice_set (D.medium disk.old).contents at (filled bytes.now)) }
+    ensures medium { Writes at (filled bytes.now) (D.medium disk.old) (D.medium disk.new) }
+    ensures call { IsOneCall D.size D.counts result with_write disk.old disk.new }
+{
+    match bytes.first_chunk::<512>() {
+        Some(sector) => disk.write(at, sector),
+        None => disk.write(at, &padded(bytes)),
+    }
 }
 
 /// Writes bytes from the sector `first` on, with zeros after them to the end of their last sector. No sync.
@@ -51,8 +65,7 @@ pub fn write_bytes<D: SectorDisk>(disk: &mut D, first: u32, bytes: &[u8]) -> Res
 {
     let count = sectors_for_len(bytes.len());
     for i in 0..count {
-        let sector = padded(piece_of(bytes, i));
-        disk.write(first + i as u32, &sector)?;
+        write_filled(disk, first + i as u32, piece_of(bytes, i))?;
     }
     Ok(())
 }

@@ -173,7 +173,7 @@ fn try_once(
 {
     let serial = parked.serial();
     let touched = touched_by(state, pid, &parked);
-    let change = change_of(&parked.request().kind);
+    let change = change_of(&parked.lend());
     match try_kept(state, pid, false, parked) {
         Tried::Finishes(answer, fired) => finish(
             state, outcomes, changed, pid, serial, answer, fired, touched, change,

@@ -1,7 +1,7 @@
 //! Which objects have changed since the state was saved. None of this takes memory but the room, once.
 
 ghost use Rattle.std.specs.Prelude.{◌≡◌, ◌+◌, ◌*◌, ◌^◌, ◌<◌, ◌≤◌, ◌&&◌, ◌||◌, ◌==◌, true, not, [], Some, None, IfOk};
-ghost use Rattle.std.specs.Prelude.{filter, length, map, nat_eq, vec_capacity};
+ghost use Rattle.std.specs.Prelude.{ℕ, false, filter, get_or, length, map, nat_eq, vec_capacity, IfSome, IsTrue};
 ghost use Rattle.std.specs.FinMap as fin;
 ghost use Rattle.std.specs.List.{IsDistinct, list_any};
 ghost use Rattle.std.proofs.Props.{props};
@@ -27,6 +27,8 @@ use std::alloc::{AllocError, Global};
 #[derive(Drop)]
 pub(crate) struct Changed {
     pub(crate) marks: Vec<Object>,
+    /// The place of the mark that is looked at before all others: the one that was made or found last.
+    recent: usize,
     ghost once: { IsDistinct is_on marks.items } by { Prim.hlevel props },
 }
 
@@ -38,7 +40,7 @@ impl Changed {
         ensures room { IfOk result (λ changed. 2 * most_objects limits.now < vec_capacity changed.marks) }
     {
         let marks = Vec::with_capacity(alloc, 2 * most_objects(limits) + 1)?;
-        Ok(Changed { marks })
+        Ok(Changed { marks, recent: 0 })
     }
 
     /// None any more.
@@ -82,10 +84,26 @@ impl Changed {
         ensures few { length self.new.marks.items ≤ length self.old.marks.items + 1 }
         ensures capacity { vec_capacity self.new.marks ≡ vec_capacity self.old.marks }
     {
-        if self.has(object) {
+        if self.is_recent(object) {
             return;
         }
-        self.marks.push_reserved(object);
+        match place_of(&self.marks, object) {
+            Some(place) => self.recent = place,
+            None => {
+                self.recent = self.marks.len();
+                self.marks.push_reserved(object);
+            }
+        }
+    }
+
+    /// Whether the mark that was made or found last is of this object.
+    fn is_recent(&self, object: Object) -> bool
+        ensures { IsTrue result → is_marked self.now.marks.items object ≡ true }
+    {
+        match self.marks.get(self.recent) {
+            Some(mark) => is_on(object, *mark),
+            None => false,
+        }
     }
 
     /// Marks an object, if it is one and this is so. There is room.
@@ -183,6 +201,16 @@ fn has_mark(marks: &[Object], object: Object) -> bool
     ensures { result ≡ is_marked marks.now object }
 {
     marks.iter().any(|mark| is_on(object, *mark))
+}
+
+/// The place of the mark of an object, if it has one.
+fn place_of(marks: &[Object], object: Object) -> Option<usize>
+    ensures within { IfSome result (λ place. place < length marks.now) }
+    ensures found { (d : Object) → IfSome result (λ place. is_on object (get_or marks.now place d) ≡ true) }
+    ensures none { result ≡ None → (k : ℕ) (d : Object) → k < length marks.now
+        → is_on object (get_or marks.now k d) ≡ false }
+{
+    marks.iter().position(|mark| is_on(object, *mark))
 }
 
 /// Those that are not there go.

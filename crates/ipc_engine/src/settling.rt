@@ -168,7 +168,7 @@ fn resume(state: &mut State, outcomes: &mut Vec<Outcome>, pid: Pid) -> Change
     let Some(waiting) = state.leave_wait(pid) else {
         return Change::Anything;
     };
-    let change = change_of(&waiting.call.request().kind);
+    let change = change_of(&waiting.call.lend());
     let serial = waiting.call.serial();
     match try_kept(state, pid, true, waiting.call) {
         Tried::Finishes(answer, fired) => push_reply(outcomes, pid, serial, answer, fired),

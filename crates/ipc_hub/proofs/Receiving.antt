@@ -9,7 +9,7 @@ use Rattle.ipc_base.specs.declared.limits.Limits.{Limits}
 use Rattle.ipc_base.proofs.CallerLemmas.{at-map, at-with, each-at, paired-at}
 use Rattle.ipc_wire.specs.Stream.{PlainFrame, first}
 use Rattle.ipc_wire.specs.Stream.PlainFrame.{More, Whole, Fault}
-use Rattle.ipc_wire.proofs.CallerLemmas.{first_short, length-reply_bytes, whole_last}
+use Rattle.ipc_wire.proofs.CallerLemmas.{first_short, length-reply_bytes}
 use Rattle.ipc_disk.specs.Medium.{Medium}
 use Rattle.ipc_image.specs.Format.{longest_record}
 use Rattle.ipc_store.specs.Batch.{exit_record}
@@ -59,7 +59,7 @@ still-kept medium old new limits owed v bytes moment (asks.Broken n) k comes = (
 abbrev pub read_out : ConnectionView → ConnectionView
 read_out c = record c { input = [] }
 
-none-of : (xs : List ℕ) → length xs ≡ 0 → xs ≡ []
+pub none-of : (xs : List ℕ) → length xs ≡ 0 → xs ≡ []
 none-of [] none = refl
 none-of (x ∷ xs) none = absurd (omega (arith, none))
 
@@ -139,7 +139,7 @@ module _ {D : Type 0} {medium : D → Medium} {old new : StoreView D} {before af
       ends : (g : PlainFrame) → first (r.was.input ++ next) ≡ g → IsLast (r.was.input ++ next) g
       ends More at = tt
       ends (Fault serial) at = tt
-      ends (Whole used request) at = drop_all used (r.was.input ++ next) (omega (arith, whole_last r.was.input next used request r.partial r.few at))
+      ends (Whole used request) at = drop_all used (r.was.input ++ next) (omega (arith, r.last used request at))
 
   pub asked-taken : {made : Option PlainEvent} (a : IsRequest (first (r.was.input ++ next)) r.was.process moment made) (refused : Bool) (store : StoreView D)
       (last : Table) → Leads refused store last (on_event view_endpoint old.machine.limits (with_client was-hub conn (read_out r.was)) conn

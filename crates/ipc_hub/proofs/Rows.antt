@@ -4,7 +4,7 @@ use Rattle.std.proofs.lemmas.Bool.{cases_eq, eqb-true}
 use Rattle.std.proofs.lemmas.List.{length-set, get_or_default, get_or-set_same, get_or-set_other}
 use Rattle.std.proofs.lemmas.Option.{slice_get-get_or, slice_get-map}
 use Rattle.std.specs.Prelude.{nat_eq, nat_lt, Option, option_and_then, option_map, slice_get, true, false, Some, None, position}
-use Rattle.std.specs.Prelude.{insert, set}
+use Rattle.std.specs.Prelude.{insert, set, if◌then◌else◌}
 use Rattle.std.proofs.lemmas.Bool.Decides.{nat_tests}
 use Rattle.ipc_base.specs.Table.{seen_as, EachValue, IsRising, keys_of, value_at, with_value, with_entry}
 use Rattle.ipc_base.proofs.CallerLemmas.{first-at, keys-map, value_at_place, value_nowhere, same_key, test_cases}
@@ -20,6 +20,16 @@ use Rattle.ipc_hub.specs.Relations.Rows.{Table, row, rows, changed, process_in}
 -- there is one value
 pub same_value : {A : Type 0} (x y : A) → Some x ≡ Some y → x ≡ y
 same_value x y is = cc
+
+-- a table with the value that it has
+pub same-value : (table : Table) (conn : ℕ) (was : ConnectionView) → value_at nat_eq table conn ≡ Some was → with_value nat_eq table conn was ≡ table
+same-value [] conn was found = refl
+same-value (e ∷ es) conn was found =
+    elim (nat_eq e.0 conn) as (λ b. (if b then Some e.1 else value_at nat_eq es conn) ≡ Some was
+    → (if b then (e.0, was) ∷ es else e ∷ with_value nat_eq es conn was) ≡ e ∷ es) [
+      | true ↦ λ here. ap (λ (v : ConnectionView). (e.0, v) ∷ es) (sym (same_value e.1 was here))
+      | false ↦ λ there. ap (λ (t : Table). e ∷ t) (same-value es conn was there)
+    ] found
 
 -- the process of a connection, if there is one
 abbrev pub process_of : Option ConnectionView → Option ℕ

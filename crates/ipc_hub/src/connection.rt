@@ -69,8 +69,8 @@ pub(crate) struct Session {
 }
 
 impl Model for Session {
-    ghost use Rattle.std.specs.Prelude.{◌≤◌, ◌+◌, option_map, vec_capacity};
-    ghost use Rattle.ipc_wire.specs.Stream.{greatest_length};
+    ghost use Rattle.std.specs.Prelude.{◌≤◌, option_map, vec_capacity};
+    ghost use Rattle.ipc_wire.specs.Sizes.{greatest_frame};
     ghost use Rattle.ipc_hub.specs.View.{ConnectionView};
 
     ghost Value = { ConnectionView };
@@ -82,7 +82,7 @@ impl Model for Session {
       ended = s.ended;
     } };
 
-    ghost invariant = { λ s. 4 + greatest_length ≤ vec_capacity s.input };
+    ghost invariant = { λ s. greatest_frame ≤ vec_capacity s.input };
 }
 
 impl Session {

@@ -28,6 +28,8 @@ use std::marker::Model;
 #[derive(Drop)]
 pub(crate) struct Connections {
     items: Vec<Connection>,
+    /// The place that is looked at before all others: where the connection was that was sought last.
+    recent: usize,
 }
 
 impl Model for Connections {
@@ -48,6 +50,7 @@ impl Connections {
     {
         Connections {
             items: Vec::new(alloc),
+            recent: 0,
         }
     }
 
@@ -59,11 +62,20 @@ impl Connections {
         &self.items
     }
 
+    /// Whether a connection has the number, which is looked at before all others from now on.
+    pub(crate) fn seek(&mut self, conn: u32) -> bool
+        ensures found { result ≡ is_some (value_at nat_eq self.old conn) }
+        ensures same { self.new ≡ self.old }
+    {
+        self.recent = place_for(&self.items, conn);
+        self.contains(conn)
+    }
+
     /// The connection that has the number.
     pub(crate) fn get(&self, conn: u32) -> Option<&Session>
         ensures { option_copied result ≡ value_at nat_eq self.now conn }
     {
-        let place = place_of(&self.items, conn)?;
+        let place = place_from(&self.items, self.recent, conn)?;
         Some(&self.items[place].session)
     }
 
@@ -72,7 +84,7 @@ impl Connections {
         ensures* writes_back { sem 𝓛 (lends_session self.entry conn result) }
         ensures found { option_copied_mut result ≡ value_at nat_eq self.old conn }
     {
-        let place = place_of(&self.items, conn)?;
+        let place = place_from(&self.items, self.recent, conn)?;
         let connection = &mut self.items[place];
         Some(&mut connection.session)
     }
@@ -198,31 +210,26 @@ impl Connections {
         }
     }
 
-    /// Puts each reply into the outbox of its process. If no connection has the process, the reply is dropped. The
-    /// connection that asked, if one did, is looked at before all others, since most replies are for its process.
-    pub(crate) fn deliver(&mut self, asked: Option<u32>, outcomes: &[Outcome])
+    /// Puts each reply into the outbox of its process. If no connection has the process, the reply is dropped.
+    pub(crate) fn deliver(&mut self, outcomes: &[Outcome])
         requires apart { AreApart self.old }
         requires space { HaveSpace (map plain_outcome outcomes.now) self.old }
         ensures { self.new ≡ put_all (map plain_outcome outcomes.now) self.old }
     {
-        let first = match asked {
-            Some(conn) => place_for(&self.items, conn),
-            None => self.items.len(),
-        };
         for outcome in outcomes {
-            self.put(first, outcome);
+            self.put(outcome);
         }
     }
 
-    /// Puts a reply into the outbox of its process, which no two connections have. The connection at the place `first`
-    /// is looked at before all others.
-    fn put(&mut self, first: usize, outcome: &Outcome)
+    /// Puts a reply into the outbox of its process, which no two connections have. The connection that was sought last
+    /// is looked at before all others, since most replies are for who asked.
+    fn put(&mut self, outcome: &Outcome)
         requires apart { AreApart self.old }
         requires short { IsShort (plain_outcome outcome.now) }
         requires space { EachValue (HasSpaceIn (plain_outcome outcome.now)) self.old }
         ensures { self.new ≡ seen_as (put_for (plain_outcome outcome.now)) self.old }
     {
-        if let Some(place) = place_of_process(&self.items, first, outcome.pid) {
+        if let Some(place) = place_of_process(&self.items, self.recent, outcome.pid) {
             let connection = &mut self.items[place];
             connection.session.push(&outcome.reply());
         }
@@ -254,6 +261,20 @@ fn place_of(connections: &[Connection], conn: u32) -> Option<usize>
         return None;
     }
     Some(place)
+}
+
+/// The place of the connection that has the number. The one at the place `first`, if there is one, is looked at before
+/// all others.
+fn place_from(connections: &[Connection], first: usize, conn: u32) -> Option<usize>
+    requires { IsRising 0 (keys_of (rows connections.now)) (2 ^ 32) }
+    ensures { result ≡ position (λ c. c.number == conn) connections.now }
+{
+    if let Some(connection) = connections.get(first) {
+        if connection.number == conn {
+            return Some(first);
+        }
+    }
+    place_of(connections, conn)
 }
 
 /// Lets the frames that wait on each connection be seen.

@@ -144,7 +144,7 @@ impl<D: SectorDisk> Hub<D> {
         if self.has_stopped() {
             return Err(ServeError::Stopped);
         }
-        if !self.connections.contains(conn) {
+        if !self.seek(conn) {
             return Err(ServeError::Unknown);
         }
         if let Err(error) = self.advance(moment, LONGEST_RECORD as usize) {
@@ -154,6 +154,14 @@ impl<D: SectorDisk> Hub<D> {
             Ok(taken) => Ok(taken),
             Err(error) => Err(ServeError::from(error)),
         }
+    }
+
+    // Whether a connection has the number. If so, it is looked for no more in what follows, since it is looked at first.
+    fn seek(&mut self, conn: u32) -> bool
+        ensures found { result ≡ is_connected self.old.hub conn }
+        ensures same { self.new ≡ self.old }
+    {
+        self.connections.seek(conn)
     }
 
     // Takes in bytes of a piece, once time has passed. If the connection keeps no frame, all are to be taken. So if the

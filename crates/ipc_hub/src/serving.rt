@@ -6,6 +6,7 @@ ghost use Rattle.ipc_base.specs.Limits.{longest_reply, ArePassed};
 ghost use Rattle.ipc_base.specs.Table.{value_at};
 ghost use Rattle.ipc_wire.specs.View.{plain_request};
 ghost use Rattle.ipc_wire.specs.Stream.{first};
+ghost use Rattle.ipc_wire.specs.Stream.PlainFrame.{Whole};
 ghost use Rattle.ipc_engine.specs.Event.{Tick};
 ghost use Rattle.ipc_engine.specs.Sound.{IsSound};
 ghost use Rattle.ipc_engine.specs.View.{plain_event, plain_outcome, reply_of};
@@ -82,7 +83,7 @@ fn accept<D: SectorDisk>(store: &mut Store<D>, connections: &mut Connections, ev
     ensures replies { connections.new ≡ put_all store.new.machine.outcomes connections.old }
 {
     store.step(event).unwrap();
-    connections.deliver(None, store.engine().outcomes());
+    connections.deliver(store.engine().outcomes());
 }
 
 /// Time passes.
@@ -146,13 +147,27 @@ fn come_to<D: SectorDisk>(store: &mut Store<D>, session: &Session, moment: Momen
     requires connected { IsConnected store.old.machine.state session.now.process }
     ensures { ComesTo D.medium store.old store.new session.now.process (first session.now.input) moment.0 result }
 {
-    let request = match read_frame(session.input()) {
-        Frame::More => return Asked::More,
-        Frame::Fault { serial } => return Asked::Broken { serial },
-        Frame::Whole { request, .. } => request,
-    };
+    match read_frame(session.input()) {
+        Frame::More => Asked::More,
+        Frame::Fault { serial } => Asked::Broken { serial },
+        Frame::Whole { request, .. } => submit(store, session.process(), &request, moment),
+    }
+}
+
+/// A request of a process, or of none: if it makes an event, the machine takes a step.
+fn submit<D: SectorDisk>(
+    store: &mut Store<D>,
+    process: Option<Pid>,
+    request: &Request<'_>,
+    moment: Moment,
+) -> Asked
+    requires ready { IsReadyFor store.old longest_record 1 }
+    requires connected { IsConnected store.old.machine.state (pid_of process) }
+    ensures { (used : ℕ) → ComesTo D.medium store.old store.new (pid_of process)
+        (Whole used (plain_request request.now)) moment.0 result }
+{
     let serial = request.serial;
-    let Some(event) = event_of(session.process(), &request, moment) else {
+    let Some(event) = event_of(process, request, moment) else {
         return Asked::Broken { serial };
     };
     match store.step(event) {
@@ -172,7 +187,7 @@ fn answer(connections: &mut Connections, conn: u32, outcomes: &[Outcome])
     if let Some(session) = connections.get_mut(conn) {
         session.hear_own(outcomes.last());
     }
-    connections.deliver(Some(conn), outcomes);
+    connections.deliver(outcomes);
 }
 
 /// Puts a reply without a body into a connection: memory was refused to its request, or the server ends it.
@@ -235,6 +250,13 @@ fn receive<D: SectorDisk>(
     ensures within { result.0 ≤ length piece.now }
     ensures some { 0 < length piece.now → 0 < result.0 }
 {
+    let session = connections.get(conn).unwrap();
+    if session.input().is_empty() {
+        // A frame that is whole in the piece is served from there.
+        if let Frame::Whole { used, request } = read_frame(piece) {
+            return (used, submit(store, session.process(), &request, moment));
+        }
+    }
     let session = connections.get_mut(conn).unwrap();
     let count = session.fill(piece);
     let asked = ask(store, session, moment);

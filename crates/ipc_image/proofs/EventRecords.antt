@@ -7,8 +7,9 @@ use Rattle.std.proofs.lemmas.List.{length-append, length-take-le, take_at, take-
 use Rattle.std.proofs.lemmas.Nat.{from_be_bytes-to_be_bytes_8}
 use Rattle.ipc_base.specs.declared.identity.Cred.{Cred}
 use Rattle.ipc_wire.specs.Request.{PlainRequest}
-use Rattle.ipc_wire.specs.Spelling.{HasFrame, request_bytes, frame}
+use Rattle.ipc_wire.specs.Spelling.{HasFrame, request_bytes}
 use Rattle.ipc_engine.specs.Event.{PlainEvent, Connect, Call, Interrupt, Tick, Exit, Restart, moment_of}
+use Rattle.ipc_image.specs.Format.{format}
 use Rattle.ipc_image.specs.Records.{kind_of, details, text_of, record_bytes, HasDetails, BeginsWith}
 use Rattle.ipc_image.specs.RecordParts.{IsText, IsOf}
 use Rattle.ipc_base.proofs.CallerLemmas.{Got as GotOf, bytes-drop, number32_got, number32_known, number64_got}
@@ -163,7 +164,7 @@ text_only text one two kind moment a b e is =
 -- ---- a whole record
 
 -- the details of an event that has a record are short
-pub details_short : (e : PlainEvent) → HasDetails e → length (details e) ≤ 8452
+pub details_short : (e : PlainEvent) → HasDetails e → length (details e) ≤ 4 + format.request
 details_short (Connect cred serial moment) has = omega arith
 details_short (Call pid request moment) has = let short = has.1.short in omega (arith, short)
 details_short (Interrupt pid serial moment) has = omega arith
@@ -178,9 +179,7 @@ pub length_record : (e : PlainEvent) → length (record_bytes e) ≡ 13 + length
 unfolding record_bytes
 length_record e = omega arith
 
--- a frame has a length of as many bytes as a pid
-pub length_call : (pid : ℕ) (request : PlainRequest) (moment : ℕ) → length (frame request) ≡ length (details (Call pid request moment))
-unfolding frame
+pub length_call : (pid : ℕ) (request : PlainRequest) (moment : ℕ) → 4 + length (request_bytes request) ≡ length (details (Call pid request moment))
 length_call pid request moment = omega arith
 
 -- the bytes are the length of the record, the record, and more

@@ -35,7 +35,7 @@ ghost use Rattle.ipc_image.specs.RecordParts.{IsText, IsOf};
 
 use ipc_base::{Cred, Cursor, Moment, Pid, Put};
 use ipc_engine::Event;
-use ipc_wire::{put_request, read_request, request_len};
+use ipc_wire::read_request;
 
 /// The kinds of records.
 const CONNECT: u8 = 1;
@@ -57,8 +57,7 @@ pub fn record_len(event: &Event<'_>) -> usize
 {
     13 + match event {
         Event::Connect { .. } => 12,
-        // The pid takes as many bytes as the length of the frame, which is left out.
-        Event::Call { request, .. } => request_len(request),
+        Event::Call { request, .. } => 4 + request.bytes().len(),
         Event::Interrupt { .. } => 8,
         Event::Exit { .. } => 4,
         Event::Tick { .. } => 0,
@@ -120,7 +119,7 @@ fn put_details(put: &mut Put, out: &mut [u8], event: &Event<'_>)
         }
         Event::Call { pid, request, .. } => {
             put.u32(out, pid.0);
-            put_request(put, out, request);
+            put.bytes(out, request.bytes());
         }
         Event::Interrupt { pid, serial, .. } => {
             put.u32(out, pid.0);

@@ -141,22 +141,20 @@ fn deadline_from(number: u64) -> Option<Moment>
 }
 
 // How many bytes the request of a call has.
-#[tactic(auto, unfolding(ipc_wire::specs::Spelling::frame))]
 fn call_len(call: &Parked) -> u32
     ensures { result ≡ length (request_bytes call.now) }
 {
-    (request_len(&call.request()) - 4) as u32
+    request_len(call.lend()) as u32
 }
 
 // The request of a call passes the window: its frame without the length.
 fn put_call(window: &mut Window, call: &Parked)
     ensures { window.new ≡ passed (request_bytes call.now) window.old }
 {
-    let request = call.request();
-    let parts = request_parts(request.kind);
+    let parts = request_parts(call.lend());
     put_row(
         window,
-        &[Field::U32(request.serial), Field::U8(parts.opcode)],
+        &[Field::U32(call.serial()), Field::U8(parts.opcode)],
         parts.fields.as_slice(),
     );
     window.put(parts.rest);

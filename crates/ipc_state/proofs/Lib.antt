@@ -22,3 +22,4 @@ mod Inside
 mod Opening
 mod Steps
 mod Walks
+mod Demands

@@ -1,11 +1,8 @@
 -- The semaphores that a list of operations names, as bits of a word. Two semaphores of a set of at most 64 share none.
-use Rattle.std.specs.Prelude.{ℕ, ◌^◌, ◌%◌, List, bit_or}
+use Rattle.std.specs.Prelude.{ℕ, List, bit_or}
 use Rattle.std.specs.List.{fold}
 use Rattle.ipc_wire.specs.declared.sixes.SemBuf.{SemBuf}
-
--- the bit of a semaphore, by its number
-abbrev pub bit_of : ℕ → ℕ
-bit_of num = 2 ^ (num % 64)
+pub use Rattle.sysv_sem.specs.Bits.{bit_of}
 
 -- a word with the semaphore of an operation
 abbrev pub with_bit : ℕ → SemBuf → ℕ

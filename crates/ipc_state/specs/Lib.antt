@@ -26,3 +26,4 @@ pub mod Spare
 pub mod Steps
 pub mod Tries
 pub mod Bits
+pub mod Demands

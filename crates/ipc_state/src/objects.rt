@@ -183,6 +183,10 @@ impl<B: Bound, T> ObjectTable<B, T> {
     pub(crate) fn release(&mut self) -> Option<T>
         ensures { self.new ≡ record self.old { ready = None } }
     {
+        // Before most calls nothing is ready, and then nothing is moved.
+        if self.ready.is_none() {
+            return None;
+        }
         let (bound, object) = self.ready.take()?;
         bound.release(&mut self.directory);
         Some(object)

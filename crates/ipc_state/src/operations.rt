@@ -1,18 +1,14 @@
-//! The operations of a semop that waits, and the semaphores that a list names, as bits of a word.
+//! The operations of a semop that waits: the semaphores that they name, as bits of a word, and what they demand of
+//! their set.
 
 ghost use Rattle.std.specs.Prelude.{◌≡◌, ◌%◌, length};
 ghost use Rattle.ipc_wire.specs.Sixes.{bytes_of, operations_in};
 ghost use Rattle.ipc_state.specs.Bits as defined;
+ghost use Rattle.ipc_state.specs.Demands as demanded;
 
-use ipc_wire::Sixes;
+use ipc_wire::{SemBuf, Sixes};
 use std::alloc::{AllocError, Global};
-
-/// The bit of a word that stands for a semaphore: that of its number, or of what 64 leaves of it.
-pub fn bit_of(num: u32) -> u64
-    ensures { result ≡ defined.bit_of num }
-{
-    1 << (num % 64)
-}
+use sysv_sem::bit_of;
 
 /// The semaphores that operations name, as bits of a word.
 pub fn bits_of(operations: &Sixes<'_>) -> u64
@@ -25,17 +21,60 @@ pub fn bits_of(operations: &Sixes<'_>) -> u64
     word
 }
 
-/// The operations of a semop, in memory of their own, and the semaphores that they name.
+/// What a list of operations demands of its set: how many semaphores, and whether an operation reads its semaphore, and
+/// whether one alters it.
+#[derive(Clone, Copy)]
+struct Demands {
+    semaphores: u32,
+    reads: bool,
+    alters: bool,
+}
+
+impl Demands {
+    /// The same, and what an operation more demands.
+    fn with(self, operation: SemBuf) -> Demands
+        ensures { result ≡ demanded.demanding self operation }
+    {
+        let is_read = operation.op == 0;
+        Demands {
+            semaphores: self.semaphores.max(u32::from(operation.num) + 1),
+            reads: self.reads || is_read,
+            alters: self.alters || !is_read,
+        }
+    }
+}
+
+/// What operations demand of their set.
+fn demands_of(operations: &Sixes<'_>) -> Demands
+    ensures { result ≡ demanded.demands_of (operations_in (bytes_of operations.now)) }
+{
+    let mut demands = Demands {
+        semaphores: 0,
+        reads: false,
+        alters: false,
+    };
+    for place in 0..operations.len() {
+        demands = demands.with(operations.at(place));
+    }
+    demands
+}
+
+/// The operations of a semop, in memory of their own, the semaphores that they name, and what they demand of their set.
+/// So whether they may be tried is told without a look at each.
 #[derive(Drop)]
 pub struct Operations {
     bytes: Vec<u8>,
     named: u64,
+    demands: Demands,
     ghost whole: { length bytes.items % 6 ≡ 0 },
     ghost bits: { named ≡ defined.bits_of (operations_in bytes.items) },
+    ghost demanded: { demands ≡ demanded.demands_of (operations_in bytes.items) },
 }
 
 impl Operations {
-    ghost use Rattle.std.specs.Prelude.{IfOk};
+    ghost use Rattle.std.specs.Prelude.{IfOk, not, pos, nat_lt};
+    ghost use Rattle.std.specs.List.{list_all, list_any};
+    ghost use Rattle.std.specs.Ordering.{int_eq};
     ghost use Rattle.ipc_wire.specs.Sixes.{bytes_of, operations_in};
     ghost use Rattle.ipc_state.specs.Bits as defined;
 
@@ -46,6 +85,7 @@ impl Operations {
         Ok(Operations {
             bytes: operations.bytes().to_vec(alloc)?,
             named: bits_of(operations),
+            demands: demands_of(operations),
         })
     }
 
@@ -61,5 +101,26 @@ impl Operations {
         ensures { result ≡ defined.bits_of (operations_in self.now.bytes.items) }
     {
         self.named
+    }
+
+    /// Whether a set of so many semaphores has all that they name. This takes no longer with more operations.
+    pub fn are_within(&self, nsems: usize) -> bool
+        ensures { result ≡ list_all (λ o. nat_lt o.num nsems) (operations_in self.now.bytes.items) }
+    {
+        self.demands.semaphores as usize <= nsems
+    }
+
+    /// Whether one of them reads its semaphore: it waits for 0. This takes no longer with more operations.
+    pub fn reads(&self) -> bool
+        ensures { result ≡ list_any (λ o. int_eq o.op (pos 0)) (operations_in self.now.bytes.items) }
+    {
+        self.demands.reads
+    }
+
+    /// Whether one of them alters its semaphore. This takes no longer with more operations.
+    pub fn alters(&self) -> bool
+        ensures { result ≡ list_any (λ o. not (int_eq o.op (pos 0))) (operations_in self.now.bytes.items) }
+    {
+        self.demands.alters
     }
 }

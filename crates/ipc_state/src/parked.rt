@@ -288,17 +288,14 @@ impl Parked {
         Parked { serial, kind }
     }
 
-    /// The request.
-    pub fn request(&self) -> Request<'_>
-        ensures { plain_request result ≡ self.now }
+    /// What it asks; its request has a frame.
+    pub fn lend(&self) -> RequestKind<'_>
+        ensures kind { plain_kind result ≡ self.now.kind }
+        ensures frame { HasFrame self.now }
     {
-        let kind = match &self.kind {
+        match &self.kind {
             ParkedKind::Sysv(call) => RequestKind::Sysv(call.lend()),
             ParkedKind::Posix(call) => RequestKind::Posix(call.lend()),
-        };
-        Request {
-            serial: self.serial,
-            kind,
         }
     }
 

@@ -5,8 +5,9 @@ use Rattle.std.specs.Int.{w32, from_be_bytes}
 use Rattle.std.specs.Prelude.{slice_index}
 use Rattle.std.proofs.lemmas.Bool.{cases_lt, lt-ltb, le-ltb, ltb-false, ltb-true, cond-true, cond-false, cond_both}
 use Rattle.std.proofs.lemmas.List.{length-append, length-drop, length-take-le, take-append-le, drop-append-le}
+use Rattle.ipc_wire.specs.Sizes.{greatest_length, greatest_frame}
 use Rattle.ipc_wire.specs.Request.{PlainKind, PlainRequest}
-use Rattle.ipc_wire.specs.Stream.{PlainFrame, TakesBytes, part, u32_at, kind_of, request_or_fault, frame_of, first, greatest_length, missing}
+use Rattle.ipc_wire.specs.Stream.{PlainFrame, TakesBytes, part, u32_at, kind_of, request_or_fault, frame_of, first, missing}
 use Rattle.ipc_wire.specs.Stream.PlainFrame.{More, Whole, Fault}
 
 request_takes : (call : Option PlainKind) (used serial available : ℕ) → 9 ≤ used → used ≤ available → TakesBytes (request_or_fault used serial call) available
@@ -75,7 +76,7 @@ frame_waits text =
     cond_both (eqb (u32_at 0 text) 0) (Fault 0) (request_or_fault (4 + length text) (u32_at 0 text) call) (λ (f : PlainFrame). f ≡ More → ⊥) (λ _ e. cc)
     (λ _. request_waits call (4 + length text) (u32_at 0 text))
 
-pub waiting_short : (bytes : List ℕ) → first bytes ≡ More → length bytes < 8452
+pub waiting_short : (bytes : List ℕ) → first bytes ≡ More → length bytes < greatest_frame
 waiting_short bytes e =
     elim (cases_lt (length bytes) 4) [
       | inl short ↦ omega arith
@@ -83,8 +84,8 @@ waiting_short bytes e =
           let size : ℕ = u32_at 0 bytes in
           let text : List ℕ = part 4 size bytes in
           cond_both (is_out_of_range size) (Fault 0) (cond (ltb (length bytes) (4 + size)) More (frame_of text))
-          (λ (f : PlainFrame). f ≡ More → length bytes < 8452) (λ _ w. cc)
-          (λ inside. cond_both (ltb (length bytes) (4 + size)) More (frame_of text) (λ (f : PlainFrame). f ≡ More → length bytes < 8452)
+          (λ (f : PlainFrame). f ≡ More → length bytes < greatest_frame) (λ _ w. cc)
+          (λ inside. cond_both (ltb (length bytes) (4 + size)) More (frame_of text) (λ (f : PlainFrame). f ≡ More → length bytes < greatest_frame)
           (λ short _.
           let least = in_range size inside in
           let fewer : length bytes < 4 + size = ltb-true _ _ short in
@@ -180,8 +181,8 @@ sized_whole size available text used request exact =
     let enough : 4 + size ≤ available = ltb-false _ _ long in
     (inside, omega (arith, frame_used text used request e, exact enough))))
 
--- what is missing of a frame that is not whole is a byte at least, and the frame has no more than 8452
-pub missing_some : (bytes : List ℕ) → first bytes ≡ More → (0 < missing bytes) × (length bytes + missing bytes ≤ 8452)
+-- what is missing of a frame that is not whole is a byte at least, and the frame has no more than the longest
+pub missing_some : (bytes : List ℕ) → first bytes ≡ More → (0 < missing bytes) × (length bytes + missing bytes ≤ greatest_frame)
 unfolding missing
 missing_some bytes waits =
     elim (cases_lt (length bytes) 4) [
@@ -191,9 +192,9 @@ missing_some bytes waits =
           let text : List ℕ = part 4 size bytes in
           rw (le-ltb _ _ long)
           (cond_both (is_out_of_range size) (Fault 0) (cond (ltb (length bytes) (4 + size)) More (frame_of text))
-          (λ (f : PlainFrame). f ≡ More → (0 < 4 + size - length bytes) × (length bytes + (4 + size - length bytes) ≤ 8452)) (λ _ w. cc)
+          (λ (f : PlainFrame). f ≡ More → (0 < 4 + size - length bytes) × (length bytes + (4 + size - length bytes) ≤ greatest_frame)) (λ _ w. cc)
           (λ inside. cond_both (ltb (length bytes) (4 + size)) More (frame_of text)
-          (λ (f : PlainFrame). f ≡ More → (0 < 4 + size - length bytes) × (length bytes + (4 + size - length bytes) ≤ 8452))
+          (λ (f : PlainFrame). f ≡ More → (0 < 4 + size - length bytes) × (length bytes + (4 + size - length bytes) ≤ greatest_frame))
           (λ short _.
           let least = in_range size inside in
           let fewer : length bytes < 4 + size = ltb-true _ _ short in
@@ -227,7 +228,7 @@ whole_last bytes more used request waits few whole =
 
 -- a frame whose length is there and that is not whole
 pub waiting_long : (bytes : List ℕ) (size : ℕ) → 4 ≤ length bytes → from_be_bytes w32 (take 4 bytes) ≡ size → first bytes ≡ More
-    → (length bytes < 4 + size) × (4 + size ≤ 8452)
+    → (length bytes < 4 + size) × (4 + size ≤ greatest_frame)
 unfolding missing u32_at
 waiting_long bytes size long is waits =
     let some = missing_some bytes waits in

@@ -1,15 +1,16 @@
 -- What is read as a request is spelled so: its bytes are the frame of that request.
 use Rattle.std.proofs.Common.{◌≡◌, ℕ, ◌+◌, ◌≤◌, ◌<◌, ◌^◌, ◌⊎◌, Bool, true, false, cond, ltb, eqb, List, ◌∷◌, ◌++◌, length, take, drop, Option, Some, None, refl}
 use Rattle.std.proofs.Common.{sym, ap, subst, ◌∙◌, arith, inl, inr, All}
-use Rattle.std.specs.Int.{w32, to_be_bytes}
+use Rattle.std.specs.Int.{w32, to_be_bytes, from_be_bytes}
 use Rattle.std.specs.Prelude.{slice_index}
-use Rattle.std.proofs.lemmas.Bool.{cases_lt, ltb-false, eqb-false}
+use Rattle.std.proofs.lemmas.Bool.{cases_lt, ltb-false, eqb-false, ne_eqb, cond-false}
 use Rattle.std.proofs.lemmas.List.{length-take-le, length-drop, take-take, drop-take, take-append-drop, drop_more}
 use Rattle.std.proofs.lemmas.Nat.{be_bytes_4}
 use Rattle.ipc_wire.specs.declared.request.Frame.{Frame}
 use Rattle.ipc_wire.specs.declared.request.Frame.TheVariants as frames
+use Rattle.ipc_wire.specs.Sizes.{greatest_length, greatest_fields}
 use Rattle.ipc_wire.specs.Request.{PlainKind, PlainRequest}
-use Rattle.ipc_wire.specs.Stream.{PlainFrame, plain_frame, part, u32_at, kind_of, request_or_fault, frame_of, first, greatest_length}
+use Rattle.ipc_wire.specs.Stream.{PlainFrame, plain_frame, part, u32_at, kind_of, request_or_fault, frame_of, first}
 use Rattle.ipc_wire.specs.Stream.PlainFrame.{More, Whole, Fault}
 use Rattle.ipc_wire.specs.Spelling.{opcode_of, fields_of, request_bytes, frame, HasFrame}
 use Rattle.ipc_wire.specs.View.{plain_request}
@@ -64,7 +65,7 @@ request_found (Some call) size serial used request e =
     (ap (λ (r : PlainRequest). Some r.kind) parts.1, parts.0, ap (λ (r : PlainRequest). r.serial) parts.1)
 
 -- what was read of fields, under a serial, has a frame
-pub kind_framed : (opcode serial : ℕ) (fields : List ℕ) (kind : PlainKind) → 1 ≤ serial → serial < 2 ^ 32 → AreBytes fields → length fields ≤ 8443
+pub kind_framed : (opcode serial : ℕ) (fields : List ℕ) (kind : PlainKind) → 1 ≤ serial → serial < 2 ^ 32 → AreBytes fields → length fields ≤ greatest_fields
     → kind_of opcode fields ≡ Some kind → HasFrame (record { serial = serial; kind = kind })
 kind_framed opcode serial fields kind least below fits short e =
     let spelled = kind_back opcode fields kind fits e in
@@ -103,6 +104,17 @@ text_back text used request fits least most e =
           }
     ]
 
+-- a frame whose serial, opcode and fields are read one by one
+pub frame_read : (text : List ℕ) (serial opcode : ℕ) (kind : PlainKind) → serial ≡ from_be_bytes w32 (take 4 text) → opcode ≡ slice_index text 4 → 1 ≤ serial
+    → kind_of opcode (drop 5 text) ≡ Some kind → frame_of text ≡ Whole (4 + length text) (record { serial = serial; kind = kind })
+unfolding frame_of u32_at
+frame_read text serial opcode kind first fifth least e =
+    let nonzero : eqb (u32_at 0 text) 0 ≡ false = ne_eqb _ _ (omega (arith, first)) in
+    let call : kind_of (slice_index text 4) (drop 5 text) ≡ Some kind = ap (λ (n : ℕ). kind_of n (drop 5 text)) (sym fifth) ∙ e in
+    cond-false _ _ _ nonzero
+    ∙ ap (request_or_fault (4 + length text) (u32_at 0 text)) call
+    ∙ ap (λ (n : ℕ). Whole (4 + length text) (record { serial = n; kind = kind })) (sym first)
+
 -- what is read of a frame without its length
 pub request_read : (text : List ℕ) (used : ℕ) (request : PlainRequest) → AreBytes text → 5 ≤ length text → length text ≤ greatest_length
     → frame_of text ≡ Whole used request → HasFrame request × (text ≡ request_bytes request)
@@ -135,7 +147,7 @@ one_text request other has also is =
     one_request (frame_of (request_bytes request)) _ _ request other (request_text (request_bytes request) request has refl).whole
     (request_text (request_bytes request) other also is).whole
 
-request_back : (bytes : List ℕ) (used : ℕ) (request : PlainRequest) → AreBytes bytes → first bytes ≡ Whole used request
+pub request_back : (bytes : List ℕ) (used : ℕ) (request : PlainRequest) → AreBytes bytes → first bytes ≡ Whole used request
     → (take used bytes ≡ frame request) × HasFrame request
 unfolding frame
 request_back bytes used request fits e =

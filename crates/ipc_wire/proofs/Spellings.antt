@@ -4,8 +4,9 @@ use Rattle.std.specs.Int.{w32, from_be_bytes, to_be_bytes}
 use Rattle.std.proofs.lemmas.Bool.{le-ltb, cond-false, ne_eqb}
 use Rattle.std.proofs.lemmas.List.{length-append, take_at}
 use Rattle.std.proofs.lemmas.Nat.{from_be_bytes-to_be_bytes_4}
+use Rattle.ipc_wire.specs.Sizes.{greatest_length, greatest_fields}
 use Rattle.ipc_wire.specs.Request.{PlainKind, PlainRequest}
-use Rattle.ipc_wire.specs.Stream.{part, u32_at, kind_of, frame_of, first, greatest_length}
+use Rattle.ipc_wire.specs.Stream.{part, u32_at, kind_of, frame_of, first}
 use Rattle.ipc_wire.specs.Stream.PlainFrame.{Whole}
 use Rattle.ipc_wire.specs.Spelling.{opcode_of, fields_of, frame, HasFrame}
 use Rattle.ipc_wire.proofs.Frames.{first_long, is_out_of_range, sized}
@@ -48,7 +49,7 @@ pub request_again : (request : PlainRequest) (rest : List ℕ) → HasFrame requ
 unfolding frame
 request_again request rest has =
     let fields : List ℕ = fields_of request.kind in
-    let short : length fields ≤ 8443 = has.short in
+    let short : length fields ≤ greatest_fields = has.short in
     let text : List ℕ = text_of request.serial (opcode_of request.kind) fields in
     let size : length text ≡ 5 + length fields = omega arith in
     let total : length (frame request) ≡ 9 + length fields = omega arith in

@@ -5,6 +5,7 @@ pub mod Posix
 pub mod Reply
 pub mod Sixes
 pub mod Request
+pub mod Sizes
 pub mod Spelling
 pub mod Stream
 pub mod Table

@@ -4,6 +4,7 @@ use Rattle.std.specs.Int.{w32, to_be_bytes}
 use Rattle.ipc_base.specs.Numbers.{AreInRange, values_bytes}
 use Rattle.ipc_wire.specs.Fields.{MayHave}
 use Rattle.ipc_wire.specs.Request.{PlainKind, PlainRequest}
+use Rattle.ipc_wire.specs.Sizes.{greatest_fields}
 use Rattle.ipc_wire.specs.Table.{Parts, parts_of}
 
 -- the fields, and the rest after them
@@ -30,4 +31,4 @@ pub record HasFrame (r : PlainRequest) : Type 0 where
   pub serial : (1 ≤ r.serial) × (r.serial < 2 ^ 32)
   pub fields : AreInRange (parts_of r.kind).row.fields (parts_of r.kind).values
   pub rest : MayHave (parts_of r.kind).row.rest (length (parts_of r.kind).rest)
-  pub short : length (fields_of r.kind) ≤ 8443
+  pub short : length (fields_of r.kind) ≤ greatest_fields

@@ -8,6 +8,7 @@ use Rattle.ipc_wire.specs.declared.request.Frame.TheVariants as frames
 use Rattle.ipc_base.specs.Numbers.{total, values_of}
 use Rattle.ipc_wire.specs.Fields.{fits}
 use Rattle.ipc_wire.specs.Request.{PlainKind, PlainRequest}
+use Rattle.ipc_wire.specs.Sizes.{least_length, greatest_length}
 use Rattle.ipc_wire.specs.Table.{Row, row_of}
 use Rattle.ipc_wire.specs.View.{plain_request}
 
@@ -51,10 +52,6 @@ kind_of opcode bytes = made_by_some (row_of opcode) bytes
 
 -- ---- frames
 
--- the most bytes behind the length of a frame
-abbrev pub greatest_length : ℕ
-greatest_length = 8448
-
 abbrev pub request_or_fault : ℕ → ℕ → Option PlainKind → PlainFrame
 request_or_fault used serial None = Fault serial
 request_or_fault used serial (Some kind) = Whole used (record { serial = serial; kind = kind })
@@ -70,7 +67,7 @@ unfoldable pub first : List ℕ → PlainFrame
 first bytes =
     let size = u32_at 0 bytes in
     if nat_lt (length bytes) 4 then More
-    else if nat_lt size 5 || nat_lt greatest_length size then Fault 0
+    else if nat_lt size least_length || nat_lt greatest_length size then Fault 0
     else if nat_lt (length bytes) (4 + size) then More
     else frame_of (part 4 size bytes)
 

@@ -5,6 +5,7 @@ ghost use Rattle.std.specs.Prelude.{◌≡◌, ◌<◌, ◌≤◌, ◌+◌, ℕ,
 ghost use Rattle.ipc_wire.specs.Request.{PlainRequest};
 ghost use Rattle.ipc_wire.specs.Stream.{first, missing, TakesBytes, stream_of, begins_with, continued};
 ghost use Rattle.ipc_wire.specs.Stream.PlainFrame.{More, Whole, Fault};
+ghost use Rattle.ipc_wire.specs.Sizes.{greatest_frame};
 ghost use Rattle.ipc_wire.specs.Spelling.{frame, HasFrame};
 
 /// A request or fault that stands at the front of a beginning of a stream stands at the front of the stream.
@@ -19,9 +20,9 @@ pub fn found_frame_stays()
 /// than the longest one, misses a byte at least, and becomes whole exactly with its last byte.
 pub fn frame_is_bounded()
     ensures whole { (bytes : List ℕ) → TakesBytes (first bytes) (length bytes) }
-    ensures waiting { (bytes : List ℕ) → first bytes ≡ More → length bytes < 8452 }
+    ensures waiting { (bytes : List ℕ) → first bytes ≡ More → length bytes < greatest_frame }
     ensures missing { (bytes : List ℕ) → first bytes ≡ More
-        → (0 < missing bytes) × (length bytes + missing bytes ≤ 8452) }
+        → (0 < missing bytes) × (length bytes + missing bytes ≤ greatest_frame) }
     ensures last { (bytes more : List ℕ) (used : ℕ) (request : PlainRequest)
         → first bytes ≡ More → length more ≤ missing bytes
         → first (bytes ++ more) ≡ Whole used request → used ≡ length (bytes ++ more) }

@@ -26,5 +26,5 @@ pub use record::{Record, push_fields};
 pub use reply::{Body, Reply};
 pub use request::{Frame, Request, RequestKind, SysvCall};
 pub use sixes::{SemBuf, Sixes};
-pub use spelling::{RequestParts, put_request, request_len, request_parts, write_request};
+pub use spelling::{RequestParts, request_len, request_parts};
 pub use writing::{reply_len, write_reply};

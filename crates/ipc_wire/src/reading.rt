@@ -2,8 +2,9 @@
 
 ghost use Rattle.std.specs.Prelude.{◌≡◌, ℕ, ◌<◌, ◌≤◌, ◌+◌, length, option_map, IfSome, Some};
 ghost use Rattle.ipc_wire.specs.Request.{PlainRequest};
+ghost use Rattle.ipc_wire.specs.Sizes.{least_length, greatest_length, greatest_frame};
 ghost use Rattle.ipc_wire.specs.Spelling.{HasFrame, request_bytes};
-ghost use Rattle.ipc_wire.specs.Stream.{plain_frame, TakesBytes, first, greatest_length, missing, frame_of};
+ghost use Rattle.ipc_wire.specs.Stream.{plain_frame, TakesBytes, first, missing, frame_of};
 ghost use Rattle.ipc_wire.specs.View.{plain_request};
 ghost use Rattle.ipc_wire.specs.Stream.PlainFrame.{More, Whole};
 
@@ -25,7 +26,7 @@ pub const GREATEST_FRAME: usize = 4 + GREATEST_LENGTH as usize;
 pub fn read_frame(bytes: &[u8]) -> Frame<'_>
     ensures exact { plain_frame result ≡ first bytes.now }
     ensures used { TakesBytes (plain_frame result) (length bytes.now) }
-    ensures waiting { plain_frame result ≡ More → length bytes.now < 4 + greatest_length }
+    ensures waiting { plain_frame result ≡ More → length bytes.now < greatest_frame }
     ensures has_frame { (used : ℕ) (request : PlainRequest) → plain_frame result ≡ Whole used request
         → HasFrame request }
 {
@@ -49,7 +50,7 @@ pub fn bytes_missing(bytes: &[u8]) -> usize
     requires { first bytes.now ≡ More }
     ensures exact { result ≡ missing bytes.now }
     ensures some { 0 < result }
-    ensures bounded { length bytes.now + result ≤ 4 + greatest_length }
+    ensures bounded { length bytes.now + result ≤ greatest_frame }
 {
     let mut cursor = Cursor::new(bytes);
     match cursor.u32() {
@@ -78,7 +79,7 @@ pub fn read_request(text: &[u8]) -> Option<Request<'_>>
 /// The frame of which these bytes stand behind the length.
 #[tactic(auto, unfolding(crate::specs::Stream::frame_of, crate::specs::Stream::u32_at))]
 fn whole_frame(text: &[u8]) -> Frame<'_>
-    requires { (5 ≤ length text.now) × (length text.now ≤ greatest_length) }
+    requires { (least_length ≤ length text.now) × (length text.now ≤ greatest_length) }
     ensures { plain_frame result ≡ frame_of text.now }
 {
     let mut cursor = Cursor::new(text);
@@ -94,7 +95,11 @@ fn whole_frame(text: &[u8]) -> Frame<'_>
     match read_kind(opcode, cursor.rest()) {
         Some(kind) => Frame::Whole {
             used: 4 + text.len(),
-            request: Request { serial, kind },
+            request: Request {
+                serial,
+                kind,
+                bytes: text,
+            },
         },
         None => Frame::Fault { serial },
     }

@@ -1,42 +1,35 @@
 //! Requests, and what stands at the front of a stream of them.
 
+ghost use Rattle.std.specs.Prelude.{◌≡◌};
 ghost use Rattle.ipc_wire.specs.OneProof.{HasFrame-prop};
 ghost use Rattle.ipc_wire.specs.Request.{plain_kind};
-ghost use Rattle.ipc_wire.specs.Spelling.{HasFrame};
+ghost use Rattle.ipc_wire.specs.Spelling.{HasFrame, request_bytes};
 
 use crate::pairs::Pairs;
 use crate::posix::PosixCall;
-use crate::reading::{GREATEST_LENGTH, LEAST_LENGTH};
 use crate::sixes::Sixes;
-use crate::spelling::request_parts;
 use ipc_base::{Cred, GetFlags, Id, MsgFlags};
 
-/// The most bytes of the fields of a request, with the text after them.
-const GREATEST_FIELDS: usize = (GREATEST_LENGTH - LEAST_LENGTH) as usize;
-
-/// What a client asks, under a serial by which it knows the reply. Each has a frame, so none is too long for one.
+/// What a client asks, under a serial by which it knows the reply, and the bytes in which it came: those of its frame
+/// after the length, of which there is one spelling.
 #[derive(Clone, Copy)]
 pub struct Request<'a> {
     /// Not 0. The server does not require serials to differ.
     pub serial: u32,
     pub kind: RequestKind<'a>,
+    pub(crate) bytes: &'a [u8],
     pub ghost frame: { HasFrame (record { serial = serial; kind = plain_kind kind }) } by { HasFrame-prop },
+    pub ghost spelled: { bytes.now ≡ request_bytes (record { serial = serial; kind = plain_kind kind }) },
 }
 
 impl<'a> Request<'a> {
-    ghost use Rattle.std.specs.Prelude.{◌≡◌, IfSome, IfNone};
     ghost use Rattle.ipc_wire.specs.View.{plain_request};
 
-    /// The request, or `None` if it has no frame: its serial is 0, or its text is too long.
-    pub fn new(serial: u32, kind: RequestKind<'a>) -> Option<Request<'a>>
-        ensures some { IfSome result (λ r. plain_request r ≡ record { serial = serial; kind = plain_kind kind.entry }) }
-        ensures none { IfNone result (¬ HasFrame (record { serial = serial; kind = plain_kind kind.entry })) }
+    /// The bytes of its frame after the length, from 5 to 8448.
+    pub fn bytes(&self) -> &'a [u8]
+        ensures { result.now ≡ request_bytes (plain_request self.now) }
     {
-        let parts = request_parts(kind);
-        if serial == 0 || parts.fields.as_slice().len() + parts.rest.len() > GREATEST_FIELDS {
-            return None;
-        }
-        Some(Request { serial, kind })
+        self.bytes
     }
 }
 

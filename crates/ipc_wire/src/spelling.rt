@@ -1,34 +1,19 @@
-//! Requests written into a buffer, and their opcodes: the byte of a frame that says what it asks.
+//! Requests in their parts, and their opcodes: the byte of a frame that says what it asks.
 
-ghost use Rattle.std.specs.Prelude.{
-  ◌≡◌,
-  ◌≤◌,
-  ◌<◌,
-  ◌+◌,
-  ◌^◌,
-  ◌++◌,
-  ◌↔◌,
-  IsTrue,
-  true,
-  length,
-  drop,
-};
-ghost use Rattle.std.specs.Bool.{OnTrue, OnFalse};
-ghost use Rattle.ipc_base.specs.Fields.{Puts};
+ghost use Rattle.std.specs.Prelude.{◌≡◌, ◌≤◌, ◌++◌, ℕ, length};
 ghost use Rattle.ipc_base.specs.Numbers.{AreInRange, record_bytes};
 ghost use Rattle.ipc_wire.specs.Fields.{MayHave};
 ghost use Rattle.ipc_wire.specs.Posix.{plain_posix};
 ghost use Rattle.ipc_wire.specs.Request.{Sysv, Posix, plain_sysv, plain_kind};
-ghost use Rattle.ipc_wire.specs.Spelling.{opcode_of, fields_of, request_bytes, frame};
+ghost use Rattle.ipc_wire.specs.Spelling.{opcode_of, fields_of, request_bytes};
 ghost use Rattle.ipc_wire.specs.Table.{parts_of};
-ghost use Rattle.ipc_wire.specs.View.{plain_request};
 
 use crate::posix::PosixCall;
 use crate::record::Record;
-use crate::request::{Request, RequestKind, SysvCall};
+use crate::request::{RequestKind, SysvCall};
 use crate::writing::text_len;
+use ipc_base::Field;
 use ipc_base::Field::{I32, I64, U8, U32, U64};
-use ipc_base::{Field, Put};
 
 /// The opcode of HELLO.
 pub(crate) const HELLO: u8 = 0x01;
@@ -159,45 +144,13 @@ pub struct RequestParts<'a> {
     pub rest: &'a [u8],
 }
 
-/// How many bytes the frame of the request takes.
-#[tactic(auto, unfolding(crate::specs::Spelling::frame))]
-pub fn request_len(request: &Request<'_>) -> usize
-    ensures exact { result ≡ length (frame (plain_request request.now)) }
-    ensures bounded { result ≤ 8452 }
+/// How many bytes a request takes in its frame, after the length.
+pub fn request_len(kind: RequestKind<'_>) -> usize
+    ensures { (serial : ℕ) → result
+        ≡ length (request_bytes (record { serial = serial; kind = plain_kind kind.entry })) }
 {
-    let parts = request_parts(request.kind);
-    9 + parts.fields.as_slice().len() + text_len(parts.rest)
-}
-
-/// Writes the frame of the request to the front of the buffer. Answers `false`, and changes nothing, if the
-/// buffer is shorter than the frame.
-#[tactic(auto, unfolding(crate::specs::Spelling::frame))]
-pub fn write_request(request: &Request<'_>, out: &mut [u8]) -> bool
-    ensures fits { IsTrue result ↔ (length (frame (plain_request request.now)) ≤ length out.old) }
-    ensures written { OnTrue result (out.new
-        ≡ frame (plain_request request.now) ++ drop (length (frame (plain_request request.now))) out.old) }
-    ensures unchanged { OnFalse result (out.new ≡ out.old) }
-{
-    let whole = request_len(request);
-    if whole > out.len() {
-        return false;
-    }
-    let mut put = Put::new(0);
-    put.u32(out, (whole - 4) as u32);
-    put_request(&mut put, out, request);
-    true
-}
-
-/// Puts the frame of a request without its length into a buffer that has room for it.
-pub fn put_request(put: &mut Put, out: &mut [u8], request: &Request<'_>)
-    requires { put.old + length (request_bytes (plain_request request.now)) ≤ length out.old }
-    ensures { Puts (request_bytes (plain_request request.now)) put.old put.new out.old out.new true }
-{
-    let parts = request_parts(request.kind);
-    put.u32(out, request.serial);
-    put.u8(out, parts.opcode);
-    put.bytes(out, parts.fields.as_slice());
-    put.bytes(out, parts.rest);
+    let parts = request_parts(kind);
+    5 + parts.fields.as_slice().len() + text_len(parts.rest)
 }
 
 /// A request in its parts, for a caller who has no buffer for all of it.

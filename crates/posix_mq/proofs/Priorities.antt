@@ -1,5 +1,5 @@
 -- The oldest message of the greatest priority.
-use Rattle.std.proofs.Common.{◌≡◌, ◌==◌, ℕ, suc, ◌+◌, ◌<◌, ◌≤◌, Bool, true, false, not, cond, nat_lt, nat_le, inl, inr}
+use Rattle.std.proofs.Common.{◌≡◌, ◌==◌, ℕ, suc, ◌<◌, ◌≤◌, Bool, true, false, not, cond, nat_lt, nat_le, inl, inr}
 use Rattle.std.proofs.Common.{List, [], ◌∷◌, length, get_or, map, All, Contains, Some, None, refl, ap, sym, ◌∙◌, true≢false, arith}
 use Rattle.std.specs.List.{position, prefix_len}
 use Rattle.std.specs.Prelude.{IsSome}
@@ -10,26 +10,9 @@ use Rattle.std.proofs.lemmas.List.{length-map, get_or-map}
 use Rattle.std.proofs.lemmas.List.Elements.{All-nil, All-cons}
 use Rattle.std.proofs.lemmas.List.Folds.{list_all_at, list_all-map}
 use Rattle.std.proofs.lemmas.List.Sums.{prefix_len_passes, list_all-from_AllPass, AllPass-from_list_all}
+use Rattle.ipc_arrivals.proofs.CallerLemmas.{position-seen, position_same}
 use Rattle.posix_mq.specs.declared.message.Message.{Message}
 use Rattle.posix_mq.specs.Queue.{PlainMessage, plain, is_of_greatest_priority, next_to_receive}
-
--- ---- positions in a list and in a view of it
-
-prefix_len-seen : {X Y : Type 0} (p : X → Bool) (q : Y → Bool) (f : X → Y) (xs : List X)
-    → ((k : ℕ) (d : X) → k < length xs → p (get_or xs k d) ≡ q (f (get_or xs k d))) → prefix_len p xs ≡ prefix_len q (map f xs)
-prefix_len-seen p q f [] same = refl
-prefix_len-seen p q f (x ∷ xs) same =
-    ap (λ b. cond b (1 + prefix_len p xs) 0) (same 0 x (omega arith))
-    ∙ ap (λ n. cond (q (f x)) (1 + n) 0) (prefix_len-seen p q f xs (λ k d h. same (suc k) d (omega arith)))
-
--- a test of elements and one of what each is seen as pass at the same place first, if they agree
-position-seen : {X Y : Type 0} (p : X → Bool) (q : Y → Bool) (f : X → Y) (xs : List X)
-    → ((k : ℕ) (d : X) → k < length xs → p (get_or xs k d) ≡ q (f (get_or xs k d))) → position p xs ≡ position q (map f xs)
-position-seen p q f xs same =
-    let n : ℕ = prefix_len (λ y. not (q y)) (map f xs) in
-    ap (λ k. cond (nat_lt k (length xs)) (Some k) None)
-    (prefix_len-seen (λ x. not (p x)) (λ y. not (q y)) f xs (λ k d h. ap not (same k d h)))
-    ∙ ap (λ k. cond (nat_lt n k) (Some n) None) (sym (length-map xs f))
 
 -- if an element passes there is a position
 position-some : {X : Type 0} (p : X → Bool) (xs : List X) (k : ℕ) (d : X) → k < length xs → p (get_or xs k d) ≡ true → IsSome (position p xs)
@@ -101,8 +84,9 @@ pub greatest_position : (ms : List Message) (greatest : ℕ) → All (λ m. m.pr
     → Contains (map (λ m. m.priority) ms) greatest
     → position (λ m. m.priority == greatest) ms ≡ next_to_receive (map plain ms)
 greatest_position ms greatest above found =
-    position-seen (λ m. m.priority == greatest) (is_of_greatest_priority (map plain ms)) plain ms
+    position_same (λ m. m.priority == greatest) (λ m. is_of_greatest_priority (map plain ms) (plain m)) ms
     (λ k d h. same_test ms greatest (get_or ms k d) above found (above k d h))
+    ∙ sym (position-seen (is_of_greatest_priority (map plain ms)) plain ms)
 
 -- ---- there is one
 

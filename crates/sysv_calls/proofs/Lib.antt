@@ -1,4 +1,5 @@
 pub mod CallerLemmas
+mod Asking
 mod Ending
 mod EveryCall
 mod Families

@@ -179,6 +179,10 @@ pub other-seen : {X Y Z : Type 0} (f : X → Y) (g : X → Z) (a : Attempt X) (h
 other-seen f g (Ok x) h is = cc
 other-seen f g (Err k) h is = cc
 
+pub ok-seen : {X Y Z : Type 0} (f : X → Y) (a : Attempt X) (y : Y) (z : Z) → Ok y ≡ seen f a → Ok z ≡ seen (λ (x : X). z) a
+ok-seen f (Ok x) y z is = refl
+ok-seen f (Err h) y z is = cc
+
 -- a number that is within a limit
 pub within-limit : (k most n : ℕ) → (if nat_le k most then Some k else None) ≡ Some n → (n ≡ k) × (k ≤ most)
 within-limit k most n is = by_test (nat_le k most) refl is

@@ -1,8 +1,6 @@
 -- What becomes of a list of operations, by what its tests met.
-use Rattle.std.proofs.Common.{◌≡◌, ◌∙◌, ℕ, ◌<◌, Bool, List, Some, None, length, take, get_or, refl, sym, ap, arith}
+use Rattle.std.proofs.Common.{◌≡◌, ◌∙◌, ℕ, ◌<◌, Bool, List, None, length, refl, ap}
 use Rattle.std.specs.Prelude.{Ok, Err, Option, slice_get}
-use Rattle.std.proofs.lemmas.List.{get_or-take, length-take}
-use Rattle.std.proofs.lemmas.Option.{slice_get-get_or}
 use Rattle.ipc_base.specs.declared.identity.Cred.{Cred}
 use Rattle.ipc_base.specs.declared.limits.Limits.{Limits}
 use Rattle.sysv_sem.specs.declared.operation.Operation.{Operation}
@@ -16,16 +14,6 @@ use Rattle.ipc_state.specs.Finish.{Attempt, Fails, ◌>>=◌}
 use Rattle.ipc_state.specs.State.{State}
 use Rattle.ipc_state.specs.Steps.{seen}
 use Rattle.sysv_calls.specs.Semop.{decided, held_by, operable, stopped_by, stopping, tried_list}
-
--- ---- the front of a buffer
-
-module _ (ops all : List Operation) (at : ℕ) (front : take (length ops) all ≡ ops) (inside : at < length ops) where
-  pub at-front : (d : Operation) → slice_get ops at ≡ Some (get_or all at d)
-  at-front d =
-      slice_get-get_or ops at d inside ∙ ap Some (ap (λ (l : List Operation). get_or l at d) (sym front) ∙ get_or-take (length ops) all at d inside)
-
-  pub front-inside : at < length all
-  front-inside = omega (arith, ap length front, length-take (length ops) all, inside)
 
 -- ---- what the tests came to
 

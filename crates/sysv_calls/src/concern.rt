@@ -8,8 +8,9 @@ ghost use Rattle.sysv_calls.specs.Concern as defined;
 
 use bitflags::Flags;
 use ipc_base::MsgFlags;
-use ipc_state::{ParkedSysv, bit_of, bits_of};
+use ipc_state::{ParkedSysv, bits_of};
 use ipc_wire::SysvCall;
+use sysv_sem::bit_of;
 
 /// What may have changed in an object on which calls wait.
 #[derive(Clone, Copy, Debug, PartialEq, Eq)]

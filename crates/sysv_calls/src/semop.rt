@@ -1,6 +1,6 @@
 //! semop(2), and how many lists of operations wait for a semaphore. None takes memory.
 
-ghost use Rattle.std.specs.Prelude.{◌≡◌, ◌^◌, ◌<◌, ◌≤◌, ℕ, List, Some, OnOk, length, map, nat_eq, take, true};
+ghost use Rattle.std.specs.Prelude.{◌≡◌, ◌^◌, ◌<◌, ◌≤◌, ℕ, List, Some, OnOk, length, nat_eq, slice_get, take, true};
 ghost use Rattle.std.specs.List.{fold, list_all};
 ghost use Rattle.ipc_base.specs.Limits.{ArePassed};
 ghost use Rattle.ipc_base.specs.Table.{value_at};
@@ -23,18 +23,15 @@ use crate::sem::semaphore;
 use bitflags::Flags;
 use ipc_base::{Cred, Errno, Id, Pid, SemFlags};
 use ipc_perm::{Access, Perm, may};
-use ipc_state::{Answer, Halt, ParkedKind, ParkedSysv, State};
+use ipc_state::{Answer, Halt, Operations, ParkedKind, ParkedSysv, State};
 use ipc_wire::{Body, SemBuf, Sixes};
-use sysv_sem::{Operation, Trial};
+use sysv_sem::{Operation, OperationList, Trial};
 
 /// The most operations of a list, under any limits.
 const MOST_OPERATIONS: usize = 32;
 
-/// Operations on their way to be tried.
-type Operations = [Operation; MOST_OPERATIONS];
-
-/// None of them yet.
-const NO_OPERATIONS: Operations = [Operation {
+/// Operations on their way to be performed: none of them yet.
+const NO_OPERATIONS: [Operation; MOST_OPERATIONS] = [Operation {
     num: 0,
     sem_op: 0,
     flags: SemFlags(0),
@@ -57,79 +54,81 @@ fn operation_of(operation: SemBuf) -> Operation
     }
 }
 
-/// Puts the operations of a request to the front of a buffer that has room for them.
-fn put_operations(operations: &Sixes<'_>, all: &mut [Operation])
-    requires { length (operations_of (bytes_of operations.now)) ≤ length all.old }
-    ensures operations { take (length (operations_of (bytes_of operations.now))) all.new
-        ≡ operations_of (bytes_of operations.now) }
-    ensures count { length all.new ≡ length all.old }
+/// The operation at this place of a request; the first is at 0.
+fn operation_at(operations: &Sixes<'_>, place: usize) -> Operation
+    requires { place < length (operations_of (bytes_of operations.now)) }
+    ensures { slice_get (operations_of (bytes_of operations.now)) place ≡ Some result }
 {
-    for place in 0..operations.len() {
-        all[place] = operation_of(operations.at(place));
-    }
+    operation_of(operations.at(place))
 }
 
-/// Puts the adjustments of a process at the semaphores of these operations to the front of a buffer that has room for
-/// them.
-fn put_adjustments(state: &State, pid: Pid, id: Id, operations: &[Operation], all: &mut [i16])
-    requires { length operations.now ≤ length all.old }
-    ensures { take (length operations.now) all.new
-        ≡ map (λ o. held_by state.now.state pid.0 id.0 o.num) operations.now }
-{
-    for place in 0..operations.len() {
-        all[place] = state.adjustment(pid, id, operations[place].num);
+/// The operations of a request as they lie in it, for the process that asks.
+#[derive(Clone, Copy)]
+struct Asked<'a> {
+    state: &'a State,
+    pid: Pid,
+    id: Id,
+    operations: Sixes<'a>,
+}
+
+impl OperationList for Asked<'_> {
+    ghost operations = { λ a. operations_of (bytes_of a.operations) };
+
+    ghost adjustments = { λ a. held_by a.state.now.state a.pid.0 a.id.0 };
+
+    fn len(&self) -> usize {
+        self.operations.len()
+    }
+
+    fn at(&self, place: usize) -> Operation {
+        operation_at(&self.operations, place)
+    }
+
+    // Out of the walk, which is shorter without it.
+    #[inline(never)]
+    fn adjustment(&self, num: u16) -> i16 {
+        self.state.adjustment(self.pid, self.id, num)
     }
 }
 
 /// Whether the semaphore of each is there.
-fn are_within(nsems: usize, operations: &[Operation]) -> bool
-    ensures { result ≡ defined.are_within nsems operations.now }
+fn are_within(nsems: usize, operations: &Operations) -> bool
+    ensures { result ≡ defined.are_within nsems (operations_of operations.now.bytes.items) }
 {
-    operations
-        .iter()
-        .all(|operation| (operation.num as usize) < nsems)
+    operations.are_within(nsems)
 }
 
-/// The access that an operation wants.
-fn asked(operation: &Operation) -> Access
-    ensures { result.0 ≡ defined.asked operation.now }
+/// Whether a caller may perform each of these: a zero operation reads its semaphore, and any other writes it.
+fn are_allowed(cred: Cred, perm: &Perm, operations: &Operations) -> bool
+    ensures { result ≡ list_all (λ o. may_use cred perm.now (defined.asked o))
+        (operations_of operations.now.bytes.items) }
 {
-    if operation.sem_op == 0 {
-        Access::READ
-    } else {
-        Access::WRITE
-    }
+    let may_read = may(&cred, perm, Access::READ);
+    let may_write = may(&cred, perm, Access::WRITE);
+    (may_read | !operations.reads()) & (may_write | !operations.alters())
 }
 
-/// Whether a caller may perform each of these.
-fn are_allowed(cred: Cred, perm: &Perm, operations: &[Operation]) -> bool
-    ensures { result ≡ list_all (λ o. may_use cred perm.now (defined.asked o)) operations.now }
-{
-    operations
-        .iter()
-        .all(|operation| may(&cred, perm, asked(operation)))
-}
-
-/// What the operations of a request meet, if they may be tried: the tests of semop, as semop(2) has it. Those that may
-/// are put to the front of the buffer.
+/// What the operations of a request meet, if they may be tried: the tests of semop, as semop(2) has it. Each operation
+/// is looked at only if those before it pass.
 fn try_operations(
     state: &State,
     cred: Cred,
     pid: Pid,
     again: bool,
     id: Id,
-    operations: &Sixes<'_>,
-    all: &mut [Operation],
+    operations: &Operations,
 ) -> Result<Trial, Halt>
-    requires { length all.old ≡ 32 }
     ensures tests { attempted result ≡ seen (λ found. trial_of found.1) (defined.tried_list state.now.limits
-        state.now.state cred pid.0 again id.0 (operations_of (bytes_of operations.now))) }
-    ensures operations { OnOk result (take (length (operations_of (bytes_of operations.now))) all.new
-        ≡ operations_of (bytes_of operations.now)) }
-    ensures count { OnOk result (length all.new ≡ 32) }
+        state.now.state cred pid.0 again id.0 (operations_of operations.now.bytes.items)) }
     ensures passed { OnOk result (ArePassed state.now.limits) }
 {
-    let count = operations.len();
+    let list = Asked {
+        state,
+        pid,
+        id,
+        operations: operations.lend(),
+    };
+    let count = list.len();
     if count == 0 {
         return Err(Halt::Fails(Errno::EINVAL));
     }
@@ -139,17 +138,13 @@ fn try_operations(
     if count > state.limits().semopm as usize {
         return Err(Halt::Fails(Errno::E2BIG));
     }
-    put_operations(operations, all);
-    let all = &all[..count];
-    if !are_within(entry.object.semaphores().len(), all) {
+    if !are_within(entry.object.semaphores().len(), operations) {
         return Err(Halt::Fails(Errno::EFBIG));
     }
-    if !are_allowed(cred, &entry.perm, all) {
+    if !are_allowed(cred, &entry.perm, operations) {
         return Err(Halt::Fails(Errno::EACCES));
     }
-    let mut adjustments = [0; MOST_OPERATIONS];
-    put_adjustments(state, pid, id, all, &mut adjustments);
-    Ok(entry.object.try_list(all, &adjustments[..count]))
+    Ok(entry.object.try_list(&list))
 }
 
 /// What becomes of a list that this operation stops.
@@ -170,17 +165,28 @@ pub(crate) fn ready_to_operate(
     pid: Pid,
     again: bool,
     id: Id,
-    operations: &Sixes<'_>,
+    operations: &Operations,
 ) -> Result<(), Halt>
     ensures tests { attempted result ≡ seen (λ found. tt) (defined.performable state.now.limits state.now.state cred
-        pid.0 again id.0 (operations_of (bytes_of operations.now))) }
+        pid.0 again id.0 (operations_of operations.now.bytes.items)) }
     ensures passed { OnOk result (ArePassed state.now.limits) }
 {
-    let mut all = NO_OPERATIONS;
-    match try_operations(state, cred, pid, again, id, operations, &mut all)? {
+    match try_operations(state, cred, pid, again, id, operations)? {
         Trial::Done => Ok(()),
-        Trial::Blocks(at) => Err(stopped_by(&all[at])),
+        Trial::Blocks(at) => Err(stopped_by(&operation_at(&operations.lend(), at))),
         Trial::Fails(errno) => Err(Halt::Fails(errno)),
+    }
+}
+
+/// Puts the operations of a request to the front of a buffer that has room for them.
+fn put_operations(operations: &Sixes<'_>, all: &mut [Operation])
+    requires { length (operations_of (bytes_of operations.now)) ≤ length all.old }
+    ensures operations { take (length (operations_of (bytes_of operations.now))) all.new
+        ≡ operations_of (bytes_of operations.now) }
+    ensures count { length all.new ≡ length all.old }
+{
+    for place in 0..operations.len() {
+        all[place] = operation_at(operations, place);
     }
 }
 
@@ -258,7 +264,7 @@ fn is_stopped(state: &State, zero: bool, id: Id, num: u16, pid: Pid, call: &Park
     else {
         return false;
     };
-    *other == id && is_stopping(state, zero, id, num, pid, &operations.lend())
+    *other == id && is_stopping(state, zero, id, num, pid, operations)
 }
 
 /// The user and the group of a process; those of nobody if none has the number.
@@ -278,16 +284,15 @@ fn is_stopping(
     id: Id,
     num: u16,
     pid: Pid,
-    operations: &Sixes<'_>,
+    operations: &Operations,
 ) -> bool
-    ensures { result ≡ defined.is_of zero num (defined.stopping (operations_of (bytes_of operations.now))
+    ensures { result ≡ defined.is_of zero num (defined.stopping (operations_of operations.now.bytes.items)
         (defined.tried_list state.now.limits state.now.state (cred_of state.now.state pid.0) pid.0 true id.0
-        (operations_of (bytes_of operations.now)))) }
+        (operations_of operations.now.bytes.items))) }
 {
-    let mut all = NO_OPERATIONS;
     let cred = cred_of(state, pid);
-    match try_operations(state, cred, pid, true, id, operations, &mut all) {
-        Ok(Trial::Blocks(at)) => is_of(zero, num, &all[at]),
+    match try_operations(state, cred, pid, true, id, operations) {
+        Ok(Trial::Blocks(at)) => is_of(zero, num, &operation_at(&operations.lend(), at)),
         Ok(Trial::Done) => false,
         Ok(Trial::Fails(_)) => false,
         Err(_) => false,

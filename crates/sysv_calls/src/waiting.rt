@@ -79,7 +79,7 @@ fn ready(state: &State, cred: Cred, pid: Pid, again: bool, call: &ParkedSysv) ->
             mtype,
         } => ready_to_receive(state, cred, again, *id, *flags, *size, *mtype),
         ParkedSysv::Semop { id, operations, .. } => {
-            ready_to_operate(state, cred, pid, again, *id, &operations.lend())?;
+            ready_to_operate(state, cred, pid, again, *id, operations)?;
             Ok(0)
         }
     }

@@ -7,7 +7,8 @@ use Rattle.std.proofs.lemmas.Bool.{and_left}
 use Rattle.std.proofs.lemmas.List.Elements.{All-append, All-cons, All-nil, All-take, All-drop, All-weaker}
 use Rattle.std.proofs.lemmas.List.Sums.{list_all-from_AllPass}
 use Rattle.sysv_msg.specs.Queue.{PlainMessage, pick, is_allowed, is_of_least_type, is_sought}
-use Rattle.sysv_msg.proofs.Lists.{position_none, position-None}
+use Rattle.ipc_arrivals.proofs.CallerLemmas.{position_none}
+use Rattle.sysv_msg.proofs.Lists.{position-None}
 
 abbrev NoneSought : ℤ → Bool → List PlainMessage → Type 0
 NoneSought type except = All (λ (m : PlainMessage). is_sought type except m.mtype ≡ false)

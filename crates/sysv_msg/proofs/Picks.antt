@@ -11,7 +11,7 @@ use Rattle.std.proofs.lemmas.List.Sums.{list_all-from_AllPass}
 use Rattle.std.proofs.lemmas.List.Folds.{list_all_at, list_all-map}
 use Rattle.sysv_msg.specs.declared.message.Message.{Message}
 use Rattle.sysv_msg.specs.Queue.{plain, pick, is_allowed}
-use Rattle.sysv_msg.proofs.Lists.{position-map, position_same, position_none}
+use Rattle.ipc_arrivals.proofs.CallerLemmas.{position-seen, position_same, position_none}
 
 -- ---- the least type
 
@@ -81,7 +81,7 @@ pub pick-below_zero : (ms : List Message) (t : ℤ) (except : Bool) → int_lt t
     → pick (map plain ms) t except ≡ position (is_least ms (pos (unsigned_abs t))) ms
 pick-below_zero ms (pos n) except h = absurd (grind (arith, nat_tests))
 pick-below_zero ms (negsuc n) except h =
-    position-map (is_allowed (map plain ms) (negsuc n) except) plain ms
+    position-seen (is_allowed (map plain ms) (negsuc n) except) plain ms
     ∙ position_same (λ m. is_allowed (map plain ms) (negsuc n) except (plain m)) (is_least ms (pos (suc n))) ms
     (λ k d h. let m = get_or ms k d in
     ap (λ b. int_le m.mtype (pos (suc n)) && b) (list_all-map (λ o. int_le m.mtype o.mtype) plain ms))
@@ -92,8 +92,8 @@ is_of_type t except m =
     int_eq t (pos 0) || (if except then not (int_eq m.mtype t) else int_eq m.mtype t)
 
 pub pick-of_type : (ms : List Message) (t : ℤ) (except : Bool) → int_lt t (pos 0) ≡ false → pick (map plain ms) t except ≡ position (is_of_type t except) ms
-pick-of_type ms (pos zero) except h = position-map (is_allowed (map plain ms) (pos zero) except) plain ms
+pick-of_type ms (pos zero) except h = position-seen (is_allowed (map plain ms) (pos zero) except) plain ms
 pick-of_type ms (pos (suc n)) except h =
-    position-map (is_allowed (map plain ms) (pos (suc n)) except) plain ms
+    position-seen (is_allowed (map plain ms) (pos (suc n)) except) plain ms
     ∙ ap (λ b. position (λ m. b || (if except then not (int_eq m.mtype (pos (suc n))) else int_eq m.mtype (pos (suc n)))) ms) (sym (not_zero n))
 pick-of_type ms (negsuc n) except h = cc

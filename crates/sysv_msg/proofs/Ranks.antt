@@ -14,7 +14,7 @@ use Rattle.std.proofs.lemmas.Option.{get_or_from_slice_get, none-some, slice_get
 use Rattle.sysv_msg.specs.Queue.{plain}
 use Rattle.sysv_msg.specs.declared.message.Message.{Message}
 use Rattle.sysv_msg.specs.Ranks.{DoNotFall, rank_of}
-use Rattle.sysv_msg.proofs.Lists.{position_same}
+use Rattle.ipc_arrivals.proofs.CallerLemmas.{position_same}
 
 pub one_type : (a b : ℤ) → FitsSigned w64 a → FitsSigned w64 b → rank_of a ≡ rank_of b → a ≡ b
 one_type (pos n) (pos m) fa fb same = ap pos (omega (arith, same))

@@ -1,13 +1,15 @@
 -- A trial, operation by operation.
-use Rattle.std.proofs.Common.{◌≡◌, ℕ, zero, suc, ◌+◌, ◌<◌, ◌≤◌, ◌⊎◌, inl, inr, ℤ, pos, ◌-ℤ◌, Bool, true, false, cond, not, ◌&&◌, List, []}
+use Rattle.std.proofs.Common.{◌≡◌, ℕ, zero, suc, ◌+◌, ◌<◌, ◌≤◌, ◌⊎◌, inl, inr, ℤ, ◌-ℤ◌, Bool, true, false, cond, not, ◌&&◌, List, []}
 use Rattle.std.proofs.Common.{◌∷◌, ◌++◌, length, take, drop, get_or, set, nat_eq, refl, sym, ap, subst, ◌∙◌, arith, add-one, FitsSigned}
-use Rattle.std.proofs.Common.{All, map, to_z, of_z}
+use Rattle.std.proofs.Common.{All, map, Some}
+use Rattle.std.specs.Prelude.{slice_get, nat_lt}
 use Rattle.std.specs.Int.{w16}
 use Rattle.std.specs.List.{fold}
 use Rattle.std.proofs.lemmas.Bool.{ltb-false, eqb-true, eqb-false}
-use Rattle.std.proofs.lemmas.Int.{ints, to_z-of_z}
-use Rattle.std.proofs.lemmas.List.{get_or-set_other, get_or-set_same, get_or-map, get_or_default, get_or_past, length-take, length-map, map-set, take-take}
+use Rattle.std.proofs.lemmas.Int.{ints}
+use Rattle.std.proofs.lemmas.List.{get_or-set_other, get_or-set_same, get_or-map, get_or_default, get_or_past, length-map, map-set}
 use Rattle.std.proofs.lemmas.List.Sums.{fold_more}
+use Rattle.std.proofs.lemmas.Option.{get_or_from_slice_get}
 use Rattle.std.proofs.Math.ListN.{length-set, drop_of_length-le}
 use Rattle.std.proofs.Math.Seq.{drop-cons, take-append_seam, take-length}
 use Rattle.ipc_base.specs.declared.identity.Pid.{Pid}
@@ -16,9 +18,9 @@ use Rattle.sysv_sem.specs.declared.set.Semaphore.{Semaphore}
 use Rattle.sysv_sem.specs.declared.operation.Operation.{Operation}
 use Rattle.sysv_sem.specs.declared.operation.Verdict.{Verdict}
 use Rattle.sysv_sem.specs.declared.operation.Verdict.TheVariants.{Passes, Waits, OutOfRange}
-use Rattle.sysv_sem.specs.Operation.{most_value, is_adjustment, has_undo, value_after, judged, performed, adjusted, Done, unless_stopped}
+use Rattle.sysv_sem.specs.Operation.{most_value, is_adjustment, has_undo, must_wait, value_after, judged, performed, adjusted, Done, unless_stopped}
 use Rattle.sysv_sem.specs.Operation.{outcome_from, outcome}
-use Rattle.sysv_sem.specs.Trial.{value_of, adjustment_of, AreAdjustments, CanBeDone, changed_by}
+use Rattle.sysv_sem.specs.Trial.{value_of, adjustment_of, CanBeDone, changed_by}
 
 fits : (z : ℤ) → is_adjustment z ≡ true → FitsSigned w16 z
 fits z h = grind (arith, ints)
@@ -46,6 +48,22 @@ adjustment-judged v a o h u = passes_adjustment _ _ _ _ h u
 
 pub adjustment-passes : (v : ℕ) (a : ℤ) (o : Operation) → judged v a o ≡ Passes → has_undo o ≡ true → FitsSigned w16 (a -ℤ o.sem_op)
 adjustment-passes v a o h u = fits (a -ℤ o.sem_op) (adjustment-judged v a o h u)
+
+-- one that is not undone meets the same at any adjustment
+pub judged-alike : (v : ℕ) (a b : ℤ) (o : Operation) → (has_undo o ≡ true → a ≡ b) → judged v a o ≡ judged v b o
+judged-alike v a b o same =
+    ap (λ (out : Bool). cond (must_wait v o.sem_op) Waits (cond (nat_lt most_value (value_after v o.sem_op)) OutOfRange (cond out OutOfRange Passes)))
+    (by_undo (has_undo o) same)
+  where
+    by_undo : (u : Bool) → (u ≡ true → a ≡ b) → (u && not (is_adjustment (a -ℤ o.sem_op))) ≡ (u && not (is_adjustment (b -ℤ o.sem_op)))
+    by_undo true same = ap (λ (z : ℤ). not (is_adjustment (z -ℤ o.sem_op))) (same refl)
+    by_undo false same = refl
+
+-- ---- one operation more
+
+pub fold-next : {X Y : Type 0} (f : Y → X → Y) (a : Y) (xs : List X) (i : ℕ) (x : X) → i < length xs → slice_get xs i ≡ Some x
+    → fold f a (take (i + 1) xs) ≡ f (fold f a (take i xs)) x
+fold-next f a xs i x within is = fold_more f a xs i x within ∙ ap (f (fold f a (take i xs))) (get_or_from_slice_get xs i x x is)
 
 -- ---- one semaphore
 
@@ -163,73 +181,6 @@ module _ (values : List ℕ) (held : ℕ → ℤ) (operations : List Operation) 
         ];
       }
 
--- what the code finds of the operation at a position is what the definition says
-module _ (values : List ℕ) (held : ℕ → ℤ) (operations : List Operation) (at : ℕ) (d : Operation) (p : Passed values held operations at)
-    (within : at < length operations) (there : (get_or operations at d).num < length values) where
-  earlier : (k : ℕ) → k ≤ length (take at operations) → (k ≤ at) × (take k (take at operations) ≡ take k operations)
-  earlier k h =
-      let le : k ≤ at = omega (arith, length-take at operations) in
-      (le, take-take k at operations le)
-
-  pub value-ready : (k : ℕ) → k ≤ length (take at operations)
-      → fold (value_of (get_or operations at d).num) (get_or values (get_or operations at d).num 0) (take k (take at operations)) ≤ most_value
-  value-ready k h =
-      let e = earlier k h in
-      let num = (get_or operations at d).num in
-      subst (λ l. fold (value_of num) (get_or values num 0) l ≤ most_value) (sym e.1)
-      (subst (λ v. v ≤ most_value) (value-fold num values (take k operations) there) (p.values_in_range k num e.0))
-
-  value_is : (value : ℕ) → value ≡ fold (value_of (get_or operations at d).num) (get_or values (get_or operations at d).num 0) (take at operations)
-      → value ≡ get_or (fold performed values (take at operations)) (get_or operations at d).num 0
-  value_is value e = e ∙ sym (value-fold (get_or operations at d).num values (take at operations) there)
-
-  pub value-judged : (value : ℕ) → value ≡ fold (value_of (get_or operations at d).num) (get_or values (get_or operations at d).num 0) (take at operations)
-      → value ≤ most_value
-  value-judged value e = subst (λ v. v ≤ most_value) (sym (value_is value e)) (p.values_in_range at (get_or operations at d).num (omega arith))
-
-  module _ (adjustments : List ℤ) (are : AreAdjustments adjustments held operations) (fit : FitsSigned w16 (get_or adjustments at (pos 0))) where
-    is_held : get_or adjustments at (pos 0) ≡ held (get_or operations at d).num
-    is_held = ap (λ l. get_or l at (pos 0)) are ∙ get_or-map (λ o. held o.num) operations at d (pos 0) within
-
-    seen : to_z w16 (of_z w16 (get_or adjustments at (pos 0))) ≡ held (get_or operations at d).num
-    seen = to_z-of_z w16 (get_or adjustments at (pos 0)) fit ∙ is_held
-
-    pub adjustment-ready : (k : ℕ) → k ≤ length (take at operations)
-        → FitsSigned w16 (fold (adjustment_of (get_or operations at d).num) (to_z w16 (of_z w16 (get_or adjustments at (pos 0)))) (take k (take at operations)))
-    adjustment-ready k h =
-        let e = earlier k h in
-        let num = (get_or operations at d).num in
-        let in_range = p.adjustments_in_range k num e.0 (subst (FitsSigned w16) is_held fit) in
-        subst (FitsSigned w16)
-        (adjustment-fold num held (take k operations)
-        ∙ (λ i. fold (adjustment_of num) (sym seen i) (sym e.1 i)))
-        in_range
-
-    adjustment_is : (a : ℤ) → a ≡ fold (adjustment_of (get_or operations at d).num) (to_z w16 (of_z w16 (get_or adjustments at (pos 0)))) (take at operations)
-        → a ≡ fold adjusted held (take at operations) (get_or operations at d).num
-    adjustment_is a e =
-        let num = (get_or operations at d).num in
-        e ∙ (λ i. fold (adjustment_of num) (seen i) (take at operations)) ∙ sym (adjustment-fold num held (take at operations))
-
-    is : get_or operations at d ≡ get_or operations at (get_or operations at d)
-    is = get_or_default operations at d (get_or operations at d) within
-
-    module _ (value : ℕ) (a a′ : ℤ) (same : a′ ≡ a) (v : Verdict)
-        (value_from : value ≡ fold (value_of (get_or operations at d).num) (get_or values (get_or operations at d).num 0) (take at operations))
-        (a_from : a ≡ fold (adjustment_of (get_or operations at d).num) (to_z w16 (of_z w16 (get_or adjustments at (pos 0)))) (take at operations))
-        (verdict : v ≡ judged value a′ (get_or operations at d)) where
-      meets : judged (get_or (fold performed values (take at operations)) (get_or operations at d).num 0)
-          (fold adjusted held (take at operations) (get_or operations at d).num) (get_or operations at d) ≡ v
-      meets = sym (verdict ∙ (λ i. judged (value_is value value_from i) ((same ∙ adjustment_is a a_from) i) (get_or operations at d)))
-
-      pub outcome-stopped : outcome values held operations
-          ≡ unless_stopped v at
-          (outcome_from (at + 1) (fold performed values (take (at + 1) operations)) (fold adjusted held (take (at + 1) operations)) (drop (at + 1) operations))
-      outcome-stopped = stopped values held operations at (get_or operations at d) p within is v meets
-
-      pub Passed-next : v ≡ Passes → Passed values held operations (at + 1)
-      Passed-next e = Passed-more values held operations at (get_or operations at d) p within is (meets ∙ e)
-
 -- a list that has been gone through is performed
 pub Passed-done : (values : List ℕ) (held : ℕ → ℤ) (operations : List Operation) (at : ℕ) → length operations ≤ at
     → Passed values held operations at
@@ -297,16 +248,6 @@ within xs n lt = omega (arith, lt, length-map xs (λ (x : Semaphore). x.value))
 pub each-value : (xs : List Semaphore) → All (λ v. v ≤ most_value) (values xs) → All (λ x. x.value ≤ most_value) xs
 each-value xs all k d lt =
     subst (λ v. v ≤ most_value) (get_or-map (λ (x : Semaphore). x.value) xs k d 0 lt) (all k 0 (within xs k lt))
-
-pub value-from : (xs : List Semaphore) (n value : ℕ) (operations : List Operation)
-    → value ≡ fold (value_of n) (get_or xs n (record { value = 0; pid = record { 0 = 0 } })).value operations
-    → value ≡ fold (value_of n) (get_or (values xs) n 0) operations
-value-from xs n value operations is = is ∙ ap (λ v. fold (value_of n) v operations) (value-at xs n)
-
-pub value-to : (xs : List Semaphore) (n : ℕ) (operations : List Operation)
-    → ((k : ℕ) → k ≤ length operations → fold (value_of n) (get_or (values xs) n 0) (take k operations) ≤ most_value) → (k : ℕ) → k ≤ length operations
-    → fold (value_of n) (get_or xs n (record { value = 0; pid = record { 0 = 0 } })).value (take k operations) ≤ most_value
-value-to xs n operations ready k le = subst (λ v. fold (value_of n) v (take k operations) ≤ most_value) (sym (value-at xs n)) (ready k le)
 
 module _ (pid : Pid) where
   pub values-changed : (xs : List Semaphore) (operations : List Operation)

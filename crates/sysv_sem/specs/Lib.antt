@@ -1,3 +1,4 @@
+pub mod Bits
 pub mod Operation
 pub mod Set
 pub mod Trial

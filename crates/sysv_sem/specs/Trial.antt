@@ -1,4 +1,4 @@
--- What a list of operations does to one semaphore, and how the adjustments come to a trial.
+-- What a list of operations does to one semaphore.
 use Rattle.std.specs.Prelude.{◌≡◌, ℕ, ◌==◌, ℤ, ◌-ℤ◌, ◌&&◌, if◌then◌else◌, List, map, slice_index, slice_set}
 use Rattle.ipc_base.specs.declared.identity.Pid.{Pid}
 use Rattle.sysv_sem.specs.declared.set.Semaphore.{Semaphore}
@@ -17,14 +17,6 @@ adjustment_of num adjustment o =
 abbrev pub changed_by : Pid → List Semaphore → Operation → List Semaphore
 changed_by pid xs o =
     slice_set xs o.num (record { value = value_after (slice_index (map (λ x. x.value) xs) o.num) o.sem_op; pid = pid })
-
--- of the semaphore that each operation names, the adjustment
-abbrev pub AreAdjustments : List ℤ → (ℕ → ℤ) → List Operation → Type 0
-AreAdjustments adjustments held operations = adjustments ≡ map (λ o. held o.num) operations
-
--- there are adjustments of which these are
-abbrev pub ArePrepared : List ℤ → List Operation → Type 0
-ArePrepared adjustments operations = (held : ℕ → ℤ) × AreAdjustments adjustments held operations
 
 -- with some adjustments, the operations pass
 abbrev pub CanBeDone : List ℕ → List Operation → Type 0

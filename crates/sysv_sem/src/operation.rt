@@ -3,7 +3,7 @@
 ghost use Rattle.std.specs.Prelude.{◌≡◌, ◌≤◌, FitsSigned};
 ghost use Rattle.std.specs.Int.{w16};
 ghost use Rattle.sysv_sem.specs.Operation.{must_wait, value_after, has_undo, is_adjustment, judged, most_value};
-ghost use Rattle.sysv_sem.specs.Trial.{adjustment_of};
+ghost use Rattle.sysv_sem.specs.Trial.{adjustment_of, value_of};
 
 use bitflags::Flags;
 use ipc_base::{Errno, SemFlags};
@@ -58,6 +58,18 @@ impl Operation {
             Verdict::OutOfRange
         } else {
             Verdict::Passes
+        }
+    }
+
+    /// The value of the semaphore of this number after the operation.
+    pub(crate) fn change(self, num: u16, value: u16) -> u16
+        requires { value ≤ most_value }
+        ensures { result ≡ value_of num value self }
+    {
+        if num == self.num {
+            value_after(value, self.sem_op)
+        } else {
+            value
         }
     }
 

@@ -3,8 +3,9 @@
 ghost use Rattle.std.specs.Prelude.{◌≡◌, ◌<◌, ◌≤◌, ℕ, ℤ, List, Some, length, map, replicate};
 ghost use Rattle.std.specs.Prelude.{IfOk, OnOk, OnErr, All, slice_index, slice_get};
 ghost use Rattle.sysv_sem.specs.Operation.{most_value, outcome, trial_of, Done};
-ghost use Rattle.sysv_sem.specs.Trial.{AreAdjustments, ArePrepared, CanBeDone};
+ghost use Rattle.sysv_sem.specs.Trial.{CanBeDone};
 
+use crate::list::OperationList;
 use crate::operation::{MOST_VALUE, Operation, Trial, value_after};
 use crate::trial;
 use ipc_base::{Moment, Pid};
@@ -105,16 +106,13 @@ impl SemSet {
         Ok(())
     }
 
-    /// What a list of operations meets; nothing is changed. Of the semaphore that each names, it is
-    /// given the adjustment that the process has there before the list. It looks at the semaphores that
-    /// the list names and at no other.
-    pub fn try_list(&self, operations: &[Operation], adjustments: &[i16]) -> Trial
-        requires nums { All (λ o. o.num < length self.now.semaphores) operations.now }
-        requires adjustments { ArePrepared adjustments.now operations.now }
-        ensures { (held : ℕ → ℤ) → AreAdjustments adjustments.now held operations.now
-            → result ≡ trial_of (outcome (values_of self.now) held operations.now) }
+    /// What a list of operations meets; nothing is changed. Up to the operation that stops it, it looks at the
+    /// semaphores that the list names and at no other, and at the adjustments of operations that are undone.
+    pub fn try_list<L: OperationList>(&self, list: &L) -> Trial
+        requires { All (λ o. o.num < length self.now.semaphores) (L.operations list.now) }
+        ensures { result ≡ trial_of (outcome (values_of self.now) (L.adjustments list.now) (L.operations list.now)) }
     {
-        trial::try_list(&self.semaphores, operations, adjustments)
+        trial::try_list(&self.semaphores, list)
     }
 
     /// Performs a list of operations, each of which passes, and notes who did and when.

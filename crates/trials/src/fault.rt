@@ -1,14 +1,16 @@
 //! Why a trial ends early.
 
+use ipc_disk::DiskFault;
+use ipc_hub::{ConnectError, ServeError};
 use ipc_script::ScriptFault;
-use ipc_store::{FormatError, OpenError};
+use ipc_store::{CommitError, FormatError, OpenError};
 use std::alloc::{AllocError, AllocFailed};
 use thiserror::Error;
 
 /// Why a trial ends early: what it was asked, what the system refused, or a case that must not be.
 #[derive(Clone, Copy, Debug, PartialEq, Eq, Error)]
 pub(crate) enum Fault {
-    #[error("usage: trials stopped N < SCRIPT, where N is at least 1")]
+    #[error("usage: trials stopped N < SCRIPT, where N is at least 1, or trials batch")]
     Usage,
     #[error("the script cannot be read, or has no line `-`")]
     Input,
@@ -27,6 +29,9 @@ pub(crate) enum Fault {
     /// A device that is no longer one, or one of another version.
     #[error("a device that cannot be opened")]
     Unopened,
+    /// A call of a hub that nothing stops.
+    #[error("a hub serves its clients no more")]
+    Unserved,
     /// It is found in no state that it may have.
     #[error("stopped after {calls} calls, choice {keep}: what was answered is lost, or what was not asked is there")]
     Lost {
@@ -58,6 +63,36 @@ impl From<AllocError> for Fault {
 impl<T: Drop> From<AllocFailed<T>> for Fault {
     fn from(_: AllocFailed<T>) -> Self {
         Fault::NoMemory
+    }
+}
+
+impl From<DiskFault> for Fault {
+    fn from(_: DiskFault) -> Self {
+        Fault::Device
+    }
+}
+
+impl From<ConnectError> for Fault {
+    fn from(error: ConnectError) -> Self {
+        match error {
+            ConnectError::NoMemory => Fault::NoMemory,
+            ConnectError::Stopped | ConnectError::InUse => Fault::Unserved,
+        }
+    }
+}
+
+impl From<ServeError> for Fault {
+    fn from(error: ServeError) -> Self {
+        match error {
+            ServeError::Device => Fault::Device,
+            ServeError::Stopped | ServeError::Unknown => Fault::Unserved,
+        }
+    }
+}
+
+impl From<CommitError> for Fault {
+    fn from(error: CommitError) -> Self {
+        Fault::from(ServeError::from(error))
     }
 }
 

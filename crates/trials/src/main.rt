@@ -2,10 +2,12 @@
 //! the smallest case at a failure.
 //!
 //!     trials stopped N < SCRIPT    stops the script at each call on its disk, its formats, and each N-th opening
+//!     trials batch                 feeds a hub requests of one moment, and counts what one release writes of them
 //!
 //! A script is followed by a line `-` and by a probe: lines whose answers tell what a device holds.
 #![tactic(auto)]
 
+mod batch;
 mod fault;
 mod formats;
 mod openings;
@@ -13,6 +15,7 @@ mod runs;
 mod stages;
 mod stopped;
 
+use batch::batch;
 use fault::Fault;
 use std::alloc::Global;
 use std::io;
@@ -44,6 +47,9 @@ fn answer(rt: &(impl Env + Input + Print + AllocGlobal)) -> Result<(), Fault> {
             let text = input(alloc, &mut rt.reader())?;
             let counted = stopped(alloc, text.as_slice(), every)?;
             println!(rt; "{counted}").map_err(|_| Fault::Output)
+        }
+        [_, word] if word.as_str() == "batch" => {
+            println!(rt; "{}", batch(alloc)?).map_err(|_| Fault::Output)
         }
         _ => Err(Fault::Usage),
     }

@@ -6,7 +6,7 @@ use Rattle.ipc_base.specs.Limits.{ArePassed, longest_reply}
 use Rattle.ipc_base.specs.Table.{value_at, with_value, keys_of}
 use Rattle.ipc_disk.specs.Medium.{Medium}
 use Rattle.ipc_wire.specs.Request.{PlainRequest}
-use Rattle.ipc_wire.specs.Stream.{PlainFrame, first, missing}
+use Rattle.ipc_wire.specs.Stream.{PlainFrame, first}
 use Rattle.ipc_wire.specs.Stream.PlainFrame.{More, Whole, Fault}
 use Rattle.ipc_state.specs.State.{State}
 use Rattle.ipc_engine.specs.Sound.{IsSound}
@@ -150,7 +150,8 @@ pub record Received {D : Type 0} (medium : D → Medium) (old new : StoreView D)
   pub space : owed_to old.machine.limits old.machine.state was.process + longest_reply old.machine.limits + last_frames
       ≤ was.outbox.free
   pub partial : first was.input ≡ More
-  pub few : length bytes ≤ missing was.input
+  pub last : (used : ℕ) (request : PlainRequest) → first (was.input ++ bytes) ≡ Whole used request
+      → used ≡ length (was.input ++ bytes)
   pub comes : ComesTo medium old new was.process (first (was.input ++ bytes)) moment asked
   pub table : after ≡ with_value nat_eq before conn (taken_off asked (record was { input = was.input ++ bytes }))
   pub numbers : keys_of after ≡ keys_of before

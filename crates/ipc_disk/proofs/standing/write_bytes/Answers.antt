@@ -1,23 +1,25 @@
 -- Each write adds a sector, and touches no other.
-use Rattle.std.proofs.Common.{◌≡◌, ℕ, List, ◌++◌, ◌-◌, replicate, length, ◌+◌, ⊎_elim, ap, sym}
+use Rattle.std.proofs.Common.{◌≡◌, ℕ, List, ◌-◌, length, ◌+◌, ⊎_elim, ap, sym}
 use Rattle.std.proofs.Common.{◌∙◌, subst, arith, length-take, drop, ◌*◌}
 use Rattle.std.specs.Prelude.{slice_set}
 use Rattle.ipc_disk.specs.Range.{IsOutside}
 use Rattle.ipc_disk.proofs.CallerLemmas.{honest-join, LeavesAlone-writes, counts-calls}
-use Rattle.ipc_disk.specs.Standing.{sectors_for, padded_piece}
+use Rattle.ipc_disk.specs.Standing.{sectors_for, filled, padded_piece}
 use Rattle.ipc_disk.proofs.Pieces.{WrittenBelow, written_more}
 use Rattle.ipc_disk.proofs.standing.write_bytes.Goals as goal
 
-pub padded-sector-requires : goal.padded-sector-requires
-padded-sector-requires g c =
-    omega (arith, ap length c.piece_of.ensures, length-take 512 (drop (512 * c.loop-i.i) c.args.bytes.now))
+pub write_filled-requires : goal.write_filled-requires
+write_filled-requires g c = record {
+  within = omega (arith, c.loop-i.invariant.size);
+  short = omega (arith, ap length c.piece_of.ensures, length-take 512 (drop (512 * c.loop-i.i) c.args.bytes.now));
+}
 
-pub returns-in_err-write-clause-others : goal.returns-in_err-write-clause-others
-returns-in_err-write-clause-others g c = λ honest.
+pub returns-in_err-write_filled-clause-others : goal.returns-in_err-write_filled-clause-others
+returns-in_err-write_filled-clause-others g c = λ honest.
     LeavesAlone-writes (IsOutside (record { first = c.args.first; count = sectors_for (length c.args.bytes.now) })) _ _ _
-    (c.args.first + c.loop-i.i) c.padded-sector.result (c.loop-i.invariant.others honest)
+    (c.args.first + c.loop-i.i) (filled c.piece_of.result.now) (c.loop-i.invariant.others honest)
     (λ out. ⊎_elim (λ low. absurd (omega (arith, low))) (λ high. absurd (omega (arith, high))) out)
-    c.write.ensures.medium
+    c.write_filled.ensures.medium
 
 pub loop-i-preserved : goal.loop-i-preserved
 loop-i-preserved g c =
@@ -27,23 +29,22 @@ loop-i-preserved g c =
           let here = (so_far.others honest).honest in
           let old = g.D.SectorDisk.medium c.loop-i.disk in
           let long : length old.contents ≡ g.D.SectorDisk.size c.loop-i.disk = (g.met.D.SectorDisk.shaped c.loop-i.disk old.contents here.reads).count in
-          let bytes : c.padded-sector.result ≡ padded_piece c.loop-i.i c.args.bytes.now =
-          c.padded-sector.ensures ∙ ap (λ (l : List ℕ). l ++ replicate (512 - length l) 0) c.piece_of.ensures in
-          let set : (g.D.SectorDisk.medium c.write.new.self).contents ≡ slice_set old.contents (c.args.first + c.loop-i.i)
+          let set : (g.D.SectorDisk.medium c.write_filled.new.disk).contents ≡ slice_set old.contents (c.args.first + c.loop-i.i)
           (padded_piece c.loop-i.i c.args.bytes.now) =
-          c.in_ok-write.ensures.written here ∙ ap (λ (l : List ℕ). slice_set old.contents (c.args.first + c.loop-i.i) l) bytes in
+          c.in_ok-write_filled.ensures.written here
+          ∙ ap (λ (l : List ℕ). slice_set old.contents (c.args.first + c.loop-i.i) (filled l)) c.piece_of.ensures in
           subst (WrittenBelow (c.loop-i.i + 1) c.args.first c.args.bytes.now) (sym set)
           (written_more c.loop-i.i c.args.first c.args.bytes.now old.contents (omega (arith, long, so_far.size)) (so_far.written honest));
       others = λ honest.
           LeavesAlone-writes (IsOutside (record { first = c.args.first; count = sectors_for (length c.args.bytes.now) })) _ _ _
-          (c.args.first + c.loop-i.i) c.padded-sector.result (so_far.others honest)
+          (c.args.first + c.loop-i.i) (filled c.piece_of.result.now) (so_far.others honest)
           (λ out. ⊎_elim (λ low. absurd (omega (arith, low))) (λ high. absurd (omega (arith, high))) out)
-          c.write.ensures.medium;
-      honest = honest-join _ _ _ so_far.honest c.write.ensures.medium.time.honest;
-      size = c.write.ensures.call.sectors ∙ so_far.size;
-      failures = ap (λ n. n.failures) c.in_ok-write.ensures.call.ok ∙ so_far.failures;
-      writes = omega (arith, ap (λ n. n.writes) c.in_ok-write.ensures.call.ok, so_far.writes);
-      syncs = ap (λ n. n.syncs) c.in_ok-write.ensures.call.ok ∙ so_far.syncs;
+          c.write_filled.ensures.medium;
+      honest = honest-join _ _ _ so_far.honest c.write_filled.ensures.medium.time.honest;
+      size = c.write_filled.ensures.call.sectors ∙ so_far.size;
+      failures = ap (λ n. n.failures) c.in_ok-write_filled.ensures.call.ok ∙ so_far.failures;
+      writes = omega (arith, ap (λ n. n.writes) c.in_ok-write_filled.ensures.call.ok, so_far.writes);
+      syncs = ap (λ n. n.syncs) c.in_ok-write_filled.ensures.call.ok ∙ so_far.syncs;
     }
 
 pub returns-clause-counts : goal.returns-clause-counts

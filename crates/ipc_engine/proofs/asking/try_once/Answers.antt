@@ -8,7 +8,6 @@ use Rattle.ipc_state.specs.Held.{Held}
 use Rattle.ipc_state.specs.State.{State}
 use Rattle.ipc_state.specs.Waiting.{awaited_by}
 use Rattle.ipc_state.proofs.CallerLemmas.{room-waiting}
-use Rattle.ipc_wire.specs.Request.{PlainRequest}
 use Rattle.sysv_calls.specs.Concern.{change_of}
 use Rattle.sysv_calls.specs.declared.concern.Change.{Change}
 use Rattle.ipc_engine.specs.Changes.{is_marked}
@@ -53,7 +52,7 @@ finish-requires-clause-spared c =
     let f = finish_firing now.state c.in-Finishes.answer c.in-Finishes.fired in
     let ends = (goal.at.finish-requires-clause-spared c).In-Finishes in
     let change : change_of c.args.parked.kind ≡ c.change_of-change.result =
-    ap (λ (r : PlainRequest). change_of r.kind) (sym c.request.ensures) ∙ sym c.change_of-change.ensures in
+    ap change_of (sym c.lend.ensures.kind) ∙ sym c.change_of-change.ensures in
     let wait = spared-after s.limits s.state c.args.pid.0 c.args.parked.kind f c.requires.sound c.requires.free (ended ends).good.wait
     (sym c.in-Finishes.ensures.finish) in
     subst (λ (l : Limits). SparedWait l now.state c.change_of-change.result) (sym (limits ends))

@@ -7,7 +7,6 @@ use Rattle.ipc_state.specs.Sound.{HasSoundParts}
 use Rattle.ipc_state.specs.State.{is_process}
 use Rattle.ipc_state.specs.Waiting.{PlainWaiting}
 use Rattle.ipc_state.proofs.CallerLemmas.{without_waiting-sound}
-use Rattle.ipc_wire.specs.Request.{PlainRequest}
 use Rattle.sysv_calls.specs.Concern.{change_of}
 use Rattle.ipc_engine.specs.Step.{can_resume}
 use Rattle.ipc_engine.specs.View.{plain_outcome}
@@ -41,7 +40,7 @@ changes c w also =
     c.in-Some.is in
     let both : Some first.0 ≡ Some w = sym first.1 ∙ also in
     let one : first.0 ≡ w = cc in
-    c.change_of-change.ensures ∙ ap (λ (r : PlainRequest). change_of r.kind) c.request.ensures ∙ ap (λ (u : PlainWaiting). change_of u.call.kind) (its ∙ one)
+    c.change_of-change.ensures ∙ ap change_of c.lend.ensures.kind ∙ ap (λ (u : PlainWaiting). change_of u.call.kind) (its ∙ one)
 
 pub returns-in-Finishes-clause-change : goal.returns-in-Finishes-clause-change
 returns-in-Finishes-clause-change c w also = changes (goal.at.returns-in-Finishes-clause-change c).After-change_of-change w also

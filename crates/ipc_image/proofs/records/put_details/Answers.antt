@@ -1,6 +1,7 @@
 use Rattle.std.proofs.Common.{◌≤◌, ◌+◌, ◌++◌, List, ℕ, length, arith}
 use Rattle.std.specs.Int.{w32, to_be_bytes}
-use Rattle.ipc_base.proofs.CallerLemmas.{puts_room, puts_both, puts_more}
+use Rattle.ipc_base.specs.Fields.{Puts}
+use Rattle.ipc_base.proofs.CallerLemmas.{puts_room, puts_more}
 use Rattle.ipc_wire.specs.View.{plain_request}
 use Rattle.ipc_wire.specs.Spelling.{request_bytes}
 use Rattle.ipc_image.proofs.records.put_details.Goals as goal
@@ -29,8 +30,10 @@ returns-in-Call-clause-bytes c =
     let request : List ℕ = request_bytes (plain_request c.in-Call.request) in
     let room : at + length (pid ++ request) ≤ length old = rw c.in-Call.is at c.requires in
     let a = puts_room pid at c.u32-in-Call.new.self old c.u32-in-Call.new.buffer c.u32-in-Call.result c.u32-in-Call.ensures (omega (arith, room)) in
-    rw c.in-Call.is (puts_both pid request at c.u32-in-Call.new.self c.put_request.new.put old c.u32-in-Call.new.buffer
-    c.put_request.new.out a c.put_request.ensures)
+    let b : Puts request c.u32-in-Call.new.self c.bytes-in-Call.new.self c.u32-in-Call.new.buffer c.bytes-in-Call.new.buffer c.bytes-in-Call.result =
+    rw c.bytes.ensures at c.bytes-in-Call.ensures in
+    rw c.in-Call.is (puts_more pid request at c.u32-in-Call.new.self c.bytes-in-Call.new.self old c.u32-in-Call.new.buffer c.bytes-in-Call.new.buffer
+    c.bytes-in-Call.result a b room)
 
 pub returns-in-Interrupt-clause-bytes : goal.returns-in-Interrupt-clause-bytes
 returns-in-Interrupt-clause-bytes c =

@@ -1,4 +1,4 @@
-use Rattle.std.proofs.Common.{◌≡◌, ◌∙◌, length, ap, sym, arith}
+use Rattle.std.proofs.Common.{◌≡◌, ◌∙◌, ◌+◌, ℕ, List, length, ap, sym, arith}
 use Rattle.ipc_wire.specs.View.{plain_request}
 use Rattle.ipc_engine.specs.View.{plain_event}
 use Rattle.ipc_image.specs.Records.{details}
@@ -12,7 +12,8 @@ returns-clause-exact c =
     elim c.match-event.branch [
       | in-Connect w ↦ w.result-is ∙ ap (λ e. length (details (plain_event e))) (sym w.in-Connect.is)
       | in-Call w ↦
-          w.result-is ∙ w.request_len.ensures.exact ∙ length_call w.in-Call.pid.0 (plain_request w.in-Call.request) w.in-Call.moment.0
+          w.result-is ∙ ap (λ (l : List ℕ). 4 + length l) w.bytes.ensures
+          ∙ length_call w.in-Call.pid.0 (plain_request w.in-Call.request) w.in-Call.moment.0
           ∙ ap (λ e. length (details (plain_event e))) (sym w.in-Call.is)
       | in-Interrupt w ↦ w.result-is ∙ ap (λ e. length (details (plain_event e))) (sym w.in-Interrupt.is)
       | in-Exit w ↦ w.result-is ∙ ap (λ e. length (details (plain_event e))) (sym w.in-Exit.is)

@@ -1,8 +1,7 @@
 use Rattle.std.proofs.Common.{ℕ, List, [], ◌∷◌, ◌++◌, ◌<◌, ◌∙◌, ap, arith}
 use Rattle.ipc_base.specs.declared.field.Field.TheVariants as Field
 use Rattle.ipc_base.specs.Numbers.{record_bytes}
-use Rattle.ipc_wire.specs.Request.{PlainRequest}
-use Rattle.ipc_wire.specs.View.{plain_request}
+use Rattle.ipc_wire.specs.Request.{PlainKind, PlainRequest, plain_kind}
 use Rattle.ipc_wire.specs.Spelling.{request_bytes}
 use Rattle.ipc_image.specs.Window.{passed}
 use Rattle.ipc_image.proofs.WaitingCalls.{call_spelled}
@@ -14,10 +13,12 @@ returns c =
     let parts = c.request_parts-parts.result in
     let is = c.request_parts-parts.ensures in
     let w = c.args.window.now in
-    let head : List ℕ = record_bytes (Field.U32 c.request-request.result.serial ∷ Field.U8 parts.opcode ∷ []) in
+    let head : List ℕ = record_bytes (Field.U32 c.serial.result ∷ Field.U8 parts.opcode ∷ []) in
+    let asked : PlainRequest = record { serial = c.serial.result; kind = plain_kind c.lend.result } in
     let byte : parts.opcode < 256 = omega arith in
     c.put.ensures ∙ ap (passed parts.rest.now) c.put_row.ensures
     ∙ passed-both w (head ++ c.as_slice.result.now) parts.rest.now
     ∙ ap (λ (l : List ℕ). passed ((head ++ l) ++ parts.rest.now) w) c.as_slice.ensures
-    ∙ ap (λ (l : List ℕ). passed l w) (call_spelled (plain_request c.request-request.result) parts.opcode byte parts.fields parts.rest.now is.opcode is.fields)
-    ∙ ap (λ (r : PlainRequest). passed (request_bytes r) w) c.request-request.ensures
+    ∙ ap (λ (l : List ℕ). passed l w) (call_spelled asked parts.opcode byte parts.fields parts.rest.now is.opcode is.fields)
+    ∙ ap (λ (k : PlainKind). passed (request_bytes (record { serial = c.serial.result; kind = k })) w) c.lend.ensures.kind
+    ∙ ap (λ (n : ℕ). passed (request_bytes (record { serial = n; kind = c.args.call.now.kind })) w) c.serial.ensures

@@ -1,7 +1,6 @@
-use Rattle.std.proofs.Common.{◌≡◌, ◌∙◌, ◌<◌, List, ℕ, length, ap, sym, arith, take, pos, true}
-use Rattle.std.specs.Prelude.{Ok, Err}
+use Rattle.std.proofs.Common.{◌≡◌, ◌∙◌, ◌<◌, List, ℕ, Some, length, ap, sym, subst, true}
+use Rattle.std.specs.Prelude.{Ok, Err, slice_get}
 use Rattle.ipc_base.specs.declared.identity.Cred.{Cred}
-use Rattle.ipc_wire.specs.Sixes.{bytes_of}
 use Rattle.sysv_sem.specs.declared.operation.Operation.{Operation}
 use Rattle.sysv_sem.specs.declared.operation.Trial.{Trial}
 use Rattle.sysv_sem.specs.declared.operation.Trial.TheVariants as trial
@@ -9,12 +8,12 @@ use Rattle.ipc_state.specs.Finish.{Attempt}
 use Rattle.ipc_state.specs.State.{cred_of}
 use Rattle.ipc_state.specs.Steps.{attempted, plain_halt}
 use Rattle.sysv_calls.specs.Semop.{is_of, operations_of, stopping, tried_list}
-use Rattle.sysv_calls.proofs.Stopping.{Tested, at-front, front-inside, met, stopper, stops, stops-within}
+use Rattle.sysv_calls.proofs.Stopping.{Tested, met, stopper, stops, stops-within}
 use Rattle.sysv_calls.proofs.semop.is_stopping.Goals.{After-try_operations, In-Ok-Blocks}
 use Rattle.sysv_calls.proofs.semop.is_stopping.Goals as goal
 
 abbrev operations : After-try_operations → List Operation
-operations c = operations_of (bytes_of c.args.operations.now)
+operations c = operations_of c.args.operations.now.bytes.items
 
 abbrev tried : After-try_operations → Cred → Tested
 tried c cred = tried_list c.args.state.now.limits c.args.state.now.state cred c.args.pid.0 true c.args.id.0 (operations c)
@@ -39,31 +38,20 @@ inside c at is =
 blocks : (c : In-Ok-Blocks) → attempted c.try_operations.result ≡ Ok (trial.Blocks c.in-Ok-Blocks.at)
 blocks c = ap attempted c.in-Ok-Blocks.is ∙ ap (λ (t : Trial). Ok t) c.in-Ok-Blocks.field-0-is
 
-below : (c : In-Ok-Blocks) (t : After-try_operations) → attempted t.try_operations.result ≡ Ok (trial.Blocks c.in-Ok-Blocks.at)
-    → take (length (operations t)) c.try_operations.new.all ≡ operations t → c.in-Ok-Blocks.at < 32
-below c t is front =
-    let first = front-inside (operations t) c.try_operations.new.all c.in-Ok-Blocks.at front (inside t c.in-Ok-Blocks.at is) in
-    omega (arith, first, c.in-Ok-Blocks.ensures.count)
-
-pub bounds-all-at : goal.bounds-all-at
-bounds-all-at c =
-    let g = goal.at.bounds-all-at c in below g.In-Ok-Blocks g.After-try_operations (blocks g.In-Ok-Blocks) c.in-Ok-Blocks.ensures.operations
-
-pub offset_bounds-all-at : goal.offset_bounds-all-at
-offset_bounds-all-at c =
-    let g = goal.at.offset_bounds-all-at c in
-    omega (arith, below g.In-Ok-Blocks g.After-try_operations (blocks g.In-Ok-Blocks) c.in-Ok-Blocks.ensures.operations)
+pub operation_at-requires : goal.operation_at-requires
+operation_at-requires c =
+    let g = goal.at.operation_at-requires c in
+    subst (λ (l : List ℕ). c.in-Ok-Blocks.at < length (operations_of l)) (sym c.lend.ensures)
+    (inside g.After-try_operations c.in-Ok-Blocks.at (blocks g.In-Ok-Blocks))
 
 pub returns-in-Ok-Blocks : goal.returns-in-Ok-Blocks
 returns-in-Ok-Blocks c =
     let g = goal.at.returns-in-Ok-Blocks c in
     let t = g.After-try_operations in
     let at = c.in-Ok-Blocks.at in
-    let is = blocks g.In-Ok-Blocks in
-    let none : Operation = record { num = 0; sem_op = pos 0; flags = record { 0 = 0 } } in
-    c.is_of.ensures
-    ∙ ap (is_of c.args.zero c.args.num) (sym (at-front (operations t) c.try_operations.new.all at c.in-Ok-Blocks.ensures.operations (inside t at is) none))
-    ∙ comes t (Ok (trial.Blocks at)) is
+    let one : slice_get (operations t) at ≡ Some c.operation_at.result =
+    subst (λ (l : List ℕ). slice_get (operations_of l) at ≡ Some c.operation_at.result) c.lend.ensures c.operation_at.ensures in
+    c.is_of.ensures ∙ ap (is_of c.args.zero c.args.num) (sym one) ∙ comes t (Ok (trial.Blocks at)) (blocks g.In-Ok-Blocks)
 
 pub returns-in-Ok-Done : goal.returns-in-Ok-Done
 returns-in-Ok-Done c =

@@ -1,12 +1,8 @@
-use Rattle.std.proofs.Common.{◌≡◌, ◌≤◌, length, take}
-use Rattle.ipc_wire.specs.Sixes.{bytes_of, operations_in}
+use Rattle.std.proofs.Common.{◌≡◌, take}
+use Rattle.ipc_wire.specs.Sixes.{bytes_of}
 use Rattle.sysv_calls.specs.Semop.{operations_of}
 use Rattle.sysv_calls.proofs.semop.put_operations.Given as goal
 
 -- those before this one are put
 abbrev pub invariant-loop-place : goal.invariant-loop-place
-invariant-loop-place l =
-    record {
-      inside : l.place ≤ length (operations_in (bytes_of l.operations));
-      put : take l.place l.all ≡ take l.place (operations_of (bytes_of l.operations));
-    }
+invariant-loop-place l = take l.place l.all ≡ take l.place (operations_of (bytes_of l.operations))

@@ -1,6 +1,5 @@
-use Rattle.std.proofs.Common.{◌≡◌, ◌∙◌, ◌<◌, List, ℕ, length, ap, sym, arith, rules, take, pos}
-use Rattle.std.specs.Prelude.{Ok, Err}
-use Rattle.ipc_wire.specs.Sixes.{bytes_of}
+use Rattle.std.proofs.Common.{◌≡◌, ◌∙◌, ◌<◌, List, ℕ, Some, length, ap, sym, subst, rules}
+use Rattle.std.specs.Prelude.{Ok, Err, slice_get}
 use Rattle.sysv_sem.specs.declared.operation.Operation.{Operation}
 use Rattle.sysv_sem.specs.declared.operation.Trial.{Trial}
 use Rattle.sysv_sem.specs.declared.operation.Trial.TheVariants as trial
@@ -9,12 +8,12 @@ use Rattle.ipc_state.specs.Keyed.{KeyedEntry}
 use Rattle.ipc_state.specs.Finish.{Attempt, Halt, ◌>>=◌}
 use Rattle.ipc_state.specs.Steps.{attempted, plain_halt, seen}
 use Rattle.sysv_calls.specs.Semop.{operations_of, performable, stopped_by, tried_list}
-use Rattle.sysv_calls.proofs.Stopping.{Tested, at-front, front-inside, settled, settles, stops-within}
+use Rattle.sysv_calls.proofs.Stopping.{Tested, settled, settles, stops-within}
 use Rattle.sysv_calls.proofs.semop.ready_to_operate.Goals.{After-try_operations, In-Blocks}
 use Rattle.sysv_calls.proofs.semop.ready_to_operate.Goals as goal
 
 abbrev operations : After-try_operations → List Operation
-operations c = operations_of (bytes_of c.args.operations.now)
+operations c = operations_of c.args.operations.now.bytes.items
 
 abbrev tried : After-try_operations → Tested
 tried c = tried_list c.args.state.now.limits c.args.state.now.state c.args.cred c.args.pid.0 c.args.again c.args.id.0 (operations c)
@@ -34,20 +33,11 @@ comes c a is =
 blocks : (c : In-Blocks) → attempted c.try_operations.result ≡ Ok (trial.Blocks c.in-Blocks.at)
 blocks c = ap attempted c.in_ok-try_operations.was ∙ ap (λ (t : Trial). Ok t) c.in-Blocks.is
 
-below : (c : In-Blocks) (t : After-try_operations) → attempted t.try_operations.result ≡ Ok (trial.Blocks c.in-Blocks.at)
-    → take (length (operations t)) c.try_operations.new.all ≡ operations t → c.in-Blocks.at < 32
-below c t is front =
-    let first = front-inside (operations t) c.try_operations.new.all c.in-Blocks.at front (inside t c.in-Blocks.at is) in
-    omega (arith, first, c.in_ok-try_operations.ensures.count)
-
-pub bounds-all-at : goal.bounds-all-at
-bounds-all-at c =
-    let g = goal.at.bounds-all-at c in below g.In-Blocks g.After-try_operations (blocks g.In-Blocks) c.in_ok-try_operations.ensures.operations
-
-pub offset_bounds-all-at : goal.offset_bounds-all-at
-offset_bounds-all-at c =
-    let g = goal.at.offset_bounds-all-at c in
-    omega (arith, below g.In-Blocks g.After-try_operations (blocks g.In-Blocks) c.in_ok-try_operations.ensures.operations)
+pub operation_at-requires : goal.operation_at-requires
+operation_at-requires c =
+    let g = goal.at.operation_at-requires c in
+    subst (λ (l : List ℕ). c.in-Blocks.at < length (operations_of l)) (sym c.lend.ensures)
+    (inside g.After-try_operations c.in-Blocks.at (blocks g.In-Blocks))
 
 pub returns-in_err-try_operations-clause-tests : goal.returns-in_err-try_operations-clause-tests
 returns-in_err-try_operations-clause-tests c =
@@ -67,8 +57,8 @@ returns-in-Blocks-clause-tests c =
     let t = g.After-try_operations in
     let at = c.in-Blocks.at in
     let is = blocks g.In-Blocks in
-    let none : Operation = record { num = 0; sem_op = pos 0; flags = record { 0 = 0 } } in
-    let one = at-front (operations t) c.try_operations.new.all at c.in_ok-try_operations.ensures.operations (inside t at is) none in
+    let one : slice_get (operations t) at ≡ Some c.operation_at.result =
+    subst (λ (l : List ℕ). slice_get (operations_of l) at ≡ Some c.operation_at.result) c.lend.ensures c.operation_at.ensures in
     ap (λ (h : Halt). Err h) (c.stopped_by.ensures ∙ ap stopped_by (sym one)) ∙ comes t (Ok (trial.Blocks at)) is
 
 pub returns-in-Fails-clause-tests : goal.returns-in-Fails-clause-tests

@@ -1,15 +1,14 @@
 use Rattle.std.proofs.Common.{◌≡◌, ℕ, List, subst, sym, rules}
-use Rattle.std.specs.Prelude.{Err}
+use Rattle.std.specs.Prelude.{Ok, Err}
 use Rattle.ipc_state.specs.Keyed.{KeyedEntry}
 use Rattle.ipc_state.specs.declared.parked.ParkedSysv.{ParkedSysv}
-use Rattle.ipc_state.specs.Finish.{Attempt}
-use Rattle.ipc_state.specs.Steps.{plain_halt, seen}
+use Rattle.ipc_state.specs.Steps.{plain_halt}
 use Rattle.sysv_msg.specs.Queue.{Queue}
 use Rattle.sysv_sem.specs.Set.{Set}
 use Rattle.sysv_calls.specs.Msg.{sendable}
 use Rattle.sysv_calls.specs.Seen.{place_in}
 use Rattle.sysv_calls.specs.Semop.{operations_of, performable}
-use Rattle.sysv_calls.proofs.Reaching.{other-seen}
+use Rattle.sysv_calls.proofs.Reaching.{ok-seen, other-seen}
 use Rattle.sysv_calls.proofs.waiting.ready.Goals as goal
 
 pub returns-in_err-ready_to_send-in-Msgsnd-clause-tests : goal.returns-in_err-ready_to_send-in-Msgsnd-clause-tests
@@ -28,9 +27,15 @@ returns-in_err-ready_to_operate-in-Semop-clause-tests c =
     let s = c.args.state.now in
     let h = c.in_err-ready_to_operate-in-Semop.field-0.0 in
     let from : c.from_residual-in_err-ready_to_operate-in-Semop.result ≡ Err h = search rules in
-    let met : List ℕ → Attempt (KeyedEntry Set × List ℕ) =
-    λ bytes. performable s.limits s.state c.args.cred c.args.pid.0 c.args.again c.in-Semop.id.0 (operations_of bytes) in
     rw from (subst (λ (w : ParkedSysv). Err (plain_halt h) ≡ place_in s.limits s.state c.args.cred c.args.pid.0 c.args.again w) (sym c.in-Semop.is)
-    (other-seen (λ (found : KeyedEntry Set × List ℕ). tt) (λ (found : KeyedEntry Set × List ℕ). 0) (met c.in-Semop.operations.bytes.items) (plain_halt h)
-    (subst (λ (l : List ℕ). Err (plain_halt h) ≡ seen (λ (found : KeyedEntry Set × List ℕ). tt) (met l)) c.lend.ensures
-    c.in_err-ready_to_operate-in-Semop.ensures.tests)))
+    (other-seen (λ (found : KeyedEntry Set × List ℕ). tt) (λ (found : KeyedEntry Set × List ℕ). 0)
+    (performable s.limits s.state c.args.cred c.args.pid.0 c.args.again c.in-Semop.id.0 (operations_of c.in-Semop.operations.bytes.items)) (plain_halt h)
+    c.in_err-ready_to_operate-in-Semop.ensures.tests))
+
+pub returns-in_ok-ready_to_operate-in-Semop-clause-tests : goal.returns-in_ok-ready_to_operate-in-Semop-clause-tests
+returns-in_ok-ready_to_operate-in-Semop-clause-tests c =
+    let s = c.args.state.now in
+    subst (λ (w : ParkedSysv). Ok 0 ≡ place_in s.limits s.state c.args.cred c.args.pid.0 c.args.again w) (sym c.in-Semop.is)
+    (ok-seen (λ (found : KeyedEntry Set × List ℕ). tt)
+    (performable s.limits s.state c.args.cred c.args.pid.0 c.args.again c.in-Semop.id.0 (operations_of c.in-Semop.operations.bytes.items)) tt 0
+    c.in_ok-ready_to_operate-in-Semop.ensures.tests)

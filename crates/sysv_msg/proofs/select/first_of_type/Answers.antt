@@ -3,7 +3,7 @@ use Rattle.std.specs.Prelude.{position}
 use Rattle.std.specs.Ordering.{int_eq}
 use Rattle.std.proofs.lemmas.Int.{to_z-of_z}
 use Rattle.sysv_msg.specs.Ranks.{rank_of}
-use Rattle.sysv_msg.proofs.Lists.{position_same}
+use Rattle.ipc_arrivals.proofs.CallerLemmas.{position_same}
 use Rattle.sysv_msg.proofs.Ranks.{other_type, rank_tests}
 use Rattle.sysv_msg.proofs.select.first_of_type.Goals as goal
 

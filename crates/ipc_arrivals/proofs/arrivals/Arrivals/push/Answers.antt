@@ -1,6 +1,6 @@
 use Rattle.std.proofs.Common.{◌++◌, ◌∷◌, [], ap, length, sym, ◌∙◌, subst, arith}
 use Rattle.ipc_arrivals.specs.Arrivals.{AreKept, Arrived, Rows, values_at}
-use Rattle.ipc_arrivals.proofs.Kept.{kept-push, length-values, values-push}
+use Rattle.ipc_arrivals.proofs.Kept.{kept-push, length-values, vacant, values-push}
 use Rattle.ipc_arrivals.proofs.arrivals.Arrivals.push.Goals as goal
 
 pub insert_reserved-slot-requires : goal.insert_reserved-slot-requires
@@ -15,8 +15,8 @@ insert_reserved-slot-requires g c =
       c.self.invariant.1,
     )
 
-pub push-requires : goal.push-requires
-push-requires g c =
+pub push-requires-clause-room : goal.push-requires-clause-room
+push-requires-clause-room g c =
     omega (
       arith,
       c.requires,
@@ -24,6 +24,14 @@ push-requires g c =
       ap (λ (a : Arrived _). a.places) c.self.view_is,
       length-values g.T.Ranked.rank c.self.inside.slots c.self.inside.index.rows c.self.invariant.0,
     )
+
+pub push-requires-clause-slot : goal.push-requires-clause-slot
+push-requires-clause-slot g c = let p = c.insert_reserved-slot.ensures in omega (arith, p.key_in_range, p.capacity, c.self.invariant.1)
+
+pub push-requires-clause-vacant : goal.push-requires-clause-vacant
+push-requires-clause-vacant g c =
+    let p = c.insert_reserved-slot in
+    vacant g.T.Ranked.rank c.self.inside.slots c.self.inside.index.rows c.self.invariant.0 p.result p.ensures.was_vacant
 
 pub invariant_of-self : goal.invariant_of-self
 invariant_of-self g c =

@@ -6,7 +6,7 @@ use Rattle.std.proofs.lemmas.Option.{get_or_from_slice_get, slice_get-map, slice
 use Rattle.ipc_arrivals.specs.Arrivals.{Arrived}
 use Rattle.sysv_msg.specs.Queue.{Queue, plain}
 use Rattle.sysv_msg.specs.declared.message.Message.{Message}
-use Rattle.sysv_msg.proofs.Lists.{map-remove}
+use Rattle.ipc_arrivals.proofs.CallerLemmas.{map-remove}
 use Rattle.sysv_msg.proofs.queue.MsgQueue.take.Goals as goal
 
 abbrev size : Message → ℕ
