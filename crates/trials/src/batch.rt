@@ -50,15 +50,15 @@ impl fmt::Display for Batch {
 
 /// What a hub was left with: its disk, and the clients that have the reply to a msgsnd.
 #[derive(Drop)]
-struct Fed {
+struct Left {
     disk: MemoryDisk,
     replies: u32,
 }
 
 /// Each of three clients sends a message at one moment, and then one release makes the three last.
-pub(crate) fn batch(alloc: Global) -> Result<Batch, Fault> {
-    let before = fed(alloc, false)?;
-    let mut after = fed(alloc, true)?;
+pub(crate) fn batch_of_three(alloc: Global) -> Result<Batch, Fault> {
+    let before = hub_left(alloc, false)?;
+    let mut after = hub_left(alloc, true)?;
     Ok(Batch {
         bytes: last_batch(&mut after.disk)?,
         writes: after.disk.writes().saturating_sub(before.disk.writes()),
@@ -68,7 +68,7 @@ pub(crate) fn batch(alloc: Global) -> Result<Batch, Fault> {
 }
 
 /// Feeds a hub on a new device, with the messages or without.
-fn fed(alloc: Global, messages: bool) -> Result<Fed, Fault> {
+fn hub_left(alloc: Global, messages: bool) -> Result<Left, Fault> {
     let store = match Store::open(alloc, device(alloc)?) {
         Ok(store) => store,
         Err(unopened) => return Err(Fault::from(unopened.error)),
@@ -89,7 +89,7 @@ fn fed(alloc: Global, messages: bool) -> Result<Fed, Fault> {
         hub.release()?;
     }
     let replies = replies_of(&hub);
-    Ok(Fed {
+    Ok(Left {
         disk: hub.close().close(),
         replies,
     })

@@ -15,7 +15,7 @@ mod runs;
 mod stages;
 mod stopped;
 
-use batch::batch;
+use batch::batch_of_three;
 use fault::Fault;
 use std::alloc::Global;
 use std::io;
@@ -49,7 +49,7 @@ fn answer(rt: &(impl Env + Input + Print + AllocGlobal)) -> Result<(), Fault> {
             println!(rt; "{counted}").map_err(|_| Fault::Output)
         }
         [_, word] if word.as_str() == "batch" => {
-            println!(rt; "{}", batch(alloc)?).map_err(|_| Fault::Output)
+            println!(rt; "{}", batch_of_three(alloc)?).map_err(|_| Fault::Output)
         }
         _ => Err(Fault::Usage),
     }
