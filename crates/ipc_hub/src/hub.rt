@@ -156,7 +156,7 @@ impl<D: SectorDisk> Hub<D> {
         }
     }
 
-    // Whether a connection has the number. If so, it is looked for no more in what follows, since it is looked at first.
+    // Whether a connection has the number. If so, it is looked for no more in what follows: it is looked at first.
     fn seek(&mut self, conn: u32) -> bool
         ensures found { result ≡ is_connected self.old.hub conn }
         ensures same { self.new ≡ self.old }
