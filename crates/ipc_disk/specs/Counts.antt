@@ -1,5 +1,5 @@
 -- How often a disk was used: its failures, and its writes and syncs that were Ok. A count stops at 2^64 - 1.
-use Rattle.std.specs.Prelude.{ℕ, ◌+◌, ◌-◌, ◌^◌, ◌<◌, min}
+use Rattle.std.specs.Prelude.{ℕ, ◌+◌, ◌-◌, ◌^◌, ◌<◌, ◌==◌, if◌then◌else◌, min, Option, Some, None}
 
 pub record Counts : Type 0 where
   pub failures : ℕ
@@ -31,3 +31,8 @@ with_write n = record n { writes = counted n.writes 1 }
 -- one more sync
 abbrev pub with_sync : Counts → Counts
 with_sync n = record n { syncs = counted n.syncs 1 }
+
+-- how many calls are left before one of them, if it is to come, after another call
+abbrev pub next_of : Option ℕ → Option ℕ
+next_of None = None
+next_of (Some calls) = if calls == 0 then None else Some (calls - 1)

@@ -7,6 +7,7 @@ pub mod Fuse
 pub mod Joined
 pub mod Medium
 pub mod Memory
+pub mod Once
 pub mod Range
 pub mod Relations
 pub mod Run

@@ -1,4 +1,4 @@
-//! Disks of 512-byte sectors: what a crash may leave of one, two in memory, one that joins
+//! Disks of 512-byte sectors: what a crash may leave of one, three in memory, one that joins
 //! writes, and one in a file.
 #![tactic(auto)]
 
@@ -8,6 +8,7 @@ mod fuse;
 mod joined;
 mod laws;
 mod memory;
+mod once;
 mod progress;
 mod range;
 mod run;
@@ -22,6 +23,7 @@ pub use fuse::FuseDisk;
 pub use joined::JoinedDisk;
 pub use laws::{a_joined_disk_is_as_honest, disks_in_memory_are_honest};
 pub use memory::MemoryDisk;
+pub use once::OnceDisk;
 pub use progress::Progress;
 pub use range::Range;
 pub use runs::RunDisk;
