@@ -179,12 +179,19 @@ impl<B: Bound, T> ObjectTable<B, T> {
         self.objects.is_full(most)
     }
 
+    /// Whether one is ready to be added.
+    pub(crate) fn is_ready(&self) -> bool
+        ensures { result ≡ is_some self.now.ready }
+    {
+        self.ready.is_some()
+    }
+
     /// Gives back what is ready, if anything is. It takes no memory.
     pub(crate) fn release(&mut self) -> Option<T>
         ensures { self.new ≡ record self.old { ready = None } }
     {
         // Before most calls nothing is ready, and then nothing is moved.
-        if self.ready.is_none() {
+        if !self.is_ready() {
             return None;
         }
         let (bound, object) = self.ready.take()?;

@@ -150,10 +150,23 @@ impl State {
         }
     }
 
+    /// Whether nothing is reserved.
+    fn has_nothing_ready(&self) -> bool
+        ensures { IsTrue result → self.now.ready ≡ Nothing }
+    {
+        let has_object = self.msg.is_ready() || self.semset.is_ready() || self.mq.is_ready();
+        let has_named = self.psem.is_ready() || self.pshm.is_ready();
+        !has_object && !has_named && self.fresh.is_none() && self.zeros.is_none()
+    }
+
     /// Gives back what is reserved. It takes no memory.
     pub fn release(&mut self)
         ensures { self.new ≡ record self.old { ready = Nothing } }
     {
+        // Before most calls nothing is, and then nothing is written.
+        if self.has_nothing_ready() {
+            return;
+        }
         self.fresh = None;
         if let Some(queue) = self.msg.release() {
             self.spare_msg_queue = Some(queue);
