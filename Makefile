@@ -1,7 +1,7 @@
 # ipcd: the commands of this repository. They need the Rattle toolchain's `rt` on the path and Python, `runs`, `edits`
-# and `bench` also awk, `bench-serve` a C compiler, `memory` awk and a C compiler, and `serves` a C compiler to watch and
-# refuse calls of the system: without it these two say so, and refuse nothing. `runs` renders the manual page if there
-# is a man. `clients` says so without a C compiler, and tests only those in Python; its memcheck needs valgrind.
+# and `bench` also awk, `bench-serve` a C compiler, `memory` a C compiler to refuse allocations, and `serves` one to watch
+# and refuse calls of the system: without it these two say so, and refuse nothing. `runs` renders the manual page if
+# there is a man. `clients` says so without a C compiler, and tests only those in Python; its memcheck needs valgrind.
 
 .PHONY: help try run test edits imports runs serves clients memory trials program install peers bench bench-serve bench-clients
 
@@ -19,8 +19,8 @@ help:
 	@echo "            writes their records. Up to six take 15 to 90 seconds of a processor, if their crate is proved here"
 	@echo "make imports  that no crate names what is another's own, nor one that carries requests a call"
 	@echo "make runs   the program on scripts, also random ones beside a model of semaphore sets, command lines, a terminal"
-	@echo "            and devices, also with each byte of one wrong: what it prints and says, its exit status, and what it"
-	@echo "            leaves in the file; what 'make install' puts where, and the manual page"
+	@echo "            and devices: what it prints and says, its exit status, and what it leaves in the file; what"
+	@echo "            'make install' puts where, and the manual page"
 	@echo "make serves the program as a server: clients by the dozen, crashes under load, what ends a connection, and what"
 	@echo "            docs/OPERATIONS.md says; the first sessions; examples/serve.sh, in which a message outlives a"
 	@echo "            crash; examples/users.sh, two users of a queue; examples/worker.sh, two who wait for jobs;"
@@ -32,10 +32,12 @@ help:
 	@echo "            and the Python package on the program: beside the system's own objects, over kills, by a false server."
 	@echo "            'make install' puts those in C below PREFIX, if they are built. Two minutes, once built"
 	@echo "make peers  other people's programs on the kernel's objects and through ipcd-run; as uid 0 it installs them"
-	@echo "make memory the program, with each allocation refused in turn"
-	@echo "make trials scripts that are stopped at each call on their disk, with each choice of what a crash keeps, openings"
-	@echo "            and formats too: what opens is what was answered, or one line more; and what one release of requests"
-	@echo "            of one moment writes"
+	@echo "make memory the programs, with each allocation of a script refused in turn, of a listing and an opening of what it"
+	@echo "            leaves, and of each public call that may need memory, by itself"
+	@echo "make trials scripts that are stopped at each call on their disk, with each choice of what a crash keeps, or of which"
+	@echo "            one call fails, openings and formats too: what opens is what was answered, or one line more; devices"
+	@echo "            with each byte wrong; frames that are cut off or changed; as much of everything as the limits allow;"
+	@echo "            and what one release of requests of one moment writes"
 	@echo "make bench  processor time of runs, lines, saves and ticks, peak memory, what a commit and a save write, and"
 	@echo "            commits a second on a file beside the same writes and syncs done bare; and of messages of deep queues,"
 	@echo "            as ratios. It ends with an error while calls that wait on other queues add more to a request than they"
@@ -70,16 +72,20 @@ install:
 	@if [ -x clients/c/out/ipcd-run ]; then $(MAKE) -s -C clients/c install; \
 		else echo "the clients in C are not built, so they are not installed: 'make clients' builds them"; fi
 
-REFUSE_EACH = sh tests/refuse_each.sh crates/ipcd/out/ipcd examples/first_queue.script examples/waiting.script \
-	examples/lock.script examples/posix.script
+REFUSE_EACH = python3 tests/refuse_each.py $(BUILT) crates/trials/out/trials
 
 memory: program
+	@python3 tools/build.py trials
 	@$(REFUSE_EACH)
 
-# Each opening of each device that a stop leaves is stopped too; what the gate runs of it stops some.
-# Requests of one moment, fed to a hub by hand, are one batch: two writes and two syncs for three replies.
-TRIALS = crates/trials/out/trials stopped 1 < crates/trials/stdin && \
-	test "$$(crates/trials/out/trials batch)" = "a batch of 163 bytes, 2 writes, 2 syncs, 3 replies"
+# Each opening of each device that a stop leaves is stopped too, and each byte of a device is wrong once; of those the
+# gate has each tenth. Requests of one moment, fed to a hub by hand, are one batch: two writes and two syncs for three
+# replies.
+TRIAL = crates/trials/out/trials
+EACH = 1
+TRIALS = $(TRIAL) stopped 1 < crates/trials/stdin && $(TRIAL) faulted 1 < crates/trials/stdin && \
+	$(TRIAL) damaged $(EACH) < tests/damaged.script && $(TRIAL) frames 1 && $(TRIAL) limits && $(TRIAL) limits small && \
+	test "$$($(TRIAL) batch)" = "a batch of 163 bytes, 2 writes, 2 syncs, 3 replies"
 
 trials:
 	@python3 tools/build.py trials
@@ -123,6 +129,7 @@ peers: program
 bench-clients: program
 	@$(MAKE) -s -C clients/c bench PROGRAM=$(abspath $(BUILT))
 
+test: EACH = 10
 test: imports
 	@python3 tests/edits.py --record
 	rt ci

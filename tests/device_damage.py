@@ -45,7 +45,6 @@ from device_layout import (
     msgsnd,
     need_of,
     processes,
-    read,
     record,
     request,
     sectors_of,
@@ -65,35 +64,25 @@ from device_layout import (
 )
 from device_runs import (
     EXIT_RECORD,
-    GOOD_BATCHES,
     GOOD_LISTED,
     HELLO_RECORD,
     INTERRUPT_RECORD,
-    NEW_HEADER,
-    NEW_ROOT,
-    NEW_SECTORS,
     RESTART_RECORD,
     SAVED_LISTED,
     SAVED_QUEUE,
     SEND_RECORD,
-    SMALL_SUPERBLOCK,
     TICK_RECORD,
     Check,
     check,
-    fault_of,
     good,
-    ipcd,
-    is_image,
     numbered,
     opens,
     received,
     refuses,
-    restarted,
     row,
     row_of_named,
     row_of_set,
     runs,
-    saved,
     sends,
 )
 
@@ -338,150 +327,6 @@ def free_bytes() -> Iterator[Check]:
         image = good().put(at, offset, bytes.fromhex(bytes_there)).image
         listed = GOOD_LISTED if has_queue else ""
         yield partial(opens, image, listed, f"sector {at}, {offset}: {bytes_there}")
-
-
-def answers(image: bytes, name: str) -> None:
-    """The program says what the checker says. What it lists is known if there is no journal."""
-    fault = fault_of(image)
-    if fault:
-        return refuses(image, fault, name)
-    content = read(image)
-    ended = ipcd(image, "dump")
-    check(ended[:2] == (0, ""), f"{name}: {ended[:2]}")
-    is_image(ended.image, restarted(image), name)
-    if not content.batches:
-        check(ended.printed == listing(content.objects), f"{name}: {ended.printed}")
-
-
-def listing(objects: list[tuple[int, bytes]]) -> str:
-    """The queues and the sets of these objects, with fields from their places."""
-    lines = []
-    for number, data in objects[4:]:
-        key = int.from_bytes(data[:4], "big", signed=True)
-        uid, gid, mode, count = (int.from_bytes(data[at : at + 4], "big") for at in (4, 8, 20, 60))
-        if number >= SET_KIND:
-            semaphores = ((0, 0),) * int.from_bytes(data[40:44], "big")
-            lines.append(row_of_set(number - SET_KIND, Set(key, semaphores, (uid, gid), mode=mode)))
-            continue
-        total = len(data) - 64 - 12 * count
-        messages = ((1, bytes(total)),) + (count - 1) * ((1, b""),) if count else ()
-        lines.append(row(number - QUEUE_KIND, Queue(key, messages, (uid, gid), mode=mode)))
-    return "".join(lines)
-
-
-def places(parts: dict[int, bytes]) -> Iterator[tuple[int, int]]:
-    for at, data in parts.items():
-        yield from ((at, offset) for offset in range(len(data)))
-
-
-def each_byte() -> Iterator[Check]:
-    """Each byte with a meaning, with one bit wrong; in the journal, also with all bits wrong."""
-    parts = {0: SMALL_SUPERBLOCK, 1: NEW_ROOT, **NEW_SECTORS}
-    for at, offset in places(parts):
-        yield with_bits(at, offset, 0x01)
-    parts = {3: NEW_HEADER} | {at: data for at, data in GOOD_BATCHES.items() if at != 6}
-    # A few bytes of the text.
-    text = [(6, offset) for offset in range(46)] + [(7, offset) for offset in range(26, 44)]
-    for at, offset in itertools.chain(places(parts), text):
-        yield with_bits(at, offset, 0x01)
-        yield with_bits(at, offset, 0xFF)
-
-
-def with_bits(at: int, offset: int, bits: int) -> Check:
-    """The good device with these bits of a byte turned over."""
-    device = good()
-    byte = device.image[SECTOR * at + offset] ^ bits
-    image = device.put(at, offset, bytes([byte])).image
-    return partial(answers, image, f"sector {at}, {offset}: {byte}")
-
-
-# Of the saved device: a sector, the first and the last of some bytes of it, and the sector that is
-# named if one of them is turned over. With 0 it opens.
-TURNED: tuple[tuple[int, int, int, int], ...] = (
-    (1, 0, 7, 0),  # the epoch, which is later then
-    (1, 8, 11, 1),  # the table's first sector
-    (1, 12, 13, 1),  # its bytes: more than there is room for
-    (1, 14, 14, 270),  # 65384 of them: more sectors than the one
-    (1, 15, 15, 1),  # 151 of them
-    (1, 16, 23, 0),  # nothing
-    (270, 0, 3, 270),  # the next sector of the table
-    (270, 4, 7, 270),  # the count
-    (270, 8, 15, 270),  # the number of the clock: not below the next one
-    (270, 16, 22, 270),  # its length: more sectors than one
-    (270, 23, 23, 1),  # or not
-    (270, 24, 27, 270),  # its sector: outside
-    (270, 28, 42, 270),  # number and length of the processes
-    (270, 43, 43, 1),
-    (270, 44, 47, 270),
-    (270, 48, 62, 270),  # number and length of the calls that wait
-    (270, 63, 63, 1),
-    (270, 64, 67, 270),
-    (270, 68, 71, 270),  # the number of the adjustments: above the queue's
-    (270, 72, 75, 1),  # or not
-    (270, 76, 82, 270),  # their length
-    (270, 83, 83, 1),
-    (270, 84, 87, 270),
-    (270, 88, 95, 1),  # the number of the queue: past the next one
-    (270, 96, 102, 270),  # its length
-    (270, 103, 103, 1),
-    (270, 104, 107, 270),
-    (270, 108, 115, 0),  # nothing
-    (265, 0, 7, 0),  # the moment
-    (265, 8, 8, 1),  # the next pid: past the last, or another one
-    (265, 9, 11, 0),
-    (265, 12, 12, 1),  # the next number of a queue
-    (265, 13, 15, 0),
-    (265, 16, 16, 1),  # the next number of a semaphore set
-    (265, 17, 19, 0),
-    (265, 20, 20, 1),  # the next number of a POSIX queue
-    (265, 21, 23, 0),
-    (265, 24, 24, 1),  # the next number of a named semaphore
-    (265, 25, 27, 0),
-    (265, 28, 28, 1),  # the next number of a segment
-    (265, 29, 31, 0),
-    (265, 32, 39, 0),  # nothing
-    (266, 0, 3, 1),  # how many processes there are
-    (266, 4, 7, 1),  # the pid: not below the next one
-    (266, 8, 15, 0),  # uid and gid
-    (266, 16, 19, 1),  # descriptors
-    (266, 20, 27, 0),  # nothing
-    (267, 0, 3, 1),  # how many calls wait
-    (267, 4, 11, 0),  # nothing
-    (268, 0, 3, 1),  # how many adjustments there are
-    (268, 4, 11, 0),  # nothing
-    (269, 0, 3, 0),  # the key
-    (269, 4, 19, 0),  # uid, gid, cuid and cgid
-    (269, 20, 22, 1),  # the mode: more than nine bits
-    (269, 23, 23, 0),
-    (269, 24, 47, 0),  # stime, rtime and ctime
-    (269, 48, 55, 0),  # lspid and lrpid
-    (269, 56, 58, 1),  # qbytes: above the limit
-    (269, 59, 59, 0),
-    (269, 60, 63, 1),  # how many messages there are
-    (269, 64, 64, 1),  # the type: below 0
-    (269, 65, 71, 0),
-    (269, 72, 75, 1),  # the length of the text
-    (269, 76, 77, 0),  # the text
-    (269, 78, 85, 0),  # nothing
-    (3, 0, 7, 3),  # the epoch of the journal: later
-    (3, 8, 11, 0),  # how many sectors it counts, at an earlier epoch
-)
-
-
-def turned() -> Iterator[Check]:
-    """Each byte of the root, the table and the objects, and some of those after them."""
-    yield partial(opens, saved().image, SAVED_LISTED, "the saved device")
-    for at, first, last, named in TURNED:
-        for offset in range(first, last + 1):
-            device = saved()
-            byte = device.image[SECTOR * at + offset] ^ 0xFF
-            image = device.put(at, offset, bytes([byte])).image
-            name = f"saved sector {at}, {offset}: {byte}"
-            if named:
-                yield partial(refuses, image, f"damaged sector {named}", name)
-            else:
-                check(fault_of(image) == "", f"{name}: {fault_of(image)}")
-                yield partial(answers, image, name)
 
 
 # ---- objects that stand for no state

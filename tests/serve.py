@@ -408,8 +408,9 @@ class Deaf:
         self.client = client
         self.queue = queue
         self.texts = [b"%d" % number for number in range(1000)]
-        self.frames = [frame(9, msgsnd_request(queue, 1, text)) for text in self.texts]
-        self.frames += [frame(9, msgget_request(queue, 0))] * 100000
+        # Each request has a serial of its own, so that each reply is told from the others.
+        self.frames = [frame(serial, msgsnd_request(queue, 1, text)) for serial, text in enumerate(self.texts, 1)]
+        self.frames += [frame(serial, msgget_request(queue, 0)) for serial in range(1001, 101001)]
         self.unsent = b"".join(self.frames)
 
     def send(self) -> None:
@@ -419,14 +420,14 @@ class Deaf:
             self.unsent = self.unsent[os.write(self.client.fileno(), self.unsent[:65536]) :]
 
     def read(self) -> None:
-        """Reads the reply to each request that was sent whole. All are there, and in order."""
+        """Reads the reply to each request that was sent whole. Each is there once, and in order."""
         sent = sum(map(len, self.frames)) - len(self.unsent)
-        for number, request in enumerate(self.frames):
+        for serial, request in enumerate(self.frames, 1):
             sent -= len(request)
             if sent < 0:
                 return
-            body = b"" if number < len(self.texts) else struct.pack(">I", self.queue)
-            self.client.is_answered(reply(9, 0, body))
+            body = b"" if serial <= len(self.texts) else struct.pack(">I", self.queue)
+            self.client.is_answered(reply(serial, 0, body))
 
 
 def in_order(texts: list[bytes]) -> bool:

@@ -531,15 +531,22 @@ def a_client_is_read_once_it_is_woken() -> None:
 def a_client_that_reads_nothing_is_not_read() -> None:
     """The first read gives HELLO, 239 requests and a piece: 3360 bytes of replies, and all is taken. In the second one
     no request is taken once more than 4096 bytes of replies wait. Nothing more is read, nor waited for, in five turns.
-    Then the client reads."""
+    Then the client reads, and finds each reply once."""
+    numbers = range(2, 1002)
+    asked = b"".join(frame(number, msgget_request(1234, IPC_CREAT | 0o600)) for number in numbers)
+    answers = b"".join(reply(number, 0, struct.pack(">I", 1)) for number in numbers)
     with fresh(send=(1, *(10 * [BLOCKS]), ALL)) as server:
         with server.stopped():
             client = Client()
-            client.send_bytes(HELLO + 1000 * GET)
-        client.is_answered(welcome(1) + 1000 * GOT)
+            client.send_bytes(HELLO + asked)
+        until(lambda: BLOCKS in [call.result for call in calls() if call.name == "send"], "no reply waits")
+        client.is_answered(welcome(1) + answers)
         file = descriptor(1, calls())
         until(lambda: results("recv", file, calls())[-1] == BLOCKS, "not all is read")
         turns = turns_from(1)
+        # The next frame is of the next request, so that no other one has come.
+        client.send_bytes(SEND)
+        client.is_answered(SENT)
     reads = [sum(results("recv", file, turn)) for turn in turns[:5]]
     check(reads == [8192, 0, 0, 0, 0], f"{reads} bytes are read")
     check(all(results("send", file, turn) == [BLOCKS, BLOCKS] for turn in turns[:5]), "the sends are others")

@@ -1,11 +1,9 @@
 //! Requests of one moment, which a hub that is fed by hand makes last at once.
 
 use crate::fault::Fault;
+use crate::host::Host;
 use crate::runs::device;
-use ipc_base::Moment;
 use ipc_disk::{MemoryDisk, SectorDisk};
-use ipc_hub::{Hub, ServeError};
-use ipc_store::Store;
 use std::alloc::Global;
 use std::fmt;
 
@@ -69,45 +67,45 @@ pub(crate) fn batch_of_three(alloc: Global) -> Result<Batch, Fault> {
 
 /// Feeds a hub on a new device, with the messages or without.
 fn hub_left(alloc: Global, messages: bool) -> Result<Left, Fault> {
-    let store = match Store::open(alloc, device(alloc)?) {
-        Ok(store) => store,
-        Err(unopened) => return Err(Fault::from(unopened.error)),
-    };
-    let mut hub = Hub::new(alloc, store);
-    for conn in 0..CLIENTS {
-        hub.connect(conn)?;
+    let mut host = Host::open(alloc, device(alloc)?)?;
+    let served = serve(&mut host, messages);
+    let replies = replies_of(&host);
+    let disk = host.close();
+    served?;
+    Ok(Left { disk, replies })
+}
+
+/// Makes the clients' processes and their queue, and then sends the messages, if that is asked for.
+fn serve(host: &mut Host, messages: bool) -> Result<(), Fault> {
+    for client in 0..CLIENTS {
+        host.connect(client)?;
     }
-    feed_each(&mut hub, &HELLO)?;
-    hub.feed(0, &MSGGET, Moment(0))?;
-    hub.release()?;
-    for conn in 0..CLIENTS {
-        let shown = hub.output(conn).len();
-        hub.consume(conn, shown);
+    feed_each(host, &HELLO)?;
+    host.feed(0, &MSGGET)?;
+    host.release()?;
+    for client in 0..CLIENTS {
+        host.read(client);
     }
     if messages {
-        feed_each(&mut hub, &MSGSND)?;
-        hub.release()?;
+        feed_each(host, &MSGSND)?;
+        host.release()?;
     }
-    let replies = replies_of(&hub);
-    Ok(Left {
-        disk: hub.close().close(),
-        replies,
-    })
+    Ok(())
 }
 
 /// Gives each client's connection the same bytes, all at one moment.
-fn feed_each(hub: &mut Hub<MemoryDisk>, piece: &[u8]) -> Result<(), ServeError> {
-    for conn in 0..CLIENTS {
-        hub.feed(conn, piece, Moment(0))?;
+fn feed_each(host: &mut Host, piece: &[u8]) -> Result<(), Fault> {
+    for client in 0..CLIENTS {
+        host.feed(client, piece)?;
     }
     Ok(())
 }
 
 /// How many clients may see the reply, and nothing else.
-fn replies_of(hub: &Hub<MemoryDisk>) -> u32 {
+fn replies_of(host: &Host) -> u32 {
     let mut replies: u32 = 0;
-    for conn in 0..CLIENTS {
-        if hub.output(conn) == REPLY.as_slice() {
+    for client in 0..CLIENTS {
+        if host.output(client) == REPLY.as_slice() {
             replies = replies.saturating_add(1);
         }
     }
@@ -122,7 +120,7 @@ fn last_batch(disk: &mut MemoryDisk) -> Result<u32, Fault> {
     Ok(number_at(&last, 0).saturating_add(4))
 }
 
-fn sector(disk: &mut MemoryDisk, at: u32) -> Result<[u8; 512], Fault> {
+pub(crate) fn sector(disk: &mut MemoryDisk, at: u32) -> Result<[u8; 512], Fault> {
     let mut bytes = [0; 512];
     if at >= disk.sectors() {
         return Err(Fault::Unopened);

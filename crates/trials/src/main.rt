@@ -2,26 +2,66 @@
 //! the smallest case at a failure.
 //!
 //!     trials stopped N < SCRIPT    stops the script at each call on its disk, its formats, and each N-th opening
+//!     trials faulted N < SCRIPT    lets each call on its disk fail once, and each of the openings after each N-th line
+//!     trials damaged N < SCRIPT    changes each N-th byte of devices, and opens them
+//!     trials frames N              cuts frames of each opcode off at each byte, and changes each N-th byte of them
+//!     trials limits [small]        makes, uses, saves and finds as much as the limits allow, standard ones or small
 //!     trials batch                 feeds a hub requests of one moment, and counts what one release writes of them
+//!     trials script < SCRIPT       runs the script in memory, under small limits but 16 processes
+//!     trials refused [NAME]        makes one call, and again if it is refused for memory; without NAME, all names
 //!
-//! A script is followed by a line `-` and by a probe: lines whose answers tell what a device holds.
+//! In the first two a script is followed by a line `-` and by a probe: lines whose answers tell what a device holds.
 #![tactic(auto)]
 
+ghost use Rattle.std.specs.Prelude.{◌<◌, IfOk};
+
 mod batch;
+mod calls;
+mod cases;
+mod damaged;
 mod fault;
+mod faulted;
 mod formats;
+mod frames;
+mod halted;
+mod host;
+mod image;
+mod journal;
+mod judge;
+mod last_words;
+mod limits;
+mod most_posix;
+mod most_sysv;
+mod most_waiting;
 mod openings;
+mod refused;
+mod request;
+mod restart;
+mod rules;
 mod runs;
+mod script;
+mod spoiled;
 mod stages;
 mod stopped;
+mod tables;
 
 use batch::batch_of_three;
+use damaged::damaged;
 use fault::Fault;
+use faulted::faulted;
+use frames::frames;
+use ipc_base::Limits;
+use limits::at_limits;
+use refused::{print_names, refused};
+use script::script;
 use std::alloc::Global;
+use std::fmt::Display;
+use std::fs::File;
 use std::io;
-use std::io::Read;
+use std::io::{ErrorKind, Read};
+use std::net::Net;
 use std::process::ExitCode;
-use std::rt::Env;
+use std::rt::{Env, Files};
 use stopped::stopped;
 
 fn main(rt: HostRuntime) -> io::Result<ExitCode> {
@@ -35,32 +75,78 @@ fn main(rt: HostRuntime) -> io::Result<ExitCode> {
 }
 
 /// Does what the words ask for.
-fn answer(rt: &(impl Env + Input + Print + AllocGlobal)) -> Result<(), Fault> {
-    let alloc = rt.alloc();
+fn answer(
+    rt: &(impl Env + Input + Print + AllocGlobal + Files<File = File> + Net),
+) -> Result<(), Fault> {
     let words = words_of(rt)?;
     match words.as_slice() {
-        [_, word, every] if word.as_str() == "stopped" => {
-            let every = every.as_str().parse::<u64>().map_err(|_| Fault::Usage)?;
-            if every == 0 {
-                return Err(Fault::Usage);
-            }
-            let text = input(alloc, &mut rt.reader())?;
-            let counted = stopped(alloc, text.as_slice(), every)?;
-            println!(rt; "{counted}").map_err(|_| Fault::Output)
+        [_, word] => alone(rt, word.as_str()),
+        [_, word, name] if word.as_str() == "refused" => refused(rt, name.as_str()),
+        [_, word, size] if word.as_str() == "limits" && size.as_str() == "small" => {
+            print(rt, &at_limits(rt.alloc(), Limits::small())?)
         }
-        [_, word] if word.as_str() == "batch" => {
-            println!(rt; "{}", batch_of_three(alloc)?).map_err(|_| Fault::Output)
-        }
+        [_, word, every] => with_number(rt, word.as_str(), number_of(every.as_str())?),
         _ => Err(Fault::Usage),
     }
 }
 
+/// Does what a word alone asks for.
+fn alone(rt: &(impl Input + Print + AllocGlobal), word: &str) -> Result<(), Fault> {
+    let alloc = rt.alloc();
+    match word {
+        "batch" => print(rt, &batch_of_three(alloc)?),
+        "limits" => print(rt, &at_limits(alloc, Limits::standard())?),
+        "refused" => print_names(rt),
+        "script" => script(rt),
+        _ => Err(Fault::Usage),
+    }
+}
+
+/// Does what a word asks for with a number.
+fn with_number(rt: &(impl Input + Print + AllocGlobal), word: &str, every: u64) -> Result<(), Fault>
+    requires { 0 < every }
+{
+    let alloc = rt.alloc();
+    if word == "frames" {
+        return print(rt, &frames(alloc, every)?);
+    }
+    let text = input(alloc, &mut rt.reader())?;
+    match word {
+        "stopped" => print(rt, &stopped(alloc, text.as_slice(), every)?),
+        "faulted" => print(rt, &faulted(alloc, text.as_slice(), every as usize)?),
+        "damaged" => print(rt, &damaged(alloc, text.as_slice(), every as usize)?),
+        _ => Err(Fault::Usage),
+    }
+}
+
+fn print(rt: &impl Print, counted: &impl Display) -> Result<(), Fault> {
+    println!(rt; "{counted}").map_err(|_| Fault::Output)
+}
+
+/// The number that a word is, from 1 on.
+fn number_of(word: &str) -> Result<u64, Fault>
+    ensures { IfOk result (λ every. 0 < every) }
+{
+    let every = word.parse::<u64>().map_err(|_| Fault::Usage)?;
+    if every == 0 {
+        return Err(Fault::Usage);
+    }
+    Ok(every)
+}
+
 /// The words of the command line; the first is the program's name.
 fn words_of(rt: &(impl Env + AllocGlobal)) -> Result<Vec<String>, Fault> {
+    let mut words = Vec::new(rt.alloc());
     match std::env::args(rt) {
-        Ok(words) => Ok(words.collect(rt.alloc())?),
-        Err(_) => Err(Fault::Usage),
+        Ok(given) => {
+            for word in given {
+                words.push(word)?;
+            }
+        }
+        Err(error) if error.kind() == ErrorKind::OutOfMemory => return Err(Fault::NoMemory),
+        Err(_) => return Err(Fault::Usage),
     }
+    Ok(words)
 }
 
 /// All that a reader gives.

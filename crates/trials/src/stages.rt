@@ -4,11 +4,12 @@ use crate::fault::Fault;
 use crate::runs::{device, found_on, run};
 use std::alloc::Global;
 
-/// A run of the first lines of a script: what it writes, and what is found on its device then.
+/// A run of the first lines of a script: where these end, what it writes, and what is found on its device then.
 #[derive(Drop)]
-struct Stage {
-    output: Vec<u8>,
-    found: Vec<u8>,
+pub(crate) struct Stage {
+    pub(crate) end: usize,
+    pub(crate) output: Vec<u8>,
+    pub(crate) found: Vec<u8>,
 }
 
 /// A script, its probe, and its stages, from that of no line on.
@@ -17,7 +18,7 @@ pub(crate) struct Trial<'a> {
     pub(crate) alloc: Global,
     pub(crate) script: &'a [u8],
     pub(crate) probe: &'a [u8],
-    stages: Vec<Stage>,
+    pub(crate) stages: Vec<Stage>,
 }
 
 /// The trial of a text: a script, a line `-`, and a probe.
@@ -66,6 +67,7 @@ fn add_stages(
         let ran = run(alloc, device(alloc)?, lines);
         ran.outcome?;
         stages.push(Stage {
+            end: *end,
             output: ran.output,
             found: found_on(alloc, ran.disk, probe)?,
         })?;

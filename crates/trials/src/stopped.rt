@@ -75,7 +75,9 @@ fn stop_at(
         if before == 0 {
             unsynced = ran.disk.unsynced();
         }
-        let found = found_on(trial.alloc, ran.disk.crash(), trial.probe)?;
+        let Ok(found) = found_on(trial.alloc, ran.disk.crash(), trial.probe) else {
+            return Err(Fault::Lost { calls, keep });
+        };
         count.devices = count.devices.saturating_add(1);
         match trial.place(&ran.output, &found) {
             None => return Err(Fault::Lost { calls, keep }),

@@ -1,0 +1,121 @@
+//! Openings of a device, and of its parts.
+
+use crate::fault::Fault;
+use crate::refused::hubs::used_disk;
+use crate::refused::{Subject, told};
+use ipc_base::{Limits, ObjectMap};
+use ipc_checkpoint::{Checkpoint, Layout, LoadError};
+use ipc_disk::{MemoryDisk, Range, SectorDisk};
+use ipc_engine::StateFault;
+use ipc_heap::Heap;
+use ipc_image::engine_of;
+use ipc_store::Store;
+use std::alloc::Global;
+
+/// Their names.
+pub(crate) const NAMES: [&str; 4] = ["Heap::open", "Checkpoint::load", "engine_of", "Store::open"];
+
+/// How many sectors a device has under small limits, and where its objects lie.
+const SECTORS: u32 = 448;
+
+const LAYOUT: Layout = Layout {
+    range: Range {
+        first: 260,
+        count: 188,
+    },
+    root: 1,
+    area: 94,
+};
+
+/// A device with a queue that is saved, and its objects if they are loaded already.
+#[derive(Drop)]
+pub(crate) struct Device {
+    alloc: Global,
+    disk: Option<MemoryDisk>,
+    objects: Option<ObjectMap>,
+}
+
+/// A device for the call of this name.
+pub(crate) fn device_for(alloc: Global, name: &str) -> Result<Device, Fault> {
+    let mut disk = used_disk(alloc)?;
+    let objects = match name {
+        "engine_of" => Some(load(alloc, &mut disk)?),
+        _ => None,
+    };
+    Ok(Device {
+        alloc,
+        disk: Some(disk),
+        objects,
+    })
+}
+
+impl Subject for Device {
+    fn call(&mut self, name: &str) -> Result<(), Fault> {
+        let alloc = self.alloc;
+        if name == "Store::open" {
+            return self.open();
+        }
+        match (&mut self.disk, &self.objects) {
+            (_, Some(objects)) => make_engine(alloc, objects),
+            (Some(disk), None) if name == "Heap::open" => open_heap(alloc, disk),
+            (Some(disk), None) => load(alloc, disk).map(|_| ()),
+            (None, None) => Err(Fault::Unready),
+        }
+    }
+
+    fn tells(&self, alloc: Global) -> Result<Vec<u8>, Fault> {
+        match &self.disk {
+            Some(disk) => told(alloc, &[u64::from(disk.sectors()), disk.writes()]),
+            None => Err(Fault::Unready),
+        }
+    }
+}
+
+impl Device {
+    /// Opens a store on the disk, which comes back if it is refused.
+    fn open(&mut self) -> Result<(), Fault> {
+        let Some(disk) = self.disk.take() else {
+            return Err(Fault::Unready);
+        };
+        match Store::open(self.alloc, disk) {
+            Ok(store) => {
+                self.disk = Some(store.close());
+                Ok(())
+            }
+            Err(unopened) => {
+                self.disk = Some(unopened.disk);
+                Err(Fault::from(unopened.error))
+            }
+        }
+    }
+}
+
+fn open_heap(alloc: Global, disk: &mut MemoryDisk) -> Result<(), Fault> {
+    if disk.sectors() != SECTORS {
+        return Err(Fault::Unready);
+    }
+    match Heap::open(alloc, disk, LAYOUT.range, LAYOUT.root) {
+        Ok(_) => Ok(()),
+        Err(ipc_heap::OpenError::NoMemory) => Err(Fault::NoMemory),
+        Err(_) => Err(Fault::Unready),
+    }
+}
+
+fn make_engine(alloc: Global, objects: &ObjectMap) -> Result<(), Fault> {
+    match engine_of(alloc, objects, Limits::small()) {
+        Ok(_) => Ok(()),
+        Err(StateFault::NoMemory) => Err(Fault::NoMemory),
+        Err(StateFault::Unsound) => Err(Fault::Unready),
+    }
+}
+
+fn load(alloc: Global, disk: &mut MemoryDisk) -> Result<ObjectMap, Fault> {
+    if disk.sectors() != SECTORS {
+        return Err(Fault::Unready);
+    }
+    match Checkpoint::load(alloc, disk, LAYOUT) {
+        Ok((_, objects)) => Ok(objects),
+        Err(LoadError::NoMemory) => Err(Fault::NoMemory),
+        Err(_) => Err(Fault::Unready),
+    }
+}

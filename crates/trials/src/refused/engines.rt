@@ -1,0 +1,197 @@
+//! Steps of a machine, of which some need memory, and its listing.
+
+use crate::fault::Fault;
+use crate::refused::{Subject, told};
+use ipc_base::{Cred, Limits, Moment, Objects, Pid};
+use ipc_engine::{Engine, Event};
+use ipc_image::objects_of;
+use ipc_wire::{RequestKind, read_request};
+use std::alloc::Global;
+
+/// The names of those that may be refused.
+pub(crate) const NAMES: [&str; 11] = [
+    "Engine::list",
+    "Engine::step HELLO",
+    "Engine::step msgget",
+    "Engine::step msgsnd",
+    "Engine::step semget",
+    "Engine::step semop",
+    "Engine::step mq_open",
+    "Engine::step mq_send",
+    "Engine::step sem_open",
+    "Engine::step shm_open",
+    "Engine::step ftruncate",
+];
+
+/// The names of those that take no memory.
+pub(crate) const PROMISED: [&str; 14] = [
+    "Engine::step msgrcv",
+    "Engine::step msgctl IPC_SET",
+    "Engine::step msgctl IPC_RMID",
+    "Engine::step SETVAL",
+    "Engine::step SETALL",
+    "Engine::step semctl IPC_RMID",
+    "Engine::step mq_receive",
+    "Engine::step mq_unlink",
+    "Engine::step sem_post",
+    "Engine::step shm write",
+    "Engine::step INTERRUPT",
+    "Engine::step tick",
+    "Engine::step exit",
+    "Engine::step restart",
+];
+
+/// When a machine is made ready, and when the call comes.
+const BEFORE: Moment = Moment(3);
+
+const NOW: Moment = Moment(9);
+
+const CRED: Cred = Cred {
+    uid: 1000,
+    gid: 100,
+};
+
+fn hello(moment: Moment) -> Event<'static> {
+    Event::Connect {
+        cred: CRED,
+        serial: 1,
+        moment,
+    }
+}
+
+/// What a machine has: a queue of one message, a set of two semaphores of which one is adjusted, a POSIX queue of one
+/// message, a named semaphore and a segment, whose descriptors are 0 to 2.
+const READY: [&[u8]; 8] = [
+    b"\0\0\0\x01\x0a\0\0\0\x07\0\0\x03\x80",
+    b"\0\0\0\x02\x0b\0\0\0\x01\0\0\0\0\0\0\0\0\0\0\0\x05hi",
+    b"\0\0\0\x03\x14\0\0\0\x07\0\0\0\x02\0\0\x03\x80",
+    b"\0\0\0\x04\x15\0\0\0\x01\xff\xff\xff\xff\xff\xff\xff\xff\0\0\0\x05\x10\0",
+    b"\0\0\0\x05\x28\0\0\0\x42\0\0\x01\x80\x01\0\0\0\x02\0\0\0\x40/q",
+    b"\0\0\0\x06\x2a\0\0\0\0\xff\xff\xff\xff\xff\xff\xff\xff\0\0\0\x01hi",
+    b"\0\0\0\x07\x32\0\0\0\x42\0\0\x01\x80\0\0\0\x01/s",
+    b"\0\0\0\x08\x3c\0\0\0\x42\0\0\x01\x80/m",
+];
+
+/// The request of a call, without its length.
+fn request_of(name: &str) -> Option<&'static [u8]> {
+    Some(match name {
+        "Engine::step msgget" => b"\0\0\0\x09\x0a\0\0\0\x08\0\0\x03\x80",
+        "Engine::step msgsnd" => b"\0\0\0\x09\x0b\0\0\0\x01\0\0\0\0\0\0\0\0\0\0\0\x05more",
+        "Engine::step semget" => b"\0\0\0\x09\x14\0\0\0\x08\0\0\0\x02\0\0\x03\x80",
+        "Engine::step semop" => {
+            b"\0\0\0\x09\x15\0\0\0\x01\xff\xff\xff\xff\xff\xff\xff\xff\0\0\xff\xfd\x10\0\0\x01\0\x01\0\0"
+        }
+        "Engine::step mq_open" => {
+            b"\0\0\0\x09\x28\0\0\0\x42\0\0\x01\x80\x01\0\0\0\x02\0\0\0\x40/r"
+        }
+        "Engine::step mq_send" => {
+            b"\0\0\0\x09\x2a\0\0\0\0\xff\xff\xff\xff\xff\xff\xff\xff\0\0\0\x02more"
+        }
+        "Engine::step sem_open" => b"\0\0\0\x09\x32\0\0\0\x40\0\0\x01\x80\0\0\0\x01/t",
+        "Engine::step shm_open" => b"\0\0\0\x09\x3c\0\0\0\x42\0\0\x01\x80/n",
+        "Engine::step ftruncate" => b"\0\0\0\x09\x3e\0\0\0\x02\0\0\0\0\0\0\0\x40",
+        _ => return promised_request_of(name),
+    })
+}
+
+/// The same of a call that takes no memory.
+fn promised_request_of(name: &str) -> Option<&'static [u8]> {
+    Some(match name {
+        "Engine::step msgrcv" => b"\0\0\0\x09\x0c\0\0\0\x01\0\0\0\0\0\0\0\x40\0\0\0\0\0\0\0\0",
+        "Engine::step msgctl IPC_SET" => {
+            b"\0\0\0\x09\x0e\0\0\0\x01\0\0\x03\xe8\0\0\0\x64\0\0\x01\x80\0\0\0\x40"
+        }
+        "Engine::step msgctl IPC_RMID" => b"\0\0\0\x09\x0f\0\0\0\x01",
+        "Engine::step SETVAL" => b"\0\0\0\x09\x1a\0\0\0\x01\0\0\0\x01\0\0\0\x07",
+        "Engine::step SETALL" => b"\0\0\0\x09\x1c\0\0\0\x01\0\x07\0\x08",
+        "Engine::step semctl IPC_RMID" => b"\0\0\0\x09\x1f\0\0\0\x01",
+        "Engine::step mq_receive" =>
+            b"\0\0\0\x09\x2b\0\0\0\0\xff\xff\xff\xff\xff\xff\xff\xff\0\0\0\x40",
+        "Engine::step mq_unlink" => b"\0\0\0\x09\x29/q",
+        "Engine::step sem_post" => b"\0\0\0\x09\x34\0\0\0\x01",
+        "Engine::step shm write" => b"\0\0\0\x09\x40\0\0\0\x02\0\0\0\0\0\0\0\0",
+        "Engine::step INTERRUPT" => b"\0\0\0\x09\x02",
+        _ => return None,
+    })
+}
+
+/// A machine that has an object of each kind.
+pub(crate) fn engine_for(alloc: Global) -> Result<Engine, Fault> {
+    let mut engine = Engine::new(alloc, Limits::small())?;
+    take(&mut engine, hello(BEFORE))?;
+    for text in READY {
+        ask(&mut engine, text, BEFORE)?;
+    }
+    Ok(engine)
+}
+
+/// A request of the first process, which is done.
+fn ask(engine: &mut Engine, text: &[u8], moment: Moment) -> Result<(), Fault> {
+    let request = read_request(text).ok_or(Fault::Unready)?;
+    let pid = Pid(1);
+    let event = match request.kind {
+        RequestKind::Interrupt => Event::Interrupt {
+            pid,
+            serial: request.serial,
+            moment,
+        },
+        _ => Event::Call {
+            pid,
+            request,
+            moment,
+        },
+    };
+    take(engine, event)?;
+    match engine.outcomes() {
+        [outcome] if outcome.errno.is_none() => Ok(()),
+        _ => Err(Fault::Unready),
+    }
+}
+
+/// An event, which may happen.
+fn take(engine: &mut Engine, event: Event<'_>) -> Result<(), Fault> {
+    if !engine.is_for_process(&event) {
+        return Err(Fault::Unready);
+    }
+    engine.step(event)?;
+    Ok(())
+}
+
+impl Subject for Engine {
+    fn call(&mut self, name: &str) -> Result<(), Fault> {
+        if let Some(text) = request_of(name) {
+            return ask(self, text, NOW);
+        }
+        let pid = Pid(1);
+        match name {
+            "Engine::list" => drop(self.list(self.state().allocator())?),
+            "Engine::step HELLO" => take(self, hello(NOW))?,
+            "Engine::step tick" => take(self, Event::Tick { moment: NOW })?,
+            "Engine::step exit" => take(self, Event::Exit { pid, moment: NOW })?,
+            "Engine::step restart" => take(self, Event::Restart)?,
+            _ => return Err(Fault::Usage),
+        }
+        Ok(())
+    }
+
+    fn tells(&self, alloc: Global) -> Result<Vec<u8>, Fault> {
+        let mut bytes = bytes_of(alloc, &objects_of(self))?;
+        bytes.extend_from_slice(&told(alloc, &[self.outcomes().len() as u64])?)?;
+        Ok(bytes)
+    }
+}
+
+/// The bytes of objects, one after the other, each filled up to whole sectors.
+fn bytes_of<O: Objects>(alloc: Global, objects: &O) -> Result<Vec<u8>, Fault> {
+    let mut bytes = Vec::new(alloc);
+    for i in 0..objects.count() {
+        bytes.extend_from_slice(&objects.number(i).to_be_bytes())?;
+        let mut sector = [0; 512];
+        for window in 0..objects.len(i).div_ceil(512) {
+            let mut mark = objects.start(i);
+            objects.bytes(i, window.saturating_mul(512), &mut mark, &mut sector);
+            bytes.extend_from_slice(&sector)?;
+        }
+    }
+    Ok(bytes)
+}

@@ -1,0 +1,149 @@
+//! Calls that make something, where nothing was before.
+
+use crate::fault::Fault;
+use crate::refused::Subject;
+use ipc_arrivals::Arrivals;
+use ipc_base::{Limits, Moment, Pid};
+use ipc_disk::{JoinedDisk, MemoryDisk, SectorRuns};
+use ipc_engine::{Engine, StateFault};
+use ipc_keys::Name;
+use ipc_state::{Descriptors, Operations, Parked, State};
+use ipc_wait::{WaitList, Waiting};
+use ipc_wire::{Sixes, read_request};
+use posix_mq::Mq;
+use sem_undo::SemUndo;
+use shm_segment::Segment;
+use std::alloc::Global;
+use sysv_msg::{MsgQueue, QueueNumbers};
+use sysv_sem::SemSet;
+
+/// Their names.
+pub(crate) const NAMES: [&str; 20] = [
+    "sysv_msg::Message::new",
+    "MsgQueue::new",
+    "MsgQueue::restored",
+    "SemSet::new",
+    "SemUndo::new",
+    "posix_mq::Message::new",
+    "Mq::new",
+    "Mq::restored",
+    "Segment::zeroed",
+    "Segment::of_bytes",
+    "Arrivals::with_places",
+    "Name::new",
+    "WaitList::from_calls",
+    "Descriptors::new",
+    "Operations::new",
+    "Parked::new",
+    "Engine::new",
+    "Engine::from_state",
+    "MemoryDisk::new",
+    "JoinedDisk::new",
+];
+
+/// One operation of a list: the semaphore 0 is raised by 1.
+const RAISE: [u8; 6] = [0, 0, 0, 1, 0, 0];
+
+/// A request of msgsnd(2), of type 1 and the text `hi`, without its length.
+const MSGSND: [u8; 23] = [
+    0, 0, 0, 3, 0x0b, 0, 0, 0, 1, 0, 0, 0, 0, 0, 0, 0, 0, 0, 0, 0, 1, b'h', b'i',
+];
+
+/// A queue that nobody used.
+const UNUSED: QueueNumbers = QueueNumbers {
+    qbytes: 128,
+    stime: Moment(0),
+    rtime: Moment(0),
+    ctime: Moment(1),
+    lspid: Pid(0),
+    lrpid: Pid(0),
+};
+
+/// What is there before: nothing.
+#[derive(Drop)]
+pub(crate) struct Nothing {
+    pub(crate) alloc: Global,
+}
+
+impl Subject for Nothing {
+    fn call(&mut self, name: &str) -> Result<(), Fault> {
+        let alloc = self.alloc;
+        match name {
+            "Arrivals::with_places" => drop(Arrivals::<sysv_msg::Message>::with_places(alloc, 8)?),
+            "Name::new" => drop(Name::new(alloc, b"/q")?),
+            "WaitList::from_calls" => make_list(alloc)?,
+            "Engine::new" => drop(Engine::new(alloc, Limits::small())?),
+            "Engine::from_state" => make_engine(alloc)?,
+            "MemoryDisk::new" => drop(MemoryDisk::new(alloc, 448)?),
+            "JoinedDisk::new" => {
+                let disk = MemoryDisk::new(alloc, 448)?;
+                drop(JoinedDisk::new(alloc, SectorRuns { disk })?);
+            }
+            _ => make_object(alloc, name)?,
+        }
+        Ok(())
+    }
+
+    fn tells(&self, alloc: Global) -> Result<Vec<u8>, Fault> {
+        Ok(Vec::new(alloc))
+    }
+}
+
+/// Makes an object of a kind, or a part of one.
+fn make_object(alloc: Global, name: &str) -> Result<(), Fault> {
+    match name {
+        "sysv_msg::Message::new" => drop(sysv_msg::Message::new(alloc, 1, b"hi")?),
+        "MsgQueue::new" => drop(MsgQueue::new(alloc, 128, Moment(1))?),
+        "MsgQueue::restored" => drop(MsgQueue::restored(alloc, UNUSED)?),
+        "SemSet::new" => drop(SemSet::new(alloc, 4, Moment(1))?),
+        "SemUndo::new" => drop(SemUndo::new(alloc)?),
+        "posix_mq::Message::new" => drop(posix_mq::Message::new(alloc, 1, b"hi")?),
+        "Mq::new" => drop(Mq::new(alloc, 2, 64)?),
+        "Mq::restored" => drop(Mq::restored(alloc, 2, 64, None)?),
+        "Segment::zeroed" => drop(Segment::zeroed(alloc, 10)?),
+        "Segment::of_bytes" => drop(Segment::of_bytes(alloc, b"hi")?),
+        _ => make_call(alloc, name)?,
+    }
+    Ok(())
+}
+
+/// Makes what a process has, or a call that waits.
+fn make_call(alloc: Global, name: &str) -> Result<(), Fault> {
+    match name {
+        "Descriptors::new" => drop(Descriptors::new(alloc)?),
+        "Operations::new" => {
+            let operations = Sixes::new(&RAISE).ok_or(Fault::Unready)?;
+            drop(Operations::new(alloc, &operations)?);
+        }
+        "Parked::new" => {
+            let request = read_request(&MSGSND).ok_or(Fault::Unready)?;
+            drop(Parked::new(alloc, &request)?);
+        }
+        _ => return Err(Fault::Usage),
+    }
+    Ok(())
+}
+
+/// A list of one call that waits.
+fn make_list(alloc: Global) -> Result<(), Fault> {
+    let mut calls = Vec::new(alloc);
+    calls.push(Waiting {
+        pid: Pid(1),
+        on: 1_u32,
+        deadline: None,
+        call: 1_u32,
+    })?;
+    match WaitList::from_calls(alloc, calls)? {
+        Some(_) => Ok(()),
+        None => Err(Fault::Unready),
+    }
+}
+
+/// A machine of a state that is sound.
+fn make_engine(alloc: Global) -> Result<(), Fault> {
+    match Engine::from_state(alloc, State::new(alloc, Limits::small())) {
+        Ok(_) => Ok(()),
+        Err(StateFault::NoMemory) => Err(Fault::NoMemory),
+        Err(StateFault::Unsound) => Err(Fault::Unready),
+    }
+}
