@@ -85,10 +85,11 @@ memory: program
 TRIAL = crates/trials/out/trials
 EACH = 1
 TRIALS = $(TRIAL) stopped 1 < crates/trials/stdin && $(TRIAL) faulted 1 < crates/trials/stdin && \
-	$(TRIAL) damaged $(EACH) < tests/damaged.script && $(TRIAL) frames 1 && $(TRIAL) limits && $(TRIAL) limits small && \
+	python3 tests/damaged.py $(BUILT) $(EACH) < tests/damaged.script && \
+	$(TRIAL) frames 1 && $(TRIAL) limits && $(TRIAL) limits small && \
 	test "$$($(TRIAL) batch)" = "a batch of 163 bytes, 2 writes, 2 syncs, 3 replies"
 
-trials:
+trials: program
 	@python3 tools/build.py trials
 	@$(TRIALS)
 

@@ -4,7 +4,7 @@
 
 Devices are written by device_layout.py, and the program opens them. Those that hold a state show
 it. Of those that hold none (device_damage.py) the program names the fault, and leaves the file as it
-was; `trials damaged` has each byte wrong once. What the program writes itself is compared with what
+was; `tests/damaged.py` has each byte wrong once. What the program writes itself is compared with what
 docs/DEVICE.md says, the whole file. What is expected was reckoned from that page, and never taken
 from the program. It takes some seconds.
 """

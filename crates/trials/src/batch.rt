@@ -1,68 +1,41 @@
 //! Requests of one moment, which a hub that is fed by hand makes last at once.
 
+use crate::calls::{HELLO, MAKE, MSGGET, MSGSND};
 use crate::fault::Fault;
-use crate::host::Host;
-use crate::runs::device;
+use crate::host::{GROUP, Host, USER};
+use crate::request::Field::{Bytes, Long, Word};
+use crate::request::{Field, reply, request};
+use crate::runs::{device, sector};
+use crate::told::Told;
 use ipc_disk::{MemoryDisk, SectorDisk};
+use ipc_image::JOURNAL;
 use std::alloc::Global;
-use std::fmt;
 
 /// How many clients there are.
 const CLIENTS: u32 = 3;
 
-/// HELLO of the user 1000 and the group 100.
-const HELLO: [u8; 17] = [0, 0, 0, 13, 0, 0, 0, 1, 0x01, 0, 0, 3, 0xe8, 0, 0, 0, 100];
-
-/// msgget(2) of key 7 with IPC_CREAT and the mode 0600, which makes the first queue.
-const MSGGET: [u8; 17] = [0, 0, 0, 13, 0, 0, 0, 2, 0x0a, 0, 0, 0, 7, 0, 0, 3, 0x80];
-
-/// msgsnd(2) of a message of type 1 and the text `hi` to that queue.
-const MSGSND: [u8; 27] = [
-    0, 0, 0, 23, 0, 0, 0, 3, 0x0b, 0, 0, 0, 1, 0, 0, 0, 0, 0, 0, 0, 0, 0, 0, 0, 1, b'h', b'i',
-];
-
-/// The frame of a reply to it.
-const REPLY: [u8; 10] = [0, 0, 0, 6, 0, 0, 0, 3, 0, 0];
-
-/// The sector of the journal's header, and where that says how many sectors of the journal are used.
-const JOURNAL: u32 = 3;
-
+/// Where the journal's header says how many sectors of it are used.
 const USED: usize = 8;
-
-/// The batch that one release has written, with its length, the calls on the disk, and the clients that have a reply.
-#[derive(Clone, Copy)]
-pub(crate) struct Batch {
-    bytes: u32,
-    writes: u64,
-    syncs: u64,
-    replies: u32,
-}
-
-impl fmt::Display for Batch {
-    fn fmt<W: fmt::Write>(&self, f: &mut fmt::Formatter<W>) -> fmt::Result {
-        write!(f, "a batch of {} bytes, ", self.bytes)?;
-        write!(f, "{} writes, {} syncs, ", self.writes, self.syncs)?;
-        write!(f, "{} replies", self.replies)
-    }
-}
 
 /// What a hub was left with: its disk, and the clients that have the reply to a msgsnd.
 #[derive(Drop)]
 struct Left {
     disk: MemoryDisk,
-    replies: u32,
+    replies: u64,
 }
 
-/// Each of three clients sends a message at one moment, and then one release makes the three last.
-pub(crate) fn batch_of_three(alloc: Global) -> Result<Batch, Fault> {
+/// Each of three clients sends a message at one moment, and then one release makes the three last. What it has written,
+/// with the length of the batch, and the clients that have a reply.
+pub(crate) fn batch_of_three(alloc: Global) -> Result<Told, Fault> {
     let before = hub_left(alloc, false)?;
     let mut after = hub_left(alloc, true)?;
-    Ok(Batch {
-        bytes: last_batch(&mut after.disk)?,
-        writes: after.disk.writes().saturating_sub(before.disk.writes()),
-        syncs: after.disk.syncs().saturating_sub(before.disk.syncs()),
-        replies: after.replies,
-    })
+    let bytes = u64::from(last_batch(&mut after.disk)?);
+    let writes = after.disk.writes().saturating_sub(before.disk.writes());
+    let syncs = after.disk.syncs().saturating_sub(before.disk.syncs());
+    Ok(Told::new(
+        "a batch of # bytes, # writes, # syncs, # replies",
+        &[bytes, writes, syncs, after.replies],
+    ))
 }
 
 /// Feeds a hub on a new device, with the messages or without.
@@ -72,44 +45,46 @@ fn hub_left(alloc: Global, messages: bool) -> Result<Left, Fault> {
     let replies = replies_of(&host);
     let disk = host.close();
     served?;
-    Ok(Left { disk, replies })
+    Ok(Left {
+        disk,
+        replies: replies?,
+    })
 }
 
 /// Makes the clients' processes and their queue, and then sends the messages, if that is asked for.
 fn serve(host: &mut Host, messages: bool) -> Result<(), Fault> {
-    for client in 0..CLIENTS {
+    for client in 1..=CLIENTS {
         host.connect(client)?;
     }
-    feed_each(host, &HELLO)?;
-    host.feed(0, &MSGGET)?;
-    host.release()?;
-    for client in 0..CLIENTS {
+    feed_each(host, HELLO, &[Word(USER), Word(GROUP)])?;
+    host.send(1, MSGGET, &[Word(7), Word(MAKE)]);
+    for client in 1..=CLIENTS {
         host.read(client);
     }
     if messages {
-        feed_each(host, &MSGSND)?;
+        feed_each(host, MSGSND, &[Word(1), Word(0), Long(1), Bytes(b"hi")])?;
         host.release()?;
     }
-    Ok(())
+    host.outcome
 }
 
-/// Gives each client's connection the same bytes, all at one moment.
-fn feed_each(host: &mut Host, piece: &[u8]) -> Result<(), Fault> {
-    for client in 0..CLIENTS {
-        host.feed(client, piece)?;
+/// Gives each client's connection the same request, all at one moment.
+fn feed_each(host: &mut Host, opcode: u8, fields: &[Field]) -> Result<(), Fault> {
+    for client in 1..=CLIENTS {
+        let piece = request(host.alloc, client, opcode, fields)?;
+        host.feed(client, &piece)?;
     }
     Ok(())
 }
 
-/// How many clients may see the reply, and nothing else.
-fn replies_of(host: &Host) -> u32 {
-    let mut replies: u32 = 0;
-    for client in 0..CLIENTS {
-        if host.output(client) == REPLY.as_slice() {
-            replies = replies.saturating_add(1);
-        }
+/// How many clients may see the reply to a msgsnd, and nothing else.
+fn replies_of(host: &Host) -> Result<u64, Fault> {
+    let mut replies: u64 = 0;
+    for client in 1..=CLIENTS {
+        let wanted = reply(host.alloc, client, 0, &[])?;
+        replies = replies.saturating_add(u64::from(host.output(client) == wanted.as_slice()));
     }
-    replies
+    Ok(replies)
 }
 
 /// How many bytes the last batch of the journal has, with its length; it is one of less than a sector.
@@ -118,15 +93,6 @@ fn last_batch(disk: &mut MemoryDisk) -> Result<u32, Fault> {
     let used = number_at(&header, USED);
     let last = sector(disk, JOURNAL.saturating_add(used))?;
     Ok(number_at(&last, 0).saturating_add(4))
-}
-
-pub(crate) fn sector(disk: &mut MemoryDisk, at: u32) -> Result<[u8; 512], Fault> {
-    let mut bytes = [0; 512];
-    if at >= disk.sectors() {
-        return Err(Fault::Unopened);
-    }
-    disk.read(at, &mut bytes)?;
-    Ok(bytes)
 }
 
 /// The number of four bytes at a place, or 0 where there are fewer.

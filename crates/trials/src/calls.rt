@@ -88,7 +88,7 @@ pub(crate) const MAKE: u32 = 0x380;
 
 pub(crate) const IPC_NOWAIT: u32 = 0x800;
 
-pub(crate) const SEM_UNDO: u16 = 0x1000;
+pub(crate) const SEM_UNDO: u32 = 0x1000;
 
 pub(crate) const O_RDWR: u32 = 0x2;
 

@@ -6,41 +6,26 @@ use crate::stages::Trial;
 use ipc_base::Limits;
 use ipc_disk::{FuseDisk, MemoryDisk};
 use ipc_store::Store;
-use std::fmt;
 
-/// How many stops there were, and how many of them left the old device, none, and the new one.
+/// How many stops left the old device, none, and the new one.
 #[derive(Clone, Copy)]
-pub(crate) struct Formats {
-    stops: u64,
+struct Formats {
     old: u64,
     none: u64,
     new: u64,
 }
 
-impl fmt::Display for Formats {
-    fn fmt<W: fmt::Write>(&self, f: &mut fmt::Formatter<W>) -> fmt::Result {
-        write!(
-            f,
-            "{} stops of a format: {} left the old device, ",
-            self.stops, self.old
-        )?;
-        write!(f, "{} none, and {} the new one", self.none, self.new)
-    }
-}
-
-/// Stops a format at each of its calls.
-pub(crate) fn stop_formats(trial: &Trial<'_>) -> Result<Formats, Fault> {
+/// Stops a format at each of its calls: how many there are, and how many left the old device, none, and the new one.
+pub(crate) fn stop_formats(trial: &Trial<'_>) -> Result<[u64; 4], Fault> {
     let mut formats = Formats {
-        stops: 0,
         old: 0,
         none: 0,
         new: 0,
     };
     for calls in 0..MOST_CALLS {
         if !stop_at(trial, calls, &mut formats)? {
-            return Ok(formats);
+            return Ok([calls, formats.old, formats.none, formats.new]);
         }
-        formats.stops = calls + 1;
     }
     Err(Fault::NoEnd)
 }
@@ -52,22 +37,38 @@ fn stop_at(trial: &Trial<'_>, calls: u64, formats: &mut Formats) -> Result<bool,
         let Some(keep) = choice(before, unsynced) else {
             return Ok(true);
         };
-        let mut fuse = FuseDisk::new(used(trial)?, calls, keep);
-        if Store::format(&mut fuse, &Limits::small()).is_ok() {
+        let Some(left) = stop_format(trial, calls, keep, formats)? else {
             return Ok(false);
-        }
-        if before == 0 {
-            unsynced = fuse.unsynced();
-        }
-        let (new, old) = trial.ends();
-        match found_on(trial.alloc, fuse.crash(), trial.probe) {
-            Err(Fault::NotFormatted) => formats.none = formats.none.saturating_add(1),
-            Ok(found) if found.as_slice() == old => formats.old = formats.old.saturating_add(1),
-            Ok(found) if found.as_slice() == new => formats.new = formats.new.saturating_add(1),
-            _ => return Err(Fault::Format { calls, keep }),
-        }
+        };
+        unsynced = left;
     }
     Err(Fault::NoEnd)
+}
+
+/// How many sectors are not synced at such a stop. None if the format is not stopped.
+fn stop_format(
+    trial: &Trial<'_>,
+    calls: u64,
+    keep: u64,
+    formats: &mut Formats,
+) -> Result<Option<u32>, Fault> {
+    let mut fuse = FuseDisk::new(used(trial)?, calls, keep);
+    if Store::format(&mut fuse, &Limits::small()).is_ok() {
+        return Ok(None);
+    }
+    let unsynced = fuse.unsynced();
+    let (new, old) = trial.ends();
+    match found_on(trial.alloc, fuse.crash(), trial.probe) {
+        Err(Fault::NotFormatted) => formats.none = formats.none.saturating_add(1),
+        Ok(found) if found.as_slice() == old => formats.old = formats.old.saturating_add(1),
+        Ok(found) if found.as_slice() == new => formats.new = formats.new.saturating_add(1),
+        _ => {
+            let words =
+                "a format stopped after # calls, choice #: neither the old device, nor none, nor the new one";
+            return Err(Fault::case(words, &[calls, keep]));
+        }
+    }
+    Ok(Some(unsynced))
 }
 
 /// The disk after the whole script.

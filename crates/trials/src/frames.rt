@@ -1,44 +1,39 @@
 //! Frames that are cut off, and frames with a byte changed. What a client has sent of a frame that is not whole does
 //! nothing; and in which pieces bytes come makes no difference, whatever bytes they are.
 
-use crate::batch::sector;
-use crate::calls::{ENFILE, HELLO};
-use crate::cases::{CALLER, Case, GUEST, cases, furnished};
+use crate::calls::HELLO;
+use crate::cases::{CALLER, CASES, Case, GUEST, furnished};
 use crate::fault::Fault;
 use crate::host::{GROUP, Host, USER};
-use crate::request::Number::{Byte, Word};
-use crate::request::{push, reply, request};
-use crate::runs::{device, run};
+use crate::request::Field::{Byte, Word};
+use crate::request::{push_all, request};
+use crate::runs::{device, run, sector};
+use crate::told::Told;
 use ipc_disk::{MemoryDisk, SectorDisk};
+use ipc_image::{FORMAT, OBJECTS};
 use std::alloc::Global;
-use std::fmt;
 
 /// Clients that come after the end of the one that sent the frame. Four processes are the limit.
-const LATER: [u32; 3] = [5, 6, 7];
+const LATER: [u32; 3] = [5, 6, LAST];
 
-/// The sector of the root, and the first of the objects.
-const ROOT: u32 = 1;
+const LAST: u32 = 7;
 
-const OBJECTS: u32 = 260;
+/// What is noted of them if the frame did nothing: replies with the processes 4 and 5, and ENFILE; after the end of a
+/// guest, which is no process, one process less.
+const TWO_COME: &[u8] = b"\0\0\0\0\x0e\0\0\0\x0a\0\0\0\x05\0\0\0\0\0\x04\
+    \0\0\0\0\x0e\0\0\0\x0a\0\0\0\x06\0\0\0\0\0\x05\
+    \0\0\0\0\x0a\0\0\0\x06\0\0\0\x07\0\x17";
 
-/// How many frames there were, of how many opcodes, and what was tried of them.
+const ONE_COMES: &[u8] = b"\0\0\0\0\x0e\0\0\0\x0a\0\0\0\x05\0\0\0\0\0\x04\
+    \0\0\0\0\x0a\0\0\0\x06\0\0\0\x06\0\x17\
+    \0\0\0\0\x0a\0\0\0\x06\0\0\0\x07\0\x17";
+
+/// How many bytes were tried of frames.
 #[derive(Clone, Copy)]
-pub(crate) struct Count {
-    frames: u64,
-    opcodes: u64,
+struct Count {
     prefixes: u64,
     changes: u64,
     changed: u64,
-    rows: u64,
-}
-
-impl fmt::Display for Count {
-    fn fmt<W: fmt::Write>(&self, f: &mut fmt::Formatter<W>) -> fmt::Result {
-        write!(f, "{} frames of {} opcodes, ", self.frames, self.opcodes)?;
-        write!(f, "{} prefixes, ", self.prefixes)?;
-        write!(f, "{} of {} changed bytes, ", self.changed, self.changes)?;
-        write!(f, "{} broken streams", self.rows)
-    }
 }
 
 /// What was seen of a server: what each client saw, what two saves left on the device, and whether the frame was
@@ -52,64 +47,75 @@ struct Seen {
 }
 
 /// Tries each frame whole and byte by byte, each prefix of it, and each N-th change of a byte.
-pub(crate) fn frames(alloc: Global, every: u64) -> Result<Count, Fault> {
-    if every == 0 {
-        return Err(Fault::Usage);
-    }
+pub(crate) fn frames(alloc: Global, every: u64) -> Result<Told, Fault> {
+    let rows = broken_streams(alloc)?;
     let mut count = Count {
-        frames: 0,
-        opcodes: 0,
         prefixes: 0,
         changes: 0,
         changed: 0,
-        rows: broken_streams(alloc)?,
     };
+    let mut opcodes: u64 = 0;
     let mut last = 0;
-    for case in &cases(alloc)? {
-        count.frames = count.frames.saturating_add(1);
-        if case.opcode != last {
-            count.opcodes = count.opcodes.saturating_add(1);
-        }
-        last = case.opcode;
-        whole(alloc, case)?;
-        prefixes(alloc, case, &mut count)?;
-        changed_bytes(alloc, case, every, &mut count)?;
+    for case in CASES {
+        let (opcode, _, _) = case;
+        opcodes = opcodes.saturating_add(u64::from(opcode != last));
+        last = opcode;
+        try_case(alloc, case, every, &mut count)?;
     }
-    Ok(count)
+    let frames = CASES.len() as u64;
+    Ok(Told::new(
+        "# frames of # opcodes, # prefixes, # of # changed bytes, # broken streams",
+        &[
+            frames,
+            opcodes,
+            count.prefixes,
+            count.changed,
+            count.changes,
+            rows,
+        ],
+    ))
 }
 
-/// The frame as it is: it succeeds, or it waits, and does the same byte by byte.
-fn whole(alloc: Global, case: &Case) -> Result<(), Fault> {
-    let seen = see(alloc, case.client, &case.frame, case.frame.len())?;
-    let wanted = if case.waits { None } else { Some(0) };
-    if seen.answer != wanted {
-        return Err(Fault::Refused {
-            opcode: case.opcode,
-        });
+/// The frame as it is: it succeeds, or it waits, and does the same byte by byte. Then its prefixes, and its changes.
+fn try_case(
+    alloc: Global,
+    (opcode, fields, waits): Case,
+    every: u64,
+    count: &mut Count,
+) -> Result<(), Fault> {
+    let client = if opcode == HELLO { GUEST } else { CALLER };
+    let frame = request(alloc, 7, opcode, fields)?;
+    let wanted = if waits { None } else { Some(0) };
+    if tried(alloc, client, &frame)? != Some(wanted) {
+        let words =
+            "opcode #: a good frame is refused, or waits though it need not, or does something else byte by byte";
+        return Err(Fault::case(words, &[u64::from(opcode)]));
     }
-    if !does_so_in_pieces(alloc, case.client, &case.frame, &seen)? {
-        return Err(Fault::Pieces {
-            opcode: case.opcode,
-        });
-    }
-    Ok(())
+    prefixes(alloc, client, &frame, count)?;
+    changed_bytes(alloc, client, &frame, every, count)
+}
+
+/// The error of the first reply to bytes of a client, if there is one, unless they do something else one by one.
+fn tried(alloc: Global, client: u32, bytes: &[u8]) -> Result<Option<Option<u16>>, Fault> {
+    let seen = see(alloc, client, bytes, bytes.len())?;
+    let pieces = see(alloc, client, bytes, 1)?;
+    Ok(are_same(&seen, &pieces).then_some(seen.answer))
 }
 
 /// Each proper prefix and then the end: the server has said nothing, the process is gone, and others are served. The
 /// device is that of a client who sent nothing and ended.
-fn prefixes(alloc: Global, case: &Case, count: &mut Count) -> Result<(), Fault> {
-    let nothing = see(alloc, case.client, &[], 1)?;
-    let silence = silence(alloc, case.client)?;
-    for length in 0..case.frame.len() {
-        let (prefix, _) = case.frame.split_at(length);
-        let seen = see(alloc, case.client, prefix, length)?;
-        if seen.said.as_slice() != silence.as_slice()
-            || seen.saved.as_slice() != nothing.saved.as_slice()
-        {
-            return Err(Fault::Prefix {
-                opcode: case.opcode,
-                length,
-            });
+fn prefixes(alloc: Global, client: u32, frame: &[u8], count: &mut Count) -> Result<(), Fault> {
+    let nothing = Seen {
+        said: silence(alloc, client)?,
+        saved: see(alloc, client, &[], 1)?.saved,
+        answer: None,
+    };
+    for length in 0..frame.len() {
+        let (prefix, _) = frame.split_at(length);
+        let seen = see(alloc, client, prefix, length)?;
+        if !are_same(&seen, &nothing) {
+            let words = "the first # bytes of a frame of # do something";
+            return Err(Fault::case(words, &[length as u64, frame.len() as u64]));
         }
         count.prefixes = count.prefixes.saturating_add(1);
     }
@@ -117,44 +123,42 @@ fn prefixes(alloc: Global, case: &Case, count: &mut Count) -> Result<(), Fault> 
 }
 
 /// The frame with each byte changed in three ways. Of all changes each N-th is tried.
-fn changed_bytes(alloc: Global, case: &Case, every: u64, count: &mut Count) -> Result<(), Fault> {
-    for place in 0..case.frame.len() {
+fn changed_bytes(
+    alloc: Global,
+    client: u32,
+    frame: &[u8],
+    every: u64,
+    count: &mut Count,
+) -> Result<(), Fault> {
+    let mut bytes = Vec::from_slice(alloc, frame)?;
+    for (place, byte) in frame.iter().enumerate() {
         for value in [0x00, 0x7f, 0xff] {
             count.changes = count.changes.saturating_add(1);
             if count.changes.checked_rem(every) != Some(0) {
                 continue;
             }
-            let bytes = with_byte(alloc, &case.frame, place, value)?;
-            let seen = see(alloc, case.client, &bytes, bytes.len())?;
-            if !does_so_in_pieces(alloc, case.client, &bytes, &seen)? {
-                return Err(Fault::Changed {
-                    opcode: case.opcode,
-                    place,
-                    value,
-                });
+            put(&mut bytes, place, value);
+            if tried(alloc, client, &bytes)?.is_none() {
+                let words =
+                    "byte # of a frame of # bytes as #: it does something else byte by byte";
+                let numbers = [place as u64, frame.len() as u64, u64::from(value)];
+                return Err(Fault::case(words, &numbers));
             }
             count.changed = count.changed.saturating_add(1);
         }
+        put(&mut bytes, place, *byte);
     }
     Ok(())
 }
 
-/// Whether bytes one by one do what was seen of them in one piece.
-fn does_so_in_pieces(alloc: Global, client: u32, bytes: &[u8], seen: &Seen) -> Result<bool, Fault> {
-    let pieces = see(alloc, client, bytes, 1)?;
-    Ok(
-        pieces.said.as_slice() == seen.said.as_slice()
-            && pieces.saved.as_slice() == seen.saved.as_slice(),
-    )
-}
-
-/// The bytes with one of them changed.
-fn with_byte(alloc: Global, bytes: &[u8], place: usize, value: u8) -> Result<Vec<u8>, Fault> {
-    let mut changed = Vec::from_slice(alloc, bytes)?;
-    if let Some(byte) = changed.get_mut(place) {
+fn put(bytes: &mut [u8], place: usize, value: u8) {
+    if let Some(byte) = bytes.get_mut(place) {
         *byte = value;
     }
-    Ok(changed)
+}
+
+fn are_same(one: &Seen, other: &Seen) -> bool {
+    one.said.as_slice() == other.said.as_slice() && one.saved.as_slice() == other.saved.as_slice()
 }
 
 /// What is seen of a server that is fed bytes of a client in pieces of such a size.
@@ -171,18 +175,17 @@ fn see(alloc: Global, client: u32, bytes: &[u8], size: usize) -> Result<Seen, Fa
 }
 
 /// The root of a device, and the sectors of its objects.
-fn saved_on(alloc: Global, device: MemoryDisk) -> Result<Vec<u8>, Fault> {
-    let mut disk = device;
+fn saved_on(alloc: Global, mut disk: MemoryDisk) -> Result<Vec<u8>, Fault> {
     let mut saved = Vec::new(alloc);
-    saved.extend_from_slice(&sector(&mut disk, ROOT)?)?;
+    saved.extend_from_slice(&sector(&mut disk, FORMAT.root)?)?;
     for at in OBJECTS..disk.sectors() {
         saved.extend_from_slice(&sector(&mut disk, at)?)?;
     }
     Ok(saved)
 }
 
-/// Feeds bytes of a client in pieces of such a size, ends the client, and lets others come. Both states are saved: the
-/// one before the end, and the one after it. The error of the client's first reply, if there is one.
+/// Feeds bytes of a client in pieces of such a size, ends the client, and lets others say HELLO. Both states are saved:
+/// the one before the end, and the one after it. The error of the client's first reply, if there is one.
 fn watch(
     host: &mut Host,
     said: &mut Vec<u8>,
@@ -195,62 +198,41 @@ fn watch(
     }
     host.save()?;
     let answer = host.answer(client);
-    for other in 1..=GUEST {
-        note(said, host.ended(other), host.output(other))?;
-        host.read(other);
-    }
+    note_all(host, said, GUEST)?;
     host.end(client)?;
     host.save()?;
-    for other in 1..=GUEST {
-        note(said, host.ended(other), host.output(other))?;
+    for later in LATER {
+        host.connect(later)?;
+        host.send(later, HELLO, &[Word(USER), Word(GROUP)]);
     }
-    let_come(host, said)?;
+    note_all(host, said, LAST)?;
+    host.outcome?;
     Ok(answer)
 }
 
-/// Lets other clients say HELLO.
-fn let_come(host: &mut Host, said: &mut Vec<u8>) -> Result<(), Fault> {
-    for later in LATER {
-        host.connect(later)?;
-        let hello = hello(host.alloc, later)?;
-        host.feed(later, &hello)?;
-    }
-    host.release()?;
-    for later in LATER {
-        note(said, host.ended(later), host.output(later))?;
+/// Notes what each client up to one sees, and whether the server has ended it. They read it.
+fn note_all(host: &mut Host, said: &mut Vec<u8>, last: u32) -> Result<(), Fault> {
+    for client in 1..=last {
+        let shown = host.output(client).len();
+        let ended = u8::from(host.ended(client));
+        let length = u32::try_from(shown).unwrap_or(u32::MAX);
+        push_all(said, &[Byte(ended), Word(length)])?;
+        said.extend_from_slice(host.output(client))?;
+        host.read(client);
     }
     Ok(())
 }
 
-/// What is seen if the frame did nothing: no client hears of it, and so many are processes afterwards as there is room.
+/// What is noted if a frame did nothing: no client hears of it, and so many are processes afterwards as there is room.
 fn silence(alloc: Global, client: u32) -> Result<Vec<u8>, Fault> {
     let mut said = Vec::new(alloc);
-    for _ in 0..GUEST.saturating_mul(2) {
-        note(&mut said, false, &[])?;
-    }
-    // A guest was no process, so that its end leaves room for one more, and that of another client for two.
-    let room = if client == CALLER { 2 } else { 1 };
-    for (pid, later) in (GUEST..=u32::MAX).zip(LATER) {
-        let frame = if pid < GUEST.saturating_add(room) {
-            reply(alloc, later, 0, &[Word(pid)], &[])?
-        } else {
-            reply(alloc, later, ENFILE, &[], &[])?
-        };
-        note(&mut said, false, &frame)?;
-    }
+    said.resize(5 * 2 * GUEST as usize, 0)?;
+    said.extend_from_slice(if client == CALLER {
+        TWO_COME
+    } else {
+        ONE_COMES
+    })?;
     Ok(said)
-}
-
-/// Notes what a client sees, and whether the server has ended it.
-fn note(said: &mut Vec<u8>, ended: bool, output: &[u8]) -> Result<(), Fault> {
-    push(said, Byte(u8::from(ended)))?;
-    push(said, Word(u32::try_from(output.len()).unwrap_or(u32::MAX)))?;
-    said.extend_from_slice(output)?;
-    Ok(())
-}
-
-fn hello(alloc: Global, client: u32) -> Result<Vec<u8>, Fault> {
-    request(alloc, client, HELLO, &[Word(USER), Word(GROUP)], &[])
 }
 
 /// Streams that break, with what is written of them, and what shows that the process is gone.
@@ -299,7 +281,7 @@ fn broken_streams(alloc: Global) -> Result<u64, Fault> {
         let ran = run(alloc, device(alloc)?, script);
         ran.outcome?;
         if ran.output.as_slice() != output {
-            return Err(Fault::Broken { row: rows });
+            return Err(Fault::case("stream #, which breaks: another output", &[rows]));
         }
         rows = rows.saturating_add(1);
     }

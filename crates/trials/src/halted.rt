@@ -1,28 +1,26 @@
 //! A hub that is fed by hand, on a disk of which one call fails: from then on it stops, and leaves the disk alone.
 
+use crate::calls::{HELLO, MAKE, MSGGET, MSGSND};
 use crate::fault::Fault;
+use crate::host::{GROUP, USER};
+use crate::request::Field::{Long, Text, Word};
+use crate::request::request;
 use crate::runs::{MOST_CALLS, device};
 use ipc_base::Moment;
 use ipc_disk::{FuseDisk, OnceDisk, SectorDisk};
 use ipc_hub::{ConnectError, Hub, ServeError};
+use ipc_image::{FORMAT, LONGEST_RECORD};
 use ipc_store::{CommitError, Store};
 use std::alloc::Global;
-use std::fmt;
 
-/// HELLO of the user 1000 and the group 100.
-const HELLO: [u8; 17] = [0, 0, 0, 13, 0, 0, 0, 1, 0x01, 0, 0, 3, 0xe8, 0, 0, 0, 100];
+/// The bytes of the text of the longest msgsnd(2), which is too long; how many of these a batch has room for; and the
+/// text of a shorter one, with which they fill it to the last byte. Each comes with a tick of 13 bytes, and a call's
+/// record has 17 beside its request, of which 21 come before the text.
+const LONGEST: u32 = FORMAT.request - 21;
 
-/// msgget(2) of key 7 with IPC_CREAT and the mode 0600.
-const MSGGET: [u8; 17] = [0, 0, 0, 13, 0, 0, 0, 2, 0x0a, 0, 0, 0, 7, 0, 0, 3, 0x80];
+const MANY: u32 = (FORMAT.batch - 4 - 51) / (13 + LONGEST_RECORD);
 
-/// How the longest frame of a msgsnd(2) begins, whose text is too long, and one that is 1148 bytes shorter.
-const LONGEST: [u8; 25] = [
-    0, 0, 0x21, 0, 0, 0, 0, 3, 0x0b, 0, 0, 0, 1, 0, 0, 0, 0, 0, 0, 0, 0, 0, 0, 0, 1,
-];
-
-const SHORTER: [u8; 25] = [
-    0, 0, 0x1c, 0x84, 0, 0, 0, 3, 0x0b, 0, 0, 0, 1, 0, 0, 0, 0, 0, 0, 0, 0, 0, 0, 0, 1,
-];
+const SHORTER: u32 = FORMAT.batch - 4 - MANY * (13 + LONGEST_RECORD) - 51;
 
 /// The last frame of a connection, after the disk has failed.
 const EIO: [u8; 10] = [0, 0, 0, 6, 0, 0, 0, 0, 0, 5];
@@ -30,42 +28,32 @@ const EIO: [u8; 10] = [0, 0, 0, 6, 0, 0, 0, 0, 0, 5];
 /// How many clients there are at first.
 const CLIENTS: u32 = 3;
 
-/// A call of a hub, on all clients or on the first one.
+/// What is done with a hub: by all clients, or by the first one.
 #[derive(Clone, Copy)]
 enum Step {
     Hello,
     Get,
-    Longest,
-    Shorter,
+    /// Requests that fill a batch.
+    Fill,
     Tick,
     Leave,
     Release,
     Save,
 }
 
-/// Calls, one after another. Three of the longest requests and a shorter one fill a batch to the last byte, each with a
-/// tick before it. So whatever call comes then has to make it last.
-const STEPS: [Step; 24] = [
+/// One after another. Whatever call comes when a batch is full has to make it last.
+const STEPS: [Step; 15] = [
     Step::Hello,
     Step::Release,
     Step::Get,
     Step::Save,
-    Step::Longest,
-    Step::Longest,
-    Step::Shorter,
-    Step::Longest,
+    Step::Fill,
     Step::Get,
     Step::Release,
-    Step::Longest,
-    Step::Longest,
-    Step::Shorter,
-    Step::Longest,
+    Step::Fill,
     Step::Tick,
     Step::Release,
-    Step::Longest,
-    Step::Longest,
-    Step::Shorter,
-    Step::Longest,
+    Step::Fill,
     Step::Leave,
     Step::Release,
     Step::Save,
@@ -74,7 +62,7 @@ const STEPS: [Step; 24] = [
 
 /// How many calls of each kind were told that the disk has failed.
 #[derive(Clone, Copy)]
-pub(crate) struct Halts {
+struct Halts {
     feeds: u64,
     ticks: u64,
     hangups: u64,
@@ -82,18 +70,10 @@ pub(crate) struct Halts {
     saves: u64,
 }
 
-impl fmt::Display for Halts {
-    fn fmt<W: fmt::Write>(&self, f: &mut fmt::Formatter<W>) -> fmt::Result {
-        write!(f, "hubs stopped in {} feeds, ", self.feeds)?;
-        write!(f, "{} ticks, {} hangups, ", self.ticks, self.hangups)?;
-        write!(f, "{} releases, {} saves", self.releases, self.saves)
-    }
-}
-
 impl Halts {
     fn add(&mut self, step: Step) {
         let count = match step {
-            Step::Hello | Step::Get | Step::Longest | Step::Shorter => &mut self.feeds,
+            Step::Hello | Step::Get | Step::Fill => &mut self.feeds,
             Step::Tick => &mut self.ticks,
             Step::Leave => &mut self.hangups,
             Step::Release => &mut self.releases,
@@ -103,19 +83,10 @@ impl Halts {
     }
 }
 
-/// How a hub has ended: in which step the disk has failed, if it has; whether the hub then was as it has to be; and its
-/// disk.
-#[derive(Drop)]
-struct Halted<D> {
-    step: Option<Step>,
-    told: bool,
-    disk: D,
-}
-
 /// Lets one call on the disk of a hub fail after another, from the first that comes after its opening, until none is
 /// left: as the only one, and then with all calls that come after it. A disk of the second kind counts one failure
-/// alone if the hub leaves it alone.
-pub(crate) fn halt_hubs(alloc: Global, first: u64) -> Result<Halts, Fault> {
+/// alone if the hub leaves it alone. How many feeds, ticks, hang-ups, releases and saves were told.
+pub(crate) fn halt_hubs(alloc: Global, first: u64) -> Result<[u64; 5], Fault> {
     let mut halts = Halts {
         feeds: 0,
         ticks: 0,
@@ -124,34 +95,61 @@ pub(crate) fn halt_hubs(alloc: Global, first: u64) -> Result<Halts, Fault> {
         saves: 0,
     };
     for at in first..MOST_CALLS {
-        let mut ended = false;
-        for done in [false, true] {
-            let halted = halt(alloc, OnceDisk::new(device(alloc)?, at, done))?;
-            if halted.disk.has_failed() != halted.step.is_some() || !halted.told {
-                return Err(Fault::GoesOn { at, done });
-            }
-            match halted.step {
+        let steps = [halt_once(alloc, at, false)?, halt_once(alloc, at, true)?];
+        halt_from(alloc, at)?;
+        for step in steps {
+            match step {
                 Some(step) => halts.add(step),
-                None => ended = true,
+                None => return Ok([
+                    halts.feeds,
+                    halts.ticks,
+                    halts.hangups,
+                    halts.releases,
+                    halts.saves,
+                ]),
             }
-        }
-        let fuse = halt(alloc, FuseDisk::new(device(alloc)?, at, 0))?;
-        if fuse.disk.failures() != u64::from(fuse.step.is_some()) || !fuse.told {
-            return Err(Fault::GoesOn { at, done: false });
-        }
-        if ended {
-            return Ok(halts);
         }
     }
     Err(Fault::NoEnd)
 }
 
-/// The frames of a msgsnd with these beginnings.
+/// The step in which a hub is told that a call fails as the only one, if there is such a call.
+fn halt_once(alloc: Global, at: u64, done: bool) -> Result<Option<Step>, Fault> {
+    let (step, told, disk) = halt(alloc, OnceDisk::new(device(alloc)?, at, done))?;
+    if disk.has_failed() != step.is_some() || !told {
+        return Err(goes_on(at, done));
+    }
+    Ok(step)
+}
+
+/// A call fails, and all that come after it.
+fn halt_from(alloc: Global, at: u64) -> Result<(), Fault> {
+    let (step, told, disk) = halt(alloc, FuseDisk::new(device(alloc)?, at, 0))?;
+    if disk.failures() != u64::from(step.is_some()) || !told {
+        return Err(goes_on(at, false));
+    }
+    Ok(())
+}
+
+fn goes_on(at: u64, done: bool) -> Fault {
+    Fault::case(
+        "call # of a hub fails, and is done: # (1 if it is). It goes on, or a client is not told",
+        &[at, u64::from(done)],
+    )
+}
+
+/// The frames of the requests.
 #[derive(Drop)]
 struct Frames {
+    hello: Vec<u8>,
+    get: Vec<u8>,
     longest: Vec<u8>,
     shorter: Vec<u8>,
 }
+
+/// How a hub on a disk has ended: in which step the disk has failed, if it has; whether the hub then was as it has to
+/// be; and its disk.
+type Halted<D> = (Option<Step>, bool, D);
 
 /// Feeds a hub on a disk, until it is told that the disk has failed, or to the end.
 fn halt<D: SectorDisk + Drop>(alloc: Global, disk: D) -> Result<Halted<D>, Fault> {
@@ -162,7 +160,7 @@ fn halt<D: SectorDisk + Drop>(alloc: Global, disk: D) -> Result<Halted<D>, Fault
     let ended = take_steps(alloc, &mut hub);
     let disk = hub.close().close();
     let (step, told) = ended?;
-    Ok(Halted { step, told, disk })
+    Ok((step, told, disk))
 }
 
 /// The step in which the disk has failed, and whether the hub then is as it has to be.
@@ -171,8 +169,20 @@ fn take_steps<D: SectorDisk>(
     hub: &mut Hub<D>,
 ) -> Result<(Option<Step>, bool), Fault> {
     let frames = Frames {
-        longest: frame(alloc, &LONGEST, 8452)?,
-        shorter: frame(alloc, &SHORTER, 7304)?,
+        hello: request(alloc, 1, HELLO, &[Word(USER), Word(GROUP)])?,
+        get: request(alloc, 2, MSGGET, &[Word(7), Word(MAKE)])?,
+        longest: request(
+            alloc,
+            3,
+            MSGSND,
+            &[Word(1), Word(0), Long(1), Text(0, 0, LONGEST)],
+        )?,
+        shorter: request(
+            alloc,
+            3,
+            MSGSND,
+            &[Word(1), Word(0), Long(1), Text(0, 0, SHORTER)],
+        )?,
     };
     for conn in 0..CLIENTS {
         hub.connect(conn)?;
@@ -180,32 +190,30 @@ fn take_steps<D: SectorDisk>(
     for step in STEPS {
         match take_step(hub, &frames, step) {
             Ok(()) => {}
-            Err(Fault::Device) => return Ok((Some(step), has_halted(hub))),
+            Err(Fault::Device) => return Ok((Some(step), has_halted(hub, &frames.hello))),
             Err(fault) => return Err(fault),
         }
     }
     Ok((None, true))
 }
 
-/// A frame of so many bytes that begins like this, and has zeros then.
-fn frame(alloc: Global, begin: &[u8], length: usize) -> Result<Vec<u8>, Fault> {
-    let mut bytes = Vec::new(alloc);
-    bytes.extend_from_slice(begin)?;
-    bytes.resize(length, 0)?;
-    Ok(bytes)
-}
-
 fn take_step<D: SectorDisk>(hub: &mut Hub<D>, frames: &Frames, step: Step) -> Result<(), Fault> {
     match step {
         Step::Hello => {
             for conn in 0..CLIENTS {
-                feed(hub, conn, &HELLO)?;
+                feed(hub, conn, &frames.hello)?;
             }
             Ok(())
         }
-        Step::Get => feed(hub, 0, &MSGGET),
-        Step::Longest => feed(hub, 0, &frames.longest),
-        Step::Shorter => feed(hub, 0, &frames.shorter),
+        Step::Get => feed(hub, 0, &frames.get),
+        Step::Fill => {
+            // A feed asks for the room of a longest request.
+            feed(hub, 0, &frames.shorter)?;
+            for _ in 0..MANY {
+                feed(hub, 0, &frames.longest)?;
+            }
+            Ok(())
+        }
         Step::Tick => Ok(hub.tick(Moment(0))?),
         Step::Leave => Ok(hub.hangup(CLIENTS - 1, Moment(0))?),
         Step::Release => {
@@ -238,9 +246,9 @@ fn feed<D: SectorDisk>(hub: &mut Hub<D>, conn: u32, piece: &[u8]) -> Result<(), 
 }
 
 /// Every call is refused, without a word to the disk, and each client is told EIO as the last that it hears.
-fn has_halted<D: SectorDisk>(hub: &mut Hub<D>) -> bool {
+fn has_halted<D: SectorDisk>(hub: &mut Hub<D>, hello: &[u8]) -> bool {
     is_told(hub)
-        && matches!(hub.feed(0, &HELLO, Moment(1)), Err(ServeError::Stopped))
+        && matches!(hub.feed(0, hello, Moment(1)), Err(ServeError::Stopped))
         && matches!(hub.tick(Moment(1)), Err(CommitError::Stopped))
         && matches!(hub.hangup(0, Moment(1)), Err(ServeError::Stopped))
         && matches!(hub.release(), Err(CommitError::Stopped))

@@ -2,7 +2,8 @@
 //! number, at one moment.
 
 use crate::fault::Fault;
-use crate::request::{Number, reply, request};
+use crate::request::Field::Word;
+use crate::request::{Field, reply, request};
 use ipc_base::Moment;
 use ipc_disk::MemoryDisk;
 use ipc_hub::Hub;
@@ -17,15 +18,15 @@ pub(crate) const USER: u32 = 1000;
 
 pub(crate) const GROUP: u32 = 100;
 
-/// While no more bytes of replies wait, a client's next request is taken.
-const AHEAD: usize = 4096;
-
-/// A hub on a disk in memory, and how many requests it was asked.
+/// A hub on a disk in memory.
 #[derive(Drop)]
 pub(crate) struct Host {
     pub(crate) alloc: Global,
     hub: Hub<MemoryDisk>,
+    /// How many requests were answered as they must be, or wait as they must.
     pub(crate) asked: u64,
+    /// The first fault. After it nothing is asked.
+    pub(crate) outcome: Result<(), Fault>,
 }
 
 impl Host {
@@ -43,6 +44,7 @@ impl Host {
             alloc,
             hub: Hub::new(alloc, store),
             asked: 0,
+            outcome: Ok(()),
         }
     }
 
@@ -60,16 +62,20 @@ impl Host {
         let mut left = bytes;
         for _ in 0..=bytes.len() {
             let taken = self.hub.feed(client, left, Moment(NOW))?;
-            let Some(rest) = left.get(taken..) else {
-                break;
-            };
-            if rest.is_empty() {
+            left = left.get(taken..).unwrap_or(&[]);
+            if left.is_empty() {
                 return Ok(());
             }
             self.hub.release()?;
-            left = rest;
         }
         Err(Fault::Unserved)
+    }
+
+    /// Keeps a fault, if it is the first.
+    pub(crate) fn note(&mut self, outcome: Result<(), Fault>) {
+        if self.outcome.is_ok() {
+            self.outcome = outcome;
+        }
     }
 
     /// Lets all replies out.
@@ -103,156 +109,92 @@ impl Host {
         self.hub.close().close()
     }
 
-    /// A client asks, and the answer is this error, or 0, and no body.
+    /// A client sends a request; replies are let out.
+    pub(crate) fn send(&mut self, client: u32, opcode: u8, fields: &[Field]) {
+        if self.outcome.is_ok() {
+            self.outcome = self.serve(client, opcode, fields);
+        }
+    }
+
+    /// The client's next frame answers a request of this opcode, with this error, or with 0 and this body.
+    pub(crate) fn hear(&mut self, client: u32, opcode: u8, errno: u16, body: &[Field]) {
+        if self.outcome.is_ok() {
+            self.outcome = self.take(client, opcode, errno, body);
+        }
+    }
+
+    /// A client asks, and is answered so.
     pub(crate) fn ask(
         &mut self,
         client: u32,
         opcode: u8,
-        numbers: &[Number],
-        rest: &[u8],
+        fields: &[Field],
         errno: u16,
-    ) -> Result<(), Fault> {
-        self.send(client, opcode, numbers, rest)?;
-        self.hear(client, opcode, errno)
+        body: &[Field],
+    ) {
+        self.send(client, opcode, fields);
+        self.hear(client, opcode, errno, body);
     }
 
-    /// A client asks, and the answer is success with this body: numbers, and what comes after them.
+    /// A client asks for a number, as an identifier or a descriptor: the answer is this one or this error.
     pub(crate) fn ask_for(
         &mut self,
         client: u32,
         opcode: u8,
-        numbers: &[Number],
-        rest: &[u8],
-        body: &[Number],
-        after: &[u8],
-    ) -> Result<(), Fault> {
-        self.send(client, opcode, numbers, rest)?;
-        let wanted = reply(self.alloc, client, 0, body, after)?;
-        self.hear_frame(client, opcode, &wanted)
-    }
-
-    /// A client asks for a number, as an identifier or a descriptor, and the answer is this one or this error.
-    pub(crate) fn ask_for_number(
-        &mut self,
-        client: u32,
-        opcode: u8,
-        numbers: &[Number],
-        rest: &[u8],
+        fields: &[Field],
         outcome: Result<u32, u16>,
-    ) -> Result<(), Fault> {
+    ) {
         match outcome {
-            Ok(found) => self.ask_for(client, opcode, numbers, rest, &[Number::Word(found)], &[]),
-            Err(errno) => self.ask(client, opcode, numbers, rest, errno),
+            Ok(found) => self.ask(client, opcode, fields, 0, &[Word(found)]),
+            Err(errno) => self.ask(client, opcode, fields, errno, &[]),
         }
-    }
-
-    /// A client sends the same request so many times, and the answer is this frame each time.
-    pub(crate) fn ask_often(
-        &mut self,
-        times: u32,
-        client: u32,
-        opcode: u8,
-        asked: &[u8],
-        wanted: &[u8],
-    ) -> Result<(), Fault> {
-        let together = AHEAD.checked_div(wanted.len()).unwrap_or(0).max(1);
-        let mut unheard: usize = 0;
-        for _ in 0..times {
-            self.feed(client, asked)?;
-            self.asked = self.asked.saturating_add(1);
-            unheard = unheard.saturating_add(1);
-            if unheard >= together {
-                self.hear_often(unheard, client, opcode, wanted)?;
-                unheard = 0;
-            }
-        }
-        self.hear_often(unheard, client, opcode, wanted)
-    }
-
-    /// The client sees this frame so many times.
-    fn hear_often(
-        &mut self,
-        times: usize,
-        client: u32,
-        opcode: u8,
-        wanted: &[u8],
-    ) -> Result<(), Fault> {
-        self.hub.release()?;
-        for _ in 0..times {
-            self.hear_frame(client, opcode, wanted)?;
-        }
-        Ok(())
     }
 
     /// A client asks what has to wait: it sees no answer.
-    pub(crate) fn wait(
-        &mut self,
-        client: u32,
-        opcode: u8,
-        numbers: &[Number],
-        rest: &[u8],
-    ) -> Result<(), Fault> {
-        self.send(client, opcode, numbers, rest)?;
-        if self.output(client).is_empty() {
-            return Ok(());
+    pub(crate) fn wait(&mut self, client: u32, opcode: u8, fields: &[Field]) {
+        self.send(client, opcode, fields);
+        if self.outcome.is_ok() && !self.output(client).is_empty() {
+            let words = "client #, opcode #: an answer, though it has to wait";
+            self.outcome = Err(Fault::case(words, &[u64::from(client), u64::from(opcode)]));
         }
-        Err(Fault::Early { client, opcode })
     }
 
-    /// The client's next frame has this error, or 0, and no body; it answers a request of this opcode.
-    pub(crate) fn hear(&mut self, client: u32, opcode: u8, errno: u16) -> Result<(), Fault> {
-        let wanted = reply(self.alloc, client, errno, &[], &[])?;
-        self.hear_frame(client, opcode, &wanted)
-    }
-
-    /// The client's next frame is this one.
-    fn hear_frame(&mut self, client: u32, opcode: u8, wanted: &[u8]) -> Result<(), Fault> {
-        let output = self.hub.output(client);
-        if output.len() < wanted.len() || !output.starts_with(wanted) {
-            return Err(self.amiss(client, opcode, errno_of(wanted)));
-        }
-        self.hub.consume(client, wanted.len());
-        Ok(())
-    }
-
-    /// A client sends a request; replies are let out.
-    pub(crate) fn send(
-        &mut self,
-        client: u32,
-        opcode: u8,
-        numbers: &[Number],
-        rest: &[u8],
-    ) -> Result<(), Fault> {
-        let bytes = request(self.alloc, client, opcode, numbers, rest)?;
+    fn serve(&mut self, client: u32, opcode: u8, fields: &[Field]) -> Result<(), Fault> {
+        let bytes = request(self.alloc, client, opcode, fields)?;
         self.feed(client, &bytes)?;
         self.hub.release()?;
         self.asked = self.asked.saturating_add(1);
         Ok(())
     }
 
+    fn take(&mut self, client: u32, opcode: u8, errno: u16, body: &[Field]) -> Result<(), Fault> {
+        let wanted = reply(self.alloc, client, errno, body)?;
+        let output = self.hub.output(client);
+        if output.len() < wanted.len() || !output.starts_with(&wanted) {
+            return Err(self.amiss(client, opcode, errno));
+        }
+        self.hub.consume(client, wanted.len());
+        Ok(())
+    }
+
     /// The error of the first frame that the client may see.
     pub(crate) fn answer(&self, client: u32) -> Option<u16> {
-        errno_of(self.output(client))
+        match self.output(client) {
+            [_, _, _, _, _, _, _, _, high, low, ..] => Some(u16::from_be_bytes([*high, *low])),
+            _ => None,
+        }
     }
 
     /// What the client sees is another answer.
-    fn amiss(&self, client: u32, opcode: u8, wanted: Option<u16>) -> Fault {
-        match (self.answer(client), wanted) {
-            (Some(found), Some(wanted)) => Fault::Answer {
-                client,
-                opcode,
-                wanted,
-                found,
-            },
-            _ => Fault::Silence { client, opcode },
+    fn amiss(&self, client: u32, opcode: u8, wanted: u16) -> Fault {
+        let answer = self.answer(client);
+        let (client, opcode) = (u64::from(client), u64::from(opcode));
+        match answer {
+            Some(found) => Fault::case(
+                "client #, opcode #: the answer is #, or has another body, and not #",
+                &[client, opcode, u64::from(found), u64::from(wanted)],
+            ),
+            None => Fault::case("client #, opcode #: no answer", &[client, opcode]),
         }
-    }
-}
-
-/// The error of a reply, which stands after its length and its serial.
-fn errno_of(frame: &[u8]) -> Option<u16> {
-    match frame {
-        [_, _, _, _, _, _, _, _, high, low, ..] => Some(u16::from_be_bytes([*high, *low])),
-        _ => None,
     }
 }

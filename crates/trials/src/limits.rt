@@ -5,18 +5,19 @@
 use crate::calls::{ENFILE, HELLO};
 use crate::fault::Fault;
 use crate::host::{GROUP, Host, USER};
-use crate::request::Number::Word;
+use crate::request::Field::Word;
+use crate::runs::new_device;
+use crate::told::Told;
 use ipc_base::Limits;
 use ipc_disk::MemoryDisk;
 use ipc_script::dump;
-use ipc_store::{FormatError, Store};
+use ipc_store::Store;
 use std::alloc::Global;
-use std::fmt;
 
 /// How many connections there are at least; most are of no process.
 const CONNECTIONS: u32 = 1100;
 
-/// What was made, and how many requests were answered as they must be.
+/// What was made.
 #[derive(Clone, Copy)]
 pub(crate) struct Count {
     pub(crate) connections: u64,
@@ -35,7 +36,6 @@ pub(crate) struct Count {
     pub(crate) segments: u64,
     pub(crate) bytes: u64,
     pub(crate) lines: u64,
-    pub(crate) asked: u64,
 }
 
 const NONE: Count = Count {
@@ -55,34 +55,36 @@ const NONE: Count = Count {
     segments: 0,
     bytes: 0,
     lines: 0,
-    asked: 0,
 };
 
-impl fmt::Display for Count {
-    fn fmt<W: fmt::Write>(&self, f: &mut fmt::Formatter<W>) -> fmt::Result {
-        write!(
-            f,
-            "{} connections, {} processes, ",
-            self.connections, self.processes
-        )?;
-        write!(f, "{} descriptors, ", self.descriptors)?;
-        write!(
-            f,
-            "{} calls waited and {} went on\n",
-            self.waited, self.went_on
-        )?;
-        write!(f, "{} queues of {} messages, ", self.queues, self.messages)?;
-        write!(f, "{} sets of {} semaphores, ", self.sets, self.semaphores)?;
-        write!(f, "{} adjustments\n", self.adjustments)?;
-        write!(
-            f,
-            "{} POSIX queues of {} messages, ",
-            self.posix_queues, self.posix_messages
-        )?;
-        write!(f, "{} named semaphores, ", self.named)?;
-        write!(f, "{} segments of {} bytes\n", self.segments, self.bytes)?;
-        write!(f, "{} objects saved, listed and found again, ", self.lines)?;
-        write!(f, "{} requests", self.asked)
+impl Count {
+    /// What was made, with the requests that were answered.
+    fn told(&self, asked: u64) -> Told {
+        Told::new(
+            "# connections, # processes, # descriptors, # calls waited and # went on\n\
+            # queues of # messages, # sets of # semaphores, # adjustments\n\
+            # POSIX queues of # messages, # named semaphores, # segments of # bytes\n\
+            # objects saved, listed and found again, # requests",
+            &[
+                self.connections,
+                self.processes,
+                self.descriptors,
+                self.waited,
+                self.went_on,
+                self.queues,
+                self.messages,
+                self.sets,
+                self.semaphores,
+                self.adjustments,
+                self.posix_queues,
+                self.posix_messages,
+                self.named,
+                self.segments,
+                self.bytes,
+                self.lines,
+                asked,
+            ],
+        )
     }
 }
 
@@ -95,101 +97,102 @@ pub(crate) struct Most {
 }
 
 /// Makes as much as the limits allow, saves it, and finds it again.
-pub(crate) fn at_limits(alloc: Global, limits: Limits) -> Result<Count, Fault> {
+pub(crate) fn at_limits(alloc: Global, limits: Limits) -> Result<Told, Fault> {
     let mut first = Most {
-        host: Host::open(alloc, device_for(alloc, &limits)?)?,
+        host: Host::open(alloc, new_device(alloc, &limits)?)?,
         limits,
         count: NONE,
     };
-    let filled = first.fill_and_save();
-    let count = first.counted();
-    let disk = first.close();
-    filled?;
-    find_all(alloc, disk, limits, count)
+    first.fill();
+    let (outcome, count, asked) = (first.host.outcome, first.count, first.host.asked);
+    let disk = first.host.close();
+    outcome?;
+    find_all(alloc, disk, limits, (count, asked))
 }
 
 /// Opens the device again, and finds what was made.
-fn find_all(alloc: Global, disk: MemoryDisk, limits: Limits, count: Count) -> Result<Count, Fault> {
+fn find_all(
+    alloc: Global,
+    disk: MemoryDisk,
+    limits: Limits,
+    (count, asked): (Count, u64),
+) -> Result<Told, Fault> {
     let store = match Store::open(alloc, disk) {
         Ok(store) => store,
         Err(unopened) => return Err(Fault::from(unopened.error)),
     };
-    let lines = listed(alloc, &store);
+    let listed = listed(alloc, &store);
     let mut second = Most {
         host: Host::new(alloc, store),
         limits,
         count,
     };
-    let found = second.find(lines);
-    let counted = second.counted();
-    let _disk = second.close();
-    found?;
-    Ok(counted)
+    second.find(listed);
+    let told = second.count.told(asked.saturating_add(second.host.asked));
+    let outcome = second.host.outcome;
+    let _disk = second.host.close();
+    outcome?;
+    Ok(told)
 }
 
 impl Most {
-    fn fill_and_save(&mut self) -> Result<(), Fault> {
-        self.fill()?;
-        self.host.save()
-    }
-
-    /// Comes to each limit: at the end every process has a call that waits.
-    fn fill(&mut self) -> Result<(), Fault> {
-        self.come(0)?;
-        self.make_queues()?;
-        self.make_sets()?;
-        self.make_posix_queues()?;
-        self.make_semaphores()?;
-        self.make_segments()?;
-        self.open_all(self.named_objects())?;
-        self.wait_all()?;
-        self.go_on()?;
-        self.adjust()?;
-        self.wait_all()
+    /// Comes to each limit: at the end every process has a call that waits. Then all is saved.
+    fn fill(&mut self) {
+        self.come(0);
+        self.make_queues();
+        self.make_sets();
+        self.make_posix_queues();
+        self.make_semaphores();
+        self.make_segments();
+        let made = self.named_objects();
+        self.open_all(made);
+        self.wait_all();
+        self.go_on();
+        self.adjust();
+        self.wait_all();
+        let saved = self.host.save();
+        self.host.note(saved);
     }
 
     /// Finds what was made, uses it again, and opens as many descriptors again. After an end of one object there is
     /// room for one.
-    fn find(&mut self, listed: Result<u64, Fault>) -> Result<(), Fault> {
-        let lines = listed?;
+    fn find(&mut self, listed: Result<u64, Fault>) {
         let queues = self.count.queues.saturating_add(self.count.sets);
         let wanted = queues.saturating_add(u64::from(self.named_objects()));
-        if lines != wanted {
-            return Err(Fault::Listed {
-                found: lines,
-                wanted,
-            });
+        match listed {
+            Ok(lines) if lines == wanted => self.count.lines = lines,
+            Ok(lines) => {
+                let fault = Fault::case("a listing has # lines, and not #", &[lines, wanted]);
+                self.host.note(Err(fault));
+            }
+            Err(fault) => self.host.note(Err(fault)),
         }
-        self.count.lines = lines;
-        self.come(self.limits.processes)?;
-        self.find_queues()?;
-        self.find_sets()?;
-        self.find_posix_queues()?;
-        self.find_semaphores()?;
-        self.find_segments()?;
-        self.open_all(0)
+        self.come(self.limits.processes);
+        self.find_queues();
+        self.find_sets();
+        self.find_posix_queues();
+        self.find_semaphores();
+        self.find_segments();
+        self.open_all(0);
     }
 
     /// Clients connect and say HELLO: so many as the limit allows become processes, and the others do not.
-    fn come(&mut self, pids: u32) -> Result<(), Fault> {
+    fn come(&mut self, pids: u32) {
         let processes = self.limits.processes;
         let connections = CONNECTIONS.max(processes.saturating_add(1));
         for client in 1..=connections {
-            self.host.connect(client)?;
-        }
-        for client in 1..=connections {
-            let identity = [Word(USER), Word(GROUP)];
+            let connected = self.host.connect(client);
+            self.host.note(connected);
             let outcome = if client <= processes {
                 Ok(pids.saturating_add(client))
             } else {
                 Err(ENFILE)
             };
             self.host
-                .ask_for_number(client, HELLO, &identity, &[], outcome)?;
+                .ask_for(client, HELLO, &[Word(USER), Word(GROUP)], outcome);
         }
         self.count.connections = u64::from(connections);
         self.count.processes = u64::from(processes);
-        Ok(())
     }
 
     /// How many objects have a name.
@@ -200,27 +203,6 @@ impl Most {
             .saturating_add(semaphores)
             .saturating_add(self.limits.segments)
     }
-
-    fn counted(&self) -> Count {
-        let mut count = self.count;
-        count.asked = count.asked.saturating_add(self.host.asked);
-        count
-    }
-
-    fn close(self) -> MemoryDisk {
-        self.host.close()
-    }
-}
-
-/// A device on a disk of just as many sectors as it needs.
-fn device_for(alloc: Global, limits: &Limits) -> Result<MemoryDisk, Fault> {
-    let mut small = MemoryDisk::new(alloc, 1)?;
-    let Err(FormatError::TooSmall { need }) = Store::format(&mut small, limits) else {
-        return Err(Fault::Unopened);
-    };
-    let mut disk = MemoryDisk::new(alloc, need)?;
-    Store::format(&mut disk, limits)?;
-    Ok(disk)
 }
 
 /// How many lines a listing has.
@@ -236,13 +218,4 @@ fn listed(alloc: Global, store: &Store<MemoryDisk>) -> Result<u64, Fault> {
         }
     }
     Ok(lines)
-}
-
-/// A text of so many bytes, which tells whose it is and where each byte stands.
-pub(crate) fn text_of(alloc: Global, number: u32, length: u32) -> Result<Vec<u8>, Fault> {
-    let mut text = Vec::with_capacity(alloc, length as usize)?;
-    for place in 0..length {
-        text.push((number.wrapping_add(place) % 251) as u8)?;
-    }
-    Ok(text)
 }

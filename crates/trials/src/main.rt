@@ -3,7 +3,6 @@
 //!
 //!     trials stopped N < SCRIPT    stops the script at each call on its disk, its formats, and each N-th opening
 //!     trials faulted N < SCRIPT    lets each call on its disk fail once, and each of the openings after each N-th line
-//!     trials damaged N < SCRIPT    changes each N-th byte of devices, and opens them
 //!     trials frames N              cuts frames of each opcode off at each byte, and changes each N-th byte of them
 //!     trials limits [small]        makes, uses, saves and finds as much as the limits allow, standard ones or small
 //!     trials batch                 feeds a hub requests of one moment, and counts what one release writes of them
@@ -18,16 +17,12 @@ ghost use Rattle.std.specs.Prelude.{◌<◌, IfOk};
 mod batch;
 mod calls;
 mod cases;
-mod damaged;
 mod fault;
 mod faulted;
 mod formats;
 mod frames;
 mod halted;
 mod host;
-mod image;
-mod journal;
-mod judge;
 mod last_words;
 mod limits;
 mod most_posix;
@@ -36,17 +31,13 @@ mod most_waiting;
 mod openings;
 mod refused;
 mod request;
-mod restart;
-mod rules;
 mod runs;
 mod script;
-mod spoiled;
 mod stages;
 mod stopped;
-mod tables;
+mod told;
 
 use batch::batch_of_three;
-use damaged::damaged;
 use fault::Fault;
 use faulted::faulted;
 use frames::frames;
@@ -55,7 +46,6 @@ use limits::at_limits;
 use refused::{print_names, refused};
 use script::script;
 use std::alloc::Global;
-use std::fmt::Display;
 use std::fs::File;
 use std::io;
 use std::io::{ErrorKind, Read};
@@ -63,6 +53,7 @@ use std::net::Net;
 use std::process::ExitCode;
 use std::rt::{Env, Files};
 use stopped::stopped;
+use told::Told;
 
 fn main(rt: HostRuntime) -> io::Result<ExitCode> {
     match answer(&rt) {
@@ -80,25 +71,27 @@ fn answer(
 ) -> Result<(), Fault> {
     let words = words_of(rt)?;
     match words.as_slice() {
-        [_, word] => alone(rt, word.as_str()),
-        [_, word, name] if word.as_str() == "refused" => refused(rt, name.as_str()),
-        [_, word, size] if word.as_str() == "limits" && size.as_str() == "small" => {
-            print(rt, &at_limits(rt.alloc(), Limits::small())?)
-        }
-        [_, word, every] => with_number(rt, word.as_str(), number_of(every.as_str())?),
+        [_, word] => act(rt, word.as_str(), ""),
+        [_, word, more] => act(rt, word.as_str(), more.as_str()),
         _ => Err(Fault::Usage),
     }
 }
 
-/// Does what a word alone asks for.
-fn alone(rt: &(impl Input + Print + AllocGlobal), word: &str) -> Result<(), Fault> {
+/// Does what a word asks for, with one more or alone.
+fn act(
+    rt: &(impl Input + Print + AllocGlobal + Files<File = File> + Net),
+    word: &str,
+    more: &str,
+) -> Result<(), Fault> {
     let alloc = rt.alloc();
-    match word {
-        "batch" => print(rt, &batch_of_three(alloc)?),
-        "limits" => print(rt, &at_limits(alloc, Limits::standard())?),
-        "refused" => print_names(rt),
-        "script" => script(rt),
-        _ => Err(Fault::Usage),
+    match (word, more) {
+        ("batch", "") => print(rt, batch_of_three(alloc)),
+        ("limits", "") => print(rt, at_limits(alloc, Limits::standard())),
+        ("limits", "small") => print(rt, at_limits(alloc, Limits::small())),
+        ("refused", "") => print_names(rt),
+        ("refused", name) => refused(rt, name),
+        ("script", "") => script(rt),
+        _ => with_number(rt, word, number_of(more)?),
     }
 }
 
@@ -108,19 +101,20 @@ fn with_number(rt: &(impl Input + Print + AllocGlobal), word: &str, every: u64) 
 {
     let alloc = rt.alloc();
     if word == "frames" {
-        return print(rt, &frames(alloc, every)?);
+        return print(rt, frames(alloc, every));
     }
     let text = input(alloc, &mut rt.reader())?;
     match word {
-        "stopped" => print(rt, &stopped(alloc, text.as_slice(), every)?),
-        "faulted" => print(rt, &faulted(alloc, text.as_slice(), every as usize)?),
-        "damaged" => print(rt, &damaged(alloc, text.as_slice(), every as usize)?),
+        "stopped" => print(rt, stopped(alloc, text.as_slice(), every)),
+        "faulted" => print(rt, faulted(alloc, text.as_slice(), every as usize)),
         _ => Err(Fault::Usage),
     }
 }
 
-fn print(rt: &impl Print, counted: &impl Display) -> Result<(), Fault> {
-    println!(rt; "{counted}").map_err(|_| Fault::Output)
+/// Prints what a run has counted, unless it has ended early.
+fn print(rt: &impl Print, outcome: Result<Told, Fault>) -> Result<(), Fault> {
+    let told = outcome?;
+    println!(rt; "{told}").map_err(|_| Fault::Output)
 }
 
 /// The number that a word is, from 1 on.

@@ -3,12 +3,10 @@
 use crate::fault::Fault;
 use ipc_base::Limits;
 use ipc_disk::{MemoryDisk, SectorDisk};
+use ipc_image::need;
 use ipc_script::run_script;
 use ipc_store::Store;
 use std::alloc::Global;
-
-/// How many sectors a device needs under small limits.
-const SMALL_DEVICE: u32 = 448;
 
 /// A run of a script: what it wrote, whether it came to its end, and the disk.
 #[derive(Drop)]
@@ -41,9 +39,27 @@ pub(crate) fn run<D: SectorDisk>(alloc: Global, disk: D, script: &[u8]) -> Ran<D
 
 /// A new device under small limits.
 pub(crate) fn device(alloc: Global) -> Result<MemoryDisk, Fault> {
-    let mut disk = MemoryDisk::new(alloc, SMALL_DEVICE)?;
-    Store::format(&mut disk, &Limits::small())?;
+    new_device(alloc, &Limits::small())
+}
+
+/// A new device on a disk of just as many sectors as it needs.
+pub(crate) fn new_device(alloc: Global, limits: &Limits) -> Result<MemoryDisk, Fault> {
+    if limits.check().is_err() {
+        return Err(Fault::Unready);
+    }
+    let mut disk = MemoryDisk::new(alloc, need(limits))?;
+    Store::format(&mut disk, limits)?;
     Ok(disk)
+}
+
+/// What a sector of a disk holds.
+pub(crate) fn sector(disk: &mut MemoryDisk, at: u32) -> Result<[u8; 512], Fault> {
+    let mut bytes = [0; 512];
+    if at >= disk.sectors() {
+        return Err(Fault::Unopened);
+    }
+    disk.read(at, &mut bytes)?;
+    Ok(bytes)
 }
 
 /// What the answers to a probe tell of a device.

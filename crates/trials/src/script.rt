@@ -1,9 +1,9 @@
 //! A run of a script in memory, as `ipcd replay` runs one, under limits of its own.
 
 use crate::fault::Fault;
+use crate::runs::new_device;
 use ipc_base::Limits;
 use ipc_disk::MemoryDisk;
-use ipc_image::need;
 use ipc_script::run_script;
 use ipc_store::Store;
 use std::alloc::Global;
@@ -26,12 +26,7 @@ fn new_store(alloc: Global) -> Result<Store<MemoryDisk>, Fault> {
         processes: PROCESSES,
         ..Limits::small()
     };
-    if limits.check().is_err() {
-        return Err(Fault::Unready);
-    }
-    let mut disk = MemoryDisk::new(alloc, need(&limits))?;
-    Store::format(&mut disk, &limits)?;
-    match Store::open(alloc, disk) {
+    match Store::open(alloc, new_device(alloc, &limits)?) {
         Ok(store) => Ok(store),
         Err(unopened) => Err(Fault::from(unopened.error)),
     }

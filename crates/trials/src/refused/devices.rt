@@ -2,30 +2,33 @@
 
 use crate::fault::Fault;
 use crate::refused::hubs::used_disk;
-use crate::refused::{Subject, told};
+use crate::refused::{Seen, Subject};
+use crate::told::filled;
 use ipc_base::{Limits, ObjectMap};
 use ipc_checkpoint::{Checkpoint, Layout, LoadError};
 use ipc_disk::{MemoryDisk, Range, SectorDisk};
 use ipc_engine::StateFault;
 use ipc_heap::Heap;
-use ipc_image::engine_of;
+use ipc_image::{FORMAT, OBJECTS, engine_of};
 use ipc_store::Store;
 use std::alloc::Global;
 
 /// Their names.
 pub(crate) const NAMES: [&str; 4] = ["Heap::open", "Checkpoint::load", "engine_of", "Store::open"];
 
-/// How many sectors a device has under small limits, and where its objects lie.
-const SECTORS: u32 = 448;
+/// How many sectors a state takes under small limits, and where the objects lie.
+const AREA: u32 = 94;
 
 const LAYOUT: Layout = Layout {
     range: Range {
-        first: 260,
-        count: 188,
+        first: OBJECTS,
+        count: 2 * AREA,
     },
-    root: 1,
-    area: 94,
+    root: FORMAT.root,
+    area: AREA,
 };
+
+const SECTORS: u32 = OBJECTS + 2 * AREA;
 
 /// A device with a queue that is saved, and its objects if they are loaded already.
 #[derive(Drop)]
@@ -63,10 +66,10 @@ impl Subject for Device {
         }
     }
 
-    fn tells(&self, alloc: Global) -> Result<Vec<u8>, Fault> {
+    fn tells(&self) -> Seen {
         match &self.disk {
-            Some(disk) => told(alloc, &[u64::from(disk.sectors()), disk.writes()]),
-            None => Err(Fault::Unready),
+            Some(disk) => filled(&[u64::from(disk.sectors()), disk.writes()]),
+            None => [0; 15],
         }
     }
 }

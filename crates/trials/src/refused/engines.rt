@@ -1,7 +1,8 @@
 //! Steps of a machine, of which some need memory, and its listing.
 
 use crate::fault::Fault;
-use crate::refused::{Subject, told};
+use crate::refused::{Seen, Subject, done};
+use crate::told::filled;
 use ipc_base::{Cred, Limits, Moment, Objects, Pid};
 use ipc_engine::{Engine, Event};
 use ipc_image::objects_of;
@@ -164,34 +165,43 @@ impl Subject for Engine {
         }
         let pid = Pid(1);
         match name {
-            "Engine::list" => drop(self.list(self.state().allocator())?),
-            "Engine::step HELLO" => take(self, hello(NOW))?,
-            "Engine::step tick" => take(self, Event::Tick { moment: NOW })?,
-            "Engine::step exit" => take(self, Event::Exit { pid, moment: NOW })?,
-            "Engine::step restart" => take(self, Event::Restart)?,
-            _ => return Err(Fault::Usage),
+            "Engine::list" => done(self.list(self.state().allocator())),
+            "Engine::step HELLO" => take(self, hello(NOW)),
+            "Engine::step tick" => take(self, Event::Tick { moment: NOW }),
+            "Engine::step exit" => take(self, Event::Exit { pid, moment: NOW }),
+            "Engine::step restart" => take(self, Event::Restart),
+            _ => Err(Fault::Usage),
         }
-        Ok(())
     }
 
-    fn tells(&self, alloc: Global) -> Result<Vec<u8>, Fault> {
-        let mut bytes = bytes_of(alloc, &objects_of(self))?;
-        bytes.extend_from_slice(&told(alloc, &[self.outcomes().len() as u64])?)?;
-        Ok(bytes)
+    fn tells(&self) -> Seen {
+        let objects = objects_of(self);
+        filled(&[
+            sum_of(&objects),
+            u64::from(objects.count()),
+            self.outcomes().len() as u64,
+        ])
     }
 }
 
-/// The bytes of objects, one after the other, each filled up to whole sectors.
-fn bytes_of<O: Objects>(alloc: Global, objects: &O) -> Result<Vec<u8>, Fault> {
-    let mut bytes = Vec::new(alloc);
+/// What the numbers and the bytes of objects come to, each with its place.
+fn sum_of<O: Objects>(objects: &O) -> u64 {
+    let mut sum: u64 = 0;
     for i in 0..objects.count() {
-        bytes.extend_from_slice(&objects.number(i).to_be_bytes())?;
-        let mut sector = [0; 512];
+        sum = with(sum, objects.number(i));
         for window in 0..objects.len(i).div_ceil(512) {
+            let mut sector = [0; 512];
             let mut mark = objects.start(i);
             objects.bytes(i, window.saturating_mul(512), &mut mark, &mut sector);
-            bytes.extend_from_slice(&sector)?;
+            for byte in &sector {
+                sum = with(sum, u64::from(*byte));
+            }
         }
     }
-    Ok(bytes)
+    sum
+}
+
+/// A sum to which one number more is added: the hash of Fowler, Noll and Vo.
+fn with(sum: u64, number: u64) -> u64 {
+    (sum ^ number).wrapping_mul(0x0000_0100_0000_01b3)
 }

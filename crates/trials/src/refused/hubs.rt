@@ -1,8 +1,9 @@
 //! Calls of a hub, of which `connect` alone may be refused, and the making of a server.
 
 use crate::fault::Fault;
-use crate::refused::{Subject, told};
+use crate::refused::{Seen, Subject};
 use crate::runs::device;
+use crate::told::filled;
 use ipc_base::Moment;
 use ipc_disk::MemoryDisk;
 use ipc_hub::Hub;
@@ -100,9 +101,9 @@ impl Subject for Hub<MemoryDisk> {
         Ok(())
     }
 
-    fn tells(&self, alloc: Global) -> Result<Vec<u8>, Fault> {
+    fn tells(&self) -> Seen {
         let connections = self.connections().len() as u64;
-        told(alloc, &[connections, self.output(1).len() as u64])
+        filled(&[connections, self.output(1).len() as u64])
     }
 }
 

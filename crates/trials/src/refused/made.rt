@@ -1,7 +1,7 @@
 //! Calls that make something, where nothing was before.
 
 use crate::fault::Fault;
-use crate::refused::Subject;
+use crate::refused::{Seen, Subject, done};
 use ipc_arrivals::Arrivals;
 use ipc_base::{Limits, Moment, Pid};
 use ipc_disk::{JoinedDisk, MemoryDisk, SectorRuns};
@@ -41,6 +41,9 @@ pub(crate) const NAMES: [&str; 20] = [
     "JoinedDisk::new",
 ];
 
+/// Sectors of a disk.
+const SECTORS: u32 = 448;
+
 /// One operation of a list: the semaphore 0 is raised by 1.
 const RAISE: [u8; 6] = [0, 0, 0, 1, 0, 0];
 
@@ -69,59 +72,56 @@ impl Subject for Nothing {
     fn call(&mut self, name: &str) -> Result<(), Fault> {
         let alloc = self.alloc;
         match name {
-            "Arrivals::with_places" => drop(Arrivals::<sysv_msg::Message>::with_places(alloc, 8)?),
-            "Name::new" => drop(Name::new(alloc, b"/q")?),
-            "WaitList::from_calls" => make_list(alloc)?,
-            "Engine::new" => drop(Engine::new(alloc, Limits::small())?),
-            "Engine::from_state" => make_engine(alloc)?,
-            "MemoryDisk::new" => drop(MemoryDisk::new(alloc, 448)?),
+            "Arrivals::with_places" => done(Arrivals::<sysv_msg::Message>::with_places(alloc, 8)),
+            "Name::new" => done(Name::new(alloc, b"/q")),
+            "WaitList::from_calls" => make_list(alloc),
+            "Engine::new" => done(Engine::new(alloc, Limits::small())),
+            "Engine::from_state" => make_engine(alloc),
+            "MemoryDisk::new" => done(MemoryDisk::new(alloc, SECTORS)),
             "JoinedDisk::new" => {
-                let disk = MemoryDisk::new(alloc, 448)?;
-                drop(JoinedDisk::new(alloc, SectorRuns { disk })?);
+                let disk = MemoryDisk::new(alloc, SECTORS)?;
+                done(JoinedDisk::new(alloc, SectorRuns { disk }))
             }
-            _ => make_object(alloc, name)?,
+            _ => make_object(alloc, name),
         }
-        Ok(())
     }
 
-    fn tells(&self, alloc: Global) -> Result<Vec<u8>, Fault> {
-        Ok(Vec::new(alloc))
+    fn tells(&self) -> Seen {
+        [0; 15]
     }
 }
 
 /// Makes an object of a kind, or a part of one.
 fn make_object(alloc: Global, name: &str) -> Result<(), Fault> {
     match name {
-        "sysv_msg::Message::new" => drop(sysv_msg::Message::new(alloc, 1, b"hi")?),
-        "MsgQueue::new" => drop(MsgQueue::new(alloc, 128, Moment(1))?),
-        "MsgQueue::restored" => drop(MsgQueue::restored(alloc, UNUSED)?),
-        "SemSet::new" => drop(SemSet::new(alloc, 4, Moment(1))?),
-        "SemUndo::new" => drop(SemUndo::new(alloc)?),
-        "posix_mq::Message::new" => drop(posix_mq::Message::new(alloc, 1, b"hi")?),
-        "Mq::new" => drop(Mq::new(alloc, 2, 64)?),
-        "Mq::restored" => drop(Mq::restored(alloc, 2, 64, None)?),
-        "Segment::zeroed" => drop(Segment::zeroed(alloc, 10)?),
-        "Segment::of_bytes" => drop(Segment::of_bytes(alloc, b"hi")?),
-        _ => make_call(alloc, name)?,
+        "sysv_msg::Message::new" => done(sysv_msg::Message::new(alloc, 1, b"hi")),
+        "MsgQueue::new" => done(MsgQueue::new(alloc, 128, Moment(1))),
+        "MsgQueue::restored" => done(MsgQueue::restored(alloc, UNUSED)),
+        "SemSet::new" => done(SemSet::new(alloc, 4, Moment(1))),
+        "SemUndo::new" => done(SemUndo::new(alloc)),
+        "posix_mq::Message::new" => done(posix_mq::Message::new(alloc, 1, b"hi")),
+        "Mq::new" => done(Mq::new(alloc, 2, 64)),
+        "Mq::restored" => done(Mq::restored(alloc, 2, 64, None)),
+        "Segment::zeroed" => done(Segment::zeroed(alloc, 10)),
+        "Segment::of_bytes" => done(Segment::of_bytes(alloc, b"hi")),
+        _ => make_call(alloc, name),
     }
-    Ok(())
 }
 
 /// Makes what a process has, or a call that waits.
 fn make_call(alloc: Global, name: &str) -> Result<(), Fault> {
     match name {
-        "Descriptors::new" => drop(Descriptors::new(alloc)?),
+        "Descriptors::new" => done(Descriptors::new(alloc)),
         "Operations::new" => {
             let operations = Sixes::new(&RAISE).ok_or(Fault::Unready)?;
-            drop(Operations::new(alloc, &operations)?);
+            done(Operations::new(alloc, &operations))
         }
         "Parked::new" => {
             let request = read_request(&MSGSND).ok_or(Fault::Unready)?;
-            drop(Parked::new(alloc, &request)?);
+            done(Parked::new(alloc, &request))
         }
-        _ => return Err(Fault::Usage),
+        _ => Err(Fault::Usage),
     }
-    Ok(())
 }
 
 /// A list of one call that waits.

@@ -1,7 +1,8 @@
 //! Calls that give an object, a list or a directory room for more.
 
 use crate::fault::Fault;
-use crate::refused::{Subject, is_refused, told};
+use crate::refused::{Seen, Subject, done, is_refused};
+use crate::told::filled;
 use ipc_arrivals::Arrivals;
 use ipc_base::{Id, Moment, ObjectMap, Objects, Pid};
 use ipc_keys::{KeyDir, NameDir, NameKind};
@@ -40,18 +41,22 @@ const POSIX_MESSAGES: u32 = 10;
 /// Makes the call of a name on what is made for it.
 pub(crate) fn refused(alloc: Global, name: &str) -> Result<bool, Fault> {
     match name {
-        "MsgQueue::restore" => is_refused(alloc, full_queue(alloc)?, name),
-        "SemSet::restore" => is_refused(alloc, SemSet::restored(alloc, Moment(0), Moment(1)), name),
-        "SemUndo::restore" => is_refused(alloc, full_undo(alloc)?, name),
-        "Mq::restore" => is_refused(alloc, full_mq(alloc)?, name),
-        "Descriptors::restore" => is_refused(alloc, full_descriptors(alloc)?, name),
-        "KeyDir::reserve" => is_refused(alloc, KeyDir::new(alloc), name),
-        "NameDir::reserve" => is_refused(alloc, NameDir::new(alloc), name),
-        "WaitList::reserve" => is_refused(alloc, WaitList::<u32, u32>::new(alloc), name),
-        "Arrivals::reserve" => is_refused(alloc, Arrivals::<Message>::with_places(alloc, 4)?, name),
-        "ObjectMap::push" => is_refused(alloc, ObjectMap::new(alloc), name),
+        "MsgQueue::restore" => is_refused(full_queue(alloc), name),
+        "SemSet::restore" => is_refused(Ok(SemSet::restored(alloc, Moment(0), Moment(1))), name),
+        "SemUndo::restore" => is_refused(full_undo(alloc), name),
+        "Mq::restore" => is_refused(full_mq(alloc), name),
+        "Descriptors::restore" => is_refused(full_descriptors(alloc), name),
+        "KeyDir::reserve" => is_refused(Ok(KeyDir::new(alloc)), name),
+        "NameDir::reserve" => is_refused(Ok(NameDir::new(alloc)), name),
+        "WaitList::reserve" => is_refused(Ok(WaitList::<u32, u32>::new(alloc)), name),
+        "Arrivals::reserve" => is_refused(arrivals(alloc), name),
+        "ObjectMap::push" => is_refused(Ok(ObjectMap::new(alloc)), name),
         _ => Err(Fault::Usage),
     }
+}
+
+fn arrivals(alloc: Global) -> Result<Arrivals<Message>, Fault> {
+    Ok(Arrivals::with_places(alloc, 4)?)
 }
 
 fn full_queue(alloc: Global) -> Result<MsgQueue, Fault> {
@@ -65,13 +70,12 @@ fn full_queue(alloc: Global) -> Result<MsgQueue, Fault> {
 impl Subject for MsgQueue {
     fn call(&mut self, _name: &str) -> Result<(), Fault> {
         let message = Message::new(self.allocator(), 1, b"")?;
-        self.restore(message)?;
-        Ok(())
+        done(self.restore(message))
     }
 
-    fn tells(&self, alloc: Global) -> Result<Vec<u8>, Fault> {
+    fn tells(&self) -> Seen {
         let stat = self.stat();
-        told(alloc, &[stat.qnum as u64, stat.ctime.0])
+        filled(&[stat.qnum as u64, stat.ctime.0])
     }
 }
 
@@ -81,12 +85,11 @@ impl Subject for SemSet {
             value: 3,
             pid: Pid(1),
         };
-        self.restore(semaphore)?;
-        Ok(())
+        done(self.restore(semaphore))
     }
 
-    fn tells(&self, alloc: Global) -> Result<Vec<u8>, Fault> {
-        told(alloc, &[self.stat().nsems as u64, self.stat().ctime.0])
+    fn tells(&self) -> Seen {
+        filled(&[self.stat().nsems as u64, self.stat().ctime.0])
     }
 }
 
@@ -108,13 +111,12 @@ fn adjustment(num: u16) -> UndoRow {
 
 impl Subject for SemUndo {
     fn call(&mut self, _name: &str) -> Result<(), Fault> {
-        self.restore(adjustment(ADJUSTMENTS))?;
-        Ok(())
+        done(self.restore(adjustment(ADJUSTMENTS)))
     }
 
-    fn tells(&self, alloc: Global) -> Result<Vec<u8>, Fault> {
+    fn tells(&self) -> Seen {
         let last = u64::from(self.get(Id(1), ADJUSTMENTS).unsigned_abs());
-        told(alloc, &[self.rows().len() as u64, last])
+        filled(&[self.rows().len() as u64, last])
     }
 }
 
@@ -129,12 +131,11 @@ fn full_mq(alloc: Global) -> Result<Mq, Fault> {
 impl Subject for Mq {
     fn call(&mut self, _name: &str) -> Result<(), Fault> {
         let message = posix_mq::Message::new(self.allocator(), 1, b"")?;
-        self.restore(message)?;
-        Ok(())
+        done(self.restore(message))
     }
 
-    fn tells(&self, alloc: Global) -> Result<Vec<u8>, Fault> {
-        told(alloc, &[self.len() as u64, u64::from(self.attr().maxmsg)])
+    fn tells(&self) -> Seen {
+        filled(&[self.len() as u64, u64::from(self.attr().maxmsg)])
     }
 }
 
@@ -156,12 +157,11 @@ fn descriptor() -> Descriptor {
 
 impl Subject for Descriptors {
     fn call(&mut self, _name: &str) -> Result<(), Fault> {
-        self.restore(DESCRIPTORS, descriptor())?;
-        Ok(())
+        done(self.restore(DESCRIPTORS, descriptor()))
     }
 
-    fn tells(&self, alloc: Global) -> Result<Vec<u8>, Fault> {
-        told(alloc, &[self.rows().len() as u64])
+    fn tells(&self) -> Seen {
+        filled(&[self.rows().len() as u64])
     }
 }
 
@@ -170,12 +170,11 @@ impl Subject for KeyDir {
         if self.find(7).is_some() {
             return Err(Fault::Unready);
         }
-        self.reserve(7)?;
-        Ok(())
+        done(self.reserve(7))
     }
 
-    fn tells(&self, alloc: Global) -> Result<Vec<u8>, Fault> {
-        told(alloc, &[u64::from(self.find(7).is_some())])
+    fn tells(&self) -> Seen {
+        filled(&[u64::from(self.find(7).is_some())])
     }
 }
 
@@ -184,34 +183,31 @@ impl Subject for NameDir {
         if self.find(b"/q").is_some() {
             return Err(Fault::Unready);
         }
-        self.reserve(b"/q")?;
-        Ok(())
+        done(self.reserve(b"/q"))
     }
 
-    fn tells(&self, alloc: Global) -> Result<Vec<u8>, Fault> {
-        told(alloc, &[u64::from(self.find(b"/q").is_some())])
+    fn tells(&self) -> Seen {
+        filled(&[u64::from(self.find(b"/q").is_some())])
     }
 }
 
 impl Subject for WaitList<u32, u32> {
     fn call(&mut self, _name: &str) -> Result<(), Fault> {
-        self.reserve(4)?;
-        Ok(())
+        done(self.reserve(4))
     }
 
-    fn tells(&self, alloc: Global) -> Result<Vec<u8>, Fault> {
-        told(alloc, &[self.len() as u64])
+    fn tells(&self) -> Seen {
+        filled(&[self.len() as u64])
     }
 }
 
 impl Subject for Arrivals<Message> {
     fn call(&mut self, _name: &str) -> Result<(), Fault> {
-        self.reserve(8)?;
-        Ok(())
+        done(self.reserve(8))
     }
 
-    fn tells(&self, alloc: Global) -> Result<Vec<u8>, Fault> {
-        told(alloc, &[self.len() as u64])
+    fn tells(&self) -> Seen {
+        filled(&[self.len() as u64])
     }
 }
 
@@ -220,11 +216,10 @@ impl Subject for ObjectMap {
         if !self.is_next(7) || self.count() > 8 {
             return Err(Fault::Unready);
         }
-        self.push(7, b"bytes")?;
-        Ok(())
+        done(self.push(7, b"bytes"))
     }
 
-    fn tells(&self, alloc: Global) -> Result<Vec<u8>, Fault> {
-        told(alloc, &[u64::from(self.count())])
+    fn tells(&self) -> Seen {
+        filled(&[u64::from(self.count())])
     }
 }

@@ -1,7 +1,7 @@
 //! Calls of a state that make room in it: for what a call needs, or for what is read from a device.
 
 use crate::fault::Fault;
-use crate::refused::{Subject, told};
+use crate::refused::{Seen, Subject, done};
 use ipc_base::{Cred, Id, Limits, Moment, Pid};
 use ipc_keys::Name;
 use ipc_perm::Perm;
@@ -68,8 +68,7 @@ fn restore_process(state: &mut State, pid: u32) -> Result<(), Fault> {
         cred: CRED,
         descriptors: Descriptors::new(state.allocator())?,
     };
-    state.restore_process(Pid(pid), process)?;
-    Ok(())
+    done(state.restore_process(Pid(pid), process))
 }
 
 fn adjustment(num: u16) -> UndoRow {
@@ -83,25 +82,39 @@ fn adjustment(num: u16) -> UndoRow {
 impl Subject for State {
     fn call(&mut self, name: &str) -> Result<(), Fault> {
         match name {
-            "State::reserve_process" => self.reserve_process()?,
-            "State::reserve_msg_queue" => self.reserve_msg_queue(7)?,
-            "State::reserve_semset" => self.reserve_semset(7, 4)?,
-            "State::reserve_mq" => self.reserve_mq(b"/q")?,
-            "State::reserve_psem" => self.reserve_psem(b"/s")?,
-            "State::reserve_pshm" => self.reserve_pshm(b"/m")?,
-            "State::reserve_zeros" => self.reserve_zeros(64)?,
-            "State::reserve_waits" => self.reserve_waits()?,
-            "sysv_calls::reserve" => reserve(self, MSGGET)?,
-            "posix_calls::reserve" => reserve(self, MQ_OPEN)?,
-            _ => restore(self, name)?,
+            "State::reserve_process" => done(self.reserve_process()),
+            "State::reserve_msg_queue" => done(self.reserve_msg_queue(7)),
+            "State::reserve_semset" => done(self.reserve_semset(7, 4)),
+            "State::reserve_mq" => done(self.reserve_mq(b"/q")),
+            "State::reserve_psem" => done(self.reserve_psem(b"/s")),
+            "State::reserve_pshm" => done(self.reserve_pshm(b"/m")),
+            "State::reserve_zeros" => done(self.reserve_zeros(64)),
+            "State::reserve_waits" => done(self.reserve_waits()),
+            "sysv_calls::reserve" => reserve(self, MSGGET),
+            "posix_calls::reserve" => reserve(self, MQ_OPEN),
+            _ => restore(self, name),
         }
-        Ok(())
     }
 
-    fn tells(&self, alloc: Global) -> Result<Vec<u8>, Fault> {
-        let mut bytes = told(alloc, &counts(self))?;
-        bytes.extend_from_slice(&told(alloc, &nexts(self))?)?;
-        Ok(bytes)
+    /// How many there are of each part; the clock, and the next number of each that has numbers.
+    fn tells(&self) -> Seen {
+        [
+            self.processes().len() as u64,
+            self.waits().len() as u64,
+            adjustments(self),
+            self.msg_queues().len() as u64,
+            self.semsets().len() as u64,
+            self.mqs().len() as u64,
+            self.psems().items().len() as u64,
+            self.pshms().items().len() as u64,
+            self.clock().0,
+            u64::from(self.next_pid()),
+            u64::from(self.next_msg_queue()),
+            u64::from(self.next_semset()),
+            u64::from(self.next_mq()),
+            u64::from(self.psems().next()),
+            u64::from(self.pshms().next()),
+        ]
     }
 }
 
@@ -110,33 +123,31 @@ fn reserve(state: &mut State, text: &[u8]) -> Result<(), Fault> {
     let alloc = state.allocator();
     let request = read_request(text).ok_or(Fault::Unready)?;
     if text == MSGGET {
-        drop(sysv_calls::reserve(state, alloc, &request)?);
+        done(sysv_calls::reserve(state, alloc, &request))
     } else {
-        drop(posix_calls::reserve(state, alloc, &request)?);
+        done(posix_calls::reserve(state, alloc, &request))
     }
-    Ok(())
 }
 
 /// Adds what is read from a device.
 fn restore(state: &mut State, name: &str) -> Result<(), Fault> {
     let alloc = state.allocator();
     match name {
-        "State::restore_process" => restore_process(state, 2)?,
-        "State::restore_no_adjustments" => state.restore_no_adjustments()?,
+        "State::restore_process" => restore_process(state, 2),
+        "State::restore_no_adjustments" => done(state.restore_no_adjustments()),
         "State::restore_adjustment" => {
-            state.restore_adjustment(Pid(1), adjustment(ADJUSTMENTS))?;
+            done(state.restore_adjustment(Pid(1), adjustment(ADJUSTMENTS)))
         }
         "State::restore_msg_queue" => {
             let queue = MsgQueue::new(alloc, 128, Moment(1))?;
-            state.restore_msg_queue(Id(1), keyed(queue))?;
+            done(state.restore_msg_queue(Id(1), keyed(queue)))
         }
         "State::restore_semset" => {
             let set = SemSet::new(alloc, 4, Moment(1))?;
-            state.restore_semset(Id(1), keyed(set))?;
+            done(state.restore_semset(Id(1), keyed(set)))
         }
-        _ => restore_named(state, name)?,
+        _ => restore_named(state, name),
     }
-    Ok(())
 }
 
 /// Adds an object with a name.
@@ -145,19 +156,18 @@ fn restore_named(state: &mut State, name: &str) -> Result<(), Fault> {
     match name {
         "State::restore_mq" => {
             let queue = Mq::new(alloc, 2, 64)?;
-            state.restore_mq(1, named(Name::new(alloc, b"/q")?, queue))?;
+            done(state.restore_mq(1, named(Name::new(alloc, b"/q")?, queue)))
         }
         "State::restore_psem" => {
             let semaphore = NamedSem::new(1);
-            state.restore_psem(1, named(Name::new(alloc, b"/s")?, semaphore))?;
+            done(state.restore_psem(1, named(Name::new(alloc, b"/s")?, semaphore)))
         }
         "State::restore_pshm" => {
             let segment = Segment::zeroed(alloc, 10)?;
-            state.restore_pshm(1, named(Name::new(alloc, b"/m")?, segment))?;
+            done(state.restore_pshm(1, named(Name::new(alloc, b"/m")?, segment)))
         }
-        _ => return Err(Fault::Usage),
+        _ => Err(Fault::Usage),
     }
-    Ok(())
 }
 
 fn keyed<T>(object: T) -> KeyedEntry<T> {
@@ -176,20 +186,6 @@ fn named<T>(name: Name, object: T) -> NamedEntry<T> {
     }
 }
 
-/// How many there are of each part.
-fn counts(state: &State) -> [u64; 8] {
-    [
-        state.processes().len() as u64,
-        state.waits().len() as u64,
-        adjustments(state),
-        state.msg_queues().len() as u64,
-        state.semsets().len() as u64,
-        state.mqs().len() as u64,
-        state.psems().items().len() as u64,
-        state.pshms().items().len() as u64,
-    ]
-}
-
 /// How many adjustments all processes have.
 fn adjustments(state: &State) -> u64 {
     let mut count: u64 = 0;
@@ -197,17 +193,4 @@ fn adjustments(state: &State) -> u64 {
         count = count.saturating_add(item.value.rows().len() as u64);
     }
     count
-}
-
-/// The clock, and the next number of each that has numbers.
-fn nexts(state: &State) -> [u64; 7] {
-    [
-        state.clock().0,
-        u64::from(state.next_pid()),
-        u64::from(state.next_msg_queue()),
-        u64::from(state.next_semset()),
-        u64::from(state.next_mq()),
-        u64::from(state.psems().next()),
-        u64::from(state.pshms().next()),
-    ]
 }
