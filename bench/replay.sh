@@ -25,7 +25,7 @@ groups=${2:-20}
 folder=${TMPDIR:-/tmp}/ipcd-bench.$$
 scripts=$(dirname "$0")/scripts.awk
 
-# Runs in a group on each device: one without lines takes some 25 milliseconds on the standard device, and less than one
+# Runs in a group on each device: one without lines takes some 110 milliseconds on the standard device, and less than one
 # on the small one. Groups are small, so that both scripts meet the same load of the machine.
 many_standard=12
 many_small=150

@@ -2,9 +2,9 @@
 file, makes an object of each kind, and finds them after the server was killed:
 
     $ ipcd format device
-    formatted 45830 sectors
+    formatted 252440 sectors
     $ ipcd serve device socket &
-    serving device, 45830 sectors, on socket, standard limits
+    serving device, 252440 sectors, on socket, standard limits
     $ python3
     >>> from client import *
     >>> with Connection("socket") as connection:
@@ -30,7 +30,7 @@ file, makes an object of each kind, and finds them after the server was killed:
     psm 0600       1000        100          2 /ready
     shm 0600       1000        100       4096 /table
     $ ipcd serve device socket &
-    serving device, 45830 sectors, on socket, standard limits
+    serving device, 252440 sectors, on socket, standard limits
     $ python3
     >>> from client import *
     >>> with Connection("socket") as connection:

@@ -23,7 +23,7 @@ from errno import EAGAIN, ENFILE, ENOMSG
 
 from client import *
 
-LONGEST = 8192  # bytes of a message
+LONGEST = 65536  # bytes of a message
 
 
 def process(socket: str, uid: int = 0, gid: int = 0) -> Connection:

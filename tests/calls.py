@@ -27,6 +27,7 @@ from device_layout import (  # noqa: E402
     clock,
     need_of,
     processes,
+    put_into_file,
     state,
 )
 from server import (  # noqa: E402
@@ -89,7 +90,7 @@ def formats() -> None:
 
 def formats_refused() -> None:
     """Each call of a format in turn. It says so, and a sync that was refused is not tried again."""
-    zeros = SIZE // 4096
+    zeros = -(-SIZE // 4096)
     rows = [("pwrite", number, errno.ENOSPC) for number in (1, 2, *range(zeros, zeros + 6))]
     rows += [("fsync", 1, errno.EIO), *(("fdatasync", number, errno.EIO) for number in (1, 2, 3))]
     for name, number, error in rows:
@@ -241,7 +242,7 @@ def keeps_one_of(wanted: list[str], fresh: bytes, name: str) -> None:
         disk.does(call)
     for lost in ("", ", and the power lost"):
         if lost:
-            Path("device").write_bytes(disk.lasting)
+            put_into_file("device", disk.lasting)
         found = printed("dump", "device")
         check(found in wanted, f"with {name} refused{lost}: {found!r} is kept")
 
@@ -301,7 +302,7 @@ def failing_saves() -> None:
     printed("format", "fresh")
     fresh = Path("fresh").read_bytes()
     for name, number, error, done in SAVES:
-        Path("device").write_bytes(fresh)
+        put_into_file("device", fresh)
         with watched(f"{name} {number} {error}", place=OBJECTS * SECTOR):
             server = Server()
         try:

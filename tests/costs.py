@@ -28,12 +28,12 @@ sys.dont_write_bytecode = True
 from device_layout import (  # noqa: E402
     BODY,
     OBJECTS,
-    ONE,
     QUEUE_KIND,
     RESTART,
     ROOT,
     SECTOR,
     STANDARD,
+    TWO,
     Device,
     Heap,
     Queue,
@@ -42,6 +42,7 @@ from device_layout import (  # noqa: E402
     clock,
     connect,
     processes,
+    put_into_file,
     read,
     request,
     sectors_of,
@@ -141,9 +142,8 @@ def waits_if_nothing_is_left(them: list[Call]) -> None:
 
 
 def waits() -> None:
-    """While a client has more there is none: after requests of 82 kB, of which a turn takes what fits into a batch,
-    three in 7 reads of 4096 bytes, and after 100 connections, of which it takes 64. There is one while a client has
-    sent and does not read."""
+    """While a client has more there is none: after requests of 82 kB, of which a turn takes 16 reads of 4096 bytes, and
+    after 100 connections, of which it takes 64. There is one while a client has sent and does not read."""
     printed("format", "device")
     with watched(most=0), serving() as server, process() as client:
         queue = client.msgget(1, IPC_CREAT | 0o600)
@@ -153,7 +153,8 @@ def waits() -> None:
         client.send_bytes(10 * send)
         many = [Client() for _ in range(100)]
         server.process.send_signal(signal.SIGCONT)
-        client.is_answered(2 * reply(7, 0) + 8 * reply(7, errno.EAGAIN))
+        # A queue has room for eight of them.
+        client.is_answered(8 * reply(7, 0) + 2 * reply(7, errno.EAGAIN))
         many[-1].hello(1, 1)
         pair = frame(7, msgrcv_request(queue, 8192)) + send
         client._socket.setblocking(False)
@@ -173,7 +174,7 @@ def waits() -> None:
     them = calls()
     waits_if_nothing_is_left(them)
     reads = [sum(call.name == "recv" and call.result == 4096 for call in turn) for turn in turns_of(them)]
-    check(max(reads) == 7, f"the most reads in a turn are {max(reads)}")
+    check(max(reads) == 16, f"the most reads in a turn are {max(reads)}")
     accepts = [sum(call.name == "accept4" and call.result >= 0 for call in turn) for turn in turns_of(them)]
     check(max(accepts) == 64, f"the most connections in a turn are {max(accepts)}")
 
@@ -198,7 +199,7 @@ def clients_beyond_the_hundredth() -> None:
 
 
 def commits() -> None:
-    """One makes two writes and two syncs, however long its batch is, and reads nothing. The batch of a short
+    """One makes two writes and two syncs, if its batch has at most 64 sectors, and reads nothing. The batch of a short
     request is the tick of its turn, its client's, and itself: 68 bytes and the text, so that 444 bytes of text take
     one sector, and 445 two. A long one has a tick more for each further read of 4096 bytes."""
     printed("format", "device")
@@ -231,7 +232,7 @@ def commits() -> None:
 EMPTY = ((1, b""),)
 BYTES = ((1, b"x"),)
 LONG = tuple((1, bytes([65 + number]) * 8192) for number in (0, 1))
-# The most that 32 queues may hold: of texts of 8192 bytes two, of none or a byte 16384.
+# As much as 32 queues of 16384 bytes may hold: of texts of 8192 bytes two, of none or a byte 16384.
 BOUNDS = {number: LONG if number < 12 else 16384 * (EMPTY if number < 23 else BYTES) for number in range(1, 33)}
 
 
@@ -287,7 +288,7 @@ def open_and_save(them: list[Call], device: Device, written: int) -> None:
     reads = [call for call in them if call.name == "pread"]
     places = sorted(place for call in reads for place in range(call.sector, call.sector + call.result // SECTOR))
     taken = taken_of(device)
-    wanted = [0, 1, 3, *range(BODY, BODY + 256), *range(OBJECTS, OBJECTS + taken)]
+    wanted = [0, ROOT, 3, *range(BODY, BODY + 256), *range(OBJECTS, OBJECTS + taken)]
     check(places == wanted, f"an open reads {len(places)} sectors, and not {len(wanted)} once each")
     saves_in_pieces(first_save(them), (OBJECTS + taken, written))
 
@@ -298,13 +299,13 @@ def queues_at_their_bounds() -> None:
     for changes in True, False:
         device = full_device(BOUNDS, changes)
         taken, table = taken_of(device), len(device.chain)
-        Path("device").write_bytes(device.image)
+        put_into_file("device", device.image)
         with watched(most=0):
             check(printed("dump", "device") == rows_of(BOUNDS), "the device lists something else")
         them = calls()
         follows("SO+SRS[Pc]*", them)
         open_and_save(them, device, taken if changes else 4 + table)
-    Path("device").write_bytes(device.image)
+    put_into_file("device", device.image)
     with watched(most=0), serving(), process() as client:
         # Each queue changes by this, in 240 sectors of the journal: a receive and a short text have one each, a text of
         # 8192 bytes has 17.
@@ -328,13 +329,13 @@ def cost_of_a_save(each: int) -> float:
     """Of 32 queues of so many messages: the calls are as they should be. Answers the least seconds of the processor
     for an open and a save, of three."""
     device = full_device({number: each * EMPTY for number in range(1, 33)})
-    Path("device").write_bytes(device.image)
+    put_into_file("device", device.image)
     with watched(most=0):
         printed("dump", "device")
     open_and_save(calls(), device, taken_of(device))
     least = float("inf")
     for _ in range(3):
-        Path("device").write_bytes(device.image)
+        put_into_file("device", device.image)
         before = resource.getrusage(resource.RUSAGE_CHILDREN)
         printed("dump", "device")
         after = resource.getrusage(resource.RUSAGE_CHILDREN)
@@ -355,11 +356,12 @@ def saves_grow_with_the_messages() -> None:
 # time what has eight times the rows. The second is more where eight times the messages take more than eight times as
 # long, and is not asked of what takes no more a byte than they: what fits into a processor's cache is faster.
 A_BYTE, EIGHT_TIMES = 4, 10
-# Two runs of one script differ by so many seconds of the processor beside other work, however small what they save is.
-SPREAD = 0.02
+# Two runs of one script differ by so many seconds of the processor beside other work, however small what they save is:
+# each makes a standard device in memory, 129 MB, which takes a tenth of a second and more.
+SPREAD = 0.05
 # Seconds of a save of the most adjustments that there may be.
 ADJUSTMENTS = 0.005
-ROUNDS = 4
+ROUNDS = 6
 
 
 def asks(connection: int, *requests: bytes) -> str:
@@ -374,7 +376,7 @@ def connected(many: int) -> list[str]:
 
 
 def messages(parts: int) -> list[str]:
-    """Two queues that are full of messages of a byte, if all parts are there."""
+    """Two queues, of 16384 messages of a byte if all parts are there."""
     make = asks(1, *2 * [msgget_request(0, IPC_CREAT | 0o600)])
     return [*connected(1), make, *(asks(1, *2048 * parts * [msgsnd_request(number, 1, b"x")]) for number in (1, 2))]
 
@@ -410,7 +412,7 @@ def descriptors(parts: int) -> list[str]:
 def calls_that_wait(parts: int) -> list[str]:
     """Each to send 8192 bytes to a queue that is full."""
     send = msgsnd_request(1, 1, 8192 * b"x")
-    fill = asks(1, msgget_request(0, IPC_CREAT | 0o600), send, send)
+    fill = asks(1, msgget_request(0, IPC_CREAT | 0o600), *8 * [send])
     return [*connected(8 * parts), fill, *(asks(number, send) for number in range(1, 8 * parts + 1))]
 
 
@@ -528,7 +530,7 @@ def lengths_of(lines: list[str]) -> tuple[int, int]:
     _, output = run_script(lines, "run", "device")
     answers = [line.split()[1] for line in output.splitlines()]
     check(all(answer[16:20] == "0000" for answer in answers), f"a script is answered {answers[:3]}..")
-    placed = Heap(memoryview(Path("device").read_bytes()), ONE).placed
+    placed = Heap(memoryview(Path("device").read_bytes()), TWO).placed
     return sum(one.length for one in placed[:4]), sum(one.length for one in placed[4:])
 
 
@@ -631,7 +633,7 @@ def sectors_beside_much() -> None:
     sectors it takes one; with 31 queues in 32 sectors each and a segment in 2049, of 3046 sectors in all, it has 12780
     bytes and takes 26. So there it is 16 KiB that is written; 64 are allowed."""
     for much, table in (False, 1), (True, 26):
-        Path("device").write_bytes(device_beside(much).image)
+        put_into_file("device", device_beside(much).image)
         with watched(most=0):
             run_script([*connected(1), *SEND], "run", "device")
         them = calls()
@@ -652,7 +654,7 @@ class SaveTimes:
     def measure(self) -> float:
         """Of a send and a save."""
         for many in self.least:
-            Path("device").write_bytes(self.image)
+            put_into_file("device", self.image)
             taken, _ = run_script([*connected(1), *many * SEND], "run", "device")
             self.least[many] = min(self.least[many], taken)
         return (self.least[SAVES] - self.least[0]) / SAVES

@@ -58,7 +58,7 @@ Objects = list[tuple[int, bytes]]
 ROWS: tuple[tuple[str, tuple[tuple[int, int, bytes], ...], str], ...] = (
     ("the first byte", ((0, 0, b"i"),), "not formatted"),
     ("version 7", ((0, 8, b"\0\0\0\7"),), "version 7"),
-    ("449 sectors", ((0, 12, b"\0\0\1\xc1"),), "damaged sector 0"),
+    ("1367 sectors", ((0, 12, b"\0\0\5\x57"),), "damaged sector 0"),
     ("a root of zeros", ((ROOT, 0, bytes(16)),), f"damaged sector {ROOT}"),
     ("a journal of epoch 2", ((JOURNAL, 7, b"\2"),), "damaged sector 3"),
     ("257 used sectors", ((JOURNAL, 8, b"\0\0\1\1"),), "damaged sector 3"),
@@ -83,7 +83,7 @@ def of_tables() -> bytes:
     queues = {number: Queue(257 * number + 256) for number in range(1, 33)}
     sets = {number: Set(257 * number + 256) for number in range(1, 33)}
     limits = SMALL._replace(msgmni=32, semmni=32, semmns=32)
-    device = Device(limits, 800).save(2, state(clock(5, 2, 33, 33), processes((1, 0, 100)), queues, sets))
+    device = Device(limits).save(2, state(clock(5, 2, 33, 33), processes((1, 0, 100)), queues, sets))
     check(len(device.chain) == 3, "a table of three sectors")
     return bytes(device.image)
 
@@ -124,7 +124,7 @@ def in_sectors(kind: str, length: int, sectors: list[int] | range | tuple[int, .
 
 def parts_of(image: bytes) -> Iterator[Part]:
     content, at = read(image), BODY
-    yield from (Part("superblock", 0, 100), Part("root", ROOT, 16), Part("journal", JOURNAL, 12))
+    yield from (Part("superblock", 0, 112), Part("root", ROOT, 16), Part("journal", JOURNAL, 12))
     for records in content.batches:
         length = 4 + sum(4 + len(one) for one in records)
         sectors = range(at, at - -length // SECTOR)

@@ -52,12 +52,15 @@ from device_layout import (  # noqa: E402
     JOURNAL,
     LAST_EPOCH,
     LAST_NUMBER,
+    ONE,
     QUEUE_KIND,
     RESTART,
     ROOT,
     SECTOR,
     SMALL,
+    SMALL_OF_ONE,
     STANDARD,
+    STANDARD_OF_ONE,
     START,
     Device,
     Limits,
@@ -78,6 +81,7 @@ from device_layout import (  # noqa: E402
     msgsnd,
     need_of,
     processes,
+    read,
     request,
     root,
     semctl_getall,
@@ -105,6 +109,10 @@ from device_runs import (  # noqa: E402
     NEW_ROOT,
     NEW_SECTORS,
     NUMBERS,
+    OLD_CLOCK,
+    OLD_SMALL_SUPERBLOCK,
+    OLD_STANDARD_SUPERBLOCK,
+    OLD_TABLE,
     PROGRAM,
     RESTART_RECORD,
     SAVED_QUEUE,
@@ -117,6 +125,7 @@ from device_runs import (  # noqa: E402
     Check,
     check,
     errored,
+    fault_of,
     good,
     ipcd,
     is_image,
@@ -133,6 +142,7 @@ from device_runs import (  # noqa: E402
     sends,
     stops_at,
 )
+from device_system_v import system_v  # noqa: E402
 from device_undo import undo  # noqa: E402
 
 # ---- the writer
@@ -143,9 +153,10 @@ def spelled() -> None:
     one = state(clock(9, 2, 2), processes((1, 1000, 100)), {1: SAVED_QUEUE})
     requests = (request(0, 1, msgget(4, 1234)), request(0, 1, msgsnd(4, 1, 5, 500 * b"\7")))
     pairs = (
-        (superblock(SMALL, 448), SMALL_SUPERBLOCK),
-        (superblock(STANDARD, 45830), STANDARD_SUPERBLOCK),
-        (sector(Device().image, 1), NEW_ROOT.ljust(SECTOR, b"\0")),
+        (superblock(SMALL, 1366), SMALL_SUPERBLOCK),
+        (superblock(STANDARD, 252440), STANDARD_SUPERBLOCK),
+        (sector(Device().image, 1), bytes(SECTOR)),
+        (sector(Device().image, 2), NEW_ROOT.ljust(SECTOR, b"\0")),
         (sector(Device().image, 3), NEW_HEADER.ljust(SECTOR, b"\0")),
         *((sector(Device().image, at), data.ljust(SECTOR, b"\0")) for at, data in NEW_SECTORS.items()),
         (bytes(good().save(2, one).image), bytes(saved().image)),
@@ -162,8 +173,53 @@ def spelled() -> None:
     )
     for number, (found, wanted) in enumerate(pairs):
         check(found == wanted, f"the writer's bytes {number}: {found.hex()}")
-    check((area_of(SMALL), need_of(SMALL)) == (94, 448), "small sizes")
-    check((area_of(STANDARD), need_of(STANDARD)) == (22785, 45830), "standard sizes")
+    check((area_of(SMALL), need_of(SMALL)) == (553, 1366), "small sizes")
+    check((area_of(STANDARD), need_of(STANDARD)) == (126090, 252440), "standard sizes")
+
+
+# ---- devices of version 1
+
+LONG_QUEUE = Queue(1234, 2 * ((5, 8192 * b"x"),), qbytes=16384)
+
+
+def old(limits: Limits = SMALL_OF_ONE) -> Device:
+    return Device(limits, version=ONE)
+
+
+def spelled_old() -> None:
+    """A new device of version 1 is the one that is spelled by hand, and sizes are those that version 1 had."""
+    parts = {0: OLD_SMALL_SUPERBLOCK, 1: NEW_ROOT, 3: NEW_HEADER, **NEW_SECTORS, 260: OLD_CLOCK, 264: OLD_TABLE}
+    wanted = bytearray(448 * SECTOR)
+    for at, data in parts.items():
+        wanted[SECTOR * at : SECTOR * at + len(data)] = data
+    is_image(old().image, wanted, "a device of version 1")
+    check(superblock(STANDARD_OF_ONE, 45830, ONE) == OLD_STANDARD_SUPERBLOCK, "the superblock of version 1")
+    for limits, sizes in (SMALL_OF_ONE, (94, 448)), (STANDARD_OF_ONE, (22785, 45830)):
+        check((area_of(limits, ONE), need_of(limits, ONE)) == sizes, f"sizes of version 1: {limits}")
+
+
+def old_ones() -> Iterator[Check]:
+    """The program opens none of version 1, whatever stands on it, and leaves its file as it was. The checker of version
+    1 reads what the writer has written, and refuses version 2."""
+    yield spelled_old
+    objects = state(clock(9, 2, 2, version=ONE), processes((1, 1000, 100)), {1: SAVED_QUEUE})
+    saved_one = old().save(2, objects).journal(2, batch(request(9, 1, msgsnd(4, 1, 5, b"more"))))
+    objects[4] = (QUEUE_KIND + 1, LONG_QUEUE.data())
+    for name, device in {
+        "a new device": old(),
+        "a device with a queue": saved_one,
+        "a standard device": old(STANDARD_OF_ONE).save(2, objects),
+    }.items():
+        yield partial(refuses, device.image, "version 1", f"{name} of version 1", "dump", "run")
+        yield partial(is_read_as_one, device, name)
+    grown = bytes(saved_one.image).ljust(1366 * SECTOR, b"\0")
+    yield partial(refuses, grown, "version 1", "a device of version 1 that has grown")
+
+
+def is_read_as_one(device: Device, name: str) -> None:
+    found = read(device.image, ONE)
+    check((found.placed, found.limits) == (device.placed, device.limits), f"{name} is read as another one")
+    check(fault_of(Device().image, ONE) == "version 2", "a device of version 2 is read as one of version 1")
 
 
 # ---- formats
@@ -178,7 +234,7 @@ def formatted(limits: Limits, sectors: int, *words: str) -> None:
     named = SMALL_SUPERBLOCK if limits == SMALL else STANDARD_SUPERBLOCK
     if sectors != need_of(limits):
         named = superblock(limits, sectors)
-    parts = {0: named, 1: NEW_ROOT, 3: NEW_HEADER, **NEW_SECTORS}
+    parts = {0: named, 2: NEW_ROOT, 3: NEW_HEADER, **NEW_SECTORS}
     image = bytearray(before)
     for at, data in parts.items():
         image[SECTOR * at : SECTOR * (at + 1)] = data.ljust(SECTOR, b"\0")
@@ -194,36 +250,34 @@ def not_formatted(need: int, sectors: int, *words: str) -> None:
 
 
 def formats() -> Iterator[Check]:
-    yield partial(formatted, SMALL, 448, "--small")
-    yield partial(formatted, SMALL, 500, "--small", "--sectors", "500")
-    yield partial(formatted, STANDARD, 45830)
-    yield partial(formatted, STANDARD, 50000, "--sectors", "50000")
-    for sectors in (0, 447):
-        yield partial(not_formatted, 448, sectors, "--small")
-    yield partial(not_formatted, 45830, 45829)
+    yield partial(formatted, SMALL, 1366, "--small")
+    yield partial(formatted, SMALL, 1500, "--small", "--sectors", "1500")
+    yield partial(formatted, STANDARD, 252440)
+    for sectors in (0, 448, 1365):
+        yield partial(not_formatted, 1366, sectors, "--small")
+    for sectors in (45830, 252439):
+        yield partial(not_formatted, 252440, sectors)
 
 
 def largest() -> None:
-    """A device of 4194304 sectors, most of them a hole; and one of 4294967295, whose superblock names others. An open
-    takes memory for each sector that a device has, so none of so many is opened."""
+    """A device of 4194304 sectors, most of them a hole; and a file of 4294967295 whose superblock names these. An open
+    takes memory for each sector that the superblock names, so of a device of so many none is opened."""
     path, sectors = f"device{next(NUMBERS)}", 2**22
-    parts = {0: superblock(STANDARD, sectors), 1: NEW_ROOT, 3: NEW_HEADER, **NEW_SECTORS}
+    parts = {0: superblock(STANDARD, sectors), 2: NEW_ROOT, 3: NEW_HEADER, **NEW_SECTORS}
     with open(path, "xb") as file:
         file.truncate(SECTOR * sectors)
         for at, data in parts.items():
             file.seek(SECTOR * at)
             file.write(data)
-    ended = subprocess.run([PROGRAM, "dump", path], capture_output=True, timeout=120)
-    check((ended.returncode, ended.stdout, ended.stderr) == (0, b"", b""), f"{ended}")
-    with open(path, "r+b") as file:
-        try:
-            file.truncate(SECTOR * (2**32 - 1))
-        except OSError:
-            # A file system without files of two TiB.
-            return
-    ended = subprocess.run([PROGRAM, "dump", path], capture_output=True, timeout=120)
-    wanted = (1, b"", b"ipcd: damaged sector 0\n")
-    check((ended.returncode, ended.stdout, ended.stderr) == wanted, f"{ended}")
+    for length in (2**22, 2**32 - 1):
+        with open(path, "r+b") as file:
+            try:
+                file.truncate(SECTOR * length)
+            except OSError:
+                # A file system without files of two TiB.
+                break
+        ended = subprocess.run([PROGRAM, "dump", path], capture_output=True, timeout=120)
+        check((ended.returncode, ended.stdout, ended.stderr) == (0, b"", b""), f"{length} sectors: {ended}")
     os.unlink(path)
 
 
@@ -345,13 +399,13 @@ def events() -> None:
 
 
 def long_text() -> None:
-    """A text as long as a request may have: its record takes 17 sectors, though it is refused."""
-    text = bytes(number % 251 for number in range(8427))
+    """A text as long as a request may have: its record takes 129 sectors, though it is refused."""
+    text = bytes(number % 251 for number in range(65771))
     script = ["0 open 1", sends(0, 1, hello(1)), sends(0, 1, msgsnd(2, 1, 1, text))]
     first = batch(tick(0), connect(0, 1, 1000, 100))
     second = batch(tick(0), request(0, 1, msgsnd(2, 1, 1, text)))
     wanted = Device().journal(1, batch(RESTART), first, second)
-    check(wanted.image[SECTOR * JOURNAL :][:12] == header(1, 19), "19 sectors")
+    check(wanted.image[SECTOR * JOURNAL :][:12] == header(1, 131), "131 sectors")
     runs(Device(), script, [numbered(1, 1, 1), errored(1, 2, 22)], wanted, "the longest text")
 
 
@@ -399,26 +453,27 @@ def save_of_nothing() -> None:
 
 
 def save_of_much() -> None:
-    """Under standard limits: an object of 600 bytes, and one that fills its queue."""
+    """Texts and queues as long as standard limits have them: an object of 600 bytes, and one that fills its queue."""
+    limits = SMALL._replace(msgmax=STANDARD.msgmax, msgmnb=STANDARD.msgmnb)
     text = bytes(number % 251 for number in range(524))
-    sent = (msgsnd(6, 2, 1, 8192 * b"x"), msgsnd(7, 2, 1, 8192 * b"y"), msgsnd(8, 2, 1, b"z"))
+    sent = (msgsnd(6, 2, 1, 65536 * b"x"), msgsnd(7, 2, 1, b""), msgsnd(8, 2, 1, b"z"))
     frames = (msgget(5, 0), *sent)
     frames = (msgsnd(4, 1, 5, text), *frames)
     script = [*FIRST_QUEUE, *(sends(9, 1, frame) for frame in frames), "save", "save"]
     printed = [*FIRST_REPLIES, errored(1, 4, 0), numbered(1, 5, 2)]
     printed += [errored(1, 6, 0), errored(1, 7, 0), errored(1, 8, 11)]
     asked = [request(9, 1, frame) for frame in frames]
-    one = Queue(1234, ((5, text),), times=(9, 0, 3), pids=(1, 0), qbytes=16384)
-    full = ((1, 8192 * b"x"), (1, 8192 * b"y"))
-    two = Queue(0, full, times=(9, 0, 9), pids=(1, 0), qbytes=16384)
+    one = Queue(1234, ((5, text),), times=(9, 0, 3), pids=(1, 0), qbytes=65536)
+    full = ((1, 65536 * b"x"), (1, b""))
+    two = Queue(0, full, times=(9, 0, 9), pids=(1, 0), qbytes=65536)
     check(len(one.data()) == 600, "an object of 600 bytes")
     objects = state(clock(9, 2, 3), processes((1, 1000, 100)), {1: one, 2: two})
-    new = Device(STANDARD)
+    new = Device(limits)
     wanted = new.copy().journal(1, *first_queue(*(batch(tick(9), one) for one in asked)))
     wanted.save(2, objects).save(3, objects, unchanged=(QUEUE_KIND + 1, QUEUE_KIND + 2))
-    # 39 sectors of objects and one of their table from 265 to 304; then the queues stay, from 269 to 303.
-    check(wanted.image[SECTOR * ROOT :][:16] == root(3, 264, 256), "the table is in sector 264")
-    runs(new, script, printed, wanted, "saves under standard limits")
+    # 135 sectors of objects and two of their table from 265 to 401; then the queues stay, from 269 to 399.
+    check(wanted.image[SECTOR * ROOT :][:16] == root(3, 264, 640), "the table begins in sector 264")
+    runs(new, script, printed, wanted, "saves of long texts")
     opens(wanted.image, row(1, one) + row(2, two), "what they have saved")
 
 
@@ -442,7 +497,7 @@ def last_commit(length: int, fits: bool) -> None:
         objects = state(clock(0, 2, 1), processes((1, 1000, 100)), {})
         wanted.save(2, objects).put(JOURNAL, 0, header(2, 1))
         wanted.put(BODY, 0, batch(tick(0)).ljust(SECTOR, b"\0"))
-        check(wanted.image[SECTOR:][:16] == root(2, 269, 84), "a table of 84 bytes")
+        check(sector(wanted.image, ROOT)[:16] == root(2, 269, 84), "a table of 84 bytes")
     printed = [numbered(1, 1, 1), errored(1, 2, 22)]
     runs(full(used=253), script, printed, wanted, f"a last commit of {length} bytes")
 
@@ -542,7 +597,7 @@ def journal_of_all() -> None:
     device = good().put(JOURNAL, 8, b"\0\0\1\0")
     objects = state(clock(0, 2, 2), processes(), {1: GOOD_QUEUE})
     wanted = device.copy().save(2, objects)
-    check(wanted.image[SECTOR:][:16] == root(2, 270, 104), "a table of 104 bytes")
+    check(sector(wanted.image, ROOT)[:16] == root(2, 270, 104), "a table of 104 bytes")
     runs(device, [], [], wanted, "a journal that counts all its sectors")
     image = device.put(259, 3, b"\1").image
     refuses(image, "damaged sector 259", "a byte in the last sector of the body")
@@ -573,7 +628,7 @@ def last_sector() -> None:
     wanted = device.copy().put(BODY + 254, 0, batch(RESTART)).put(BODY + 255, 0, batch(tick(0)))
     wanted.put(JOURNAL, 0, header(LAST_EPOCH, 256))
     stops_at(device, ["0 tick", "0 tick"], [], wanted)
-    refuses(wanted.image, "damaged sector 1", "the end of the last epoch", "dump", "run")
+    refuses(wanted.image, "damaged sector 2", "the end of the last epoch", "dump", "run")
 
 
 def last_turn() -> None:
@@ -595,6 +650,7 @@ def checks() -> Generator[Check, None, None]:
     yield largest
     yield as_many_calls_as_may_be
     yield from formats()
+    yield from old_ones()
     yield from (shows, keeps_owners, no_more_pids, sets, events, long_text, save, save_of_nothing)
     yield partial(last_commit, 512, True)
     yield partial(last_commit, 513, False)
@@ -613,6 +669,7 @@ def checks() -> Generator[Check, None, None]:
     yield from undo()
     yield from posix()
     yield from named()
+    yield from system_v()
     yield from scattered()
     yield from record_cuts()
     yield from other_records()

@@ -14,6 +14,7 @@ from device_layout import (
     MSG_NOERROR,
     NO_DEADLINE,
     SEM_UNDO,
+    SMALL,
     STANDARD,
     Adjustment,
     Device,
@@ -174,7 +175,7 @@ def lists() -> Iterator[Check]:
             if (name, one, gates) in LISTS_WAIT:
                 yield partial(opens, image, row_of_set(1, gates), f"{name} waits")
             else:
-                yield partial(refuses, image, "damaged sector 1", name)
+                yield partial(refuses, image, "damaged sector 2", name)
 
 
 def unsound_calls() -> Iterator[tuple[str, Objects]]:
@@ -194,7 +195,7 @@ def unsound_calls() -> Iterator[tuple[str, Objects]]:
         "a call without a frame": Waiting(1, b""),
         "a frame a byte too short": Waiting(1, TAKING.frame[:-1]),
         "a frame a byte too long": Waiting(1, TAKING.frame + b"\0"),
-        "a frame of 8449 bytes": Waiting(1, msgsnd(8, 1, 1, 8428 * b"\7", 0)),
+        "a frame of 65793 bytes": Waiting(1, msgsnd(8, 1, 1, 65772 * b"\7", 0)),
     }.items():
         yield name, with_calls(waits(SENDING, one))
     yield "a call of one who has left", with_calls(waits(SENDING, TAKING), FULL, (2, 3, 4))
@@ -254,7 +255,7 @@ def turned_calls() -> Iterator[Check]:
             if is_state:
                 yield partial(opens, image, row(1, FULL), name)
             else:
-                yield partial(refuses, image, "damaged sector 1", name)
+                yield partial(refuses, image, "damaged sector 2", name)
 
 
 def calls() -> Iterator[Check]:
@@ -275,19 +276,20 @@ def calls() -> Iterator[Check]:
         image = holding(with_calls(waits(one._replace(pid=4)), closed)).image
         yield partial(opens, image, row(1, closed), "a call of user 0 waits")
     for name, objects in unsound_calls():
-        yield partial(refuses, holding(objects).image, "damaged sector 1", name)
+        yield partial(refuses, holding(objects).image, "damaged sector 2", name)
     yield from turned_calls()
     yield from lists()
 
 
 def as_many_calls_as_may_be() -> None:
-    """64 calls under standard limits, each of the longest text."""
-    them = [Waiting(pid, msgsnd(pid, 1, 1, 8192 * b"x", 0)) for pid in range(1, 65)]
-    queue = Queue(1234, qbytes=8191)
+    """64 calls, as many as standard limits have, each of the longest text."""
+    limits = SMALL._replace(processes=STANDARD.processes, msgmax=STANDARD.msgmax, msgmnb=STANDARD.msgmnb)
+    them = [Waiting(pid, msgsnd(pid, 1, 1, 65536 * b"x", 0)) for pid in range(1, 65)]
+    queue = Queue(1234, qbytes=65535)
     objects = state(clock(9, 65, 2), processes(*((pid, 1000, 100) for pid in range(1, 65))), {1: queue})
     objects[2] = (2, waits(*them))
-    image = Device(STANDARD).save(1, objects).image
+    image = Device(limits).save(1, objects).image
     opens(image, row(1, queue), "64 calls")
     them.append(Waiting(65, them[0].frame))
     objects[2] = (2, waits(*them))
-    refuses(Device(STANDARD).save(1, objects).image, "damaged sector 1", "65 calls")
+    refuses(Device(limits).save(1, objects).image, "damaged sector 2", "65 calls")

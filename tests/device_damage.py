@@ -93,16 +93,16 @@ SUPERBLOCKS: tuple[tuple[int, str, str], ...] = (
     (0, "69", "not formatted"),
     (7, "00", "not formatted"),
     (11, "00", "version 0"),
-    (11, "02", "version 2"),
+    (11, "01", "version 1"),
     (11, "07", "version 7"),
-    (8, "01", "version 16777217"),
-    (15, "c1", "damaged sector 0"),  # 449 sectors
-    (15, "bf", "damaged sector 0"),  # 447
+    (8, "01", "version 16777218"),
+    (15, "57", "damaged sector 0"),  # 1367 sectors
+    (15, "55", "damaged sector 0"),  # 1365
     (19, "02", "damaged sector 0"),  # the journal one sector earlier
     (23, "00", "damaged sector 0"),  # the journal one sector shorter
     (27, "05", "damaged sector 0"),  # the object area one sector later
-    (31, "bb", "damaged sector 0"),  # the object area one sector shorter
-    (35, "02", "damaged sector 0"),  # the root in the sector that is kept free
+    (31, "51", "damaged sector 0"),  # the object area one sector shorter
+    (35, "01", "damaged sector 0"),  # the root in the sector that is not used
     (39, "00", "damaged sector 0"),  # no process
     (39, "41", "damaged sector 0"),  # more processes than the standard
     (47, "81", "damaged sector 0"),  # a message longer than a queue
@@ -110,19 +110,23 @@ SUPERBLOCKS: tuple[tuple[int, str, str], ...] = (
     (75, "0b", "damaged sector 0"),  # more POSIX messages than the standard
     (94, "21", "damaged sector 0"),  # more bytes for a call than the standard
     (99, "21", "damaged sector 0"),  # more descriptors than the standard
+    (103, "21", "damaged sector 0"),  # more System V segments than the standard
+    (106, "0801", "damaged sector 0"),  # a System V segment larger than all
+    (109, "10", "damaged sector 0"),  # more bytes of System V segments than the standard
     (39, "05", "damaged sector 0"),  # more processes than there is room for
     (43, "03", "damaged sector 0"),  # more queues than there is room for
+    (103, "03", "damaged sector 0"),  # more System V segments than there is room for
 )
 
 
 def superblocks() -> Iterator[Check]:
-    """Wrong bytes of a superblock after which 412 bytes are not zeros."""
-    base = good().put(0, 100, 412 * b"\xee")
+    """Wrong bytes of a superblock after which 400 bytes are not zeros."""
+    base = good().put(0, 112, 400 * b"\xee")
     yield partial(opens, base.image, GOOD_LISTED, "a superblock without zeros")
     for offset, bytes_there, fault in SUPERBLOCKS:
         image = base.copy().put(0, offset, bytes.fromhex(bytes_there)).image
         yield partial(refuses, image, fault, f"superblock {offset} {bytes_there}")
-    for offset, byte in itertools.product(range(12, 100, 4), (b"\0", b"\xff")):
+    for offset, byte in itertools.product(range(12, 112, 4), (b"\0", b"\xff")):
         image = base.copy().put(0, offset, 4 * byte).image
         yield partial(refuses, image, "damaged sector 0", f"superblock {offset} {byte.hex()}")
 
@@ -131,23 +135,40 @@ def sizes() -> Iterator[Check]:
     """Devices that were cut or have grown, and limits for which a device is too small."""
     image = bytes(good().image)
     faults = {0: "not formatted", 2: "not formatted"}
-    faults |= dict.fromkeys((3, 4, 260, 447, 449), "damaged sector 0")
+    faults |= dict.fromkeys((3, 4, 260, 448, 1365), "damaged sector 0")
     for sectors, fault in faults.items():
-        cut = image[: SECTOR * sectors].ljust(SECTOR * sectors, b"\0")
-        yield partial(refuses, cut, fault, f"{sectors} sectors")
-    for sectors in (259, 447):
+        yield partial(refuses, image[: SECTOR * sectors], fault, f"{sectors} sectors")
+    for sectors in (259, 448, 1365):
         small = bytearray(image[: SECTOR * sectors])
-        small[:100] = superblock(SMALL, sectors)
+        small[:112] = superblock(SMALL, sectors)
         yield partial(refuses, small, "damaged sector 0", f"{sectors} sectors, as they are named")
-    odd = Limits(3, 2, 7, 9, 2, 1, 9, 1, 2, 3, 5, 6, 7, 9, 9, 2)
-    for limits in (SMALL, Limits(*16 * [1]), odd):
+    yield from grown()
+    odd = Limits(3, 2, 7, 9, 2, 1, 9, 1, 2, 3, 5, 6, 7, 9, 9, 2, 3, 5, 700)
+    for limits in (SMALL, Limits(*19 * [1]), odd):
         need = need_of(limits)
         yield partial(opens, Device(limits).image, "", f"{limits}")
         yield partial(opens, Device(limits, need + 1).image, "", f"{limits}, a sector more")
         few = Device(limits, need - 1).image
         yield partial(refuses, few, "damaged sector 0", f"{limits}, a sector less")
-    zeros = bytes(SECTOR * 448)
+    zeros = bytes(SECTOR * 1366)
     yield partial(refuses, zeros, "not formatted", "zeros", "dump", "run")
+
+
+def grown() -> Iterator[Check]:
+    """Devices with more sectors than their superblock names. What comes after those is no part of the device, so
+    nothing may stand there."""
+    image = bytes(good().image)
+    for sectors, byte in ((1367, b"\0"), (1367, b"\xee"), (3000, b"\xee")):
+        more = image.ljust(SECTOR * sectors, byte)
+        yield partial(opens, more, GOOD_LISTED, f"{sectors} sectors, of which 1366 are named")
+    few = bytearray(image)
+    few[:112] = superblock(SMALL, 1365)
+    yield partial(refuses, few, "damaged sector 0", "1366 sectors, of which 1365 are named")
+    for at, offset, named in ((2, 8, 2), (264, 24, 264)):
+        # The table, or an object, in the first sector after those.
+        device = good().put(at, offset, bytes.fromhex("00000556"))
+        more = bytes(device.image) + device.image[SECTOR * 264 : SECTOR * 265]
+        yield partial(refuses, more, f"damaged sector {named}", f"sector {at} names one that is not named")
 
 
 # ---- wrong bytes of the root, the objects, the header and the batches
@@ -156,69 +177,70 @@ def sizes() -> Iterator[Check]:
 DAMAGES: tuple[tuple[int, int, str, int], ...] = (
     # The root: epoch 0, a table before the object area, after its end, far out, or in sector 0, and one of three bytes,
     # of none, and of more than the object area has.
-    (1, 7, "00", 1),
-    (1, 8, "00000103", 1),
-    (1, 8, "000001c0", 1),
-    (1, 8, "ffffffff", 1),
-    (1, 8, "00000000", 1),
-    (1, 15, "03", 1),
-    (1, 15, "00", 1),
-    (1, 12, "00017511", 1),
-    (1, 12, "ffffffff", 1),
+    (2, 7, "00", 2),
+    (2, 8, "00000103", 2),
+    (2, 8, "00000556", 2),
+    (2, 8, "ffffffff", 2),
+    (2, 8, "00000000", 2),
+    (2, 15, "03", 2),
+    (2, 15, "00", 2),
+    (2, 12, "000892b9", 2),
+    (2, 12, "ffffffff", 2),
     # As many bytes as the area has, and one more than a sector has: the table's sector names no other. Bytes that are
     # left over: up to the end of the sector, four, three, one. Bytes that are missing: one, all but the count.
-    (1, 12, "00017510", 264),
-    (1, 12, "000001fd", 264),
-    (1, 12, "000001fc", 1),
-    (1, 15, "58", 1),
-    (1, 15, "57", 1),
-    (1, 15, "55", 1),
-    (1, 15, "53", 264),
-    (1, 15, "50", 264),
-    (1, 15, "04", 264),
+    (2, 12, "000892b8", 264),
+    (2, 12, "000001fd", 264),
+    (2, 12, "000001fc", 2),
+    (2, 15, "58", 2),
+    (2, 15, "57", 2),
+    (2, 15, "55", 2),
+    (2, 15, "53", 264),
+    (2, 15, "50", 264),
+    (2, 15, "04", 264),
     # A table in an object's sector and in a free one, where zeros are: no object is counted, and bytes are left over;
     # or they are not, and no object stands for no state.
-    (1, 8, "00000105", 1),
-    (1, 8, "0000012c", 1),
-    (1, 8, "0000012c00000004", 1),
+    (2, 8, "00000105", 2),
+    (2, 8, "0000012c", 2),
+    (2, 8, "0000012c00000004", 2),
     # The last sector of the table names another: outside, free, and itself.
     (264, 3, "01", 264),
     (264, 2, "0109", 264),
     (264, 2, "0108", 264),
     # The objects: one fewer, one more, as many as can be counted; a number that comes twice, two above the next one.
-    (264, 7, "03", 1),
+    (264, 7, "03", 2),
     (264, 7, "05", 264),
     (264, 4, "ffffffff", 264),
     (264, 35, "00", 264),
     (264, 15, "01", 264),
     (264, 28, "80", 264),
-    # A length of 544 takes another sector, which is the next number, 0; that of the last object another one, too. A
+    # A length of 548 takes another sector, which is the next number, 0; that of the last object another one, too. A
     # length of more sectors than there are numbers. One of 0, of the last and of the first.
     (264, 22, "02", 264),
     (264, 82, "02", 264),
     (264, 16, "ff", 264),
-    (264, 83, "00", 1),
+    (264, 83, "00", 2),
     (264, 23, "00", 264),
     # A sector outside: before the area, at its end, far out, 0, and of the journal; of the last object, too.
     (264, 24, "00000103", 264),
-    (264, 24, "000001c0", 264),
+    (264, 24, "00000556", 264),
     (264, 24, "ffffffff", 264),
     (264, 24, "00000000", 264),
     (264, 24, "00000005", 264),
-    (264, 84, "000001c0", 264),
+    (264, 84, "00000556", 264),
     # One that is used twice: by an object and one that comes later, by one and the one before, by the table.
     (264, 27, "05", 264),
     (264, 47, "04", 264),
     (264, 87, "04", 264),
     (264, 27, "08", 264),
-    # They stand for no state: a clock of 31 bytes, of 33, of all 512; the next pid is 0, a process that is not there,
-    # and another number for the adjustments.
-    (264, 23, "1f", 1),
-    (264, 23, "21", 1),
-    (264, 22, "0200", 1),
-    (260, 11, "00", 1),
-    (261, 3, "01", 1),
-    (264, 75, "04", 1),
+    # They stand for no state: a clock of 35 bytes, of 37, of 32 as version 1 has it, of all 512; the next pid is 0, a
+    # process that is not there, and another number for the adjustments.
+    (264, 23, "23", 2),
+    (264, 23, "25", 2),
+    (264, 23, "20", 2),
+    (264, 22, "0200", 2),
+    (260, 11, "00", 2),
+    (261, 3, "01", 2),
+    (264, 75, "04", 2),
     # The header: a later epoch, and more sectors than there are.
     (3, 7, "02", 3),
     (3, 0, "80", 3),
@@ -266,28 +288,29 @@ DAMAGES: tuple[tuple[int, int, str, int], ...] = (
 # counts; a count without the last batch, or with a batch of no records; a batch emptied; bytes
 # that mean nothing; and an object in another sector, in which the same bytes are.
 FREE: tuple[tuple[int, int, str, bool], ...] = (
-    (1, 7, "02", False),
-    (1, 0, "ffffffffffffffff", False),
+    (2, 7, "02", False),
+    (2, 0, "ffffffffffffffff", False),
     (3, 7, "00", False),
     (3, 7, "00ffffffff", False),
     (3, 11, "00", False),
     (3, 11, "04", True),
     (3, 11, "06", True),
     (4, 3, "00", True),
-    (0, 100, "01", True),
+    (0, 112, "01", True),
     (0, 511, "01", True),
-    (2, 0, "01", True),
+    (1, 0, "01", True),
+    (1, 0, "0000000000000009ffffffff", True),
     (3, 12, "01", True),
     (4, 17, "01", True),
     (7, 43, "01", True),
     (8, 34, "01", True),
     (9, 0, "01", True),
-    (1, 16, "01", True),
-    (260, 32, "01", True),
+    (2, 16, "01", True),
+    (260, 36, "01", True),
     (261, 4, "01", True),
     (264, 88, "01", True),
     (265, 0, "01", True),
-    (447, 511, "01", True),
+    (1365, 511, "01", True),
     (264, 47, "09", True),
 )
 
@@ -296,11 +319,11 @@ ORDER: tuple[tuple[int, int, str], ...] = (
     (8, 8, "damaged sector 8"),
     (5, 8, "damaged sector 5"),
     (3, 0, "damaged sector 3"),
-    (260, 8, "damaged sector 1"),
+    (260, 8, "damaged sector 2"),
     (264, 24, "damaged sector 264"),
-    (1, 8, "damaged sector 1"),
+    (2, 8, "damaged sector 2"),
     (0, 99, "damaged sector 0"),
-    (0, 8, "version 4278190081"),
+    (0, 8, "version 4278190082"),
     (0, 0, "not formatted"),
 )
 
@@ -359,6 +382,7 @@ NO_STATE: tuple[tuple[int, int, int], ...] = (
     (0, 23, 0),  # the next POSIX queue is 0
     (0, 27, 0),  # the next named semaphore is 0
     (0, 31, 0),  # the next segment is 0
+    (0, 35, 0),  # the next System V segment is 0
     (1, 3, 2),  # one process more than there are
     (1, 7, 2),  # a process with the next pid
     (1, 19, 1),  # a descriptor
@@ -421,7 +445,7 @@ def unsound() -> Iterator[tuple[str, Objects]]:
     for index in range(4):
         yield f"no object {index}", START[:index] + START[index + 1 :]
     yield "an object more", [*START, (4, NONE)]
-    yield "an object of a later kind", [*START, (6 * QUEUE_KIND + 1, NONE)]
+    yield "an object of a later kind", [*START, (7 * QUEUE_KIND + 1, NONE)]
     yield "no object", []
 
 
@@ -430,15 +454,15 @@ def no_states() -> Iterator[Check]:
     yield partial(opens, holding(objects_with()).image, listed, "objects as they are")
     for row_of in NO_STATE:
         image = holding(objects_with(*row_of)).image
-        yield partial(refuses, image, "damaged sector 1", f"object, byte and value {row_of}")
+        yield partial(refuses, image, "damaged sector 2", f"object, byte and value {row_of}")
     for queue in (4, QUEUE_KIND + 2, SET_KIND):
         image = holding(objects_with(queue=queue)).image
-        yield partial(refuses, image, "damaged sector 1", f"number {queue} of a queue")
+        yield partial(refuses, image, "damaged sector 2", f"number {queue} of a queue")
     for last in (QUEUE_KIND + 2, SET_KIND, SET_KIND + 2, 3 * QUEUE_KIND + 1):
         image = holding(objects_with(last=last)).image
-        yield partial(refuses, image, "damaged sector 1", f"number {last} of a set")
+        yield partial(refuses, image, "damaged sector 2", f"number {last} of a set")
     for name, objects in unsound():
-        yield partial(refuses, holding(objects).image, "damaged sector 1", name)
+        yield partial(refuses, holding(objects).image, "damaged sector 2", name)
 
 
 # ---- tables of several sectors, and objects in any order
@@ -453,7 +477,7 @@ FORTY = [(number, 1537 * bytes([number])) for number in range(1, 41)]
 # A sector of the table, the next one that it names then, and the sector that is named.
 CHAINS: tuple[tuple[int, int, int], ...] = (
     (400, 259, 400),  # outside
-    (400, 448, 400),
+    (400, 1366, 400),
     (400, 0, 400),
     (400, 2**32 - 1, 400),
     (400, 400, 400),  # itself
@@ -461,7 +485,7 @@ CHAINS: tuple[tuple[int, int, int], ...] = (
     (270, 270, 270),
     (270, 0, 270),
     (350, 400, 350),  # the last one names one: before, free, outside
-    (350, 447, 350),
+    (350, 1365, 350),
     (350, 1, 350),
     (400, 350, 350),  # the second one is left out, so the last one comes too early
     (400, 260, 260),  # an object's, which names one outside by its bytes
@@ -469,7 +493,7 @@ CHAINS: tuple[tuple[int, int, int], ...] = (
 
 # A place in the table, the number there then, and the sector that is named.
 NUMBERS_OF_TABLE: tuple[tuple[int, int, int], ...] = (
-    (0, 39, 1),  # one object fewer: eight numbers are left over
+    (0, 39, 2),  # one object fewer: eight numbers are left over
     (0, 41, 350),  # one more, and none left
     (0, 2**32 - 1, 350),
     (1, 1, 400),  # the first number is 2^32 and 1, so the second does not rise
@@ -480,9 +504,9 @@ NUMBERS_OF_TABLE: tuple[tuple[int, int, int], ...] = (
     (124, 2049, 270),  # five sectors: the fifth is the next number's first half, 0, at place 129
     (252, 2049, 350),  # at place 257
     (316, 2049, 350),  # a fifth sector of the last object: none is left
-    (316, 1536, 1),  # three: one number is left over
+    (316, 1536, 2),  # three: one number is left over
     (125, 259, 400),  # a sector outside, held by the first sector
-    (127, 448, 270),  # by the second
+    (127, 1366, 270),  # by the second
     (128, 5, 270),
     (254, 2**32 - 1, 350),  # by the third
     (253, 0, 270),
@@ -506,7 +530,7 @@ def tables() -> Iterator[Check]:
     """What is wrong with a table of three sectors, and with its objects. Without a fault they stand for no state."""
     base = forty()
     sectors = [sector for one in base.placed for sector in one.sectors]
-    yield partial(refuses, base.image, "damaged sector 1", "forty objects")
+    yield partial(refuses, base.image, "damaged sector 2", "forty objects")
     for at, then, named in CHAINS:
         image = base.copy().put(at, 0, then.to_bytes(4, "big")).image
         yield partial(refuses, image, f"damaged sector {named}", f"sector {at} of the table names {then}")
@@ -537,7 +561,7 @@ def first_of_two(base: Device, sectors: list[int]) -> Iterator[Check]:
         ((122, 15), (127, 5), 400),  # a number that does not rise, and a sector outside
         ((123, 1), (127, 5), 400),  # too long, and a sector outside
         ((127, 5), (130, 16), 270),  # a sector of one object, and the number of the next one
-        ((0, 39), (320, 5), 1),  # the last object is not counted
+        ((0, 39), (320, 5), 2),  # the last object is not counted
         ((0, 41), (130, 16), 270),
     ):
         image = table_number(table_number(base.copy(), one, number), two, other).image
@@ -555,17 +579,17 @@ def odd_tables() -> Iterator[Check]:
     full = table(*fourteen)
     check(len(full) == 508, "a table of 508 bytes")
     for name, data, named in (
-        ("508 bytes", full, 1),
+        ("508 bytes", full, 2),
         ("508 bytes, one object more", b"\0\0\0\x0f" + full[4:], one),
-        ("509 bytes", full + b"\0", 1),
+        ("509 bytes", full + b"\0", 2),
         ("509 bytes, one object more", b"\0\0\0\x0f" + full[4:] + b"\0", one),
-        ("512 bytes", full + bytes(4), 1),
+        ("512 bytes", full + bytes(4), 2),
         ("512 bytes, one object more", b"\0\0\0\x0f" + full[4:] + bytes(4), two),
-        ("1017 bytes of zeros", bytes(1017), 1),
-        ("an object of no bytes", table(Placed(7, 0, ())), 1),
+        ("1017 bytes of zeros", bytes(1017), 2),
+        ("an object of no bytes", table(Placed(7, 0, ())), 2),
         ("an object of no bytes, and a number that does not rise", table(Placed(7, 0, ()), Placed(7, 1, (400,))), one),
         ("an object of no bytes, and a sector outside", table(Placed(7, 0, ()), Placed(8, 1, (2,))), one),
-        ("the last number there is", table(Placed(2**64 - 1, 1, (400,))), 1),
+        ("the last number there is", table(Placed(2**64 - 1, 1, (400,))), 2),
         ("more bytes than there are", struct.pack(">IQQ", 1, 7, 2**64 - 1), one),
     ):
         image = device.copy().point(2, data, (one, two, three)).image
@@ -586,8 +610,8 @@ def scattered() -> Iterator[Check]:
         device = Device()
         places = device.free()
         random.Random(seed).shuffle(places)
-        places.remove(447)
-        device.save(2, objects, [447, 260 + seed, *(place for place in places if place != 260 + seed)])
+        places.remove(1365)
+        device.save(2, objects, [1365, 260 + seed, *(place for place in places if place != 260 + seed)])
         yield partial(opens, device.image, listed, f"objects in no order, {seed}")
         yield partial(reads_all, device, queues, segments, f"objects in no order, {seed}")
 
@@ -694,22 +718,25 @@ def requests() -> Iterator[Check]:
 
 
 def longest() -> Iterator[Check]:
-    """A record has 8465 bytes at most, and a batch 32768."""
-    lengths = (7331, 7332, 8427, 8428)
+    """A record has 65809 bytes at most, and a batch 131072: all sectors of the body."""
+    lengths = (64197, 65221, 65771, 65772)
     sent = {length: request(0, 1, msgsnd(1, 1, 1, length * b"\7")) for length in lengths}
-    check(len(sent[8427]) == 8465, "the longest record")
-    yield partial(opens, with_record(sent[8427]), GOOD_LISTED, "a record of 8465 bytes")
-    yield no_record(sent[8428], "a record of 8466 bytes")
-    for last, length in ((7331, 32768), (7332, 32769)):
-        data = batch(sent[8427], sent[8427], sent[last], sent[8427])
-        check(len(data) == length, f"a batch of {length} bytes")
-        image = Device().journal(1, BEGINNING, data).image
-        if length == 32768:
-            yield partial(opens, image, GOOD_LISTED, "a batch of 32768 bytes")
-        else:
-            yield partial(refuses, image, "damaged sector 5", "a batch of 32769 bytes")
-    image = good().put(JOURNAL, 8, b"\0\0\1\0").put(8, 0, b"\0\0\x7f\xfd").image
-    yield partial(refuses, image, "damaged sector 8", "a batch of 32769 bytes, most of them zeros")
+    check(len(sent[65771]) == 65809, "the longest record")
+    yield partial(opens, with_record(sent[65771]), GOOD_LISTED, "a record of 65809 bytes")
+    yield no_record(sent[65772], "a record of 65810 bytes")
+    data = batch(sent[65771], sent[64197])
+    check(len(data) == 130048, "a batch of 254 sectors")
+    yield partial(opens, Device().journal(1, BEGINNING, data).image, GOOD_LISTED, "a batch of 130048 bytes")
+    data = batch(sent[65771], sent[65221])
+    check(len(data) == 131072, "a batch of 256 sectors")
+    device = holding(state(clock(0, 2, 2), processes((1, 1000, 100)), {1: Queue(1234)})).journal(1, data)
+    # All sectors are used, so the open saves.
+    wanted = device.copy().save(2, state(clock(0, 2, 2), processes(), {1: Queue(1234)}), unchanged=(QUEUE_KIND + 1,))
+    yield partial(runs, device, [], [], wanted, "a batch of 131072 bytes")
+    image = device.copy().put(BODY, 0, (131069).to_bytes(4, "big")).image
+    yield partial(refuses, image, "damaged sector 4", "a batch of 131073 bytes")
+    image = Device().journal(1, BEGINNING, data[: SECTOR * 255]).image
+    yield partial(refuses, image, "damaged sector 5", "a batch of 131072 bytes from the second sector on")
 
 
 def connections() -> Iterator[Check]:

@@ -10,10 +10,11 @@ from __future__ import annotations
 
 import struct
 from collections.abc import Iterable
+from pathlib import Path
 from typing import NamedTuple
 
 SECTOR = 512
-ROOT, JOURNAL, BODY, OBJECTS = 1, 3, 4, 260
+JOURNAL, BODY, OBJECTS = 3, 4, 260
 BODY_COUNT = 256
 # How many bytes of the table are in a sector of it, and how many numbers.
 TABLE_BYTES, TABLE_NUMBERS = 508, 127
@@ -24,31 +25,23 @@ SET_KIND = 2 * QUEUE_KIND
 POSIX_KIND = 3 * QUEUE_KIND
 NAMED_KIND = 4 * QUEUE_KIND
 SEGMENT_KIND = 5 * QUEUE_KIND
+SYSTEM_V_SEGMENT_KIND = 6 * QUEUE_KIND
 NONE = bytes(4)
 NO_DEADLINE = 2**64 - 1
 IPC_NOWAIT, MSG_NOERROR, MSG_EXCEPT = 0x800, 0x1000, 0x2000
 O_NONBLOCK = 0x800
 SEM_VALUE_MAX = 2147483647
 SEM_UNDO = 0x1000
+# The bit of a System V segment's mode that tells that it was removed while somebody had it attached.
+MARKED = 0o1000
 # A user and a group.
 Cred = tuple[int, int]
 
-
-class Version(NamedTuple):
-    """What devices of a version have of their own: its number, the root's sector, and the most bytes of a batch."""
-
-    number: int
-    root: int
-    batch: int
-
-
-ONE = Version(1, ROOT, 32768)
-
-# ---- limits and sizes
+# ---- limits, versions and sizes
 
 
 class Limits(NamedTuple):
-    """In the order in which they stand in a superblock."""
+    """In the order in which they stand in a superblock. One of version 1 has none of System V segments: they are 0."""
 
     processes: int
     msgmni: int
@@ -66,10 +59,38 @@ class Limits(NamedTuple):
     segment_bytes: int
     segment_call: int
     descriptors: int
+    shmmni: int = 0
+    shmmax: int = 0
+    shmall: int = 0
 
 
-SMALL = Limits(4, 2, 64, 128, 2, 4, 8, 4, 2, 2, 64, 2, 2, 2048, 64, 4)
-STANDARD = Limits(64, 32, 8192, 16384, 32, 64, 512, 32, 32, 10, 8192, 64, 32, 1048576, 8192, 32)
+SMALL_OF_ONE = Limits(4, 2, 64, 128, 2, 4, 8, 4, 2, 2, 64, 2, 2, 2048, 64, 4)
+STANDARD_OF_ONE = Limits(64, 32, 8192, 16384, 32, 64, 512, 32, 32, 10, 8192, 64, 32, 1048576, 8192, 32)
+SMALL = Limits(4, 2, 64, 128, 2, 4, 8, 4, 2, 2, 64, 2, 2, 2048, 64, 4, 2, 1024, 2048)
+STANDARD = Limits(
+    64, 64, 65536, 65536, 32, 64, 512, 32, 32, 10, 8192, 64, 32, 1048576, 8192, 32, 32, 1048576, 1048576
+)
+
+
+class Version(NamedTuple):
+    """What devices of a version have of their own."""
+
+    number: int
+    # The root's sector.
+    root: int
+    # How many limits there are, how many kinds of objects, and the greatest limits.
+    limits: int
+    kinds: int
+    greatest: Limits
+    # The most bytes of a request's frame without its length, and of a batch with it.
+    request: int
+    batch: int
+
+
+ONE = Version(1, 1, 16, 5, STANDARD_OF_ONE, 8448, 32768)
+# The one that the program makes and opens.
+TWO = Version(2, 2, 19, 6, STANDARD, 65792, 131072)
+ROOT = TWO.root
 
 
 def sectors_of(length: int) -> int:
@@ -81,13 +102,13 @@ def table_sectors(length: int) -> int:
     return -(-length // TABLE_BYTES)
 
 
-def area_of(limits: Limits) -> int:
+def area_of(limits: Limits, version: Version = TWO) -> int:
     """How many sectors a state takes."""
     of = limits
     total = (
-        sectors_of(32)
+        sectors_of(12 + 4 * version.kinds)
         + sectors_of(4 + of.processes * (16 + 16 * of.descriptors))
-        + sectors_of(4 + of.processes * 8464)
+        + sectors_of(4 + of.processes * (16 + version.request))
         + sectors_of(4 + 12 * of.processes * of.semmns)
         + of.msgmni * sectors_of(64 + 13 * of.msgmnb)
         + of.semmni * sectors_of(44 + 6 * of.semmsl)
@@ -95,21 +116,24 @@ def area_of(limits: Limits) -> int:
         + of.named * sectors_of(271)
         + 2 * of.segments
         + sectors_of(of.segment_bytes)
+        + 2 * of.shmmni
+        + sectors_of(of.shmall)
     )
-    entries = 4 + of.msgmni + of.semmni + of.posix_queues + of.named + of.segments
+    entries = 4 + of.msgmni + of.semmni + of.posix_queues + of.named + of.segments + of.shmmni
     return total + table_sectors(4 + 16 * entries + 4 * total)
 
 
-def need_of(limits: Limits) -> int:
-    return OBJECTS + 2 * area_of(limits)
+def need_of(limits: Limits, version: Version = TWO) -> int:
+    return OBJECTS + 2 * area_of(limits, version)
 
 
 # ---- the parts of a device, as bytes
 
 
-def superblock(limits: Limits, sectors: int, version: Version = ONE) -> bytes:
+def superblock(limits: Limits, sectors: int, version: Version = TWO) -> bytes:
     places = (sectors, JOURNAL, 1 + BODY_COUNT, OBJECTS, max(sectors - OBJECTS, 0), version.root)
-    return b"IPCSTORE" + struct.pack(">7I16I", version.number, *places, *limits)
+    numbers = (version.number, *places, *limits[: version.limits])
+    return b"IPCSTORE" + struct.pack(f">{7 + version.limits}I", *numbers)
 
 
 def root(epoch: int, first: int, length: int) -> bytes:
@@ -240,10 +264,11 @@ def semctl_rmid(serial: int, semid: int) -> bytes:
 # ---- objects of a state
 
 
-def clock(moment: int, next_pid: int, next_queue: int, *others: int) -> bytes:
-    """The others are the next numbers of sets, POSIX queues, named semaphores and segments, which are 1 at first."""
-    rest = (*others, *(4 - len(others)) * [1])
-    return struct.pack(">QIIIIII", moment, next_pid, next_queue, *rest)
+def clock(moment: int, next_pid: int, next_queue: int, *others: int, version: Version = TWO) -> bytes:
+    """The others are the next numbers of sets, POSIX queues, named semaphores, segments, and System V segments, which
+    are 1 at first."""
+    rest = (*others, *(version.kinds - 1 - len(others)) * [1])
+    return struct.pack(f">Q{1 + version.kinds}I", moment, next_pid, next_queue, *rest)
 
 
 class Open(NamedTuple):
@@ -389,6 +414,26 @@ class Segment(NamedTuple):
         return numbers + self.name + self.content
 
 
+class SystemVSegment(NamedTuple):
+    """A System V shared memory segment: its times are atime, dtime and ctime, its pids cpid and lpid."""
+
+    key: int
+    content: bytes
+    owner: Cred = (1000, 100)
+    creator: Cred = (1000, 100)
+    mode: int = 0o600
+    times: tuple[int, int, int] = (0, 0, 0)
+    pids: tuple[int, int] = (0, 0)
+
+    def data(self) -> bytes:
+        return (
+            struct.pack(">iIIIII", self.key, *self.owner, *self.creator, self.mode)
+            + struct.pack(">QQQ", *self.times)
+            + struct.pack(">IIQ", *self.pids, len(self.content))
+            + self.content
+        )
+
+
 def shown(name: bytes) -> str:
     """The name of an object, as `dump` prints it."""
     return "".join(chr(byte) if 0x21 <= byte <= 0x7E and byte != 0x5C else f"\\x{byte:02x}" for byte in name)
@@ -414,16 +459,23 @@ def state(
     posix: dict[int, Posix] | None = None,
     named: dict[int, NamedSem] | None = None,
     segments: dict[int, Segment] | None = None,
+    system_v: dict[int, SystemVSegment] | None = None,
 ) -> list[tuple[int, bytes]]:
     parts = [(0, the_clock), (1, the_processes), (2, calls), (3, undo)]
     parts += [(QUEUE_KIND + number, queue.data()) for number, queue in queues.items()]
     parts += [(SET_KIND + number, one.data()) for number, one in (sets or {}).items()]
-    for first, them in (POSIX_KIND, posix), (NAMED_KIND, named), (SEGMENT_KIND, segments):
+    kinds = ((POSIX_KIND, posix), (NAMED_KIND, named), (SEGMENT_KIND, segments), (SYSTEM_V_SEGMENT_KIND, system_v))
+    for first, them in kinds:
         parts += [(first + number, one.data()) for number, one in (them or {}).items()]
     return parts
 
 
-START = state(clock(0, 1, 1), processes(), {})
+def start(version: Version = TWO) -> list[tuple[int, bytes]]:
+    """The state in which there is nothing."""
+    return state(clock(0, 1, 1, version=version), processes(), {})
+
+
+START = start()
 
 # ---- a whole device
 
@@ -431,14 +483,15 @@ START = state(clock(0, 1, 1), processes(), {})
 class Device:
     """A new device, of as many sectors as its limits need; and what is put there."""
 
-    def __init__(self, limits: Limits = SMALL, sectors: int = 0, version: Version = ONE) -> None:
-        self.limits, self.version = limits, version
-        self.image = bytearray(SECTOR * (sectors or need_of(limits)))
+    def __init__(self, limits: Limits = SMALL, sectors: int = 0, version: Version = TWO) -> None:
+        # Without limits that the version has not.
+        self.limits, self.version = Limits(*limits[: version.limits]), version
+        self.image = bytearray(SECTOR * (sectors or need_of(self.limits, version)))
         # The objects of the last save, and the sectors of its table.
         self.placed: list[Placed] = []
         self.chain: list[int] = []
         self.put(0, 0, superblock(limits, len(self.image) // SECTOR, version))
-        self.save(1, START)
+        self.save(1, start(version))
         self.journal(1)
 
     def put(self, sector: int, offset: int, data: bytes) -> Device:
@@ -499,6 +552,19 @@ class Device:
         return other
 
 
+def put_into_file(path: str | Path, image: bytes) -> None:
+    """A device as a file. Zeros become holes, so that a large one is soon written, and soon synced by who opens it."""
+    piece = 65536
+    zeros = bytes(piece)
+    with open(path, "wb") as file:
+        file.truncate(len(image))
+        for at in range(0, len(image), piece):
+            here = image[at : at + piece]
+            if here != zeros[: len(here)]:
+                file.seek(at)
+                file.write(here)
+
+
 # ---- the checker
 
 
@@ -529,19 +595,21 @@ def demand_sound(holds: bool) -> None:
         raise Unsound
 
 
-def read_superblock(image: bytes, version: Version) -> Limits:
+def read_superblock(image: bytes, version: Version) -> tuple[int, Limits]:
+    """How many sectors it names, which may be fewer than the device has, and its limits."""
     if image[:8] != b"IPCSTORE":
         raise Fault("not formatted")
     (found,) = struct.unpack(">I", image[8:12])
     if found != version.number:
         raise Fault(f"version {found}")
-    sectors = len(image) // SECTOR
-    limits = Limits(*struct.unpack(">16I", image[36:100]))
-    demand(image[:100] == superblock(limits, sectors, version), 0)
-    demand(all(0 < here <= most for here, most in zip(limits, STANDARD)), 0)
-    demand(limits.msgmax <= limits.msgmnb and limits.semmsl <= limits.semmns, 0)
-    demand(sectors >= need_of(limits), 0)
-    return limits
+    end = 36 + 4 * version.limits
+    (sectors,) = struct.unpack(">I", image[12:16])
+    limits = Limits(*struct.unpack(f">{version.limits}I", image[36:end]))
+    demand(image[:end] == superblock(limits, sectors, version) and sectors <= len(image) // SECTOR, 0)
+    demand(all(0 < here <= most for here, most in zip(limits[: version.limits], version.greatest)), 0)
+    demand(limits.msgmax <= limits.msgmnb and limits.semmsl <= limits.semmns and limits.shmmax <= limits.shmall, 0)
+    demand(sectors >= need_of(limits, version), 0)
+    return sectors, limits
 
 
 class Heap:
@@ -605,10 +673,10 @@ class Heap:
         ]
 
 
-def read_clock(data: bytes) -> tuple[int, int, list[int]]:
+def read_clock(data: bytes, version: Version = TWO) -> tuple[int, int, list[int]]:
     """The clock, the next pid, and the next number of each kind of objects."""
-    demand_sound(len(data) == 32)
-    moment, next_pid, *numbers = struct.unpack(">QIIIIII", data)
+    demand_sound(len(data) == 12 + 4 * version.kinds)
+    moment, next_pid, *numbers = struct.unpack(f">Q{1 + version.kinds}I", data)
     demand_sound(all(0 < number <= LAST_NUMBER + 1 for number in (next_pid, *numbers)))
     return moment, next_pid, numbers
 
@@ -642,7 +710,7 @@ def read_processes(data: bytes, limits: Limits, next_pid: int) -> dict[int, Proc
     return them
 
 
-def read_waits(data: bytes, limits: Limits, moment: int) -> dict[int, bytes]:
+def read_waits(data: bytes, limits: Limits, moment: int, version: Version) -> dict[int, bytes]:
     """The frames of the calls that wait, by pid. Those of message queues have no deadline; no other's has come."""
     demand_sound(len(data) >= 4)
     (count,) = struct.unpack(">I", data[:4])
@@ -653,7 +721,7 @@ def read_waits(data: bytes, limits: Limits, moment: int) -> dict[int, bytes]:
         demand_sound(at + 16 <= len(data))
         pid, deadline, length = struct.unpack(">IQI", data[at : at + 16])
         frame = data[at + 16 : at + 16 + length]
-        demand_sound(len(frame) == length and is_request(frame))
+        demand_sound(len(frame) == length and is_request(frame, version))
         demand_sound(frame[4] in (0x0B, 0x0C, 0x15, 0x2A, 0x2B, 0x35) and pid not in them)
         demand_sound(deadline == NO_DEADLINE or (frame[4] >= 0x15 and moment < deadline))
         them[pid] = frame
@@ -726,6 +794,15 @@ def read_segment(data: bytes) -> Segment:
     name, content = data[24 : 24 + named], data[24 + named :]
     demand_sound(mode < 0o1000 and len(name) == named and len(content) == length and is_name(name))
     return Segment(name, content, (uid, gid), mode)
+
+
+def read_system_v(data: bytes, limits: Limits) -> SystemVSegment:
+    demand_sound(len(data) >= 64)
+    key, uid, gid, cuid, cgid, mode, *times = struct.unpack(">iIIIIIQQQ", data[:48])
+    *pids, length = struct.unpack(">IIQ", data[48:64])
+    content = data[64:]
+    demand_sound(mode < 2 * MARKED and 0 < length <= limits.shmmax and len(content) == length)
+    return SystemVSegment(key, content, (uid, gid), (cuid, cgid), mode, tuple(times), tuple(pids))
 
 
 # What may be open, by its kind and number.
@@ -826,18 +903,24 @@ class State(NamedTuple):
         return False
 
 
-def read_state(objects: list[tuple[int, bytes]], limits: Limits) -> tuple[int, set[int]]:
+def sort_kinds(objects: list[tuple[int, bytes]], next_numbers: list[int]) -> list[dict[int, bytes]]:
+    """The objects of each of six kinds by their numbers, each below the next one."""
+    kinds: list[dict[int, bytes]] = [{} for _ in range(6)]
+    for number, data in objects:
+        kind, number = divmod(number, QUEUE_KIND)
+        demand_sound(0 < kind <= len(next_numbers) and 0 < number < next_numbers[kind - 1])
+        kinds[kind - 1][number] = data
+    return kinds
+
+
+def read_state(objects: list[tuple[int, bytes]], limits: Limits, version: Version) -> tuple[int, set[int]]:
     """The next pid, and the processes that are connected."""
     demand_sound([number for number, _ in objects[:4]] == [0, 1, 2, 3])
-    moment, next_pid, next_numbers = read_clock(objects[0][1])
+    moment, next_pid, next_numbers = read_clock(objects[0][1], version)
     them = read_processes(objects[1][1], limits, next_pid)
-    calls = read_waits(objects[2][1], limits, moment)
-    kinds: list[dict[int, bytes]] = [{} for _ in range(5)]
-    for number, data in objects[4:]:
-        kind, number = divmod(number, QUEUE_KIND)
-        demand_sound(0 < kind <= 5 and 0 < number < next_numbers[kind - 1])
-        kinds[kind - 1][number] = data
-    most = (limits.msgmni, limits.semmni, limits.posix_queues, limits.named, limits.segments)
+    calls = read_waits(objects[2][1], limits, moment, version)
+    kinds = sort_kinds(objects[4:], next_numbers)
+    most = (limits.msgmni, limits.semmni, limits.posix_queues, limits.named, limits.segments, limits.shmmni)
     demand_sound(all(len(kind) <= here for kind, here in zip(kinds, most)))
     queues = {number: read_queue(data, limits) for number, data in kinds[0].items()}
     sets = {number: read_set(data, limits) for number, data in kinds[1].items()}
@@ -848,7 +931,9 @@ def read_state(objects: list[tuple[int, bytes]], limits: Limits) -> tuple[int, s
     demand_sound(len(names) == len(set(names)) and are_opened(them, opened))
     total = sum(len(one.content) for one in opened.values() if isinstance(one, Segment))
     demand_sound(total <= limits.segment_bytes)
-    for kind in (queues, sets):
+    system_v = {number: read_system_v(data, limits) for number, data in kinds[5].items()}
+    demand_sound(sum(len(one.content) for one in system_v.values()) <= limits.shmall)
+    for kind in (queues, sets, system_v):
         keys = [one.key for one in kind.values() if one.key]
         demand_sound(len(keys) == len(set(keys)))
     demand_sound(sum(len(one.semaphores) for one in sets.values()) <= limits.semmns)
@@ -858,41 +943,41 @@ def read_state(objects: list[tuple[int, bytes]], limits: Limits) -> tuple[int, s
     return next_pid, set(them)
 
 
-def is_request(frame: bytes) -> bool:
+def is_request(frame: bytes, version: Version) -> bool:
     """A frame without its length, of which the server can read a request."""
     if len(frame) < 5 or not any(frame[:4]):
         return False
-    fields = len(frame) - 5
-    sizes = {0x01: (8, 8), 0x02: (0, 0), 0x0A: (8, 8), 0x0B: (16, 8443), 0x0C: (20, 20)}
+    fields, longest = len(frame) - 5, version.request - 5
+    sizes = {0x01: (8, 8), 0x02: (0, 0), 0x0A: (8, 8), 0x0B: (16, longest), 0x0C: (20, 20)}
     sizes |= {0x0D: (4, 4), 0x0E: (20, 20), 0x0F: (4, 4)}
-    sizes |= {0x14: (12, 12), 0x15: (12, 8443), 0x16: (8, 8), 0x17: (8, 8), 0x18: (8, 8), 0x19: (8, 8)}
-    sizes |= {0x1A: (12, 12), 0x1B: (4, 4), 0x1C: (4, 8443), 0x1D: (4, 4), 0x1E: (16, 16), 0x1F: (4, 4)}
-    sizes |= {0x03: (4, 4), 0x28: (17, 8443), 0x29: (0, 8443), 0x2A: (16, 8443), 0x2B: (16, 16)}
+    sizes |= {0x14: (12, 12), 0x15: (12, longest), 0x16: (8, 8), 0x17: (8, 8), 0x18: (8, 8), 0x19: (8, 8)}
+    sizes |= {0x1A: (12, 12), 0x1B: (4, 4), 0x1C: (4, longest), 0x1D: (4, 4), 0x1E: (16, 16), 0x1F: (4, 4)}
+    sizes |= {0x03: (4, 4), 0x28: (17, longest), 0x29: (0, longest), 0x2A: (16, longest), 0x2B: (16, 16)}
     sizes |= {0x2C: (12, 12), 0x2D: (4, 4), 0x2E: (8, 8)}
-    sizes |= {0x32: (12, 8443), 0x33: (0, 8443), 0x34: (4, 4), 0x35: (12, 12), 0x36: (4, 4), 0x37: (4, 4)}
-    sizes |= {0x3C: (8, 8443), 0x3D: (0, 8443), 0x3E: (12, 12), 0x3F: (16, 16), 0x40: (12, 8443), 0x41: (4, 4)}
+    sizes |= {0x32: (12, longest), 0x33: (0, longest), 0x34: (4, 4), 0x35: (12, 12), 0x36: (4, 4), 0x37: (4, 4)}
+    sizes |= {0x3C: (8, longest), 0x3D: (0, longest), 0x3E: (12, 12), 0x3F: (16, 16), 0x40: (12, longest), 0x41: (4, 4)}
     least, most = sizes.get(frame[4], (1, 0))
     # A SETALL has whole values, and a semop whole operations.
     unit = {0x15: 6, 0x1C: 2}.get(frame[4], 1)
     return least <= fields <= most and (fields - least) % unit == 0
 
 
-def is_record(kind: int, moment: int, rest: bytes) -> bool:
+def is_record(kind: int, moment: int, rest: bytes, version: Version) -> bool:
     if kind == 2:
-        return is_request(rest[4:])
+        return is_request(rest[4:], version)
     if kind == 6 and moment:
         return False
     return len(rest) == {1: 12, 3: 8, 4: 0, 5: 4, 6: 0}.get(kind)
 
 
-def read_batch(data: bytes, sector: int) -> list[bytes]:
+def read_batch(data: bytes, sector: int, version: Version) -> list[bytes]:
     """The records of a batch, from its kind on."""
     at, records = 0, []
     while at < len(data):
         demand(at + 13 <= len(data), sector)
         length, kind, moment = struct.unpack(">IBQ", data[at : at + 13])
         here = data[at + 4 : at + 4 + length]
-        demand(len(here) == length >= 9 and is_record(kind, moment, here[9:]), sector)
+        demand(len(here) == length >= 9 and is_record(kind, moment, here[9:], version), sector)
         records.append(here)
         at += 4 + length
     return records
@@ -929,7 +1014,7 @@ def read_journal(image: bytes, epoch: int, connected: Connected, version: Versio
     while at < end:
         (length,) = struct.unpack(">I", image[SECTOR * at :][:4])
         demand(length + 4 <= min(version.batch, SECTOR * (end - at)), at)
-        records = read_batch(bytes(image[SECTOR * at + 4 :][:length]), at)
+        records = read_batch(bytes(image[SECTOR * at + 4 :][:length]), at, version)
         demand(all(connected.takes(here) for here in records), at)
         batches.append(records)
         at += sectors_of(length + 4)
@@ -937,15 +1022,17 @@ def read_journal(image: bytes, epoch: int, connected: Connected, version: Versio
     return batches
 
 
-def read(image: bytes, version: Version = ONE) -> Content:
+def read(image: bytes, version: Version = TWO) -> Content:
     image = memoryview(image)
     if len(image) < 3 * SECTOR:
         raise Fault("not formatted")
-    limits = read_superblock(image, version)
+    sectors, limits = read_superblock(image, version)
+    # What comes after the sectors that the superblock names is no part of the device.
+    image = image[: SECTOR * sectors]
     heap = Heap(image, version)
     objects = heap.objects()
     try:
-        next_pid, pids = read_state(objects, limits)
+        next_pid, pids = read_state(objects, limits, version)
     except Unsound:
         raise Fault(f"damaged sector {version.root}") from None
     connected = Connected(next_pid, pids, limits.processes)

@@ -16,6 +16,7 @@ from device_layout import (
     NONE,
     RESTART,
     SEGMENT_KIND,
+    SMALL,
     STANDARD,
     Device,
     NamedSem,
@@ -99,7 +100,8 @@ def names_in_order() -> None:
     segments = {number: Segment(name, number * b"x") for number, name in enumerate((*names, b"/" + 254 * b"a"), 1)}
     in_order = [one for them in (sems, segments) for one in sorted(them.values(), key=lambda one: one.name)]
     text = "".join(map(row_of_named, in_order))
-    opens(Device(STANDARD).save(7, objects_of(sems, segments, numbers=(9, 9))).image, text, "names")
+    device = Device(SMALL._replace(named=len(sems), segments=len(segments)))
+    opens(device.save(7, objects_of(sems, segments, numbers=(9, 9))).image, text, "names")
 
 
 ONE_OF_ALL = Segment(b"/all", STANDARD.segment_bytes * b"\xa5")
@@ -107,7 +109,7 @@ ONE_OF_ALL = Segment(b"/all", STANDARD.segment_bytes * b"\xa5")
 
 def largest() -> Device:
     """2049 sectors of the segment and 17 of the table, in no order."""
-    device = Device(STANDARD)
+    device = Device(SMALL._replace(segment_bytes=STANDARD.segment_bytes))
     places = device.free()
     random.Random(1).shuffle(places)
     return device.save(7, objects_of({}, {1: ONE_OF_ALL}), places)
@@ -145,7 +147,8 @@ def no_states() -> Iterator[Check]:
         "a semaphore that is not there": Open(0, 3, 0, 4),
         "a segment that is not there": Open(0, 2, 0, 5),
         "a semaphore as a queue": Open(0, 2, 0, 3),
-        "an object of kind 6": Open(0, 2, 0, 6),
+        "a System V segment that is not there": Open(0, 2, 0, 6),
+        "an object of kind 7": Open(0, 2, 0, 7),
         "a segment to write": Open(0, 1, 1, 5),
         "a segment with an access of 3": Open(0, 1, 3, 5),
     }.items():
@@ -182,7 +185,7 @@ def cut_short() -> Iterator[Check]:
 
 
 def no_state(name: str, objects: Objects) -> Check:
-    return partial(refuses, Device().save(7, objects).image, "damaged sector 1", name)
+    return partial(refuses, Device().save(7, objects).image, "damaged sector 2", name)
 
 
 def named() -> Iterator[Check]:

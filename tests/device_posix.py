@@ -13,7 +13,7 @@ from device_layout import (
     NONE,
     POSIX_KIND,
     RESTART,
-    STANDARD,
+    SMALL,
     Device,
     Open,
     Posix,
@@ -101,7 +101,8 @@ def names_in_order(many: dict[int, Posix]) -> None:
     in_order = sorted(many.values(), key=lambda one: one.name)
     text = "".join(map(row_of_posix, in_order))
     assert "\\x01" in text and "\\x5c" in text and "\\xff" in text and "~" in text
-    opens(Device(STANDARD).save(7, objects).image, text, "names")
+    limits = SMALL._replace(posix_queues=8, posix_messages=10, posix_bytes=8192, descriptors=8)
+    opens(Device(limits).save(7, objects).image, text, "names")
 
 
 def no_states() -> Iterator[Check]:
@@ -179,7 +180,7 @@ def cut_short(free: Posix) -> Iterator[Check]:
 
 
 def no_state(name: str, objects: Objects) -> Check:
-    return partial(refuses, Device().save(7, objects).image, "damaged sector 1", name)
+    return partial(refuses, Device().save(7, objects).image, "damaged sector 2", name)
 
 
 def posix() -> Iterator[Check]:

@@ -15,6 +15,7 @@ from device_layout import (
     RESTART,
     ROOT,
     SECTOR,
+    TWO,
     Device,
     Fault,
     NamedSem,
@@ -22,8 +23,10 @@ from device_layout import (
     Queue,
     Segment,
     Set,
+    Version,
     batch,
     header,
+    put_into_file,
     read,
     shown,
 )
@@ -52,7 +55,7 @@ class Ended(NamedTuple):
 def ipcd(image: bytes, command: str, script: str = "", *words: str) -> Ended:
     """Runs a command on a file that holds these bytes at first."""
     path = Path(f"device{next(NUMBERS)}")
-    path.write_bytes(image)
+    put_into_file(path, image)
     line = [PROGRAM, command, str(path), *words]
     ended = subprocess.run(line, input=script, capture_output=True, text=True, timeout=120)
     after = path.read_bytes()
@@ -83,10 +86,10 @@ def refuses(image: bytes, fault: str, name: str, *commands: str) -> None:
         is_image(ended.image, bytes(image), name)
 
 
-def fault_of(image: bytes) -> str:
+def fault_of(image: bytes, version: Version = TWO) -> str:
     """What the checker says of a device; nothing if it opens."""
     try:
-        read(image)
+        read(image, version)
     except Fault as fault:
         return str(fault)
     return ""
@@ -181,37 +184,58 @@ def received(connection: int, serial: int, mtype: int, text: bytes) -> str:
 
 # ---- bytes that are spelled by hand
 
-# The superblock of 448 sectors with small limits, and of 45830 with standard ones.
+# The superblock of 1366 sectors with small limits, and of 252440 with standard ones.
 SMALL_SUPERBLOCK = bytes.fromhex(
-    "49504353544f5245 00000001 000001c0 00000003 00000101 00000104 000000bc 00000001"
+    "49504353544f5245 00000002 00000556 00000003 00000101 00000104 00000452 00000002"
     "00000004 00000002 00000040 00000080 00000002 00000004 00000008 00000004"
     "00000002 00000002 00000040 00000002 00000002 00000800 00000040 00000004"
+    "00000002 00000400 00000800"
 )
 STANDARD_SUPERBLOCK = bytes.fromhex(
-    "49504353544f5245 00000001 0000b306 00000003 00000101 00000104 0000b202 00000001"
-    "00000040 00000020 00002000 00004000 00000020 00000040 00000200 00000020"
+    "49504353544f5245 00000002 0003da18 00000003 00000101 00000104 0003d914 00000002"
+    "00000040 00000040 00010000 00010000 00000020 00000040 00000200 00000020"
     "00000020 0000000a 00002000 00000040 00000020 00100000 00002000 00000020"
+    "00000020 00100000 00100000"
 )
 NEW_ROOT = bytes.fromhex("0000000000000001 00000108 00000054")
 NEW_HEADER = bytes.fromhex("0000000000000001 00000000")
 # The four objects of a new device, and their table.
 NEW_SECTORS = {
-    260: bytes.fromhex("0000000000000000 00000001 00000001 00000001 00000001 00000001 00000001"),
+    260: bytes.fromhex("0000000000000000 00000001 00000001 00000001 00000001 00000001 00000001 00000001"),
     261: bytes.fromhex("00000000"),
     262: bytes.fromhex("00000000"),
     263: bytes.fromhex("00000000"),
     264: bytes.fromhex(
         "00000000 00000004"
-        "0000000000000000 0000000000000020 00000104"
+        "0000000000000000 0000000000000024 00000104"
         "0000000000000001 0000000000000004 00000105"
         "0000000000000002 0000000000000004 00000106"
         "0000000000000003 0000000000000004 00000107"
     ),
 }
+# The superblocks of version 1, of 448 and 45830 sectors, and what else its devices have of their own.
+OLD_SMALL_SUPERBLOCK = bytes.fromhex(
+    "49504353544f5245 00000001 000001c0 00000003 00000101 00000104 000000bc 00000001"
+    "00000004 00000002 00000040 00000080 00000002 00000004 00000008 00000004"
+    "00000002 00000002 00000040 00000002 00000002 00000800 00000040 00000004"
+)
+OLD_STANDARD_SUPERBLOCK = bytes.fromhex(
+    "49504353544f5245 00000001 0000b306 00000003 00000101 00000104 0000b202 00000001"
+    "00000040 00000020 00002000 00004000 00000020 00000040 00000200 00000020"
+    "00000020 0000000a 00002000 00000040 00000020 00100000 00002000 00000020"
+)
+OLD_CLOCK = bytes.fromhex("0000000000000000 00000001 00000001 00000001 00000001 00000001 00000001")
+OLD_TABLE = bytes.fromhex(
+    "00000000 00000004"
+    "0000000000000000 0000000000000020 00000104"
+    "0000000000000001 0000000000000004 00000105"
+    "0000000000000002 0000000000000004 00000106"
+    "0000000000000003 0000000000000004 00000107"
+)
 # Process 1, its queue 1 made at moment 3, and a message that was sent at moment 9.
 SAVED_ROOT = bytes.fromhex("0000000000000002 0000010e 00000068")
 SAVED_SECTORS = {
-    265: bytes.fromhex("0000000000000009 00000002 00000002 00000001 00000001 00000001 00000001"),
+    265: bytes.fromhex("0000000000000009 00000002 00000002 00000001 00000001 00000001 00000001 00000001"),
     266: bytes.fromhex("00000001 00000001 000003e8 00000064 00000000"),
     267: bytes.fromhex("00000000"),
     268: bytes.fromhex("00000000"),
@@ -222,7 +246,7 @@ SAVED_SECTORS = {
     ),
     270: bytes.fromhex(
         "00000000 00000005"
-        "0000000000000000 0000000000000020 00000109"
+        "0000000000000000 0000000000000024 00000109"
         "0000000000000001 0000000000000014 0000010a"
         "0000000000000002 0000000000000004 0000010b"
         "0000000000000003 0000000000000004 0000010c"

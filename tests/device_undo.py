@@ -11,7 +11,7 @@ from device_layout import (
     JOURNAL,
     NONE,
     RESTART,
-    STANDARD,
+    SMALL,
     Adjustment,
     Device,
     Set,
@@ -122,7 +122,7 @@ def no_states() -> Iterator[Check]:
         "pids that do not rise": (others[1], first),
     }.items():
         objects = with_adjustments(adjustments(*them))
-        yield partial(refuses, Device().save(7, objects).image, "damaged sector 1", name)
+        yield partial(refuses, Device().save(7, objects).image, "damaged sector 2", name)
     data = adjustments(*THEM)
     for name, wrong in {
         "a byte less than four adjustments": data[:-1],
@@ -131,9 +131,9 @@ def no_states() -> Iterator[Check]:
         "a count of five": b"\0\0\0\5" + data[4:],
         "three bytes": data[:3],
     }.items():
-        yield partial(refuses, Device().save(7, with_adjustments(wrong)).image, "damaged sector 1", name)
+        yield partial(refuses, Device().save(7, with_adjustments(wrong)).image, "damaged sector 2", name)
     gone = with_adjustments(adjustments(*THEM), (21,))
-    yield partial(refuses, Device().save(7, gone).image, "damaged sector 1", "one who has left")
+    yield partial(refuses, Device().save(7, gone).image, "damaged sector 2", "one who has left")
 
 
 def as_many_as_may_be() -> None:
@@ -142,7 +142,8 @@ def as_many_as_may_be() -> None:
     them = [Adjustment(pid, semid, number, 1) for pid in pids for semid in semids for number in range(64)]
     sets = {semid: Set(0, 64 * ((0, 0),)) for semid in semids}
     objects = state(clock(9, 65, 1, 9), processes(*((pid, 0, 0) for pid in pids)), {}, sets, NONE, adjustments(*them))
-    device = Device(STANDARD).save(1, objects)
+    limits = SMALL._replace(processes=64, semmni=8, semmsl=64, semmns=512)
+    device = Device(limits).save(1, objects)
     after = {semid: Set(0, 64 * ((64, 64),)) for semid in semids}
     opens(device.image, "".join(row_of_set(semid, one) for semid, one in after.items()), "32768 adjustments")
     script = ["0 open 1", sends(0, 1, hello(1, 0, 0), semctl_getall(2, 8))]

@@ -24,6 +24,7 @@ from pathlib import Path
 
 sys.dont_write_bytecode = True
 
+from device_layout import ONE, SMALL_OF_ONE, Device  # noqa: E402
 from server import (  # noqa: E402
     PROGRAM,
     TIMEOUT,
@@ -117,14 +118,14 @@ def backups() -> None:
 
 def an_earlier_version() -> None:
     """It is named, and the file is left as it was."""
-    printed("format", "device", "--small")
-    device = bytearray(Path("device").read_bytes())
-    device[8:12] = bytes(4)
-    Path("device").write_bytes(device)
-    for words in (("dump", "device"), ("run", "device"), ("serve", "device", "socket")):
-        ended = run(*words)
-        check((ended.returncode, ended.stdout, ended.stderr) == (1, "", "ipcd: version 0\n"), f"{words}: {ended}")
-        check(Path("device").read_bytes() == device, f"{words}: the device has changed")
+    first = Device(SMALL_OF_ONE, version=ONE).image
+    for version, device in enumerate((first[:8] + bytes(4) + first[12:], first)):
+        Path("device").write_bytes(device)
+        for words in (("dump", "device"), ("run", "device"), ("serve", "device", "socket")):
+            ended = run(*words)
+            found = (ended.returncode, ended.stdout, ended.stderr)
+            check(found == (1, "", f"ipcd: version {version}\n"), f"{words}: {ended}")
+            check(Path("device").read_bytes() == device, f"{words}: the device has changed")
 
 
 def make_one_of_each() -> None:

@@ -149,30 +149,30 @@ END
 	run 0 replay $small
 done
 
-# Texts of 4097 bytes, of 8192, the longest, and of 8193. A size of 4096 is too small for the first: E2BIG is 7. Then
-# both are received, and ENOMSG, 42, is left.
+# Texts of 4097 bytes, of 65537, one too many, and of 65536, the longest, which needs the whole queue. A size of 4096 is
+# too small for the first: E2BIG is 7. ENOMSG, 42, is left.
 name "texts of more than 4096 bytes"
 script << END
 0 open 1
 0 data 1 0000000d0000000101000003e800000064
 0 data 1 0000000d000000020a000004d200000380
 0 data 1 00001016000000030b00000001000008000000000000000005$(text 4097)
-0 data 1 00002015000000040b00000001000008000000000000000006$(text 8192)
-0 data 1 00002016000000050b00000001000008000000000000000007$(text 8193)
-0 data 1 00000019000000060c0000000100000800000010000000000000000000
-0 data 1 00000019000000070c0000000100000800000020000000000000000000
-0 data 1 00000019000000080c0000000100000800000020000000000000000000
-0 data 1 00000019000000090c0000000100000800000020000000000000000000
+0 data 1 00010016000000040b00000001000008000000000000000007$(text 65537)
+0 data 1 00000019000000050c0000000100000800000010000000000000000000
+0 data 1 00000019000000060c0000000100000800000100000000000000000000
+0 data 1 00010015000000070b00000001000008000000000000000006$(text 65536)
+0 data 1 00000019000000080c0000000100000800000100000000000000000000
+0 data 1 00000019000000090c0000000100000800000100000000000000000000
 END
 wanted << END
 1 0000000a00000001000000000001
 1 0000000a00000002000000000001
 1 00000006000000030000
-1 00000006000000040000
-1 00000006000000050016
-1 00000006000000060007
-1 0000100f0000000700000000000000000005$(text 4097)
-1 0000200e0000000800000000000000000006$(text 8192)
+1 00000006000000040016
+1 00000006000000050007
+1 0000100f0000000600000000000000000005$(text 4097)
+1 00000006000000070000
+1 0001000e0000000800000000000000000006$(text 65536)
 1 0000000600000009002a
 END
 run 0 replay
@@ -317,23 +317,23 @@ first_queue() {
 END
 }
 
-# A device under standard limits needs 45830 sectors, and one under small limits 448.
+# A device under standard limits needs 252440 sectors, and one under small limits 1366.
 name "a device of as many sectors as it needs"
-echo "formatted 45830 sectors" | wanted
+echo "formatted 252440 sectors" | wanted
 run 0 format "$device"
-[ "$(wc -c < "$device")" -eq 23464960 ] || fail "the file has not 45830 sectors"
+[ "$(wc -c < "$device")" -eq 129249280 ] || fail "the file has not 252440 sectors"
 name "a device of fewer sectors than it needs"
-says "ipcd: too small, 45830 sectors needed"
-run 1 format "$device" --sectors 45829
-[ "$(wc -c < "$device")" -eq 23464960 ] || fail "the file was touched"
+says "ipcd: too small, 252440 sectors needed"
+run 1 format "$device" --sectors 252439
+[ "$(wc -c < "$device")" -eq 129249280 ] || fail "the file was touched"
 name "a device that is cut"
-echo "formatted 448 sectors" | wanted
+echo "formatted 1366 sectors" | wanted
 run 0 format "$device" --small
-[ "$(wc -c < "$device")" -eq 229376 ] || fail "the file has not 448 sectors"
+[ "$(wc -c < "$device")" -eq 699392 ] || fail "the file has not 1366 sectors"
 name "a device of more sectors than it needs"
-echo "formatted 500 sectors" | wanted
-run 0 format --sectors 500 --small "$device"
-[ "$(wc -c < "$device")" -eq 256000 ] || fail "the file has not 500 sectors"
+echo "formatted 1500 sectors" | wanted
+run 0 format --sectors 1500 --small "$device"
+[ "$(wc -c < "$device")" -eq 768000 ] || fail "the file has not 1500 sectors"
 
 name "an empty listing"
 run 0 dump "$device"
@@ -459,12 +459,12 @@ run_on_full() {
 
 name "a new device on a full disk"
 says "ipcd: device fault"
-run_on_full 447 1 format --small "$folder/full"
+run_on_full 1365 1 format --small "$folder/full"
 name "a new device that was not made"
 says "ipcd: not formatted"
 run 1 dump "$folder/full"
 name "the same when there is room"
-echo "formatted 448 sectors" | wanted
+echo "formatted 1366 sectors" | wanted
 run 0 format --small "$folder/full"
 
 # An open takes the first sector of the journal, sector 4, and so there is none for it, and then none for its first commit.
@@ -544,7 +544,7 @@ run 0 run "$folder/full"
 name "a device that cannot grow on a full disk"
 before=$(cksum < "$folder/full")
 says "ipcd: device fault"
-run_on_full 448 1 format --small --sectors 500 "$folder/full"
+run_on_full 1366 1 format --small --sectors 1500 "$folder/full"
 [ "$(cksum < "$folder/full")" = "$before" ] || fail "the file was touched"
 name "a device that did not grow"
 echo "msg          1        1234 0600       1000        100          2          1" | wanted
@@ -646,6 +646,6 @@ tells "^ *--small " replay --help
 name "help of format"
 tells "^ *--sectors <N> " format --help
 name "the version"
-tells "^ipcd [0-9]*\.[0-9]*\.[0-9]*, devices of version 1$" --version
+tells "^ipcd [0-9]*\.[0-9]*\.[0-9]*, devices of version 2$" --version
 
 echo "runs: $runs runs of the program, each as it should be"

@@ -245,18 +245,20 @@ def last_words() -> None:
         is_left(fresh, processes, f"with {refused} refused")
 
 
-# The longest request: its text is too long, EINVAL, which is 22.
-LONGEST = [frame(serial, msgsnd_request(1, 5, 8427 * b"\7")) for serial in range(2, 6)]
-# What is refused, and how many of the four are answered before. A batch has at most 32768 bytes, so there is room for
-# three records of 8465; the fourth is in a second one. The HELLO is the first commit.
-WITHIN = [(refusal(1, 0), 0), (refusal(1, 3), 0), (refusal(2, 0), 3), (refusal(2, 3), 3), ("", 4)]
+# Long requests: their texts are too long, EINVAL, which is 22.
+LONG = [frame(serial, msgsnd_request(1, 5, 32000 * b"\7")) for serial in range(2, 6)]
+# What is refused, and how many of the four are answered before. A batch has at most 131072 bytes, so after three
+# records of 32038 there is no room for the longest one, of 65809; the fourth is in a second batch. The HELLO is the
+# first commit, which ends with the fourth write. The batch of three has 188 sectors, which are three writes, and its
+# header is the eighth.
+WITHIN = [(f"pwrite 5 {errno.EIO}", 0), (refusal(1, 3), 0), (f"pwrite 9 {errno.EIO}", 3), (refusal(2, 3), 3), ("", 4)]
 
 
 def a_disk_that_fails_within_a_line() -> None:
-    """Four of the longest requests in a line are two commits."""
+    """Four long requests in a line are two commits."""
     printed("format", "device", "--small")
     fresh = Path("device").read_bytes()
-    script = f"0 open 1\n0 data 1 {HELLO}\n0 data 1 {b''.join(LONGEST).hex()}\n"
+    script = f"0 open 1\n0 data 1 {HELLO}\n0 data 1 {b''.join(LONG).hex()}\n"
     for refused, answers in WITHIN:
         Path("device").write_bytes(fresh)
         text = "1 0000000a00000001000000000001\n"
@@ -471,18 +473,21 @@ def what_changes_an_object() -> None:
 # The lengths of the texts in a line, the bytes of their batch, and its sectors. A batch has 4 bytes of its length, the
 # tick of the line, 13, and 38 and the text for each.
 BATCHES = [((2,), 57, 1), ((457,), 512, 1), ((458,), 513, 2), ((457, 474), 1024, 2), ((457, 475), 1025, 3)]
-BATCHES += [((8427,), 8482, 17), ((8427, 8427, 8427), 25412, 50)]
+BATCHES += [((8427,), 8482, 17), ((8427, 8427, 8427), 25412, 50), ((65771,), 65826, 129)]
+BATCHES += [((64184, 65771), 130048, 254)]
 
 
 def batches() -> None:
-    """However long one is, a commit puts it out by one write, and the header by another, and syncs twice."""
+    """A commit puts one out by one write, or by one for each 64 sectors, and the header by another, and syncs twice."""
     for lengths, size, sectors in BATCHES:
         sends = b"".join(frame(2, msgsnd_request(1, 5, length * b"\7")) for length in lengths)
         name = f"texts of {lengths} bytes"
-        makes(name, f"0 open 1\n0 data 1 {HELLO}\n0 data 1 {sends.hex()}\n", "SBSHS" + 2 * "BSHS")
+        pieces = [min(64, sectors - at) for at in range(0, sectors, 64)]
+        wanted = "SBSHS" + "BSHS" + len(pieces) * "B" + "SHS"
+        makes(name, f"0 open 1\n0 data 1 {HELLO}\n0 data 1 {sends.hex()}\n", wanted)
         written = [call.data for call in calls() if call.name == "pwrite" and call.sector >= BODY]
-        sizes = list(map(len, written))
-        check(sizes == [SECTOR, SECTOR, SECTOR * sectors], f"{name}: {sizes} bytes are written")
+        sizes = [len(data) // SECTOR for data in written]
+        check(sizes == [1, 1, *pieces], f"{name}: {sizes} sectors are written")
         found = 4 + int.from_bytes(written[2][:4], "big")
         check(found == size, f"{name}: the batch has {found} bytes, and not {size}")
 

@@ -136,9 +136,9 @@ GETVAL = Call("0000000d00000006160000000100000001", "1 0000000a00000006000000007
 GETPID = Call("0000000d00000007170000000100000001", "1 0000000a00000007000000000001\n")
 # Three bytes for values, which are no whole values.
 SETALL_HALF = Call("0000000c000000081c00000001000102", "1 00000006000000080047\n1 end\n")
-# A length of 0, one of 8449, which is one above the greatest, and an unknown opcode under serial 9.
+# A length of 0, one of 65793, which is one above the greatest, and an unknown opcode under serial 9.
 SHORT = Call("00000000", EPROTO)
-LONG = Call("00002101", EPROTO)
+LONG = Call("00010101", EPROTO)
 UNKNOWN = Call("0000000500000009ff", "1 00000006000000090047\n1 end\n")
 
 STREAMS = {
@@ -278,6 +278,15 @@ def msgctl_set(serial: int, qbytes: int) -> str:
     return frame(struct.pack(">IBIIIII", serial, 0x0E, 1, 1000, 100, 0o600, qbytes))
 
 
+def msgget(serial: int, key: int) -> str:
+    """The queue of this key, made if there is none."""
+    return frame(struct.pack(">IBiI", serial, 0x0A, key, 0o1600))
+
+
+def msgctl_rmid(serial: int, queue: int) -> str:
+    return frame(struct.pack(">IBI", serial, 0x0F, queue))
+
+
 def semget(serial: int, key: int, nsems: int) -> str:
     """A set of so many semaphores, made if there is none of this key."""
     return frame(struct.pack(">IBiiI", serial, 0x14, key, nsems, 0o1600))
@@ -309,19 +318,28 @@ def received(serial: int, text: bytes, conn: int = 1) -> str:
 
 def long_messages() -> Iterator[Run]:
     """Texts that go through all values of a byte. One byte above the longest is EINVAL, 22."""
-    for length, size in ((4097, 4097), (8191, 8192), (8192, 8192)):
+    for length, size in ((4097, 4097), (65535, 65536), (65536, 65536)):
         text = bytes(place % 256 for place in range(length))
         script = sends(HELLO.sent, GET.sent, msgsnd(3, text), msgrcv(4, size))
         output = HELLO.answer + GET.answer + replied(3, 0) + received(4, text)
         yield Run(f"a text of {length} bytes", script, output, ("replay",))
-    text = bytes(place % 256 for place in range(8193))
+    text = bytes(place % 256 for place in range(65537))
     script = sends(HELLO.sent, GET.sent, msgsnd(3, text))
     output = HELLO.answer + GET.answer + replied(3, 22)
-    yield Run("a text of 8193 bytes", script, output, ("replay",))
+    yield Run("a text of 65537 bytes", script, output, ("replay",))
 
 
 def numbered(serial: int, number: int) -> str:
     return replied(serial, 0, struct.pack(">I", number))
+
+
+def as_many_queues_as_there_may_be() -> Run:
+    """64 of them, and none more: ENOSPC, 28, until one is removed."""
+    asked = [msgget(serial, 0) for serial in range(1, 66)]
+    output = "".join(numbered(serial, serial) for serial in range(1, 65)) + replied(65, 28)
+    asked += [msgctl_rmid(66, 9), msgget(67, 7), msgget(68, 8)]
+    output += replied(66, 0) + numbered(67, 65) + replied(68, 28)
+    return Run("64 queues", sends(HELLO.sent, *asked), HELLO.answer + output, ("replay",))
 
 
 def as_many_semaphores_as_there_may_be() -> Run:
@@ -379,23 +397,23 @@ ORDER = [conn * 5 % 64 for conn in range(1, 64)]
 
 def as_many_receives_as_may_wait() -> Run:
     """The queue is removed, and each is EIDRM, 43, under its serial."""
-    script = COME + "".join(f"0 data {conn} {msgrcv(100 + conn, 8192)}\n" for conn in ORDER)
+    script = COME + "".join(f"0 data {conn} {msgrcv(100 + conn, 65536)}\n" for conn in ORDER)
     script += "0 tick\nsave\n0 data 64 00000009000000030f00000001\n"
     output = WELCOMED + "".join(replied(100 + conn, 43, conn=conn) for conn in range(1, 64))
     return Run("63 receives wait", script, output + replied(3, 0, conn=64), ("replay",))
 
 
 def as_many_sends_as_may_wait() -> Run:
-    """Each of the longest text. The queue may hold none of them, and then two: each receive lets the next one go on,
+    """Each of the longest text. The queue may hold none of them, and then one: each receive lets the next one go on,
     in the order in which they came."""
-    texts = {conn: bytes([conn]) * 8192 for conn in ORDER}
+    texts = {conn: bytes([conn]) * 65536 for conn in ORDER}
     script = f"{COME}0 data 64 {msgctl_set(3, 0)}\n"
     script += "".join(f"0 data {conn} {msgsnd(4, texts[conn])}\n" for conn in ORDER)
-    script += f"save\n0 data 64 {msgctl_set(5, 16384)}\n"
+    script += f"save\n0 data 64 {msgctl_set(5, 65536)}\n"
     output = WELCOMED + replied(3, 0, conn=64)
-    output += "".join(replied(4, 0, conn=conn) for conn in sorted(ORDER[:2])) + replied(5, 0, conn=64)
-    for conn, then in zip(ORDER, [*ORDER[2:], 0, 0]):
-        script += f"0 data 64 {msgrcv(6, 8192)}\n"
+    output += replied(4, 0, conn=ORDER[0]) + replied(5, 0, conn=64)
+    for conn, then in zip(ORDER, [*ORDER[1:], 0]):
+        script += f"0 data 64 {msgrcv(6, 65536)}\n"
         output += replied(4, 0, conn=then) if then else ""
         output += received(6, texts[conn], 64)
     return Run("63 sends wait", script, output, ("replay",))
@@ -415,7 +433,7 @@ def a_long_script() -> Run:
 
 # ---- devices in files
 
-SECTORS = 448
+SECTORS = 1366
 SENT = HELLO.answer + GET.answer + SEND.answer
 SENDS = sends(HELLO.sent, GET.sent, SEND.sent)
 KEY_2 = Call("0000000d000000040afffffffe00000206", "1 0000000a00000004000000000002\n")
@@ -561,7 +579,8 @@ def main() -> None:
     # The longest come first.
     others = [as_many_sends_as_may_wait(), as_many_receives_as_may_wait(), a_long_script()]
     others += [more_connections_than_processes(), *long_messages(), *faults()]
-    others += [as_many_semaphores_as_there_may_be(), as_many_sets_as_there_may_be(), a_set_of_64()]
+    others += [as_many_queues_as_there_may_be(), as_many_semaphores_as_there_may_be()]
+    others += [as_many_sets_as_there_may_be(), a_set_of_64()]
     others += [marked(*stream) for stream in STREAMS.items()] + [a_number_used_again()]
     devices: list[Callable[[], None]] = [streams_that_fail, a_full_journal, sets_in_a_listing]
     devices.append(a_full_journal_while_a_call_waits)

@@ -86,7 +86,7 @@ def command_lines() -> None:
     refused(1, "ipcd: not formatted", "serve", "empty", "socket")
     printed("format", "changed", "--small")
     device = Path("changed").read_bytes()
-    for place, said in ((11, "ipcd: version 0"), (12, "ipcd: damaged sector 0")):
+    for place, said in ((11, "ipcd: version 3"), (12, "ipcd: damaged sector 0")):
         changed = device[:place] + bytes([device[place] ^ 1]) + device[place + 1 :]
         Path("changed").write_bytes(changed)
         refused(1, said, "serve", "changed", "socket")
@@ -213,7 +213,7 @@ def faults_of_the_stream() -> None:
     """EPROTO is the last frame. What was sent before the fault is done, and nothing after it."""
     rows = [
         ("00000004", 0),
-        ("00002101", 0),
+        ("00010101", 0),
         ("00000005 00000000 0a", 0),
         ("00000005 00000006 02", 6),
         ("00000005 00000007 ff", 7),
@@ -651,7 +651,7 @@ def the_last_epoch() -> None:
     finally:
         server.process.kill()
     ended = run("dump", "device")
-    check((ended.returncode, ended.stderr) == (1, "ipcd: damaged sector 1\n"), f"{ended}")
+    check((ended.returncode, ended.stderr) == (1, "ipcd: damaged sector 2\n"), f"{ended}")
 
 
 TESTS = [

@@ -25,7 +25,7 @@ from client import IPC_NOWAIT, Connection, msgctl_stat_request, msgrcv_request  
 
 PROGRAM = os.path.realpath(sys.argv[1])
 SEED = int(sys.argv[2]) if len(sys.argv) > 2 else random.randrange(2**32)
-SECTORS = {"standard": 45830, "small": 448}
+SECTORS = {"standard": 252440, "small": 1366}
 TIMEOUT = 20
 
 

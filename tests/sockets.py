@@ -187,8 +187,7 @@ def a_hundred_requests_are_answered_in_one_turn() -> None:
 # Requests whose records fill a batch so far that a feed may just begin; a call that has to wait, and the next one. The
 # texts are too long, but these are events like others. With the first of them a failure may begin.
 FILLING = [
-    frame(number, msgsnd_request(1, 5, text.ljust(size)))
-    for number, text, size in ((2, b"fault", 8023), (3, b"", 8024), (4, b"", 8024))
+    frame(number, msgsnd_request(1, 5, text.ljust(8088))) for number, text in enumerate([b"fault", *7 * [b""]], 2)
 ]
 WAITS, AFTER = frame(3, msgrcv_request(1, 64, 0)), frame(4, msgrcv_request(1, 64, 0))
 
@@ -199,22 +198,23 @@ def a_feed_releases_if_the_batch_is_full() -> None:
     what comes after it another."""
     with fresh() as server, process() as first, process() as second:
         fill(server, first, second)
-        first.is_answered(b"".join(reply(number, errno.EINVAL) for number in (2, 3, 4)))
+        first.is_answered(b"".join(reply(number, errno.EINVAL) for number in range(2, 10)))
         second.is_answered(reply(4, errno.EALREADY))
         turn = turn_of(WAITS + AFTER)
-    follows("E<+BSHS<BSHS>+", turn)
-    full, rest = [call.data for call in turn if call.name == "pwrite" and call.sector >= BODY]
+    follows("E<+BBSHS<BSHS>+", turn)
+    *pieces, rest = [call.data for call in turn if call.name == "pwrite" and call.sector >= BODY]
+    full = b"".join(pieces)
     moment = int.from_bytes(full[9:17], "big")
     ends = list(itertools.accumulate(len(one) for one in FILLING))
-    pieces = [tick(moment)]
+    records = [tick(moment)]
     for begin in range(0, ends[-1], 4096):
         whole = (one for one, end in zip(FILLING, ends) if begin < end <= begin + 4096)
-        pieces += [tick(moment), *(request(moment, 1, one[4:]) for one in whole)]
+        records += [tick(moment), *(request(moment, 1, one[4:]) for one in whole)]
     last = request(moment, 2, WAITS[4:])
-    wanted = batch(*pieces, tick(moment), last)
+    wanted = batch(*records, tick(moment), last)
     check(full.startswith(wanted), "the first batch is another one")
-    room = 32768 - len(wanted)
-    check(room < 8465 <= room + len(last), f"the first batch has room for {room} bytes more")
+    room = 131072 - len(wanted)
+    check(room < 65809 <= room + len(last), f"the first batch has room for {room} bytes more")
     check(rest.startswith(batch(request(moment, 2, AFTER[4:]))), "the second batch is another one")
 
 
@@ -227,7 +227,7 @@ def a_release_within_a_feed_that_fails() -> None:
             one.is_answered(FAILED)
             one.is_ended()
     turn = "E" + order(calls()).rpartition("E")[2]
-    check(turn.partition("x")[0] == "E<<<<<<<<", f"the turn is {turn}")
+    check(turn.partition("x")[0] == "E" + 17 * "<", f"the turn is {turn}")
 
 
 def fill(server: Server, first: Client, second: Client) -> None:
@@ -376,24 +376,24 @@ def what_was_released_before_a_failure_stays() -> None:
         check(found == [welcome(1)[:3], BROKEN[:3]], f"{found} is sent before the fault")
 
 
-def long_sends(count: int, text: bytes = b"x") -> list[bytes]:
-    """The longest requests there are. Their texts are too long, but they are events like others."""
-    return [frame(number, msgsnd_request(1, 5, text.ljust(8427, b"x"))) for number in range(1, count + 1)]
+def sends_of(size: int, count: int, text: bytes = b"x") -> list[bytes]:
+    """Requests of so many bytes. Their texts are too long, but they are events like others."""
+    return [frame(number, msgsnd_request(1, 5, text.ljust(size - 25, b"x"))) for number in range(1, count + 1)]
 
 
 def a_release_within_a_turn_that_fails() -> None:
-    """A client has sent more than one batch can hold. The commit that makes room for the next client is refused while
-    that one is read, and it is the last that is read."""
+    """A client has sent so much that 16 reads of it leave no room for a record of the greatest length. The commit that
+    makes room for the next client is refused while that one is read, and it is the last that is read."""
     with failing(f"pwrite 1 {errno.EIO}") as server:
         client, others = process(), [process(), Client()]
         with server.stopped():
-            client.send_bytes(b"".join(long_sends(7, b"fault")))
+            client.send_bytes(b"".join(sends_of(8192, 9, b"fault")))
             others[0].send_bytes(GET)
         for one in (client, *others):
             one.is_answered(FAILED)
             one.is_ended()
     turn = "E" + order(calls()).rpartition("E")[2]
-    check(0 < turn.partition("x")[0].count("<") < 16, f"the turn is {turn}")
+    check(turn.partition("x")[0].count("<") == 17, f"the turn is {turn}")
     check(printed("dump", "device") == "", "a request that was lost is there")
 
 
@@ -558,14 +558,14 @@ def a_client_that_reads_nothing_is_not_read() -> None:
 
 
 def what_is_left_after_16_reads_waits() -> None:
-    """16 reads of 1000 bytes are HELLO, one of the longest requests and a piece of the second. The next turn waits for
-    nothing, and takes the other 9373 bytes."""
-    asked = [HELLO, *long_sends(3)]
+    """16 reads of 1000 bytes are HELLO, one request of 8192 bytes and a piece of the second. The next turn waits for
+    nothing, and takes the other 8593 bytes."""
+    asked = [HELLO, *sends_of(8192, 3)]
     answers = [welcome(1), *(reply(number, errno.EINVAL) for number in range(1, 4))]
     with fresh(recv=(1, *(16 * [1000]), ALL)) as server:
         turns, file = turns_on(server, asked, answers, 3)
     reads = [results("recv", file, turn) for turn in turns]
-    check(reads == [16 * [1000], [4096, 4096, 1181, BLOCKS], []], f"the reads of the turns are {reads}")
+    check(reads == [16 * [1000], [4096, 4096, 401, BLOCKS], []], f"the reads of the turns are {reads}")
     sent = [sent_to(file, turn) for turn in turns]
     check(sent == [b"".join(answers[:2]), b"".join(answers[2:]), b""], "a turn sends other replies")
     check([turn[0].size for turn in turns[1:]] == [0, LONGEST], "the waits are others")
@@ -574,25 +574,27 @@ def what_is_left_after_16_reads_waits() -> None:
 
 
 def a_turn_takes_of_a_client_what_fits_into_a_batch() -> None:
-    """Of nine of the longest requests three are read with HELLO and a piece of the fourth, and a record of the greatest
-    length has no room any more. So the rest of the piece is fed in the next turn, which waits for nothing. Each turn
-    makes one commit, of at most 32768 bytes."""
-    asked = [HELLO, *long_sends(9)]
-    answers = [welcome(1), *(reply(number, errno.EINVAL) for number in range(1, 10))]
+    """Of 500 requests of 157 bytes 383 are read with HELLO in 15 reads. With HELLO's 25 bytes, 170 for each of them, 13
+    for the tick of the turn and of each read, and 4 of the length, the batch has 65347 bytes then, and a record of the
+    greatest length, 65809, has no room any more. So the rest of the piece, 1292 bytes, is fed in the next turn, which
+    waits for nothing, and takes the others. Each turn makes one commit."""
+    asked = [HELLO, *sends_of(157, 500)]
+    answers = [welcome(1), *(reply(number, errno.EINVAL) for number in range(1, 501))]
     with fresh() as server:
-        turns, file = turns_on(server, asked, answers, 4)
+        turns, file = turns_on(server, asked, answers, 3)
     reads = [results("recv", file, turn) for turn in turns]
-    check(reads == [7 * [4096], 6 * [4096], [*(5 * [4096]), 2357, BLOCKS], []], f"the reads of the turns are {reads}")
+    check(reads == [15 * [4096], [*(4 * [4096]), 693, BLOCKS], []], f"the reads of the turns are {reads}")
     sent = [sent_to(file, turn) for turn in turns]
-    wanted = [b"".join(them) for them in (answers[:4], answers[4:7], answers[7:], [])]
+    wanted = [b"".join(them) for them in (answers[:384], answers[384:], [])]
     check(sent == wanted, "a turn sends other replies")
-    check([turn[0].size for turn in turns[1:]] == [0, 0, LONGEST], "the waits are others")
-    for turn, numbers in zip(turns, (range(1, 4), range(4, 7), range(7, 10))):
+    check([turn[0].size for turn in turns[1:]] == [0, LONGEST], "the waits are others")
+    for turn, numbers, size in zip(turns, (range(1, 384), range(384, 501)), (65347, 19985)):
         follows(TURN, turn)
-        (data,) = [call.data for call in turn if call.name == "pwrite" and call.sector >= BODY]
-        check(len(data) <= 32768, f"a batch has {len(data)} bytes")
-        found = [number for number in range(1, 10) if asked[number][4:] in data]
-        check(found == list(numbers), f"a batch has the requests {found}")
+        data = b"".join(call.data for call in turn if call.name == "pwrite" and call.sector >= BODY)
+        found = 4 + int.from_bytes(data[:4], "big")
+        check(found == size, f"a batch has {found} bytes")
+        there = [number for number in range(1, 501) if asked[number][4:] in data]
+        check(there == list(numbers), f"a batch has the requests {there}")
 
 
 def turns_on(

@@ -43,16 +43,16 @@ def progress(sectors: int, *reached: int) -> bytes:
 # The length of a file that is there, or none, how many sectors it is to have, and the numbers that are shown. A MiB has
 # 2048 sectors, and 3000000 bytes are 2 MiB and some more. The last three files get no zeros.
 TOLD: list[tuple[int | None, int, tuple[int, ...]]] = [
-    (None, 448, (448,)),
+    (None, 1366, (1366,)),
     (None, 5000, (2048, 4096, 5000)),
     (0, 4096, (2048, 4096)),
     (3000000, 10000, (6144, 8192, 10000)),
     (1048576, 3000, (3000,)),
     (700, 2049, (2048, 2049)),
-    (229376, 3000, (2048, 3000)),
+    (699392, 3000, (2048, 3000)),
     (2097152, 4096, ()),
     (3000000, 4096, ()),
-    (2560000, 448, ()),
+    (2560000, 1366, ()),
 ]
 
 

@@ -130,7 +130,7 @@ def order(them: list[Call]) -> str:
     return "".join(letter(call) for call in them).replace("r", "")
 
 
-COMMIT = "(?:BSHS|O+SRS)"
+COMMIT = "(?:B+SHS|O+SRS)"
 TURN = f"E+[a<]*(?:{COMMIT}<*)*{COMMIT}>*(?:c+(?:{COMMIT}>*)?)?"
 OPEN = f"S{COMMIT}P"
 

@@ -47,9 +47,9 @@ UMASKS = [0, 0o022, 0o277, 0o777]
 
 # Words that are taken, and what is said of what they ask for. There is no folder `missing`.
 FAILS = [
-    (("format", "queues", "--sectors", "0"), "too small, 45830 sectors needed"),
-    (("format", "queues", "--sectors", "0", "--small"), "too small, 448 sectors needed"),
-    (("format", "--small", "--sectors=447", "queues"), "too small, 448 sectors needed"),
+    (("format", "queues", "--sectors", "0"), "too small, 252440 sectors needed"),
+    (("format", "queues", "--sectors", "0", "--small"), "too small, 1366 sectors needed"),
+    (("format", "--small", "--sectors=1365", "queues"), "too small, 1366 sectors needed"),
     (("format", "missing/queues", "--sectors", GREATEST), "device fault"),
     (("serve", "missing/queues", "socket", "--turns", GREATEST), "device fault"),
 ]
@@ -93,7 +93,7 @@ def helps() -> None:
 def version() -> None:
     """The version is that of the program, and then that of the devices which it makes."""
     printed = run("--version")[1].decode()
-    ends((0, b"formatted 448 sectors\n", b""), "format", "queues", "--small")
+    ends((0, b"formatted 1366 sectors\n", b""), "format", "queues", "--small")
     (number,) = struct.unpack_from(">I", Path("queues").read_bytes(), 8)
     os.remove("queues")
     wanted = rf"ipcd \d+\.\d+\.\d+, devices of version {number}\n"
@@ -127,7 +127,7 @@ def outputs() -> None:
 
 def modes() -> None:
     """A new device is its owner's alone, whatever the umask. A file that is there keeps its mode."""
-    said = b"formatted 448 sectors\n"
+    said = b"formatted 1366 sectors\n"
     for umask in UMASKS:
         ends((0, said, b""), "format", "queues", "--small", umask=umask)
         mode = stat.S_IMODE(os.stat("queues").st_mode)
@@ -165,9 +165,9 @@ def the_greatest_number() -> None:
 
 
 def names_with_spaces() -> None:
-    words = ("format", "--sectors", "448", "a b", "--small")
-    ends((0, b"formatted 448 sectors\n", b""), *words)
-    check(os.path.getsize("a b") == 448 * 512, "the file has not 448 sectors")
+    words = ("format", "--sectors", "1366", "a b", "--small")
+    ends((0, b"formatted 1366 sectors\n", b""), *words)
+    check(os.path.getsize("a b") == 1366 * 512, "the file has not 1366 sectors")
     ends((0, b"1 0000000a00000001000000000001\n", b""), "run", "a b", script=HELLO)
     ends((0, b"", b""), "dump", "a b")
     check(os.listdir() == ["a b"], f"other files are made: {os.listdir()}")
@@ -181,7 +181,7 @@ def used_sectors(device: str) -> int:
 def twelve_turns() -> None:
     """An idle turn ticks, and each tick takes a sector of the journal. So does the open."""
     before = used_sectors("a b")
-    said = b"serving a b, 448 sectors, on c d, small limits\n"
+    said = b"serving a b, 1366 sectors, on c d, small limits\n"
     ends((0, said, b""), "serve", "--turns=12", "a b", "c d")
     more = used_sectors("a b") - before
     check(more == 13, f"{more} sectors more are used, and not 13")

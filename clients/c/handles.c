@@ -146,7 +146,7 @@ static int note(struct ipcd *client, struct link *link, int number, struct handl
 // semaphores and segments with any number of slashes before them, also none, as with one.
 static ssize_t read_name(const char *name, enum kind kind, char *copy)
 {
-    ssize_t length = text_length(name, TEXT_MOST), slashes = 0;
+    ssize_t length = text_length(name, PIECE_MOST), slashes = 0;
     if (length < 0)
         return -1;
     if (kind != POSIX_QUEUE) {
@@ -160,7 +160,7 @@ static ssize_t read_name(const char *name, enum kind kind, char *copy)
 
 int open_handle(struct ipcd *client, const char *given, const struct wanted *wanted)
 {
-    char name[TEXT_MOST + 1];
+    char name[PIECE_MOST + 1];
     ssize_t length = read_name(given, wanted->kind, name);
     if (length < 0)
         return -1;
@@ -215,7 +215,7 @@ int close_handle(struct ipcd *client, size_t number, enum kind kind, int wrong)
 
 int unlink_name(struct ipcd *client, const char *given, enum kind kind, enum opcode opcode)
 {
-    char name[TEXT_MOST + 1];
+    char name[PIECE_MOST + 1];
     ssize_t length = read_name(given, kind, name);
     if (length < 0)
         return -1;

@@ -40,7 +40,7 @@ IPCD_PUBLIC void ipcd_disconnect(struct ipcd *connection);
 // The calls of this thread go over this connection from then on; NULL is that of the process. Answers the one before.
 IPCD_PUBLIC struct ipcd *ipcd_use(struct ipcd *connection);
 
-// Message queues, see msgget(2), msgop(2), msgctl(2). Types are above 0, texts have at most 8192 bytes. With MSG_COPY
+// Message queues, see msgget(2), msgop(2), msgctl(2). Types are above 0, texts have at most 65536 bytes. With MSG_COPY
 // ipcd_msgrcv is ENOSYS, or EINVAL without IPC_NOWAIT. Commands are IPC_STAT, IPC_SET and IPC_RMID.
 IPCD_PUBLIC int ipcd_msgget(key_t key, int msgflg);
 IPCD_PUBLIC int ipcd_msgsnd(int msqid, const void *msgp, size_t msgsz, int msgflg);

@@ -71,7 +71,7 @@ void link_drop(struct link *link);
 // Whether the socket is still the one that was connected.
 bool link_is_there(const struct link *link);
 
-// A request begins, and has fields. What does not fit is left out, so callers keep to TEXT_MOST and NAME_MOST.
+// A request begins, and has fields. What does not fit is left out, so callers keep to TEXT_MOST and PIECE_MOST.
 void link_begin(struct link *link, enum opcode opcode);
 void put_number(struct link *link, uint64_t number, size_t bytes);
 void put_u16(struct link *link, uint32_t number);

@@ -73,10 +73,10 @@ int ipcd_mq_timedsend(mqd_t mqdes, const char *msg_ptr, size_t msg_len, unsigned
     put_u64(link, deadline);
     put_u32(link, msg_prio);
     // A longer text is EMSGSIZE as this one is.
-    if (msg_len <= TEXT_MOST)
+    if (msg_len <= PIECE_MOST)
         put_text(link, msg_ptr, msg_len);
     else
-        link->end += TEXT_MOST + 1;
+        link->end += PIECE_MOST + 1;
     return end_empty(link, RESTARTED);
 }
 
@@ -103,7 +103,7 @@ ssize_t ipcd_mq_timedreceive(mqd_t mqdes, char *msg_ptr, size_t msg_len, unsigne
         return -1;
     put_u64(link, deadline);
     put_u32(link, msg_len > UINT32_MAX ? UINT32_MAX : (uint32_t) msg_len);
-    size_t most = msg_len < TEXT_MOST ? msg_len : TEXT_MOST;
+    size_t most = msg_len < PIECE_MOST ? msg_len : PIECE_MOST;
     ssize_t size = link_exchange(link, RESTARTED, 4, 4 + most);
     if (size < 0)
         return end(link, -1);

@@ -71,8 +71,8 @@ ssize_t ipcd_pread(int fd, void *buf, size_t count, off_t offset)
 {
     struct stat segment;
     int saved = errno;
-    if (count > TEXT_MOST)
-        count = TEXT_MOST;
+    if (count > PIECE_MOST)
+        count = PIECE_MOST;
     if (offset < 0 || !is_writable(buf, count)) {
         errno = offset < 0 ? EINVAL : EFAULT;
         return -1;
@@ -93,8 +93,8 @@ ssize_t ipcd_pread(int fd, void *buf, size_t count, off_t offset)
 
 ssize_t ipcd_pwrite(int fd, const void *buf, size_t count, off_t offset)
 {
-    if (count > TEXT_MOST)
-        count = TEXT_MOST;
+    if (count > PIECE_MOST)
+        count = PIECE_MOST;
     if (offset < 0) {
         errno = EINVAL;
         return -1;

@@ -6,12 +6,13 @@
 #include <stdint.h>
 
 enum {
-    FRAME_MOST = 8448,                // the greatest length that a frame says, of what follows its length
+    FRAME_MOST = 65792,               // the greatest length that a frame says, of what follows its length
     FRAME_LEAST = 6,                  // the least of a reply: a serial and an error number
     FRAME_BYTES = 4 + FRAME_MOST,
     REQUEST_HEAD = 9,                 // length, serial, opcode
     REPLY_HEAD = 10,                  // length, serial, error number
-    TEXT_MOST = 8192,                 // MSGMAX, the bytes of a POSIX message, and of a segment in one call
+    TEXT_MOST = 65536,                // MSGMAX
+    PIECE_MOST = 8192,                // bytes of a POSIX message, and of a segment in one call
     BODY_MOST = FRAME_MOST - FRAME_LEAST,
     NAME_MOST = 255,                  // bytes of a name, with its slash
     PROCESSES_MOST = 64,              // processes of a server

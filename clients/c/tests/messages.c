@@ -9,7 +9,7 @@
 
 struct message {
     long type;
-    char text[8200];
+    char text[65540];
 };
 
 static struct message buffer;
@@ -73,7 +73,7 @@ static void refuses_what_is_wrong(int queue)
     REFUSED(send_text(queue, 0, "no type", 0), EINVAL);
     REFUSED(send_text(queue, -1, "no type", 0), EINVAL);
     buffer.type = 1;
-    REFUSED(msgsnd(queue, &buffer, 8193, 0), EINVAL);
+    REFUSED(msgsnd(queue, &buffer, 65537, 0), EINVAL);
     REFUSED(msgsnd(queue, &buffer, (size_t) -1, 0), EINVAL);
     REFUSED(msgrcv(queue, &buffer, (size_t) -1, 0, IPC_NOWAIT), EINVAL);
     REFUSED(msgsnd(-1, &buffer, 1, 0), EINVAL);
@@ -88,8 +88,13 @@ static void refuses_what_is_wrong(int queue)
     }
 }
 
+// The kernel's queues take 16384 bytes, and texts of 8192, unless they are told otherwise; a server's take 65536 of both.
 static void fills(int queue)
 {
+    struct msqid_ds record;
+    CHECK(msgctl(queue, IPC_STAT, &record) == 0);
+    record.msg_qbytes = 16384;
+    CHECK(msgctl(queue, IPC_SET, &record) == 0);
     buffer.type = 5;
     memset(buffer.text, 'x', sizeof buffer.text);
     CHECK(msgsnd(queue, &buffer, 8192, IPC_NOWAIT) == 0);
@@ -100,6 +105,17 @@ static void fills(int queue)
         CHECK(msgrcv(queue, &buffer, 8192, 0, IPC_NOWAIT) == 8192);
         CHECK(buffer.type == 5 && buffer.text[0] == 'x' && buffer.text[8191] == 'x' && buffer.text[8192] == 0);
     }
+}
+
+static void takes_the_longest(int queue)
+{
+    buffer.type = 5;
+    memset(buffer.text, 'y', sizeof buffer.text);
+    CHECK(msgsnd(queue, &buffer, 65536, IPC_NOWAIT) == 0);
+    REFUSED(msgsnd(queue, &buffer, 1, IPC_NOWAIT), EAGAIN);
+    memset(&buffer, 0, sizeof buffer);
+    CHECK(msgrcv(queue, &buffer, 65540, 0, IPC_NOWAIT) == 65536);
+    CHECK(buffer.type == 5 && buffer.text[0] == 'y' && buffer.text[65535] == 'y' && buffer.text[65536] == 0);
 }
 
 static void is_recent(time_t time)
@@ -115,7 +131,7 @@ static void tells_of_itself(int queue)
     CHECK(record.msg_perm.uid == geteuid() && record.msg_perm.gid == getegid());
     CHECK(record.msg_perm.cuid == geteuid() && record.msg_perm.cgid == getegid());
     CHECK((record.msg_perm.mode & 0777) == 0640 && record.msg_perm.__key == 0x69706303);
-    CHECK(record.msg_qnum == 0 && record.__msg_cbytes == 0 && record.msg_qbytes == 16384);
+    CHECK(record.msg_qnum == 0 && record.__msg_cbytes == 0 && record.msg_qbytes == (is_on_kernel() ? 16384 : 65536));
     CHECK(record.msg_stime == 0 && record.msg_rtime == 0 && record.msg_lspid == 0 && record.msg_lrpid == 0);
     is_recent(record.msg_ctime);
     CHECK(send_text(queue, 1, "seven b", 0) == 0);
@@ -200,6 +216,12 @@ int main(void)
     CHECK(msgctl(queue, IPC_RMID, NULL) == 0);
     queue = msgget(0x69706303, IPC_CREAT | IPC_EXCL | 0640);
     CHECK(queue >= 0);
+    if (!is_on_kernel()) {
+        takes_the_longest(queue);
+        CHECK(msgctl(queue, IPC_RMID, NULL) == 0);
+        queue = msgget(0x69706303, IPC_CREAT | IPC_EXCL | 0640);
+        CHECK(queue >= 0);
+    }
     tells_of_itself(queue);
     if (tries_bad_addresses())
         refuses_bad_addresses(queue);

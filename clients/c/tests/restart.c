@@ -134,7 +134,9 @@ static void make(void)
     CHECK(queue >= 0 && full_queue >= 0 && set >= 0 && empty != -1 && full != -1 && lost != -1);
     CHECK(spare_queue >= 0 && spare_set >= 0 && sem != SEM_FAILED && lost_sem != SEM_FAILED);
     CHECK(mq_send(full, "f", 1, 0) == 0);
-    CHECK(msgsnd(full_queue, &message, 8192, 0) == 0 && msgsnd(full_queue, &message, 8192, 0) == 0);
+    while (msgsnd(full_queue, &message, 8192, IPC_NOWAIT) == 0)
+        continue;
+    CHECK(errno == EAGAIN);
     CHECK(mq_unlink("/ipcd_l") == 0 && sem_unlink("/ipcd_l") == 0);
     CHECK(mq_send(lost, "l", 1, 0) == 0 && sem_post(lost_sem) == 0);
     CHECK(stat_queue() == 0 && stat_set() == 0);

@@ -28,8 +28,8 @@ O_NONBLOCK = 0o4000
 NOTIFY_NOT, NOTIFY_NULL, NOTIFY_FRAME = 0, 1, 2
 
 # The most bytes of a frame, with those of its length: of a request, and of a reply under standard limits.
-LONGEST_REQUEST = 8452
-LONGEST_REPLY = 8210
+LONGEST_REQUEST = 65796
+LONGEST_REPLY = 65554
 
 # What a request is refused that no frame can carry, by its opcode, as the manual page of its call has it.
 TOO_LONG = {

@@ -336,6 +336,7 @@ def the_server_is_killed_in_each_wait() -> None:
         jobs = posix_ipc.MessageQueue("/killed", posix_ipc.O_CREX)
         stuffed = posix_ipc.MessageQueue("/stuffed", posix_ipc.O_CREX, max_messages=1)
         stuffed.send("x")
+        full.max_size = 8 * 2048
         for _ in range(8):
             full.send(2048 * "x")
     waits: list[tuple[Callable[[], object], type[Exception]]] = [

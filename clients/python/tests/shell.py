@@ -119,7 +119,7 @@ def stats(gates: int) -> None:
     found = start("stat", "-q", "1").communicate(timeout=20)[0]
     fields = dict(line.split("=", 1) for line in found.splitlines())
     check(list(fields) == list(QueueStat._fields), f"{fields} are the fields")
-    wanted = {"key": "0x000004d2", "mode": "640", "qnum": "1", "cbytes": "5", "rtime": "never", "qbytes": "16384"}
+    wanted = {"key": "0x000004d2", "mode": "640", "qnum": "1", "cbytes": "5", "rtime": "never", "qbytes": "65536"}
     check({name: fields[name] for name in wanted} == wanted, f"{fields}")
     sent = time.mktime(time.strptime(fields["stime"], "%Y-%m-%d %H:%M:%S"))
     check(abs(sent - time.time()) < 60, f"{fields['stime']} is when a message was sent")

@@ -696,9 +696,9 @@ within-bounds value most h =
 -- what is used of limits that were checked
 pub record PassedBounds (l : Limits) : Type 0 where
   pub processes : (1 ≤ l.processes) × (l.processes ≤ 64)
-  pub msgmni : l.msgmni ≤ 32
-  pub msgmax : (1 ≤ l.msgmax) × (l.msgmax ≤ 8192) × (l.msgmax ≤ l.msgmnb)
-  pub msgmnb : (1 ≤ l.msgmnb) × (l.msgmnb ≤ 16384)
+  pub msgmni : l.msgmni ≤ 64
+  pub msgmax : (1 ≤ l.msgmax) × (l.msgmax ≤ 65536) × (l.msgmax ≤ l.msgmnb)
+  pub msgmnb : (1 ≤ l.msgmnb) × (l.msgmnb ≤ 65536)
   pub semmni : l.semmni ≤ 32
   pub semmsl : l.semmsl ≤ 64
   pub semmns : l.semmns ≤ 512
@@ -711,12 +711,17 @@ pub record PassedBounds (l : Limits) : Type 0 where
   pub segment_bytes : l.segment_bytes ≤ 1048576
   pub call_bytes : l.call_bytes ≤ 8192
   pub descriptors : l.descriptors ≤ 32
+  pub shmmni : l.shmmni ≤ 32
+  pub shmmax : (1 ≤ l.shmmax) × (l.shmmax ≤ 1048576) × (l.shmmax ≤ l.shmall)
+  pub shmall : l.shmall ≤ 1048576
 
 pub passed-bounds : (l : Limits) → ArePassed l → PassedBounds l
 passed-bounds l passed =
     let all = each_passes (tests l) passed in
-    let size = both_true (is_within l.msgmax 8192) (leb l.msgmax l.msgmnb) (all 2 (omega arith)) in
-    let msgmax = within-bounds l.msgmax 8192 size.0 in
+    let size = both_true (is_within l.msgmax 65536) (leb l.msgmax l.msgmnb) (all 2 (omega arith)) in
+    let msgmax = within-bounds l.msgmax 65536 size.0 in
+    let segment = both_true (is_within l.shmmax 1048576) (leb l.shmmax l.shmall) (all 17 (omega arith)) in
+    let shmmax = within-bounds l.shmmax 1048576 segment.0 in
     let set = both_true (is_within l.semmsl 64) (leb l.semmsl l.semmns) (all 5 (omega arith)) in
     record {
       processes = within-bounds _ _ (all 0 (omega arith));
@@ -735,9 +740,12 @@ passed-bounds l passed =
       segment_bytes = (within-bounds _ _ (all 13 (omega arith))).1;
       call_bytes = (within-bounds _ _ (all 14 (omega arith))).1;
       descriptors = (within-bounds _ _ (all 15 (omega arith))).1;
+      shmmni = (within-bounds _ _ (all 16 (omega arith))).1;
+      shmmax = (shmmax.0, shmmax.1, leb-true _ _ segment.1);
+      shmall = (within-bounds _ _ (all 18 (omega arith))).1;
     }
 
-pub longest_reply-bound : (l : Limits) → ArePassed l → longest_reply l ≤ 8210
+pub longest_reply-bound : (l : Limits) → ArePassed l → longest_reply l ≤ 65554
 longest_reply-bound l passed =
     let b = passed-bounds l passed in
     omega (arith, b.msgmax.1, b.semmsl, b.msgsize, b.call_bytes)

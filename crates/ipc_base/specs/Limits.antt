@@ -1,5 +1,5 @@
--- The limits: each at least 1 and at most the standard one, a message no longer than a queue, a set
--- no larger than all sets.
+-- The limits: each at least 1 and at most the standard one, a message no longer than a queue, a set no larger than all
+-- sets, a System V segment no longer than all of them.
 use Rattle.std.specs.Prelude.{◌≡◌, ℕ, ◌+◌, ◌*◌, max, Bool, not, List, [], ◌∷◌, nat_le, ◌&&◌, position, None}
 use Rattle.ipc_base.specs.declared.limits.Limits.{Limits}
 
@@ -7,9 +7,9 @@ abbrev pub standard_limits : Limits
 standard_limits =
     record {
       processes = 64;
-      msgmni = 32;
-      msgmax = 8192;
-      msgmnb = 16384;
+      msgmni = 64;
+      msgmax = 65536;
+      msgmnb = 65536;
       semmni = 32;
       semmsl = 64;
       semmns = 512;
@@ -22,6 +22,9 @@ standard_limits =
       segment_bytes = 1048576;
       call_bytes = 8192;
       descriptors = 32;
+      shmmni = 32;
+      shmmax = 1048576;
+      shmall = 1048576;
     }
 
 abbrev pub small_limits : Limits
@@ -43,6 +46,9 @@ small_limits =
       segment_bytes = 2048;
       call_bytes = 64;
       descriptors = 4;
+      shmmni = 2;
+      shmmax = 1024;
+      shmall = 2048;
     }
 
 abbrev pub is_within : ℕ → ℕ → Bool
@@ -67,6 +73,9 @@ tests l =
     ∷ is_within l.segment_bytes standard_limits.segment_bytes
     ∷ is_within l.call_bytes standard_limits.call_bytes
     ∷ is_within l.descriptors standard_limits.descriptors
+    ∷ is_within l.shmmni standard_limits.shmmni
+    ∷ (is_within l.shmmax standard_limits.shmmax && nat_le l.shmmax l.shmall)
+    ∷ is_within l.shmall standard_limits.shmall
     ∷ []
 
 -- each field passes

@@ -1,4 +1,4 @@
-//! The sixteen limits of a server.
+//! The nineteen limits of a server.
 
 ghost use Rattle.std.specs.Prelude.{◌≡◌, ◌≤◌, IfErr, OnOk, position, not};
 ghost use Rattle.ipc_base.specs.Limits.{
@@ -48,6 +48,12 @@ pub struct Limits {
     pub call_bytes: u32,
     /// Descriptors of one process.
     pub descriptors: u32,
+    /// System V shared memory segments.
+    pub shmmni: u32,
+    /// Bytes of one System V segment.
+    pub shmmax: u32,
+    /// Bytes of all System V segments.
+    pub shmall: u32,
 }
 
 /// The limits fail at a field, counted from 0 in the order of `Limits`.
@@ -65,9 +71,9 @@ impl Limits {
     {
         Limits {
             processes: 64,
-            msgmni: 32,
-            msgmax: 8192,
-            msgmnb: 16384,
+            msgmni: 64,
+            msgmax: 65536,
+            msgmnb: 65536,
             semmni: 32,
             semmsl: 64,
             semmns: 512,
@@ -80,6 +86,9 @@ impl Limits {
             segment_bytes: 1048576,
             call_bytes: 8192,
             descriptors: 32,
+            shmmni: 32,
+            shmmax: 1048576,
+            shmall: 1048576,
         }
     }
 
@@ -105,20 +114,23 @@ impl Limits {
             segment_bytes: 2048,
             call_bytes: 64,
             descriptors: 4,
+            shmmni: 2,
+            shmmax: 1024,
+            shmall: 2048,
         }
     }
 
-    /// Tests each field in order: it is at least 1 and at most the standard value, `msgmax` is at
-    /// most `msgmnb`, and `semmsl` at most `semmns`. The fault names the first field that fails.
+    /// Tests each field in order: it is at least 1 and at most the standard value, `msgmax` is at most `msgmnb`,
+    /// `semmsl` at most `semmns`, and `shmmax` at most `shmall`. The fault names the first field that fails.
     pub fn check(&self) -> Result<(), BadLimits>
         ensures ok { OnOk result (ArePassed self.now) }
         ensures first { IfErr result (λ fault. position not (tests self.now) ≡ Some fault.field) }
     {
         let passes = [
             is_within(self.processes, 64),
-            is_within(self.msgmni, 32),
-            is_within(self.msgmax, 8192) && self.msgmax <= self.msgmnb,
-            is_within(self.msgmnb, 16384),
+            is_within(self.msgmni, 64),
+            is_within(self.msgmax, 65536) && self.msgmax <= self.msgmnb,
+            is_within(self.msgmnb, 65536),
             is_within(self.semmni, 32),
             is_within(self.semmsl, 64) && self.semmsl <= self.semmns,
             is_within(self.semmns, 512),
@@ -131,6 +143,9 @@ impl Limits {
             is_within(self.segment_bytes, 1048576),
             is_within(self.call_bytes, 8192),
             is_within(self.descriptors, 32),
+            is_within(self.shmmni, 32),
+            is_within(self.shmmax, 1048576) && self.shmmax <= self.shmall,
+            is_within(self.shmall, 1048576),
         ];
         match first_failing(&passes) {
             None => Ok(()),
@@ -140,11 +155,11 @@ impl Limits {
         }
     }
 
-    /// The bytes of the longest reply under these limits, from 78 to 8210.
+    /// The bytes of the longest reply under these limits, from 78 to 65554.
     pub fn longest_reply(&self) -> u32
         requires { ArePassed self.now }
         ensures longest { result ≡ longest_reply self.now }
-        ensures bounded { result ≤ 8210 }
+        ensures bounded { result ≤ 65554 }
     {
         let body = 68
             .max(8 + self.msgmax)

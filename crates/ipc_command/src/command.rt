@@ -145,7 +145,7 @@ fn command_line<'a>(alloc: Global) -> Result<Command<'a>, AllocError>
 {
     Command::new(alloc, "ipcd")
         .about("System V and POSIX IPC objects that outlive the system")
-        .version("0.1.0, devices of version 1")
+        .version("0.1.0, devices of version 2")
         .subcommand_required(true)
         .subcommand(replay(alloc)?)?
         .subcommand(format(alloc)?)?

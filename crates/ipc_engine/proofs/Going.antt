@@ -48,13 +48,15 @@ rank kinds.Semset = 1
 rank (kinds.Named names.Mq) = 2
 rank (kinds.Named names.Psem) = 3
 rank (kinds.Named names.Pshm) = 4
+rank kinds.Shm = 5
 
 abbrev of_rank : ℕ → ObjectKind
 of_rank zero = kinds.MsgQueue
 of_rank (suc zero) = kinds.Semset
 of_rank (suc (suc zero)) = kinds.Named names.Mq
 of_rank (suc (suc (suc zero))) = kinds.Named names.Psem
-of_rank (suc (suc (suc (suc k)))) = kinds.Named names.Pshm
+of_rank (suc (suc (suc (suc zero)))) = kinds.Named names.Pshm
+of_rank (suc (suc (suc (suc (suc k))))) = kinds.Shm
 
 known : (k : ObjectKind) → of_rank (rank k) ≡ k
 known kinds.MsgQueue = refl
@@ -62,6 +64,7 @@ known kinds.Semset = refl
 known (kinds.Named names.Mq) = refl
 known (kinds.Named names.Psem) = refl
 known (kinds.Named names.Pshm) = refl
+known kinds.Shm = refl
 
 same_object : (a : Object) (o : Option Object) → IsOrNot a o
 same_object a None = inr (λ no. cc)

@@ -35,6 +35,7 @@ use Rattle.ipc_engine.specs.Step.{is_call}
 kind-one : (k j : ObjectKind) → same_kind k j ≡ true → k ≡ j
 kind-one kinds.MsgQueue kinds.MsgQueue is = refl
 kind-one kinds.Semset kinds.Semset is = refl
+kind-one kinds.Shm kinds.Shm is = refl
 kind-one (kinds.Named names.Mq) (kinds.Named names.Mq) is = refl
 kind-one (kinds.Named names.Psem) (kinds.Named names.Psem) is = refl
 kind-one (kinds.Named names.Pshm) (kinds.Named names.Pshm) is = refl
@@ -143,29 +144,35 @@ Psems s = numbered_as (kinds.Named names.Psem) s.psem
 abbrev Pshms : State → List Object
 Pshms s = numbered_as (kinds.Named names.Pshm) s.pshm
 
+abbrev Shms : State → List Object
+Shms s = numbered_as kinds.Shm s.shm
+
 -- all objects
 abbrev every : State → List Object
-every s = numbered_as kinds.MsgQueue s.msg ++ (Sets s ++ (Mqs s ++ (Psems s ++ Pshms s)))
+every s = numbered_as kinds.MsgQueue s.msg ++ (Sets s ++ (Mqs s ++ (Psems s ++ (Pshms s ++ Shms s))))
 
 module _ (limits : Limits) (s : State) (h : HasSoundParts limits s) where
   every-few : length (every s) ≤ most_objects limits
   every-few =
       omega (
         arith,
-        length-append (numbered_as kinds.MsgQueue s.msg) (Sets s ++ (Mqs s ++ (Psems s ++ Pshms s))),
-        length-append (Sets s) (Mqs s ++ (Psems s ++ Pshms s)),
-        length-append (Mqs s) (Psems s ++ Pshms s),
-        length-append (Psems s) (Pshms s),
+        length-append (numbered_as kinds.MsgQueue s.msg) (Sets s ++ (Mqs s ++ (Psems s ++ (Pshms s ++ Shms s)))),
+        length-append (Sets s) (Mqs s ++ (Psems s ++ (Pshms s ++ Shms s))),
+        length-append (Mqs s) (Psems s ++ (Pshms s ++ Shms s)),
+        length-append (Psems s) (Pshms s ++ Shms s),
+        length-append (Pshms s) (Shms s),
         length-map s.msg.entries (λ e. object_as kinds.MsgQueue e.0),
         length-map s.semset.entries (λ e. object_as kinds.Semset e.0),
         length-map s.mq.entries (λ e. object_as (kinds.Named names.Mq) e.0),
         length-map s.psem.entries (λ e. object_as (kinds.Named names.Psem) e.0),
         length-map s.pshm.entries (λ e. object_as (kinds.Named names.Pshm) e.0),
+        length-map s.shm.entries (λ e. object_as kinds.Shm e.0),
         h.msg.held.bound.numbered.count,
         h.semset.held.bound.numbered.count,
         (h.named names.Mq).held.bound.numbered.count,
         (h.named names.Psem).held.bound.numbered.count,
         (h.named names.Pshm).held.bound.numbered.count,
+        h.shm.held.bound.numbered.count,
       )
 
   every-there : (o : Object) → is_there_for (objects_in s) o ≡ true → list_any (is_on o) (every s) ≡ true
@@ -180,29 +187,37 @@ module _ (limits : Limits) (s : State) (h : HasSoundParts limits s) where
       by_kind : (kind : ObjectKind) (n : ℕ) → is_there_for (objects_in s) (object_as kind n) ≡ true
           → list_any (is_on (object_as kind n)) (every s) ≡ true
       by_kind kinds.MsgQueue n there =
-          left (object_as kinds.MsgQueue n) (numbered_as kinds.MsgQueue s.msg) (Sets s ++ (Mqs s ++ (Psems s ++ Pshms s)))
+          left (object_as kinds.MsgQueue n) (numbered_as kinds.MsgQueue s.msg) (Sets s ++ (Mqs s ++ (Psems s ++ (Pshms s ++ Shms s))))
           (there-listed kinds.MsgQueue s.msg.entries n there)
       by_kind kinds.Semset n there =
           let q = object_as kinds.Semset n in
-          right q (numbered_as kinds.MsgQueue s.msg) (Sets s ++ (Mqs s ++ (Psems s ++ Pshms s)))
-          (left q (Sets s) (Mqs s ++ (Psems s ++ Pshms s)) (there-listed kinds.Semset s.semset.entries n there))
+          right q (numbered_as kinds.MsgQueue s.msg) (Sets s ++ (Mqs s ++ (Psems s ++ (Pshms s ++ Shms s))))
+          (left q (Sets s) (Mqs s ++ (Psems s ++ (Pshms s ++ Shms s))) (there-listed kinds.Semset s.semset.entries n there))
       by_kind (kinds.Named names.Mq) n there =
           let q = object_as (kinds.Named names.Mq) n in
-          right q (numbered_as kinds.MsgQueue s.msg) (Sets s ++ (Mqs s ++ (Psems s ++ Pshms s)))
-          (right q (Sets s) (Mqs s ++ (Psems s ++ Pshms s))
-          (left q (Mqs s) (Psems s ++ Pshms s) (there-listed (kinds.Named names.Mq) s.mq.entries n there)))
+          right q (numbered_as kinds.MsgQueue s.msg) (Sets s ++ (Mqs s ++ (Psems s ++ (Pshms s ++ Shms s))))
+          (right q (Sets s) (Mqs s ++ (Psems s ++ (Pshms s ++ Shms s)))
+          (left q (Mqs s) (Psems s ++ (Pshms s ++ Shms s)) (there-listed (kinds.Named names.Mq) s.mq.entries n there)))
       by_kind (kinds.Named names.Psem) n there =
           let q = object_as (kinds.Named names.Psem) n in
-          right q (numbered_as kinds.MsgQueue s.msg) (Sets s ++ (Mqs s ++ (Psems s ++ Pshms s)))
-          (right q (Sets s) (Mqs s ++ (Psems s ++ Pshms s))
-          (right q (Mqs s) (Psems s ++ Pshms s)
-          (left q (Psems s) (Pshms s) (there-listed (kinds.Named names.Psem) s.psem.entries n there))))
+          right q (numbered_as kinds.MsgQueue s.msg) (Sets s ++ (Mqs s ++ (Psems s ++ (Pshms s ++ Shms s))))
+          (right q (Sets s) (Mqs s ++ (Psems s ++ (Pshms s ++ Shms s)))
+          (right q (Mqs s) (Psems s ++ (Pshms s ++ Shms s))
+          (left q (Psems s) (Pshms s ++ Shms s) (there-listed (kinds.Named names.Psem) s.psem.entries n there))))
       by_kind (kinds.Named names.Pshm) n there =
           let q = object_as (kinds.Named names.Pshm) n in
-          right q (numbered_as kinds.MsgQueue s.msg) (Sets s ++ (Mqs s ++ (Psems s ++ Pshms s)))
-          (right q (Sets s) (Mqs s ++ (Psems s ++ Pshms s))
-          (right q (Mqs s) (Psems s ++ Pshms s)
-          (right q (Psems s) (Pshms s) (there-listed (kinds.Named names.Pshm) s.pshm.entries n there))))
+          right q (numbered_as kinds.MsgQueue s.msg) (Sets s ++ (Mqs s ++ (Psems s ++ (Pshms s ++ Shms s))))
+          (right q (Sets s) (Mqs s ++ (Psems s ++ (Pshms s ++ Shms s)))
+          (right q (Mqs s) (Psems s ++ (Pshms s ++ Shms s))
+          (right q (Psems s) (Pshms s ++ Shms s)
+          (left q (Pshms s) (Shms s) (there-listed (kinds.Named names.Pshm) s.pshm.entries n there)))))
+      by_kind kinds.Shm n there =
+          let q = object_as kinds.Shm n in
+          right q (numbered_as kinds.MsgQueue s.msg) (Sets s ++ (Mqs s ++ (Psems s ++ (Pshms s ++ Shms s))))
+          (right q (Sets s) (Mqs s ++ (Psems s ++ (Pshms s ++ Shms s)))
+          (right q (Mqs s) (Psems s ++ (Pshms s ++ Shms s))
+          (right q (Psems s) (Pshms s ++ Shms s)
+          (right q (Pshms s) (Shms s) (there-listed kinds.Shm s.shm.entries n there)))))
 
   abbrev there : Object → Bool
   there o = is_there_for (objects_in s) o

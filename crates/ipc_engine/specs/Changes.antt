@@ -59,7 +59,7 @@ may_leave_changes pid s = has_adjustments pid s.undo || is_registered_with pid s
 
 -- how many objects there may be
 abbrev pub most_objects : Limits → ℕ
-most_objects l = l.msgmni + l.semmni + l.queues + l.named_semaphores + l.segments
+most_objects l = l.msgmni + l.semmni + l.queues + l.named_semaphores + l.segments + l.shmmni
 
 -- whether an object is there
 unfoldable pub is_object : State → Object → Bool
@@ -91,6 +91,8 @@ kind_of kind =
     then Some (kinds.Named names.Psem)
     else if kind == 5
     then Some (kinds.Named names.Pshm)
+    else if kind == 6
+    then Some kinds.Shm
     else None
 
 -- whether an object counts as changed: one of kind 0 does always

@@ -195,6 +195,7 @@ fn most_objects(limits: &Limits) -> usize
         + limits.queues as usize
         + limits.named_semaphores as usize
         + limits.segments as usize
+        + limits.shmmni as usize
 }
 
 fn has_mark(marks: &[Object], object: Object) -> bool

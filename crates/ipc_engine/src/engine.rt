@@ -199,7 +199,7 @@ impl Engine {
     /// Whether the object of this kind and number may be otherwise than when the state was saved (`mark_saved`), or was
     /// taken over: a call has ended with it, other than by a refusal, an exit has adjusted it, or it has lost a
     /// registration. Kinds are numbered as on a device: 1 message queues, 2 semaphore sets, 3 POSIX queues, 4 named
-    /// semaphores, 5 segments; what is of kind 0 counts as changed always.
+    /// semaphores, 5 segments with a name, 6 those of System V; what is of kind 0 counts as changed always.
     pub fn changed(&self, kind: u32, number: u32) -> bool
         ensures { result ≡ is_changed self.now.changed kind number }
     {
@@ -210,6 +210,7 @@ impl Engine {
             3 => ObjectKind::Named(NameKind::Mq),
             4 => ObjectKind::Named(NameKind::Psem),
             5 => ObjectKind::Named(NameKind::Pshm),
+            6 => ObjectKind::Shm,
             _ => return false,
         };
         self.changed.has(Object { kind, number })

@@ -20,7 +20,7 @@ use Rattle.ipc_wire.proofs.CallerLemmas.{one_text}
 use Rattle.ipc_engine.specs.Event.{PlainEvent, Connect, Call, Interrupt, Tick, Exit, Restart, moment_of}
 use Rattle.ipc_image.specs.Records.{kind_of, details, text_of, record_bytes, HasDetails, HasRecord, BeginsWith}
 use Rattle.ipc_image.specs.RecordParts.{IsOf}
-use Rattle.ipc_image.specs.Superblock.{IsFormatted, version_in, IsSuperblock}
+use Rattle.ipc_image.specs.Superblock.{IsFormatted, version_in, sectors_in, IsSuperblock}
 use Rattle.ipc_base.proofs.CallerLemmas.{number32_known}
 use Rattle.ipc_image.proofs.EventRecords.{Got, GotLong, connect_only, call_only, interrupt_only, text_only, length_text, begun, text_cut}
 use Rattle.ipc_image.proofs.Reading as reading
@@ -36,6 +36,11 @@ superblock-begins = reading.begins
 pub superblock-version : (sectors : ℕ) (limits : Limits) (sector : List ℕ) → IsSuperblock sectors limits sector → version_in sector ≡ format.version
 superblock-version = reading.has_version
 
+-- it names the sectors of its device
+pub superblock-sectors : (sectors : ℕ) (limits : Limits) (sector : List ℕ) → IsSuperblock sectors limits sector → sectors < 2 ^ 32
+    → sectors_in sector ≡ sectors
+superblock-sectors = reading.has_sectors
+
 -- a sector is the superblock of one device with one set of limits
 pub one-superblock : (sectors others : ℕ) (limits more : Limits) (sector : List ℕ) → sectors < 2 ^ 32 → others < 2 ^ 32
     → IsSuperblock sectors limits sector → IsSuperblock others more sector → (sectors ≡ others) × (limits ≡ more)
@@ -45,7 +50,7 @@ one-superblock = reading.one_superblock
 pub area-counted : (limits : Limits) → ArePassed limits → 512 * area_of limits < 2 ^ 32
 area-counted limits passed =
     let b = bounds limits passed in
-    let few : entries limits ≤ 196 = omega (arith, passed-bounds limits passed) in
+    let few : entries limits ≤ 260 = omega (arith, passed-bounds limits passed) in
     omega (arith, b.processes, b.objects, few)
 
 -- a sound state fits where it is kept

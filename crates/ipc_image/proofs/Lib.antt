@@ -15,8 +15,9 @@ mod SavedObjects
 mod Marks
 mod MqObjects
 mod KindSizes
-mod NamedObjects
-mod NamedSizes
+mod ShmObjects
+mod LaterObjects
+mod LaterSizes
 mod AdjustmentLists
 mod WaitingCalls
 mod Unchanged

@@ -18,7 +18,7 @@ use Rattle.ipc_base.proofs.CallerLemmas.{passed-bounds, fields_one}
 use Rattle.ipc_image.specs.Format.{format}
 use Rattle.ipc_image.specs.Sizes.{need_of}
 use Rattle.ipc_image.specs.Superblock.{magic, limit_fields, limit_sizes, superblock_fields, named_length, named_bytes, superblock_bytes}
-use Rattle.ipc_image.specs.Superblock.{IsFormatted, version_in, IsSuperblock}
+use Rattle.ipc_image.specs.Superblock.{IsFormatted, version_in, sectors_in, IsSuperblock}
 use Rattle.ipc_image.proofs.Numbers.{spelled}
 
 -- each limit has its four bytes
@@ -41,27 +41,39 @@ module _ (sectors : ℕ) (limits : Limits) (sector : List ℕ) (is : IsSuperbloc
   unfolding named_bytes
   begins = sym (take-take 8 named_length sector (omega arith)) ∙ ap (take 8) is.named
 
-  pub numbers_of : take 92 (drop 8 sector) ≡ spelled (superblock_fields sectors limits)
+  pub numbers_of : take 104 (drop 8 sector) ≡ spelled (superblock_fields sectors limits)
   unfolding named_bytes
-  numbers_of = sym (drop-take 8 92 sector) ∙ ap (drop 8) is.named
+  numbers_of = sym (drop-take 8 104 sector) ∙ ap (drop 8) is.named
 
   -- it has the version of the devices that are opened
   pub has_version : version_in sector ≡ format.version
   has_version =
       let front : take 4 (drop 8 sector) ≡ to_be_bytes w32 format.version =
-      sym (take-take 4 92 (drop 8 sector) (omega arith)) ∙ ap (take 4) numbers_of
+      sym (take-take 4 104 (drop 8 sector) (omega arith)) ∙ ap (take 4) numbers_of
       ∙ take_at (to_be_bytes w32 format.version) (spelled (drop 1 (superblock_fields sectors limits))) 4 refl in
       ap (from_be_bytes w32) front ∙ from_be_bytes-to_be_bytes_4 format.version (omega arith)
 
+  -- and names those sectors
+  sectors_stand : take 100 (drop 12 sector) ≡ spelled (drop 1 (superblock_fields sectors limits))
+  unfolding named_bytes
+  sectors_stand = sym (drop-take 12 100 sector) ∙ ap (drop 12) is.named
+
+  pub has_sectors : sectors < 2 ^ 32 → sectors_in sector ≡ sectors
+  has_sectors below =
+      let front : take 4 (drop 12 sector) ≡ to_be_bytes w32 sectors =
+      sym (take-take 4 100 (drop 12 sector) (omega arith)) ∙ ap (take 4) sectors_stand
+      ∙ take_at (to_be_bytes w32 sectors) (spelled (drop 2 (superblock_fields sectors limits))) 4 refl in
+      ap (from_be_bytes w32) front ∙ from_be_bytes-to_be_bytes_4 sectors below
+
   -- the limits stand after the other numbers
   abbrev pub after_limits : List ℕ
-  after_limits = drop 64 (take 476 (drop 36 sector))
+  after_limits = drop 76 (take 476 (drop 36 sector))
 
   pub limits_stand : take 476 (drop 36 sector) ≡ fields_bytes limit_sizes (limit_fields limits) ++ after_limits
   unfolding named_bytes
   limits_stand =
-      sym (take-append-drop 64 (take 476 (drop 36 sector)))
-      ∙ ap (λ (l : List ℕ). l ++ after_limits) (take-take 64 476 (drop 36 sector) (omega arith) ∙ sym (drop-take 36 64 sector) ∙ ap (drop 36) is.named)
+      sym (take-append-drop 76 (take 476 (drop 36 sector)))
+      ∙ ap (λ (l : List ℕ). l ++ after_limits) (take-take 76 476 (drop 36 sector) (omega arith) ∙ sym (drop-take 36 76 sector) ∙ ap (drop 36) is.named)
 
 -- what was written is a superblock
 pub written : (sectors : ℕ) (limits : Limits) → ArePassed limits → need_of limits ≤ sectors
@@ -89,6 +101,9 @@ limits_in ns =
       segment_bytes = get_or ns 13 0;
       call_bytes = get_or ns 14 0;
       descriptors = get_or ns 15 0;
+      shmmni = get_or ns 16 0;
+      shmmax = get_or ns 17 0;
+      shmall = get_or ns 18 0;
     }
 
 -- the numbers of one sector are those of one device with one set of limits

@@ -18,6 +18,7 @@ emptied s =
       mq = record { next = s.mq.next; entries = [] };
       psem = record { next = s.psem.next; entries = [] };
       pshm = record { next = s.pshm.next; entries = [] };
+      shm = record { next = s.shm.next; entries = [] };
     }
 
 -- states with the same clock's object have the same clock and next numbers
@@ -35,5 +36,6 @@ clock_one s t fit also same =
       mq = record { next = get_or ns 4 0; entries = [] };
       psem = record { next = get_or ns 5 0; entries = [] };
       pshm = record { next = get_or ns 6 0; entries = [] };
+      shm = record { next = get_or ns 7 0; entries = [] };
     } in
     ap made first.0

@@ -23,12 +23,13 @@ use Rattle.ipc_keys.specs.declared.check.NameKind.{NameKind}
 use Rattle.ipc_state.specs.Sound.{IsSoundContent, IsSoundMsgQueue, IsSoundSemset, HasNumbers, AreSoundDescriptors}
 use Rattle.posix_mq.specs.Queue.{Queue as Mq}
 use Rattle.shm_segment.specs.Segment.{Segment}
+use Rattle.shm_segment.specs.SysSegment.{SysSegment}
 use Rattle.sysv_sem.specs.Set.{Set, stat_of as set_stat}
 use Rattle.sysv_sem.specs.declared.set.SemStat.{SemStat}
 use Rattle.ipc_state.proofs.CallerLemmas.{All-seen, queue-numbers, few-adjustments}
 use Rattle.ipc_engine.specs.Sound.{IsSound}
 use Rattle.ipc_state.specs.declared.parked.ObjectKind.TheVariants as kinds
-use Rattle.ipc_state.specs.Kinds.{Content, NamedObjects}
+use Rattle.ipc_state.specs.Kinds.{Content}
 use Rattle.ipc_state.specs.State.{State, objects_in, named_of, start}
 use Rattle.ipc_state.specs.Waiting.{PlainWaiting}
 use Rattle.ipc_state.specs.Tables.{item_row}
@@ -38,13 +39,13 @@ use Rattle.ipc_image.specs.Saved.{counted_bytes, queue_sizes, queue_numbers, set
 use Rattle.ipc_image.specs.Saved.{clock_sizes, clock_numbers, count_bytes, process_bytes, processes_bytes, message_bytes}
 use Rattle.ipc_image.specs.Saved.{waiting_bytes, waits_bytes, Adjustment, adjustment_bytes, adjustments_in, adjustments_bytes}
 use Rattle.sem_undo.specs.Undo.{Undo}
-use Rattle.ipc_image.specs.Saved.{queue_bytes, queue_object, semaphore_bytes, set_bytes, set_object, named_objects, saved, HasAllPlaces}
+use Rattle.ipc_image.specs.Saved.{queue_bytes, queue_object, semaphore_bytes, set_bytes, set_object, LaterObjects, later_in, later_objects, saved, HasAllPlaces}
 use Rattle.ipc_image.specs.Saved.{descriptor_bytes}
 use Rattle.ipc_state.specs.declared.state.Numbers.{Numbers}
-use Rattle.ipc_image.specs.SavedParts.{IsMarkAfter, IsFound, IsSmallNamed, Stands, seen_named, seen_state}
+use Rattle.ipc_image.specs.SavedParts.{IsMarkAfter, IsFound, IsSmallNamed, Stands, seen_later, seen_state}
 use Rattle.ipc_image.proofs.Marks.{each-at, length-each, length-most}
 use Rattle.ipc_image.proofs.KindSizes.{kind-sectors, objects-rise}
-use Rattle.ipc_image.proofs.NamedSizes.{named-are, named-counted, named-few, named-rise, named-sectors, named-small, named_count, named_most}
+use Rattle.ipc_image.proofs.LaterSizes.{later-are, later-counted, later-few, later-rise, later-sectors, named-small, later_count, later_most}
 use Rattle.ipc_image.proofs.WaitingCalls.{length-waits}
 use Rattle.ipc_image.proofs.Attaching.{rising-distinct}
 use Rattle.ipc_image.proofs.AdjustmentLists.{few-in}
@@ -92,19 +93,19 @@ set-long e = omega (arith, length-each semaphore_bytes 6 (λ x. refl) e.object.s
 
 -- the things that have objects of their own
 abbrev pub things : State → PlainObjects
-things s = map queue_object s.msg.entries ++ (map set_object s.semset.entries ++ named_objects (objects_in s).named)
+things s = map queue_object s.msg.entries ++ (map set_object s.semset.entries ++ later_objects (later_in s))
 
 module _ (s : State) where
-  pub saved-count : length (saved s) ≡ 4 + (length s.msg.entries + (length s.semset.entries + named_count (objects_in s).named))
+  pub saved-count : length (saved s) ≡ 4 + (length s.msg.entries + (length s.semset.entries + later_count (later_in s)))
   unfolding saved
   saved-count =
       omega (
         arith,
-        length-append (map queue_object s.msg.entries) (map set_object s.semset.entries ++ named_objects (objects_in s).named),
-        length-append (map set_object s.semset.entries) (named_objects (objects_in s).named),
+        length-append (map queue_object s.msg.entries) (map set_object s.semset.entries ++ later_objects (later_in s)),
+        length-append (map set_object s.semset.entries) (later_objects (later_in s)),
         length-map s.msg.entries queue_object,
         length-map s.semset.entries set_object,
-        named-counted (objects_in s).named,
+        later-counted (later_in s),
       )
 
   pub saved-clock : slice_get (saved s) 0 ≡ Some (0, fields_bytes clock_sizes (clock_numbers s))
@@ -144,25 +145,25 @@ module _ (s : State) where
   -- what holds of the four, and of each thing that has an object of its own, holds of all
   each-saved : (P : ℕ × List ℕ → Type 0) → P (0, fields_bytes clock_sizes (clock_numbers s)) → P (1, processes_bytes s.processes.entries)
       → P (2, waits_bytes s.wait) → P (3, adjustments_bytes s.undo) → All (λ e. P (queue_object e)) s.msg.entries
-      → All (λ e. P (set_object e)) s.semset.entries → All P (named_objects (objects_in s).named) → All P (saved s)
+      → All (λ e. P (set_object e)) s.semset.entries → All P (later_objects (later_in s)) → All P (saved s)
   unfolding saved
-  each-saved P clock processes waiting adjustments queues sets named =
+  each-saved P clock processes waiting adjustments queues sets later =
       let two : List (ℕ × List ℕ) = (2, waits_bytes s.wait) ∷ (3, adjustments_bytes s.undo) ∷ things s in
       All-cons P _ ((1, processes_bytes s.processes.entries) ∷ two) clock
       (All-cons P _ two processes
       (All-cons P _ ((3, adjustments_bytes s.undo) ∷ things s) waiting
       (All-cons P _ (things s) adjustments
-      (All-append P (map queue_object s.msg.entries) (map set_object s.semset.entries ++ named_objects (objects_in s).named)
+      (All-append P (map queue_object s.msg.entries) (map set_object s.semset.entries ++ later_objects (later_in s))
       (All-map P queue_object s.msg.entries queues)
-      (All-append P (map set_object s.semset.entries) (named_objects (objects_in s).named) (All-map P set_object s.semset.entries sets) named)))))
+      (All-append P (map set_object s.semset.entries) (later_objects (later_in s)) (All-map P set_object s.semset.entries sets) later)))))
 
 -- the state that tables are, and how many objects it has
 module _ (n : Numbers) (ps : List (Item Process)) (ws : List PlainWaiting) (us : List (Item Undo)) (qs : List (Item (KeyedEntry Queue)))
-    (xs : List (Item (KeyedEntry Set))) (o : NamedObjects) where
+    (xs : List (Item (KeyedEntry Set))) (o : LaterObjects) where
   pub seen-is : (s : State) → n.clock.0 ≡ s.clock → n.next_pid ≡ s.processes.next → n.next_msg_queue ≡ s.msg.next → n.next_semset ≡ s.semset.next
       → map item_row ps ≡ s.processes.entries → ws ≡ s.wait → map item_row us ≡ s.undo → map item_row qs ≡ s.msg.entries
-      → map item_row xs ≡ s.semset.entries → o ≡ (objects_in s).named → seen_state n ps ws us qs xs o ≡ s
-  seen-is s clock pid queue set processes waits undo queues sets named =
+      → map item_row xs ≡ s.semset.entries → o ≡ (later_in s) → seen_state n ps ws us qs xs o ≡ s
+  seen-is s clock pid queue set processes waits undo queues sets later =
       λ i. record {
         clock = clock i;
         processes = record { next = pid i; entries = processes i };
@@ -170,12 +171,13 @@ module _ (n : Numbers) (ps : List (Item Process)) (ws : List PlainWaiting) (us :
         undo = undo i;
         msg = record { next = queue i; entries = queues i };
         semset = record { next = set i; entries = sets i };
-        mq = (named i).mq;
-        psem = (named i).psem;
-        pshm = (named i).pshm;
+        mq = (later i).mq;
+        psem = (later i).psem;
+        pshm = (later i).pshm;
+        shm = (later i).shm;
       }
 
-  pub seen_count : length (saved (seen_state n ps ws us qs xs o)) ≡ 4 + (length qs + (length xs + named_count o))
+  pub seen_count : length (saved (seen_state n ps ws us qs xs o)) ≡ 4 + (length qs + (length xs + later_count o))
   seen_count = omega (arith, saved-count (seen_state n ps ws us qs xs o), length-map qs item_row, length-map xs item_row)
 
   -- the bytes of the processes can be counted
@@ -195,14 +197,16 @@ module _ (n : Numbers) (ps : List (Item Process)) (ws : List PlainWaiting) (us :
 -- how many objects the state of these tables has
 pub tables_count : (n : Numbers) (ps : List (Item Process)) (ws : List PlainWaiting) (us : List (Item Undo)) (qs : List (Item (KeyedEntry Queue)))
     (xs : List (Item (KeyedEntry Set))) (ms : List (Item (NamedEntry Mq))) (ss : List (Item (NamedEntry ℕ))) (gs : List (Item (NamedEntry Segment)))
-    → length (saved (seen_state n ps ws us qs xs (seen_named n ms ss gs))) ≡ 4 + (length qs + (length xs + (length ms + (length ss + length gs))))
-tables_count n ps ws us qs xs ms ss gs =
+    (hs : List (Item (KeyedEntry SysSegment))) → length (saved (seen_state n ps ws us qs xs (seen_later n ms ss gs hs)))
+    ≡ 4 + (length qs + (length xs + (length ms + (length ss + (length gs + length hs)))))
+tables_count n ps ws us qs xs ms ss gs hs =
     omega (
       arith,
-      seen_count n ps ws us qs xs (seen_named n ms ss gs),
+      seen_count n ps ws us qs xs (seen_later n ms ss gs hs),
       length-map ms item_row,
       length-map ss item_row,
       length-map gs item_row,
+      length-map hs item_row,
     )
 
 -- ---- they are objects
@@ -259,6 +263,10 @@ module _ (limits : Limits) (s : State) (passed : ArePassed limits) (sound : IsSo
   named-numbers kind IsSmallObject small rows are =
       rows-have (IsSmallNamed IsSmallObject) rows (named_of s kind).entries are (named-small limits s sound kind IsSmallObject small)
 
+  -- the modes of System V segments have nine bits
+  pub shms-small : (rows : List (Item (KeyedEntry SysSegment))) → map item_row rows ≡ s.shm.entries → All (λ e. e.value.perm.mode < 512) rows
+  shms-small rows are = rows-have (λ e. e.perm.mode < 512) rows s.shm.entries are sound.parts.shm.held.bound.modes
+
   processes-short : length (processes_bytes s.processes.entries) ≤ 4 + limits.processes * (16 + 16 * limits.descriptors)
   processes-short =
       let most : ℕ = 16 + 16 * limits.descriptors in
@@ -305,12 +313,12 @@ module _ (limits : Limits) (s : State) (passed : ArePassed limits) (sound : IsSo
   numbers-rise : IsRising 0 (keys_of (saved s)) (2 ^ 64)
   unfolding saved
   numbers-rise =
-      let named : PlainObjects = named_objects (objects_in s).named in
-      let third : IsRising (3 * 2 ^ 32 + 1) (keys_of named) (2 ^ 64) = named-rise limits s sound in
-      let sets : PlainObjects = map set_object s.semset.entries ++ named in
+      let later : PlainObjects = later_objects (later_in s) in
+      let third : IsRising (3 * 2 ^ 32 + 1) (keys_of later) (2 ^ 64) = later-rise limits s sound in
+      let sets : PlainObjects = map set_object s.semset.entries ++ later in
       let second : IsRising (2 * 2 ^ 32 + 1) (keys_of sets) (2 ^ 64) =
-      objects-rise (2 * 2 ^ 32) set_bytes 1 s.semset.next (2 ^ 64) s.semset.entries named sound.parts.semset.held.bound.numbered.numbers
-      (rising-lower (2 * 2 ^ 32 + s.semset.next) (3 * 2 ^ 32 + 1) (keys_of named) (2 ^ 64)
+      objects-rise (2 * 2 ^ 32) set_bytes 1 s.semset.next (2 ^ 64) s.semset.entries later sound.parts.semset.held.bound.numbered.numbers
+      (rising-lower (2 * 2 ^ 32 + s.semset.next) (3 * 2 ^ 32 + 1) (keys_of later) (2 ^ 64)
       (omega (arith, sound.parts.semset.held.bound.numbered.next)) third) in
       let all = objects-rise (2 ^ 32) queue_bytes 1 s.msg.next (2 ^ 64) s.msg.entries sets sound.parts.msg.held.bound.numbered.numbers
       (rising-lower (2 ^ 32 + s.msg.next) (2 * 2 ^ 32 + 1) (keys_of sets) (2 ^ 64) (omega (arith, sound.parts.msg.held.bound.numbered.next)) second) in
@@ -322,7 +330,7 @@ module _ (limits : Limits) (s : State) (passed : ArePassed limits) (sound : IsSo
       let Some-bytes : ℕ × List ℕ → Type 0 = λ o. 0 < length o.1 in
       let Few-bytes : ℕ × List ℕ → Type 0 = λ o. length o.1 < 2 ^ 64 in
       let IsShort : ℕ × KeyedEntry Set → Type 0 = λ e. length (set_bytes e.1) ≤ 44 + 6 * limits.semmsl in
-      let named = named-are limits s sound passed in
+      let later = later-are limits s sound passed in
       let processes : limits.processes * (16 + 16 * limits.descriptors) ≤ 64 * 528 =
       mul-le limits.processes (16 + 16 * limits.descriptors) 64 528 b.processes.1 (omega (arith, b.descriptors)) in
       record {
@@ -331,13 +339,13 @@ module _ (limits : Limits) (s : State) (passed : ArePassed limits) (sound : IsSo
             (omega (arith, adjustments-long s.undo))
             (All-weaker (λ (e : ℕ × KeyedEntry Queue). length (queue_bytes e.1) ≤ 64 + 13 * limits.msgmnb) (λ e. Some-bytes (queue_object e))
             (λ e short. omega (arith, queue-long e.1)) s.msg.entries queues-short)
-            (All-weaker IsShort (λ e. Some-bytes (set_object e)) (λ e short. omega (arith, set-long e.1)) s.semset.entries sets-short) named.some;
+            (All-weaker IsShort (λ e. Some-bytes (set_object e)) (λ e short. omega (arith, set-long e.1)) s.semset.entries sets-short) later.some;
         lengths = each-saved s Few-bytes (omega arith)
             (omega (arith, processes-short, processes))
             (omega (arith, waits-short, b.processes.1)) (omega (arith, adjustments-long s.undo, undo-counted))
             (All-weaker (λ (e : ℕ × KeyedEntry Queue). length (queue_bytes e.1) ≤ 64 + 13 * limits.msgmnb) (λ e. Few-bytes (queue_object e))
             (λ e short. omega (arith, short, b.msgmnb.1)) s.msg.entries queues-short)
-            (All-weaker IsShort (λ e. Few-bytes (set_object e)) (λ e short. omega (arith, short, b.semmsl)) s.semset.entries sets-short) named.few;
+            (All-weaker IsShort (λ e. Few-bytes (set_object e)) (λ e short. omega (arith, short, b.semmsl)) s.semset.entries sets-short) later.few;
         count = omega (
           arith,
           saved-count s,
@@ -345,10 +353,11 @@ module _ (limits : Limits) (s : State) (passed : ArePassed limits) (sound : IsSo
           b.msgmni,
           sound.parts.semset.held.bound.numbered.count,
           b.semmni,
-          named-few limits s sound,
+          later-few limits s sound,
           b.queues,
           b.named_semaphores,
           b.segments,
+          b.shmmni,
         );
       }
 
@@ -356,7 +365,7 @@ module _ (limits : Limits) (s : State) (passed : ArePassed limits) (sound : IsSo
 
   object-sectors : object_sectors (saved s)
       ≤ process_sectors limits + limits.msgmni * sectors (64 + 13 * limits.msgmnb) + limits.semmni * sectors (44 + 6 * limits.semmsl)
-      + named_most limits
+      + later_most limits
   unfolding saved
   object-sectors =
       let of : ℕ × List ℕ → ℕ = λ o. sectors (length o.1) in
@@ -364,16 +373,16 @@ module _ (limits : Limits) (s : State) (passed : ArePassed limits) (sound : IsSo
       sound.parts.msg.held.bound.numbered.count in
       let sets = kind-sectors (2 * 2 ^ 32) limits.semmni (44 + 6 * limits.semmsl) set_bytes s.semset.entries sets-short
       sound.parts.semset.held.bound.numbered.count in
-      let first : ℕ = sectors 32 + sectors (length (processes_bytes s.processes.entries)) + sectors (length (waits_bytes s.wait))
+      let first : ℕ = sectors 36 + sectors (length (processes_bytes s.processes.entries)) + sectors (length (waits_bytes s.wait))
       + sectors (length (adjustments_bytes s.undo)) in
       let undo : 12 * length (adjustments_in s.undo) ≤ 12 * limits.processes * limits.semmns =
       omega (arith, undo-few, mul_assoc 12 limits.processes limits.semmns) in
       omega (
         arith,
         sum_by_from of first (things s),
-        sum_by-append of (map queue_object s.msg.entries) (map set_object s.semset.entries ++ named_objects (objects_in s).named),
-        sum_by-append of (map set_object s.semset.entries) (named_objects (objects_in s).named),
-        named-sectors limits s sound,
+        sum_by-append of (map queue_object s.msg.entries) (map set_object s.semset.entries ++ later_objects (later_in s)),
+        sum_by-append of (map set_object s.semset.entries) (later_objects (later_in s)),
+        later-sectors limits s sound,
         processes-short,
         waits-short,
         adjustments-long s.undo,
@@ -388,14 +397,14 @@ module _ (limits : Limits) (s : State) (passed : ArePassed limits) (sound : IsSo
         saved-count s,
         sound.parts.msg.held.bound.numbered.count,
         sound.parts.semset.held.bound.numbered.count,
-        named-few limits s sound,
+        later-few limits s sound,
       )
 
 -- ---- the state to which nothing has happened
 
 pub start-places : HasAllPlaces start
 start-places = record {
-  clock = (omega arith, (omega arith, (omega arith, (omega arith, (omega arith, (omega arith, (omega arith, tt)))))));
+  clock = (omega arith, (omega arith, (omega arith, (omega arith, (omega arith, (omega arith, (omega arith, (omega arith, tt))))))));
   count = omega arith;
   processes = All-nil _;
   wait_count = omega arith;
@@ -407,7 +416,7 @@ start-places = record {
   distinct = rising-distinct 1 [] 1 (omega arith);
   queues = All-nil _;
   sets = All-nil _;
-  named = record { mqs = All-nil _; psems = All-nil _; segments = All-nil _ };
+  later = record { mqs = All-nil _; psems = All-nil _; segments = All-nil _; shms = All-nil _ };
 }
 
 pub start-are : AreObjects (saved start)

@@ -12,13 +12,14 @@ use Rattle.ipc_keys.specs.declared.check.NameKind.TheVariants as names
 use Rattle.ipc_state.specs.declared.parked.Object.{Object}
 use Rattle.ipc_state.specs.declared.parked.ObjectKind.TheVariants as kinds
 use Rattle.ipc_state.specs.Opening.{object_as}
-use Rattle.ipc_state.specs.State.{State, objects_in}
+use Rattle.ipc_state.specs.State.{State}
 use Rattle.ipc_engine.specs.Changes.{IsTracked, is_changed}
 use Rattle.ipc_image.specs.Changed.{differs_in}
 use Rattle.ipc_image.specs.Kind.{object_in, FitsIn}
-use Rattle.ipc_image.specs.Saved.{mq_bytes, mq_object, named_objects, psem_bytes, psem_object, pshm_object, queue_bytes, queue_object, saved}
-use Rattle.ipc_image.specs.Saved.{FitsMq, FitsPsem, FitsQueue, FitsSegment, FitsSet}
-use Rattle.ipc_image.specs.Saved.{segment_bytes, set_bytes, set_object, StandForState}
+use Rattle.ipc_image.specs.Saved.{mq_bytes, mq_object, later_objects, psem_bytes, psem_object, pshm_object, queue_bytes, queue_object, saved}
+use Rattle.ipc_image.specs.Saved.{FitsMq, FitsPsem, FitsQueue, FitsSegment, FitsSet, FitsShm, later_in}
+use Rattle.ipc_image.specs.Saved.{segment_bytes, set_bytes, set_object, shm_bytes, shm_object, StandForState}
+use Rattle.ipc_image.proofs.LaterObjects.{from_pshms}
 use Rattle.ipc_image.proofs.Marks.{each-at}
 use Rattle.ipc_image.proofs.SavedObjects.{things}
 
@@ -150,31 +151,45 @@ module _ (limits : Limits) (marks : List Object) (before after : State) (tracked
   mqs-there =
       kind-there marks 3 mq_bytes FitsMq before.mq.entries after.mq.entries after.mq.next
       (λ n x off. tracked (object_as (kinds.Named names.Mq) n) off x) (stand.sound.parts.named names.Mq).held.bound.numbered.numbers
-      stand.places.named.mqs o kept
+      stand.places.later.mqs o kept
 
   psems-there : Among (map psem_object after.psem.entries) o → Among (map psem_object before.psem.entries) o
   psems-there =
       kind-there marks 4 psem_bytes FitsPsem before.psem.entries after.psem.entries after.psem.next
       (λ n x off. tracked (object_as (kinds.Named names.Psem) n) off x) (stand.sound.parts.named names.Psem).held.bound.numbered.numbers
-      stand.places.named.psems o kept
+      stand.places.later.psems o kept
 
   segments-there : Among (map pshm_object after.pshm.entries) o → Among (map pshm_object before.pshm.entries) o
   segments-there =
       kind-there marks 5 segment_bytes FitsSegment before.pshm.entries after.pshm.entries after.pshm.next
       (λ n x off. tracked (object_as (kinds.Named names.Pshm) n) off x) (stand.sound.parts.named names.Pshm).held.bound.numbered.numbers
-      stand.places.named.segments o kept
+      stand.places.later.segments o kept
 
-  named-there : Among (named_objects (objects_in after).named) o → Among (named_objects (objects_in before).named) o
-  named-there at =
+  shms-there : Among (map shm_object after.shm.entries) o → Among (map shm_object before.shm.entries) o
+  shms-there =
+      kind-there marks 6 shm_bytes FitsShm before.shm.entries after.shm.entries after.shm.next
+      (λ n x off. tracked (object_as kinds.Shm n) off x) stand.sound.parts.shm.held.bound.numbered.numbers stand.places.later.shms o kept
+
+  pshms-there : Among (from_pshms (later_in after)) o → Among (from_pshms (later_in before)) o
+  pshms-there at =
+      let gs : PlainObjects = map pshm_object before.pshm.entries in
+      let hs : PlainObjects = map shm_object before.shm.entries in
+      elim (among-either o (map pshm_object after.pshm.entries) (map shm_object after.shm.entries) at) [
+        | inl segment ↦ among-left o gs hs (segments-there segment)
+        | inr shm ↦ among-right o gs hs (shms-there shm)
+      ]
+
+  later-there : Among (later_objects (later_in after)) o → Among (later_objects (later_in before)) o
+  later-there at =
       let qs : PlainObjects = map mq_object before.mq.entries in
       let xs : PlainObjects = map psem_object before.psem.entries in
-      let gs : PlainObjects = map pshm_object before.pshm.entries in
-      elim (among-either o (map mq_object after.mq.entries) (map psem_object after.psem.entries ++ map pshm_object after.pshm.entries) at) [
+      let gs : PlainObjects = from_pshms (later_in before) in
+      elim (among-either o (map mq_object after.mq.entries) (map psem_object after.psem.entries ++ from_pshms (later_in after)) at) [
         | inl mq ↦ among-left o qs (xs ++ gs) (mqs-there mq)
         | inr rest ↦ among-right o qs (xs ++ gs)
-            (elim (among-either o (map psem_object after.psem.entries) (map pshm_object after.pshm.entries) rest) [
+            (elim (among-either o (map psem_object after.psem.entries) (from_pshms (later_in after)) rest) [
               | inl psem ↦ among-left o xs gs (psems-there psem)
-              | inr segment ↦ among-right o xs gs (segments-there segment)
+              | inr segment ↦ among-right o xs gs (pshms-there segment)
             ])
       ]
 
@@ -182,13 +197,13 @@ module _ (limits : Limits) (marks : List Object) (before after : State) (tracked
   things-there at =
       let qs : PlainObjects = map queue_object before.msg.entries in
       let ss : PlainObjects = map set_object before.semset.entries in
-      let ns : PlainObjects = named_objects (objects_in before).named in
-      elim (among-either o (map queue_object after.msg.entries) (map set_object after.semset.entries ++ named_objects (objects_in after).named) at) [
+      let ns : PlainObjects = later_objects (later_in before) in
+      elim (among-either o (map queue_object after.msg.entries) (map set_object after.semset.entries ++ later_objects (later_in after)) at) [
         | inl queue ↦ among-left o qs (ss ++ ns) (queues-there queue)
         | inr rest ↦ among-right o qs (ss ++ ns)
-            (elim (among-either o (map set_object after.semset.entries) (named_objects (objects_in after).named) rest) [
+            (elim (among-either o (map set_object after.semset.entries) (later_objects (later_in after)) rest) [
               | inl set ↦ among-left o ss ns (sets-there set)
-              | inr named ↦ among-right o ss ns (named-there named)
+              | inr later ↦ among-right o ss ns (later-there later)
             ])
       ]
 

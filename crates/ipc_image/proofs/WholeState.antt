@@ -13,8 +13,7 @@ use Rattle.ipc_state.specs.Keyed.{KeyedEntry}
 use Rattle.ipc_state.specs.declared.processes.Process.{Process}
 use Rattle.ipc_state.specs.declared.state.Numbers.{Numbers}
 use Rattle.ipc_state.specs.Restored.{with_numbers, with_waits}
-use Rattle.ipc_state.specs.Kinds.{NamedObjects}
-use Rattle.ipc_state.specs.State.{State, objects_in, start}
+use Rattle.ipc_state.specs.State.{State, start}
 use Rattle.ipc_state.specs.Waiting.{PlainWaiting}
 use Rattle.ipc_wait.specs.Waits.{HaveDistinctPids}
 use Rattle.ipc_image.specs.Kind.{FitsIn, IsOther}
@@ -22,14 +21,15 @@ use Rattle.ipc_image.specs.Relations.Restored.{IsClockOf}
 use Rattle.ipc_image.specs.Saved.{clock_sizes, clock_numbers, process_shape, process_tree, process_bytes, processes_bytes, FitsProcess}
 use Rattle.ipc_image.specs.Saved.{message_shape, message_tree, message_bytes, FitsMessage, messages_of, queue_sizes, queue_numbers, queue_bytes, queue_object}
 use Rattle.ipc_image.specs.Saved.{FitsQueue, semaphore_shape, semaphore_numbers, semaphore_bytes, FitsSemaphore, semaphores_of, set_sizes, set_numbers}
-use Rattle.ipc_image.specs.Saved.{set_bytes, set_object, FitsSet, waits_bytes, FitsWaiting, named_objects, FitNamed, saved, HasAllPlaces}
+use Rattle.ipc_image.specs.Saved.{set_bytes, set_object, FitsSet, waits_bytes, FitsWaiting}
+use Rattle.ipc_image.specs.Saved.{LaterObjects, later_in, later_objects, FitLater, saved, HasAllPlaces}
 use Rattle.ipc_image.specs.Saved.{adjustment_shape, adjustment_numbers, adjustment_bytes, adjustments_in, adjustments_bytes, FitsAdjustment}
-use Rattle.ipc_image.specs.SavedParts.{queue_from, set_from, with_more, with_more_named, put_processes, put_queues, put_sets}
+use Rattle.ipc_image.specs.SavedParts.{queue_from, set_from, with_more, with_more_later, put_processes, put_queues, put_sets}
 use Rattle.ipc_image.specs.Relations.Trees.{process_one, message_one, semaphore_one, adjustment_one}
 use Rattle.ipc_image.proofs.Attaching.{undo_one}
 use Rattle.ipc_image.specs.Relations.Entries.{entry_one}
 use Rattle.ipc_image.specs.Relations.Shapes.{plain_one, counted_one}
-use Rattle.ipc_image.proofs.NamedObjects.{NamedLists, listed, named_one, later-named}
+use Rattle.ipc_image.proofs.LaterObjects.{LaterLists, listed, later_one, of-later-kinds}
 use Rattle.ipc_image.proofs.ReadKinds.{object_at, objects_one, later-both}
 use Rattle.ipc_image.proofs.RestoredParts.{clock_one}
 use Rattle.ipc_image.proofs.SavedObjects.{things}
@@ -70,7 +70,7 @@ same_object objects i a b is also =
 
 -- the state that has these
 abbrev pub state_of : Numbers → List (ℕ × Process) → List PlainWaiting → List (ℕ × Undo) → List (ℕ × KeyedEntry Queue) → List (ℕ × KeyedEntry Set)
-    → NamedObjects → State
+    → LaterObjects → State
 state_of n ps ws us es fs o =
     record {
       clock = n.clock.0;
@@ -82,6 +82,7 @@ state_of n ps ws us es fs o =
       mq = record { next = n.next_mq; entries = o.mq.entries };
       psem = record { next = n.next_psem; entries = o.psem.entries };
       pshm = record { next = n.next_pshm; entries = o.pshm.entries };
+      shm = record { next = n.next_shm; entries = o.shm.entries };
     }
 
 -- with these adjustments
@@ -89,12 +90,12 @@ abbrev pub put_undo : State × Limits → List (ℕ × Undo) → State × Limits
 put_undo s us = (record s.0 { undo = us }, s.1)
 
 pub all-added : (n : Numbers) (limits : Limits) (one two three four five six seven : State × Limits) (ps : List (ℕ × Process)) (ws : List PlainWaiting)
-    (us : List (ℕ × Undo)) (es : List (ℕ × KeyedEntry Queue)) (fs : List (ℕ × KeyedEntry Set)) (o : NamedObjects) → one ≡ (with_numbers start n, limits)
+    (us : List (ℕ × Undo)) (es : List (ℕ × KeyedEntry Queue)) (fs : List (ℕ × KeyedEntry Set)) (o : LaterObjects) → one ≡ (with_numbers start n, limits)
     → two ≡ with_more (λ s. s.0.processes.entries) put_processes one ps → three ≡ (with_waits two.0 ws, two.1) → four ≡ put_undo three us
     → five ≡ with_more (λ s. s.0.msg.entries) put_queues four es → six ≡ with_more (λ s. s.0.semset.entries) put_sets five fs
-    → seven ≡ with_more_named six o → seven ≡ (state_of n ps ws us es fs o, limits)
-all-added n limits one two three four five six seven ps ws us es fs o from processes waits undo queues sets named =
-    named ∙ ap (λ (s : State × Limits). with_more_named s o) (sets ∙ ap (λ (s : State × Limits). put_sets s (s.0.semset.entries ++ fs))
+    → seven ≡ with_more_later six o → seven ≡ (state_of n ps ws us es fs o, limits)
+all-added n limits one two three four five six seven ps ws us es fs o from processes waits undo queues sets later =
+    later ∙ ap (λ (s : State × Limits). with_more_later s o) (sets ∙ ap (λ (s : State × Limits). put_sets s (s.0.semset.entries ++ fs))
     (queues ∙ ap (λ (s : State × Limits). put_queues s (s.0.msg.entries ++ es)) (undo ∙ ap (λ (s : State × Limits). put_undo s us)
     (waits ∙ ap (λ (s : State × Limits). let t : State × Limits = (with_waits s.0 ws, s.1) in t)
     (processes ∙ ap (λ (s : State × Limits). put_processes s (s.0.processes.entries ++ ps)) from)))))
@@ -121,17 +122,17 @@ pub record AreAdjustmentsRead (ps : List (ℕ × Process)) (us : List (ℕ × Un
 
 -- the objects are those of the state that they make; its numbers have their places, if no two processes have the same pid
 pub all_restored : (objects : PlainObjects) (n : Numbers) (ps : List (ℕ × Process)) (ws : List PlainWaiting) (us : List (ℕ × Undo))
-    (es : List (ℕ × KeyedEntry Queue)) (fs : List (ℕ × KeyedEntry Set)) (o : NamedObjects) (s : State) (clock processes calls adjustments : List ℕ)
+    (es : List (ℕ × KeyedEntry Queue)) (fs : List (ℕ × KeyedEntry Set)) (o : LaterObjects) (s : State) (clock processes calls adjustments : List ℕ)
     → slice_get objects 0 ≡ Some (0, clock) → slice_get objects 1 ≡ Some (1, processes) → slice_get objects 2 ≡ Some (2, calls)
     → slice_get objects 3 ≡ Some (3, adjustments) → AreAdjustmentsRead ps us adjustments → IsClockOf n clock
     → length ps < 2 ^ 32 → All FitsProcess ps → processes ≡ processes_bytes ps
     → length ws < 2 ^ 32 → All FitsWaiting ws → HaveDistinctPids ws → calls ≡ waits_bytes ws → All (FitsIn FitsQueue) es → All (FitsIn FitsSet) fs
-    → FitNamed o → drop 4 objects ≡ map queue_object es ++ (map set_object fs ++ named_objects o) → s ≡ state_of n ps ws us es fs o
+    → FitLater o → drop 4 objects ≡ map queue_object es ++ (map set_object fs ++ later_objects o) → s ≡ state_of n ps ws us es fs o
     → (IsDistinct nat_eq (keys_of s.undo) → HasAllPlaces s) × (objects ≡ saved s)
 all_restored objects n ps ws us es fs o s clock processes calls adjustments at0 at1 at2 at3 adjusted of few fit read less fits distinct heard places
-    holds named others is =
+    holds later others is =
     let t : State = state_of n ps ws us es fs o in
-    let numbers = of t refl refl refl refl refl refl refl in
+    let numbers = of t refl refl refl refl refl refl refl refl in
     let all : IsDistinct nat_eq (keys_of us) → HasAllPlaces t = λ apart. record {
       clock = numbers.0;
       count = few;
@@ -145,7 +146,7 @@ all_restored objects n ps ws us es fs o s clock processes calls adjustments at0 
       distinct = apart;
       queues = places;
       sets = holds;
-      named = record { mqs = named.mqs; psems = named.psems; segments = named.segments };
+      later = record { mqs = later.mqs; psems = later.psems; segments = later.segments; shms = later.shms };
     } in
     let parts : HasParts t objects = record {
       clock = at0 ∙ ap (λ (l : List ℕ). let o : Option (ℕ × List ℕ) = Some (0, l) in o) numbers.1;
@@ -158,9 +159,9 @@ all_restored objects n ps ws us es fs o s clock processes calls adjustments at0 
 
 -- ---- told apart
 
--- a state with these processes, waiting calls, adjustments, queues, semaphore sets, and those with a name
+-- a state with these processes, waiting calls, adjustments, queues, semaphore sets, and objects of later kinds
 abbrev with_parts : State → List (ℕ × Process) → List PlainWaiting → List (ℕ × Undo) → List (ℕ × KeyedEntry Queue) → List (ℕ × KeyedEntry Set)
-    → NamedObjects → State
+    → LaterObjects → State
 with_parts u ps ws us es fs o =
     record {
       clock = u.clock;
@@ -172,6 +173,7 @@ with_parts u ps ws us es fs o =
       mq = record { next = u.mq.next; entries = o.mq.entries };
       psem = record { next = u.psem.next; entries = o.psem.entries };
       pshm = record { next = u.pshm.next; entries = o.pshm.entries };
+      shm = record { next = u.shm.next; entries = o.shm.entries };
     }
 
 -- two queues with the same bytes, and two semaphore sets
@@ -187,16 +189,16 @@ set_one =
     (plain_one semaphore_shape semaphore_numbers FitsSemaphore (λ x fit. fit.1) semaphore_one) set_from (λ s. refl)
 
 -- what follows the queues, and what follows the semaphore sets, is of other kinds
-abbrev pub sets_and_named : State → PlainObjects
-sets_and_named s = map set_object s.semset.entries ++ named_objects (objects_in s).named
+abbrev pub sets_and_later : State → PlainObjects
+sets_and_later s = map set_object s.semset.entries ++ later_objects (later_in s)
 
-pub after-queues : (s : State) → IsOther (2 ^ 32) (sets_and_named s)
+pub after-queues : (s : State) → IsOther (2 ^ 32) (sets_and_later s)
 after-queues s =
-    later-both (2 ^ 32) (2 * 2 ^ 32) set_bytes s.semset.entries (named_objects (objects_in s).named) (omega arith)
-    (later-named (2 ^ 32) (objects_in s).named (omega arith))
+    later-both (2 ^ 32) (2 * 2 ^ 32) set_bytes s.semset.entries (later_objects (later_in s)) (omega arith)
+    (of-later-kinds (2 ^ 32) (later_in s) (omega arith))
 
-pub after-sets : (s : State) → IsOther (2 * 2 ^ 32) (named_objects (objects_in s).named)
-after-sets s = later-named (2 * 2 ^ 32) (objects_in s).named (omega arith)
+pub after-sets : (s : State) → IsOther (2 * 2 ^ 32) (later_objects (later_in s))
+after-sets s = of-later-kinds (2 * 2 ^ 32) (later_in s) (omega arith)
 
 -- two states
 pub saved_once : (s t : State) → HasAllPlaces s → HasAllPlaces t → saved s ≡ saved t → s ≡ t
@@ -214,18 +216,18 @@ saved_once s t at also same =
     at.adjustment_count also.adjustment_count at.adjustments also.adjustments (same_object objects 3 _ _ mine.adjustments its.adjustments) in
     let undo = undo_one s.undo t.undo at.distinct
     (at.undo_pids ∙ ap (λ (l : List (ℕ × Process)). keys_of l) processes ∙ sym also.undo_pids) adjustments in
-    let queues = objects_one (2 ^ 32) queue_bytes FitsQueue queue_one s.msg.entries t.msg.entries (sets_and_named s)
-    (sets_and_named t) at.queues also.queues (after-queues s) (after-queues t) (sym mine.things ∙ its.things) in
-    let sets = objects_one (2 * 2 ^ 32) set_bytes FitsSet set_one s.semset.entries t.semset.entries (named_objects (objects_in s).named)
-    (named_objects (objects_in t).named) at.sets also.sets (after-sets s) (after-sets t) queues.1 in
-    let named = named_one (objects_in s).named (objects_in t).named at.named also.named sets.1 in
-    ap (λ (u : State). with_parts u ps s.wait s.undo s.msg.entries s.semset.entries (objects_in s).named) clock
-    ∙ ap (λ (l : List (ℕ × Process)). with_parts t l s.wait s.undo s.msg.entries s.semset.entries (objects_in s).named) processes
-    ∙ ap (λ (ws : List PlainWaiting). with_parts t qs ws s.undo s.msg.entries s.semset.entries (objects_in s).named) waits
-    ∙ ap (λ (us : List (ℕ × Undo)). with_parts t qs t.wait us s.msg.entries s.semset.entries (objects_in s).named) undo
-    ∙ ap (λ (es : List (ℕ × KeyedEntry Queue)). with_parts t qs t.wait t.undo es s.semset.entries (objects_in s).named) queues.0
-    ∙ ap (λ (fs : List (ℕ × KeyedEntry Set)). with_parts t qs t.wait t.undo t.msg.entries fs (objects_in s).named) sets.0
-    ∙ ap (λ (o : NamedLists). with_parts t qs t.wait t.undo t.msg.entries t.semset.entries (listed (objects_in t).named o)) named
+    let queues = objects_one (2 ^ 32) queue_bytes FitsQueue queue_one s.msg.entries t.msg.entries (sets_and_later s)
+    (sets_and_later t) at.queues also.queues (after-queues s) (after-queues t) (sym mine.things ∙ its.things) in
+    let sets = objects_one (2 * 2 ^ 32) set_bytes FitsSet set_one s.semset.entries t.semset.entries (later_objects (later_in s))
+    (later_objects (later_in t)) at.sets also.sets (after-sets s) (after-sets t) queues.1 in
+    let later = later_one (later_in s) (later_in t) at.later also.later sets.1 in
+    ap (λ (u : State). with_parts u ps s.wait s.undo s.msg.entries s.semset.entries (later_in s)) clock
+    ∙ ap (λ (l : List (ℕ × Process)). with_parts t l s.wait s.undo s.msg.entries s.semset.entries (later_in s)) processes
+    ∙ ap (λ (ws : List PlainWaiting). with_parts t qs ws s.undo s.msg.entries s.semset.entries (later_in s)) waits
+    ∙ ap (λ (us : List (ℕ × Undo)). with_parts t qs t.wait us s.msg.entries s.semset.entries (later_in s)) undo
+    ∙ ap (λ (es : List (ℕ × KeyedEntry Queue)). with_parts t qs t.wait t.undo es s.semset.entries (later_in s)) queues.0
+    ∙ ap (λ (fs : List (ℕ × KeyedEntry Set)). with_parts t qs t.wait t.undo t.msg.entries fs (later_in s)) sets.0
+    ∙ ap (λ (o : LaterLists). with_parts t qs t.wait t.undo t.msg.entries t.semset.entries (listed (later_in t) o)) later
 
 -- what was read is the state, if one has these objects
 pub restored_once : (s t : State) (objects : PlainObjects) (ps : List (ℕ × Process)) (processes : List ℕ) → HasAllPlaces s → objects ≡ saved s

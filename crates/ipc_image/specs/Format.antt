@@ -1,10 +1,11 @@
 -- The form of a device: what a version of it fixes, and the places that are the same on each.
 use Rattle.std.specs.Prelude.{ℕ, ◌+◌}
+use Rattle.ipc_wire.specs.Sizes.{greatest_length}
 use Rattle.ipc_image.specs.declared.format.Format.{Format}
 
 -- the one of the devices that are made and opened
 abbrev pub format : Format
-format = record { version = 1; root = 1; limits = 16; numbers = 5; request = 8448; batch = 32768 }
+format = record { version = 2; root = 2; limits = 19; numbers = 6; request = greatest_length; batch = 131072 }
 
 -- the journal: its first sector, which is its header, and how many it has with that
 abbrev pub journal_first : ℕ

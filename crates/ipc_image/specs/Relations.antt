@@ -4,5 +4,6 @@ pub mod Shapes
 pub mod Trees
 pub mod Entries
 pub mod Named
+pub mod Shms
 pub mod Mqs
 pub mod Adjustments

@@ -1,9 +1,9 @@
 -- The state as objects, each of them some bytes under a number: what a checkpoint keeps. There are four that every
--- state has, and one for each message queue, semaphore set, POSIX queue, named semaphore and segment. Of a call that
--- waits the object on which it waits is not kept: its request says it.
+-- state has, and one for each message queue, semaphore set, POSIX queue, named semaphore, segment and System V segment.
+-- Of a call that waits the object on which it waits is not kept: its request says it.
 use Rattle.std.specs.Prelude.{◌≡◌, ◌+◌, ◌*◌, ◌-◌, ◌<◌, ◌≤◌, ◌^◌, ℕ, ℤ, List, [], ◌∷◌, ◌++◌}
 use Rattle.std.specs.Prelude.{length, map, slice_index, All, FitsSigned, Option, Some, None, IfSome, nat_eq}
-use Rattle.std.specs.Prelude.{if◌then◌else◌, true, ⊤}
+use Rattle.std.specs.Prelude.{Bool, if◌then◌else◌, true, ⊤}
 use Rattle.std.specs.FinMap as fin
 use Rattle.std.specs.Int.{w16, w32, w64, cast_unsigned}
 use Rattle.std.specs.List.{flat_map, IsDistinct}
@@ -18,6 +18,7 @@ use Rattle.posix_mq.specs.Queue.{Queue as Mq, PlainMessage as MqMessage}
 use Rattle.posix_mq.specs.declared.queue.Registration.{Registration}
 use Rattle.posix_sem.specs.Semaphore.{sem_value_max}
 use Rattle.shm_segment.specs.Segment.{Segment}
+use Rattle.shm_segment.specs.SysSegment.{SysSegment}
 use Rattle.sysv_msg.specs.Queue.{Queue, PlainMessage}
 use Rattle.sysv_sem.specs.Operation.{most_value}
 use Rattle.sysv_sem.specs.declared.set.Semaphore.{Semaphore}
@@ -27,12 +28,11 @@ use Rattle.ipc_keys.specs.declared.check.NameKind.TheVariants as names
 use Rattle.ipc_state.specs.declared.parked.ObjectKind.{ObjectKind}
 use Rattle.ipc_state.specs.declared.parked.ObjectKind.TheVariants as kinds
 use Rattle.ipc_state.specs.declared.descriptors.Descriptor.{Descriptor}
-use Rattle.ipc_state.specs.Keyed.{KeyedEntry}
-use Rattle.ipc_state.specs.Named.{NamedEntry, is_own}
+use Rattle.ipc_state.specs.Keyed.{Keyed, KeyedEntry}
+use Rattle.ipc_state.specs.Named.{Named, NamedEntry, is_own}
 use Rattle.ipc_state.specs.declared.processes.Process.{Process}
 use Rattle.ipc_engine.specs.Sound.{IsSound}
-use Rattle.ipc_state.specs.Kinds.{NamedObjects}
-use Rattle.ipc_state.specs.State.{State, objects_in}
+use Rattle.ipc_state.specs.State.{State}
 use Rattle.ipc_state.specs.Waiting.{PlainWaiting, awaited_by}
 use Rattle.ipc_base.specs.declared.field.Size.{Size}
 use Rattle.ipc_base.specs.declared.field.Size.TheVariants.{Two, Four, Eight}
@@ -42,14 +42,14 @@ use Rattle.ipc_image.specs.Shape.{Shape, Fields, Texts, Tree, IsTree, bytes_in}
 
 -- ---- the four that every state has
 
--- the clock, the next pid, and the next number of each of five kinds: message queues, semaphore sets, POSIX queues,
--- named semaphores, segments
+-- the clock, the next pid, and the next number of each of six kinds: message queues, semaphore sets, POSIX queues,
+-- named semaphores, segments, System V segments
 abbrev pub clock_sizes : List Size
-clock_sizes = Eight ∷ Four ∷ Four ∷ Four ∷ Four ∷ Four ∷ Four ∷ []
+clock_sizes = Eight ∷ Four ∷ Four ∷ Four ∷ Four ∷ Four ∷ Four ∷ Four ∷ []
 
 abbrev pub clock_numbers : State → List ℕ
 clock_numbers s =
-    s.clock ∷ s.processes.next ∷ s.msg.next ∷ s.semset.next ∷ s.mq.next ∷ s.psem.next ∷ s.pshm.next ∷ []
+    s.clock ∷ s.processes.next ∷ s.msg.next ∷ s.semset.next ∷ s.mq.next ∷ s.psem.next ∷ s.pshm.next ∷ s.shm.next ∷ []
 
 abbrev pub count_bytes : ℕ → List ℕ
 count_bytes n = fields_bytes (Four ∷ []) (n ∷ [])
@@ -65,6 +65,7 @@ kind_number kinds.Semset = 2
 kind_number (kinds.Named names.Mq) = 3
 kind_number (kinds.Named names.Psem) = 4
 kind_number (kinds.Named names.Pshm) = 5
+kind_number kinds.Shm = 6
 
 -- a descriptor: its number, the kind and the number of what it is open on, and its flags
 abbrev pub descriptor_sizes : List Size
@@ -329,20 +330,62 @@ segment_bytes = bytes_in segment_shape segment_tree
 abbrev pub pshm_object : ℕ × NamedEntry Segment → ℕ × List ℕ
 pshm_object = object_in (5 * 2 ^ 32) segment_bytes
 
+-- ---- System V segments
+
+-- the nine bits of a mode, with a tenth one if the segment is marked
+abbrev pub mode_with : ℕ → Bool → ℕ
+mode_with mode is_marked = if is_marked then mode + 512 else mode
+
+-- key, uid, gid, cuid, cgid, mode, atime, dtime, ctime, cpid, lpid, how many bytes it has
+abbrev pub shm_sizes : List Size
+shm_sizes = Four ∷ Four ∷ Four ∷ Four ∷ Four ∷ Four ∷ Eight ∷ Eight ∷ Eight ∷ Four ∷ Four ∷ Eight ∷ []
+
+abbrev pub shm_numbers : KeyedEntry SysSegment → List ℕ
+shm_numbers e =
+    cast_unsigned w32 e.bound ∷ e.perm.uid ∷ e.perm.gid ∷ e.perm.cuid ∷ e.perm.cgid
+    ∷ mode_with e.perm.mode e.object.is_marked
+    ∷ e.object.atime ∷ e.object.dtime ∷ e.object.ctime ∷ e.object.cpid.0 ∷ e.object.lpid.0
+    ∷ length e.object.memory.bytes ∷ []
+
+-- these, and the bytes
+abbrev pub shm_shape : Shape
+shm_shape = Texts shm_sizes (λ ns. slice_index ns 11)
+
+abbrev pub shm_tree : KeyedEntry SysSegment → Tree shm_shape
+shm_tree e = (shm_numbers e, e.object.memory.bytes)
+
+abbrev pub shm_bytes : KeyedEntry SysSegment → List ℕ
+shm_bytes = bytes_in shm_shape shm_tree
+
+-- its object
+abbrev pub shm_object : ℕ × KeyedEntry SysSegment → ℕ × List ℕ
+shm_object = object_in (6 * 2 ^ 32) shm_bytes
+
 -- ---- all of it
 
--- those with a name, each kind by number
-abbrev pub named_objects : NamedObjects → PlainObjects
-named_objects o =
-    map mq_object o.mq.entries ++ (map psem_object o.psem.entries ++ map pshm_object o.pshm.entries)
+-- the objects of the kinds after the semaphore sets: those with a name, and the System V segments
+pub record LaterObjects : Type 0 where
+  pub mq : Named Mq
+  pub psem : Named ℕ
+  pub pshm : Named Segment
+  pub shm : Keyed SysSegment
+
+abbrev pub later_in : State → LaterObjects
+later_in s = record { mq = s.mq; psem = s.psem; pshm = s.pshm; shm = s.shm }
+
+-- each kind by number
+abbrev pub later_objects : LaterObjects → PlainObjects
+later_objects o =
+    map mq_object o.mq.entries
+    ++ (map psem_object o.psem.entries ++ (map pshm_object o.pshm.entries ++ map shm_object o.shm.entries))
 
 -- the objects: the clock, the processes, the waiting calls, the adjustments, the queues by identifier, the semaphore
--- sets by identifier, and those with a name
+-- sets by identifier, and those of later kinds
 unfoldable pub saved : State → PlainObjects
 saved s =
     (0, fields_bytes clock_sizes (clock_numbers s)) ∷ (1, processes_bytes s.processes.entries)
     ∷ (2, waits_bytes s.wait) ∷ (3, adjustments_bytes s.undo)
-    ∷ map queue_object s.msg.entries ++ (map set_object s.semset.entries ++ named_objects (objects_in s).named)
+    ∷ map queue_object s.msg.entries ++ (map set_object s.semset.entries ++ later_objects (later_in s))
 
 -- ---- each number has its place
 
@@ -403,11 +446,18 @@ FitsPsem = FitsNamed psem_shape psem_tree (λ value. value ≤ sem_value_max)
 abbrev pub FitsSegment : NamedEntry Segment → Type 0
 FitsSegment = FitsNamed segment_shape segment_tree (λ x. ⊤)
 
--- of those with a name
-pub record FitNamed (o : NamedObjects) : Type 0 where
+-- of a System V segment; its mode has nine bits, so that a tenth one tells of the mark
+pub record FitsShm (e : KeyedEntry SysSegment) : Type 0 where
+  pub key : FitsSigned w32 e.bound
+  pub mode : e.perm.mode < 512
+  pub tree : IsTree shm_shape (shm_tree e)
+
+-- of those of later kinds
+pub record FitLater (o : LaterObjects) : Type 0 where
   pub mqs : All (FitsIn FitsMq) o.mq.entries
   pub psems : All (FitsIn FitsPsem) o.psem.entries
   pub segments : All (FitsIn FitsSegment) o.pshm.entries
+  pub shms : All (FitsIn FitsShm) o.shm.entries
 
 -- of the state
 pub record HasAllPlaces (s : State) : Type 0 where
@@ -425,7 +475,7 @@ pub record HasAllPlaces (s : State) : Type 0 where
   pub distinct : IsDistinct nat_eq (keys_of s.undo)
   pub queues : All (FitsIn FitsQueue) s.msg.entries
   pub sets : All (FitsIn FitsSet) s.semset.entries
-  pub named : FitNamed (objects_in s).named
+  pub later : FitLater (later_in s)
 
 -- the objects stand for a sound state
 pub record StandForState (limits : Limits) (s : State) (objects : PlainObjects) : Type 0 where

@@ -1,10 +1,10 @@
 -- What is known of numbers once they are read, marks, and what a tree is of.
 use Rattle.std.specs.Prelude.{◌≡◌, ℕ, zero, suc, ◌-◌, ◌<◌, ◌≤◌, ◌^◌, ◌↔◌, List, [], ◌∷◌, ◌++◌, length}
 use Rattle.std.specs.Prelude.{ℤ, take, drop, Option, Some, None, slice_get, slice_index, map, unwrap_or}
-use Rattle.std.specs.Prelude.{nat_eq, ◌==◌, if◌then◌else◌, true, All}
+use Rattle.std.specs.Prelude.{nat_eq, nat_le, ◌==◌, ◌%◌, if◌then◌else◌, true, All}
 use Rattle.std.specs.List.{flat_map, fold}
 use Rattle.std.specs.FinMap as fin
-use Rattle.std.specs.Int.{w16, w64, cast_signed}
+use Rattle.std.specs.Int.{w16, w32, w64, cast_signed}
 use Rattle.ipc_base.specs.declared.identity.Moment.{Moment}
 use Rattle.ipc_base.specs.declared.limits.Limits.{Limits}
 use Rattle.ipc_base.specs.declared.objects.Mark.{Mark}
@@ -18,6 +18,8 @@ use Rattle.sem_undo.specs.declared.undo.UndoRow.{UndoRow}
 use Rattle.posix_mq.specs.Queue.{Queue as Mq, PlainMessage as MqMessage}
 use Rattle.posix_mq.specs.declared.queue.Registration.{Registration}
 use Rattle.shm_segment.specs.Segment.{Segment}
+use Rattle.shm_segment.specs.SysSegment.{SysSegment}
+use Rattle.shm_segment.specs.declared.sys_segment.ShmStat.{ShmStat}
 use Rattle.sysv_msg.specs.Queue.{Queue, PlainMessage}
 use Rattle.sysv_sem.specs.declared.set.Semaphore.{Semaphore}
 use Rattle.sysv_sem.specs.Set.{Set}
@@ -34,9 +36,9 @@ use Rattle.ipc_state.specs.Named.{NamedEntry, is_own}
 use Rattle.ipc_state.specs.Descriptors.{Table}
 use Rattle.ipc_state.specs.declared.numbered.Item.{Item}
 use Rattle.ipc_state.specs.declared.state.Numbers.{Numbers}
-use Rattle.ipc_state.specs.Kinds.{NamedObjects}
+use Rattle.ipc_image.specs.Saved.{LaterObjects}
 use Rattle.ipc_state.specs.Opening.{object_as}
-use Rattle.ipc_state.specs.State.{State, objects_in}
+use Rattle.ipc_state.specs.State.{State}
 use Rattle.ipc_state.specs.Tables.{item_row}
 use Rattle.ipc_state.specs.Waiting.{PlainWaiting, awaited_by}
 use Rattle.ipc_image.specs.declared.state_objects.Thing.{Thing}
@@ -44,7 +46,7 @@ use Rattle.ipc_image.specs.declared.state_objects.Thing.TheVariants as thing
 use Rattle.ipc_image.specs.Kind.{FitsIn}
 use Rattle.ipc_image.specs.Saved.{Adjustment, process_bytes, waiting_bytes, message_bytes, queue_object, FitsQueue}
 use Rattle.ipc_image.specs.Saved.{semaphore_bytes, set_object, FitsSet, mq_message_bytes, mq_object, FitsMq, saved}
-use Rattle.ipc_image.specs.Saved.{psem_object, FitsPsem, pshm_object, FitsSegment}
+use Rattle.ipc_image.specs.Saved.{psem_object, FitsPsem, pshm_object, FitsSegment, shm_object, FitsShm, later_in}
 
 -- ---- what was added
 
@@ -58,7 +60,8 @@ pub record IsPlace {S X : Type 0} (items : S → List X) (put : S → List X →
   pub found : (s : S) (xs : List X) → items (put s xs) ≡ xs
   pub again : (s : S) (xs ys : List X) → put (put s xs) ys ≡ put s ys
 
--- the processes of a state, its queues, its semaphore sets, its POSIX queues, its named semaphores, and its segments
+-- the processes of a state, its queues, its semaphore sets, its POSIX queues, its named semaphores, its segments, and
+-- its System V segments
 abbrev pub put_processes : State × Limits → List (ℕ × Process) → State × Limits
 put_processes s xs = (record s.0 { processes = record { next = s.0.processes.next; entries = xs } }, s.1)
 
@@ -77,12 +80,16 @@ put_psems s xs = (record s.0 { psem = record { next = s.0.psem.next; entries = x
 abbrev pub put_segments : State × Limits → List (ℕ × NamedEntry Segment) → State × Limits
 put_segments s xs = (record s.0 { pshm = record { next = s.0.pshm.next; entries = xs } }, s.1)
 
--- those of each kind with a name after those that are there
-abbrev pub with_more_named : State × Limits → NamedObjects → State × Limits
-with_more_named s o =
-    with_more (λ t. t.0.pshm.entries) put_segments
+abbrev pub put_shms : State × Limits → List (ℕ × KeyedEntry SysSegment) → State × Limits
+put_shms s xs = (record s.0 { shm = record { next = s.0.shm.next; entries = xs } }, s.1)
+
+-- those of each later kind after those that are there
+abbrev pub with_more_later : State × Limits → LaterObjects → State × Limits
+with_more_later s o =
+    with_more (λ t. t.0.shm.entries) put_shms
+    (with_more (λ t. t.0.pshm.entries) put_segments
     (with_more (λ t. t.0.psem.entries) put_psems
-    (with_more (λ t. t.0.mq.entries) put_mqs s o.mq.entries) o.psem.entries) o.pshm.entries
+    (with_more (λ t. t.0.mq.entries) put_mqs s o.mq.entries) o.psem.entries) o.pshm.entries) o.shm.entries
 
 -- with an adjustment of a process, if the process is there; with all of these
 abbrev pub attached : List (ℕ × Undo) → Adjustment → List (ℕ × Undo)
@@ -122,16 +129,17 @@ IsMarkOfMq e m = IsMarkIn mq_message_bytes e.1.object.messages m
 abbrev pub IsAnyMark : {X : Type 0} → X → Mark → Type 0
 IsAnyMark e m = Unit {0}
 
--- of the one at a place among those with a name
-abbrev pub IsMarkOfNamed : NamedObjects → ℕ → Mark → Type 0
-IsMarkOfNamed o =
-    MarkAt IsMarkOfMq (MarkAt IsAnyMark (MarkAt IsAnyMark (λ at m. Unit {0}) o.pshm.entries) o.psem.entries)
-    o.mq.entries
+-- of the one at a place among those of later kinds
+abbrev pub IsMarkOfLater : LaterObjects → ℕ → Mark → Type 0
+IsMarkOfLater o =
+    MarkAt IsMarkOfMq
+    (MarkAt IsAnyMark
+    (MarkAt IsAnyMark (MarkAt IsAnyMark (λ at m. Unit {0}) o.shm.entries) o.pshm.entries) o.psem.entries) o.mq.entries
 
 -- of the one at a place after the four objects that every state has
 abbrev pub IsMarkAfter : State → ℕ → Mark → Type 0
 IsMarkAfter s =
-    MarkAt IsMarkOfQueue (MarkAt IsMarkOfSet (IsMarkOfNamed (objects_in s).named) s.semset.entries) s.msg.entries
+    MarkAt IsMarkOfQueue (MarkAt IsMarkOfSet (IsMarkOfLater (later_in s)) s.semset.entries) s.msg.entries
 
 -- it is a mark of the i-th object; those of objects without a list are never looked at
 pub record IsMarkOf (s : State) (i : ℕ) (m : Mark) : Type 0 where
@@ -152,6 +160,7 @@ object_of (thing.Semset e) = set_object (item_row e.now)
 object_of (thing.Mq e) = mq_object (item_row e.now)
 object_of (thing.Psem e) = psem_object (item_row e.now)
 object_of (thing.Pshm e) = pshm_object (item_row e.now)
+object_of (thing.Shm e) = shm_object (item_row e.now)
 
 -- each of its numbers has its place
 abbrev pub FitsThing : Thing → Type 0
@@ -160,6 +169,7 @@ FitsThing (thing.Semset e) = FitsIn FitsSet (item_row e.now)
 FitsThing (thing.Mq e) = FitsIn FitsMq (item_row e.now)
 FitsThing (thing.Psem e) = FitsIn FitsPsem (item_row e.now)
 FitsThing (thing.Pshm e) = FitsIn FitsSegment (item_row e.now)
+FitsThing (thing.Shm e) = FitsIn FitsShm (item_row e.now)
 
 -- the mark is of its parts
 abbrev pub IsMarkOfThing : Thing → Mark → Type 0
@@ -168,6 +178,7 @@ IsMarkOfThing (thing.Semset e) m = IsMarkOfSet (item_row e.now) m
 IsMarkOfThing (thing.Mq e) m = IsMarkOfMq (item_row e.now) m
 IsMarkOfThing (thing.Psem e) m = Unit {0}
 IsMarkOfThing (thing.Pshm e) m = Unit {0}
+IsMarkOfThing (thing.Shm e) m = Unit {0}
 
 -- this is the i-th object, and of what it is each number has its place
 pub record IsFound (s : State) (i : ℕ) (o : ℕ × List ℕ) (IsOfIt : Mark → Type 0) (Fits : Type 0) : Type 0 where
@@ -195,7 +206,13 @@ kind_from number =
     then kinds.MsgQueue
     else if number == 2
     then kinds.Semset
-    else kinds.Named (if number == 3 then names.Mq else if number == 4 then names.Psem else names.Pshm)
+    else if number == 3
+    then kinds.Named names.Mq
+    else if number == 4
+    then kinds.Named names.Psem
+    else if number == 5
+    then kinds.Named names.Pshm
+    else kinds.Shm
 
 abbrev pub descriptor_of : List ℕ → ℕ × Descriptor
 descriptor_of ns = (
@@ -323,6 +340,45 @@ segment_from t =
       object = record { bytes = drop (slice_index t.0 3) t.1 };
     }
 
+-- who may use a System V segment, whose mode has a tenth bit if it is marked; and what it tells of itself
+abbrev pub shm_perm : List ℕ → Perm
+shm_perm ns =
+    record {
+      uid = slice_index ns 1;
+      gid = slice_index ns 2;
+      cuid = slice_index ns 3;
+      cgid = slice_index ns 4;
+      mode = slice_index ns 5 % 512;
+    }
+
+abbrev pub shm_stat : List ℕ → ShmStat
+shm_stat ns =
+    record {
+      size = 0;
+      atime = record { 0 = slice_index ns 6 };
+      dtime = record { 0 = slice_index ns 7 };
+      ctime = record { 0 = slice_index ns 8 };
+      cpid = record { 0 = slice_index ns 9 };
+      lpid = record { 0 = slice_index ns 10 };
+      is_marked = nat_le 512 (slice_index ns 5);
+    }
+
+abbrev pub shm_from : List ℕ × List ℕ → KeyedEntry SysSegment
+shm_from t =
+    record {
+      bound = cast_signed w32 (slice_index t.0 0);
+      perm = shm_perm t.0;
+      object = record {
+        memory = record { bytes = t.1 };
+        atime = slice_index t.0 6;
+        dtime = slice_index t.0 7;
+        ctime = slice_index t.0 8;
+        cpid = record { 0 = slice_index t.0 9 };
+        lpid = record { 0 = slice_index t.0 10 };
+        is_marked = nat_le 512 (slice_index t.0 5);
+      };
+    }
+
 -- what is known of the sizes of a sound object with a name, and of the object
 pub record IsSmallNamed {X : Type 0} (IsSmallObject : X → Type 0) (e : NamedEntry X) : Type 0 where
   pub own : is_own e.perm ≡ true
@@ -334,20 +390,21 @@ pub record IsSmallMq (q : Mq) : Type 0 where
   pub count : length q.messages < 2 ^ 32
   pub texts : All (λ m. length m.text < 2 ^ 32) q.messages
 
--- the named objects that have these tables
-abbrev pub seen_named : Numbers → List (Item (NamedEntry Mq)) → List (Item (NamedEntry ℕ))
-    → List (Item (NamedEntry Segment)) → NamedObjects
-seen_named n mqs sems segments =
+-- the objects of later kinds that have these tables
+abbrev pub seen_later : Numbers → List (Item (NamedEntry Mq)) → List (Item (NamedEntry ℕ))
+    → List (Item (NamedEntry Segment)) → List (Item (KeyedEntry SysSegment)) → LaterObjects
+seen_later n mqs sems segments shms =
     record {
       mq = record { next = n.next_mq; entries = map item_row mqs };
       psem = record { next = n.next_psem; entries = map item_row sems };
       pshm = record { next = n.next_pshm; entries = map item_row segments };
+      shm = record { next = n.next_shm; entries = map item_row shms };
     }
 
--- the state that has these tables, and these named objects
+-- the state that has these tables, and these objects of later kinds
 abbrev pub seen_state : Numbers → List (Item Process) → List PlainWaiting → List (Item Undo)
-    → List (Item (KeyedEntry Queue)) → List (Item (KeyedEntry Set)) → NamedObjects → State
-seen_state n processes waits undo queues sets named =
+    → List (Item (KeyedEntry Queue)) → List (Item (KeyedEntry Set)) → LaterObjects → State
+seen_state n processes waits undo queues sets later =
     record {
       clock = n.clock.0;
       processes = record { next = n.next_pid; entries = map item_row processes };
@@ -355,7 +412,8 @@ seen_state n processes waits undo queues sets named =
       undo = map item_row undo;
       msg = record { next = n.next_msg_queue; entries = map item_row queues };
       semset = record { next = n.next_semset; entries = map item_row sets };
-      mq = named.mq;
-      psem = named.psem;
-      pshm = named.pshm;
+      mq = later.mq;
+      psem = later.psem;
+      pshm = later.pshm;
+      shm = later.shm;
     }

@@ -32,12 +32,14 @@ object_sectors l =
     + l.queues * sectors (299 + l.maxmsg * (8 + l.msgsize))
     -- named semaphores, each with a name of at most 251 bytes
     + l.named_semaphores * sectors 271
-    -- shared memory segments: their bytes, and for each two sectors that are not full of them
+    -- shared memory segments, those with a name and those of System V: their bytes, and for each two sectors that are
+    -- not full of them
     + (2 * l.segments + sectors l.segment_bytes)
+    + (2 * l.shmmni + sectors l.shmall)
 
 -- the most entries that the table has: one for each part of `process_sectors` and for each object
 abbrev pub entries : Limits → ℕ
-entries l = 4 + l.msgmni + l.semmni + l.queues + l.named_semaphores + l.segments
+entries l = 4 + l.msgmni + l.semmni + l.queues + l.named_semaphores + l.segments + l.shmmni
 
 -- the most bytes that the table has: its count, 16 for each entry, and 4 for each sector
 abbrev pub table_bytes : Limits → ℕ
@@ -48,7 +50,6 @@ table_bytes l = 4 + 16 * entries l + 4 * (process_sectors l + object_sectors l)
 abbrev pub area_of : Limits → ℕ
 area_of l = process_sectors l + object_sectors l + (table_bytes l + 507) / 508
 
--- the least device: the superblock, the root, a sector that is kept free, the journal, and
--- two images
+-- the least device: the superblock, a sector that is not used, the root, the journal, and two images
 abbrev pub need_of : Limits → ℕ
 need_of l = objects_first + 2 * area_of l

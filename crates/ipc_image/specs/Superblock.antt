@@ -22,7 +22,8 @@ limit_fields l =
     ∷ l.queues ∷ l.maxmsg ∷ l.msgsize
     ∷ l.named_semaphores
     ∷ l.segments ∷ l.segment_bytes ∷ l.call_bytes
-    ∷ l.descriptors ∷ []
+    ∷ l.descriptors
+    ∷ l.shmmni ∷ l.shmmax ∷ l.shmall ∷ []
 
 -- each has four bytes
 abbrev pub limit_sizes : List Size
@@ -61,8 +62,12 @@ IsFormatted sector = take 8 sector ≡ magic
 abbrev pub version_in : List ℕ → ℕ
 version_in sector = from_be_bytes w32 (take 4 (drop 8 sector))
 
--- The sector is the superblock of a device of so many sectors, with these limits. Bytes without a
--- meaning may be any.
+-- how many sectors the device has, as it says
+abbrev pub sectors_in : List ℕ → ℕ
+sectors_in sector = from_be_bytes w32 (take 4 (drop 12 sector))
+
+-- The sector is the superblock of a device of so many sectors, with these limits. Bytes without a meaning may be any. A
+-- disk may have more sectors than the device that stands on it.
 pub record IsSuperblock (sectors : ℕ) (limits : Limits) (sector : List ℕ) : Type 0 where
   pub named : take named_length sector ≡ named_bytes sectors limits
   pub passed : ArePassed limits

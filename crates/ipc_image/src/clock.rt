@@ -16,7 +16,7 @@ use ipc_state::Numbers;
 pub(crate) fn put_clock(window: &mut Window, numbers: Numbers)
     ensures { window.new ≡ passed (fields_bytes clock_sizes
         (numbers.clock.0 ∷ numbers.next_pid ∷ numbers.next_msg_queue ∷ numbers.next_semset
-        ∷ numbers.next_mq ∷ numbers.next_psem ∷ numbers.next_pshm ∷ [])) window.old }
+        ∷ numbers.next_mq ∷ numbers.next_psem ∷ numbers.next_pshm ∷ numbers.next_shm ∷ [])) window.old }
 {
     put_fields(
         window,
@@ -28,6 +28,7 @@ pub(crate) fn put_clock(window: &mut Window, numbers: Numbers)
             Field::U32(numbers.next_mq),
             Field::U32(numbers.next_psem),
             Field::U32(numbers.next_pshm),
+            Field::U32(numbers.next_shm),
         ],
     );
 }
@@ -38,7 +39,7 @@ pub(crate) fn read_clock(bytes: &[u8]) -> Option<Numbers>
     ensures none { IfNone result ((s : PlainState) → FitFields clock_sizes (clock_numbers s)
         → bytes.now ≢ fields_bytes clock_sizes (clock_numbers s)) }
 {
-    let sizes = [EIGHT, FOUR, FOUR, FOUR, FOUR, FOUR, FOUR];
+    let sizes = [EIGHT, FOUR, FOUR, FOUR, FOUR, FOUR, FOUR, FOUR];
     let (numbers, rest) = take_fields(bytes, &sizes)?;
     if !rest.is_empty() {
         return None;
@@ -51,5 +52,6 @@ pub(crate) fn read_clock(bytes: &[u8]) -> Option<Numbers>
         next_mq: numbers[4] as u32,
         next_psem: numbers[5] as u32,
         next_pshm: numbers[6] as u32,
+        next_shm: numbers[7] as u32,
     })
 }

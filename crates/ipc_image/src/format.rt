@@ -1,5 +1,7 @@
 //! The form of a device.
 
+use ipc_wire::GREATEST_LENGTH;
+
 /// What a version of the device fixes.
 #[derive(Clone, Copy)]
 pub struct Format {
@@ -19,12 +21,12 @@ pub struct Format {
 
 /// The one of the devices that are made and opened.
 pub const FORMAT: Format = Format {
-    version: 1,
-    root: 1,
-    limits: 16,
-    numbers: 5,
-    request: 8448,
-    batch: 32768,
+    version: 2,
+    root: 2,
+    limits: 19,
+    numbers: 6,
+    request: GREATEST_LENGTH,
+    batch: 131072,
 };
 
 /// The most bytes of the record of an event: one of a call has 17 beside its request.

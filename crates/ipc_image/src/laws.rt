@@ -49,7 +49,7 @@ pub fn objects_stand_for_one_state()
         → StandForState others t objects → s ≡ t }
 {}
 
-/// An area takes at most 22785 sectors under limits that passed their check, so its bytes can be
+/// An area takes at most 126090 sectors under limits that passed their check, so its bytes can be
 /// counted in four.
 pub fn an_area_can_be_counted()
     ensures { (limits : Limits) → ArePassed limits → 512 * area_of limits < 2 ^ 32 }

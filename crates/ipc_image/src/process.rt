@@ -22,7 +22,8 @@ use ipc_engine::StateFault;
 use ipc_keys::NameKind;
 use ipc_state::{Descriptor, DescriptorRow, Descriptors, Item, Object, ObjectKind, Process, State};
 
-/// The kinds of objects: a message queue and a semaphore set of System V, a POSIX queue, a named semaphore, a segment.
+/// The kinds of objects: a message queue and a semaphore set of System V, a POSIX queue, a named semaphore, a segment
+/// with a name, and one of System V.
 const MSG_QUEUE: u32 = 1;
 
 const SEMSET: u32 = 2;
@@ -32,6 +33,8 @@ const QUEUE: u32 = 3;
 const SEMAPHORE: u32 = 4;
 
 const SEGMENT: u32 = 5;
+
+const SYS_SEGMENT: u32 = 6;
 
 impl Saved for DescriptorRow {
     type Into = Descriptors;
@@ -104,6 +107,7 @@ pub(crate) fn kind_number(kind: ObjectKind) -> u32
         ObjectKind::Named(NameKind::Mq) => QUEUE,
         ObjectKind::Named(NameKind::Psem) => SEMAPHORE,
         ObjectKind::Named(NameKind::Pshm) => SEGMENT,
+        ObjectKind::Shm => SYS_SEGMENT,
     }
 }
 
@@ -118,6 +122,7 @@ fn kind_of(number: u32) -> Option<ObjectKind>
         QUEUE => Some(ObjectKind::Named(NameKind::Mq)),
         SEMAPHORE => Some(ObjectKind::Named(NameKind::Psem)),
         SEGMENT => Some(ObjectKind::Named(NameKind::Pshm)),
+        SYS_SEGMENT => Some(ObjectKind::Shm),
         _ => None,
     }
 }

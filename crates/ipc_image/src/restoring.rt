@@ -6,9 +6,9 @@ ghost use Rattle.std.specs.List.{IsDistinct};
 ghost use Rattle.ipc_base.specs.Limits.{ArePassed};
 ghost use Rattle.ipc_base.specs.Table.{keys_of};
 ghost use Rattle.ipc_state.specs.State.{State as PlainState, start};
-ghost use Rattle.ipc_state.specs.Kinds.{NamedObjects};
-ghost use Rattle.ipc_image.specs.Saved.{named_objects, saved, FitNamed, HasAllPlaces, StandForState};
-ghost use Rattle.ipc_image.specs.SavedParts.{with_more_named};
+ghost use Rattle.ipc_image.specs.Saved.{LaterObjects};
+ghost use Rattle.ipc_image.specs.Saved.{later_objects, saved, FitLater, HasAllPlaces, StandForState};
+ghost use Rattle.ipc_image.specs.SavedParts.{with_more_later};
 
 use crate::adjustments::restore_adjustments;
 use crate::clock::read_clock;
@@ -20,7 +20,7 @@ use ipc_engine::{Engine, StateFault};
 use ipc_state::{Item, KeyedEntry, NamedEntry, Process, State};
 use posix_mq::Mq;
 use posix_sem::NamedSem;
-use shm_segment::Segment;
+use shm_segment::{Segment, SysSegment};
 use std::alloc::Global;
 use sysv_msg::MsgQueue;
 use sysv_sem::SemSet;
@@ -70,25 +70,26 @@ fn restore(state: &mut State, alloc: Global, objects: &ObjectMap) -> Result<(), 
     restore_adjustments(state, alloc, adjustments)?;
     let next = restore_kind::<KeyedEntry<MsgQueue>>(state, alloc, objects, ALWAYS)?;
     let next = restore_kind::<KeyedEntry<SemSet>>(state, alloc, objects, next)?;
-    restore_named(state, alloc, objects, next)?;
+    restore_later(state, alloc, objects, next)?;
     Ok(())
 }
 
-// The objects of those with a name, kind by kind, from this place to the last.
-fn restore_named(
+// The objects of those of later kinds, kind by kind, from this place to the last.
+fn restore_later(
     state: &mut State,
     alloc: Global,
     objects: &ObjectMap,
     from: u32,
 ) -> Result<(), StateFault>
-    ensures ok { OnOk result ((o : NamedObjects) × FitNamed o × (drop from objects.now ≡ named_objects o)
-        × ((state.new.state, state.new.limits) ≡ with_more_named (state.old.state, state.old.limits) o)) }
-    ensures damaged { result ≡ Err StateFault.Unsound → (o : NamedObjects) → FitNamed o
-        → drop from objects.now ≢ named_objects o }
+    ensures ok { OnOk result ((o : LaterObjects) × FitLater o × (drop from objects.now ≡ later_objects o)
+        × ((state.new.state, state.new.limits) ≡ with_more_later (state.old.state, state.old.limits) o)) }
+    ensures damaged { result ≡ Err StateFault.Unsound → (o : LaterObjects) → FitLater o
+        → drop from objects.now ≢ later_objects o }
 {
     let next = restore_kind::<NamedEntry<Mq>>(state, alloc, objects, from)?;
     let next = restore_kind::<NamedEntry<NamedSem>>(state, alloc, objects, next)?;
     let next = restore_kind::<NamedEntry<Segment>>(state, alloc, objects, next)?;
+    let next = restore_kind::<KeyedEntry<SysSegment>>(state, alloc, objects, next)?;
     if next < objects.count() {
         return Err(StateFault::Unsound);
     }

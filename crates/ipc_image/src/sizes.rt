@@ -15,12 +15,12 @@ use crate::format::FORMAT;
 use crate::places::OBJECTS;
 use ipc_base::Limits;
 
-/// How many sectors an image of all that is kept takes at most, with its table: 94 under small
-/// limits, 22785 under standard ones.
+/// How many sectors an image of all that is kept takes at most, with its table: 553 under small
+/// limits, 126090 under standard ones.
 pub fn area(limits: &Limits) -> u32
     requires { ArePassed limits.now }
     ensures exact { result ≡ area_of limits.now }
-    ensures bounded { result ≤ 22785 }
+    ensures bounded { result ≤ 126090 }
 {
     let image = process_part(limits) + object_part(limits);
     let table = 4 + 16 * entry_count(limits) + 4 * image;
@@ -28,11 +28,11 @@ pub fn area(limits: &Limits) -> u32
 }
 
 /// How many sectors a device has at least: room for the image that is there and for the next one,
-/// so a save is never short of sectors. 448 under small limits, 45830 under standard ones.
+/// so a save is never short of sectors. 1366 under small limits, 252440 under standard ones.
 pub fn need(limits: &Limits) -> u32
     requires { ArePassed limits.now }
     ensures exact { result ≡ need_of limits.now }
-    ensures bounded { result ≤ 45830 }
+    ensures bounded { result ≤ 252440 }
 {
     OBJECTS + 2 * area(limits)
 }
@@ -42,7 +42,7 @@ pub fn need(limits: &Limits) -> u32
 fn process_part(limits: &Limits) -> u32
     requires { ArePassed limits.now }
     ensures exact { result ≡ process_sectors limits.now }
-    ensures bounded { result ≤ 1896 }
+    ensures bounded { result ≤ 9064 }
 {
     let processes = limits.processes;
     sectors_for(12 + 4 * FORMAT.numbers)
@@ -56,22 +56,28 @@ fn process_part(limits: &Limits) -> u32
 fn object_part(limits: &Limits) -> u32
     requires { ArePassed limits.now }
     ensures exact { result ≡ object_sectors limits.now }
-    ensures bounded { result ≤ 20704 }
+    ensures bounded { result ≤ 116032 }
 {
     sectors_for_each(limits.msgmni, 64 + 13 * limits.msgmnb)
         + sectors_for_each(limits.semmni, 44 + 6 * limits.semmsl)
         + sectors_for_each(limits.queues, 299 + limits.maxmsg * (8 + limits.msgsize))
         + sectors_for_each(limits.named_semaphores, 271)
         + (2 * limits.segments + sectors_for(limits.segment_bytes))
+        + (2 * limits.shmmni + sectors_for(limits.shmall))
 }
 
 /// The entries of the table.
 fn entry_count(limits: &Limits) -> u32
     requires { ArePassed limits.now }
     ensures exact { result ≡ entries limits.now }
-    ensures bounded { result ≤ 196 }
+    ensures bounded { result ≤ 260 }
 {
-    4 + limits.msgmni + limits.semmni + limits.queues + limits.named_semaphores + limits.segments
+    4 + limits.msgmni
+        + limits.semmni
+        + limits.queues
+        + limits.named_semaphores
+        + limits.segments
+        + limits.shmmni
 }
 
 fn sectors_for(bytes: u32) -> u32

@@ -4,9 +4,9 @@ ghost use Rattle.std.specs.Prelude.{◌≡◌, ◌≤◌, ◌<◌, ◌-◌, ◌^
 ghost use Rattle.ipc_base.specs.declared.limits.Limits.{Limits};
 ghost use Rattle.ipc_base.specs.Limits.{ArePassed};
 ghost use Rattle.ipc_base.specs.Objects.{Fit};
-ghost use Rattle.ipc_state.specs.State.{objects_in, start};
-ghost use Rattle.ipc_image.specs.Saved.{named_objects, saved, StandForState};
-ghost use Rattle.ipc_image.specs.SavedParts.{IsFound, IsMarkOf, IsMarkOfNamed, IsMarkOfThing, FitsThing};
+ghost use Rattle.ipc_state.specs.State.{start};
+ghost use Rattle.ipc_image.specs.Saved.{later_in, later_objects, saved, StandForState};
+ghost use Rattle.ipc_image.specs.SavedParts.{IsFound, IsMarkOf, IsMarkOfLater, IsMarkOfThing, FitsThing};
 ghost use Rattle.ipc_image.specs.SavedParts.{Stands, object_of};
 ghost use Rattle.ipc_image.specs.Sizes.{area_of};
 ghost use Rattle.ipc_image.specs.Window.{passed};
@@ -25,13 +25,13 @@ use ipc_wait::Waiting;
 use posix_mq::Mq;
 use posix_sem::NamedSem;
 use sem_undo::SemUndo;
-use shm_segment::Segment;
+use shm_segment::{Segment, SysSegment};
 use std::marker::Model;
 use sysv_msg::MsgQueue;
 use sysv_sem::SemSet;
 
 /// The objects of a state: four that every state has, and one for each message queue, semaphore set, POSIX queue, named
-/// semaphore and segment. A contract sees the state. Each object counts as changed.
+/// semaphore, segment and System V segment. A contract sees the state. Each object counts as changed.
 #[derive(Drop)]
 pub struct StateObjects<'a> {
     numbers: Numbers,
@@ -43,6 +43,7 @@ pub struct StateObjects<'a> {
     mqs: &'a [Item<NamedEntry<Mq>>],
     sems: &'a [Item<NamedEntry<NamedSem>>],
     segments: &'a [Item<NamedEntry<Segment>>],
+    shms: &'a [Item<KeyedEntry<SysSegment>>],
 }
 
 /// What has an object of its own.
@@ -53,6 +54,7 @@ pub(crate) enum Thing<'a> {
     Mq(&'a Item<NamedEntry<Mq>>),
     Psem(&'a Item<NamedEntry<NamedSem>>),
     Pshm(&'a Item<NamedEntry<Segment>>),
+    Shm(&'a Item<KeyedEntry<SysSegment>>),
 }
 
 impl<'a> Model for StateObjects<'a> {
@@ -61,7 +63,7 @@ impl<'a> Model for StateObjects<'a> {
     ghost use Rattle.sem_undo.specs.Undo.{undo_code};
     ghost use Rattle.ipc_state.specs.State.{State as PlainState};
     ghost use Rattle.ipc_image.specs.Saved.{saved, HasAllPlaces};
-    ghost use Rattle.ipc_image.specs.SavedParts.{seen_named, seen_state};
+    ghost use Rattle.ipc_image.specs.SavedParts.{seen_later, seen_state};
 
     ghost Value = { PlainState };
 
@@ -69,14 +71,14 @@ impl<'a> Model for StateObjects<'a> {
 
     ghost view = { λ o.
         seen_state o.numbers o.processes.now o.waits.now o.undo.now o.queues.now o.sets.now
-        (seen_named o.numbers o.mqs.now o.sems.now o.segments.now) };
+        (seen_later o.numbers o.mqs.now o.sems.now o.segments.now o.shms.now) };
 
     ghost invariant = { λ o.
         HasAllPlaces (seen_state o.numbers o.processes.now o.waits.now o.undo.now o.queues.now o.sets.now
-        (seen_named o.numbers o.mqs.now o.sems.now o.segments.now))
+        (seen_later o.numbers o.mqs.now o.sems.now o.segments.now o.shms.now))
         × AreObjects (saved
         (seen_state o.numbers o.processes.now o.waits.now o.undo.now o.queues.now o.sets.now
-        (seen_named o.numbers o.mqs.now o.sems.now o.segments.now))) };
+        (seen_later o.numbers o.mqs.now o.sems.now o.segments.now o.shms.now))) };
 }
 
 /// The state of the machine as objects. It takes no memory. They stand for that state, and fit where
@@ -97,6 +99,7 @@ pub(crate) fn all_of<'a>(engine: &'a Engine) -> StateObjects<'a>
             next_mq: state.next_mq(),
             next_psem: state.psems().next(),
             next_pshm: state.pshms().next(),
+            next_shm: state.next_shm(),
         },
         processes: state.processes(),
         waits: state.waits(),
@@ -106,6 +109,7 @@ pub(crate) fn all_of<'a>(engine: &'a Engine) -> StateObjects<'a>
         mqs: state.mqs(),
         sems: state.psems().items(),
         segments: state.pshms().items(),
+        shms: state.shms(),
     }
 }
 
@@ -123,6 +127,7 @@ pub fn start_objects() -> StateObjects<'static>
             next_mq: 1,
             next_psem: 1,
             next_pshm: 1,
+            next_shm: 1,
         },
         processes: &[],
         waits: &[],
@@ -132,6 +137,7 @@ pub fn start_objects() -> StateObjects<'static>
         mqs: &[],
         sems: &[],
         segments: &[],
+        shms: &[],
     }
 }
 
@@ -150,6 +156,7 @@ impl<'a> Objects for StateObjects<'a> {
             + self.mqs.len() as u32
             + self.sems.len() as u32
             + self.segments.len() as u32
+            + self.shms.len() as u32
     }
 
     fn number(&self, i: u32) -> u64 {
@@ -162,6 +169,7 @@ impl<'a> Objects for StateObjects<'a> {
             Thing::Mq(mq) => NamedEntry::<Mq>::FIRST + u64::from(mq.number),
             Thing::Psem(sem) => NamedEntry::<NamedSem>::FIRST + u64::from(sem.number),
             Thing::Pshm(segment) => NamedEntry::<Segment>::FIRST + u64::from(segment.number),
+            Thing::Shm(shm) => KeyedEntry::<SysSegment>::FIRST + u64::from(shm.number),
         }
     }
 
@@ -171,7 +179,7 @@ impl<'a> Objects for StateObjects<'a> {
 
     fn len(&self, i: u32) -> u64 {
         match i {
-            0 => 32,
+            0 => 36,
             1 => 4 + list_len(&InSlice(self.processes)),
             2 => 4 + list_len(&InSlice(self.waits)),
             3 => adjustments_len(self.undo),
@@ -204,14 +212,14 @@ fn thing_at<'a, 'b>(objects: &'b StateObjects<'a>, i: u32) -> Thing<'a>
     if at < objects.sets.len() {
         return Thing::Semset(&objects.sets[at]);
     }
-    named_at(objects, at - objects.sets.len())
+    later_at(objects, at - objects.sets.len())
 }
 
-// What has an object among those with a name, by its place among them.
-fn named_at<'a, 'b>(objects: &'b StateObjects<'a>, at: usize) -> Thing<'a>
-    requires { at < length (named_objects (objects_in objects.now).named) }
-    ensures stands { Stands (named_objects (objects_in objects.now).named)
-        (IsMarkOfNamed (objects_in objects.now).named) at (object_of result) (IsMarkOfThing result) }
+// What has an object among those of later kinds, by its place among them.
+fn later_at<'a, 'b>(objects: &'b StateObjects<'a>, at: usize) -> Thing<'a>
+    requires { at < length (later_objects (later_in objects.now)) }
+    ensures stands { Stands (later_objects (later_in objects.now))
+        (IsMarkOfLater (later_in objects.now)) at (object_of result) (IsMarkOfThing result) }
     ensures fits { FitsThing result }
 {
     if at < objects.mqs.len() {
@@ -221,7 +229,11 @@ fn named_at<'a, 'b>(objects: &'b StateObjects<'a>, at: usize) -> Thing<'a>
     if at < objects.sems.len() {
         return Thing::Psem(&objects.sems[at]);
     }
-    Thing::Pshm(&objects.segments[at - objects.sems.len()])
+    let at = at - objects.sems.len();
+    if at < objects.segments.len() {
+        return Thing::Pshm(&objects.segments[at]);
+    }
+    Thing::Shm(&objects.shms[at - objects.segments.len()])
 }
 
 // How many bytes its object has.
@@ -236,6 +248,7 @@ fn thing_len(thing: &Thing<'_>) -> u64
         Thing::Mq(mq) => mq.value.len(),
         Thing::Psem(sem) => sem.value.len(),
         Thing::Pshm(segment) => segment.value.len(),
+        Thing::Shm(shm) => shm.value.len(),
     }
 }
 
@@ -253,6 +266,7 @@ fn put_thing(window: &mut Window, thing: &Thing<'_>, mark: &mut Mark)
         Thing::Mq(mq) => mq.value.put(window, mark),
         Thing::Psem(sem) => sem.value.put(window, mark),
         Thing::Pshm(segment) => segment.value.put(window, mark),
+        Thing::Shm(shm) => shm.value.put(window, mark),
     }
 }
 

@@ -1,6 +1,6 @@
 //! The superblock: written, and read.
 
-ghost use Rattle.std.specs.Prelude.{◌≡◌, ◌≢◌, ◌↔◌, ◌++◌, ℕ, List, Some, take};
+ghost use Rattle.std.specs.Prelude.{◌≡◌, ◌≢◌, ◌≤◌, ◌↔◌, ◌++◌, ℕ, List, Some, take};
 ghost use Rattle.std.specs.Prelude.{Ok, IfOk, IfSome, IsErrOf};
 ghost use Rattle.std.specs.Int.{w32, to_be_bytes};
 ghost use Rattle.std.specs.List.{flat_map};
@@ -11,6 +11,7 @@ ghost use Rattle.ipc_image.specs.Superblock.{
   superblock_bytes,
   IsFormatted,
   version_in,
+  sectors_in,
   IsSuperblock,
   limit_fields,
   limit_sizes,
@@ -31,7 +32,16 @@ use ipc_base::{Field, Limits, take_fields};
 const MAGIC: &[u8; 8] = b"IPCSTORE";
 
 /// How many numbers follow: the version, six of the device, and the limits.
-const FIELDS: usize = 23;
+const FIELDS: usize = 26;
+
+/// What a superblock says: how many sectors the device has, and its limits.
+#[derive(Clone, Copy, Debug, PartialEq, Eq)]
+pub struct Superblock {
+    /// The sectors of the device. The disk may have more.
+    pub sectors: u32,
+    /// The limits of the server whose state it keeps.
+    pub limits: Limits,
+}
 
 /// Makes the sector the superblock of a device of so many sectors, with these limits. It tests
 /// neither: if `check` refuses the limits, or the sectors are fewer than `need`, the sector is
@@ -52,14 +62,15 @@ fn superblock_of(sectors: u32, limits: &Limits) -> [u8; 512]
     window.finish()
 }
 
-/// The limits of a device of so many sectors, from its sector 0. Bytes without a meaning are not
-/// looked at. A device of fewer than three sectors is `NotFormatted` too: a caller tests that
-/// before it reads.
-pub fn read_superblock(sector: &[u8; 512], sectors: u32) -> Result<Limits, SuperblockFault>
-    ensures ok { IfOk result (λ limits. IsSuperblock sectors limits sector.now) }
-    ensures only { (limits : AnyLimits) → IsSuperblock sectors limits sector.now
-        → result ≡ Ok limits }
-    ensures passed { IfOk result (λ limits. ArePassed limits) }
+/// The superblock of a device on a disk of so many sectors, from sector 0. The device may have fewer. Bytes without a
+/// meaning are not looked at. A disk of fewer than three sectors is `NotFormatted` too: a caller tests that before it
+/// reads.
+pub fn read_superblock(sector: &[u8; 512], sectors: u32) -> Result<Superblock, SuperblockFault>
+    ensures ok { IfOk result (λ found. IsSuperblock found.sectors found.limits sector.now) }
+    ensures room { IfOk result (λ found. found.sectors ≤ sectors) }
+    ensures only { (named : ℕ) (limits : AnyLimits) → named ≤ sectors → IsSuperblock named limits sector.now
+        → result ≡ Ok (record { sectors = named; limits = limits }) }
+    ensures passed { IfOk result (λ found. ArePassed found.limits) }
     // Which fault it is: the first of these.
     ensures not_formatted { IsErrOf result SuperblockFault.NotFormatted
         ↔ (¬ IsFormatted sector.now) }
@@ -67,7 +78,7 @@ pub fn read_superblock(sector: &[u8; 512], sectors: u32) -> Result<Limits, Super
         ↔ (IsFormatted sector.now × (version_in sector.now ≡ found) × (found ≢ format.version)) }
     ensures damaged { IsErrOf result SuperblockFault.Damaged
         ↔ (IsFormatted sector.now × (version_in sector.now ≡ format.version)
-        × ((limits : AnyLimits) → ¬ IsSuperblock sectors limits sector.now)) }
+        × ((named : ℕ) (limits : AnyLimits) → named ≤ sectors → ¬ IsSuperblock named limits sector.now)) }
 {
     if !sector.starts_with(MAGIC) {
         return Err(SuperblockFault::NotFormatted);
@@ -76,7 +87,25 @@ pub fn read_superblock(sector: &[u8; 512], sectors: u32) -> Result<Limits, Super
     if found != FORMAT.version {
         return Err(SuperblockFault::Version { found });
     }
-    limits_of(sector, sectors).ok_or(SuperblockFault::Damaged)
+    superblock_in(sector, sectors).ok_or(SuperblockFault::Damaged)
+}
+
+/// The superblock that the sector is, of a device of no more than so many sectors.
+fn superblock_in(sector: &[u8; 512], sectors: u32) -> Option<Superblock>
+    ensures some { IfSome result (λ found. IsSuperblock found.sectors found.limits sector.now) }
+    ensures room { IfSome result (λ found. found.sectors ≤ sectors) }
+    ensures only { (named : ℕ) (limits : AnyLimits) → named ≤ sectors → IsSuperblock named limits sector.now
+        → result ≡ Some (record { sectors = named; limits = limits }) }
+{
+    let named = sectors_of(sector);
+    if named > sectors {
+        return None;
+    }
+    let limits = limits_of(sector, named)?;
+    Some(Superblock {
+        sectors: named,
+        limits,
+    })
 }
 
 /// The limits with which the sector is the superblock of a device of so many sectors.
@@ -99,7 +128,7 @@ fn limits_of(sector: &[u8; 512], sectors: u32) -> Option<Limits>
 fn named_bytes(sector: &[u8; 512]) -> &[u8]
     ensures { result.now ≡ take named_length sector.now }
 {
-    &sector[..100]
+    &sector[..112]
 }
 
 /// The version that a sector names.
@@ -107,6 +136,13 @@ fn version_of(sector: &[u8; 512]) -> u32
     ensures { result ≡ version_in sector.now }
 {
     u32::from_be_bytes([sector[8], sector[9], sector[10], sector[11]])
+}
+
+/// The sectors that it names.
+fn sectors_of(sector: &[u8; 512]) -> u32
+    ensures { result ≡ sectors_in sector.now }
+{
+    u32::from_be_bytes([sector[12], sector[13], sector[14], sector[15]])
 }
 
 /// The numbers of a superblock.
@@ -137,6 +173,9 @@ fn fields_of(sectors: u32, limits: &Limits) -> [Field; FIELDS]
         Field::U32(limits.segment_bytes),
         Field::U32(limits.call_bytes),
         Field::U32(limits.descriptors),
+        Field::U32(limits.shmmni),
+        Field::U32(limits.shmmax),
+        Field::U32(limits.shmall),
     ]
 }
 
@@ -145,7 +184,7 @@ fn limits_in(bytes: &[u8]) -> Option<Limits>
     ensures { (limits : AnyLimits) (rest : List ℕ) → FitFields limit_sizes (limit_fields limits)
         → bytes.now ≡ fields_bytes limit_sizes (limit_fields limits) ++ rest → result ≡ Some limits }
 {
-    let (found, _) = take_fields(bytes, &[FOUR; 16])?;
+    let (found, _) = take_fields(bytes, &[FOUR; 19])?;
     Some(Limits {
         processes: found[0] as u32,
         msgmni: found[1] as u32,
@@ -163,5 +202,8 @@ fn limits_in(bytes: &[u8]) -> Option<Limits>
         segment_bytes: found[13] as u32,
         call_bytes: found[14] as u32,
         descriptors: found[15] as u32,
+        shmmni: found[16] as u32,
+        shmmax: found[17] as u32,
+        shmall: found[18] as u32,
     })
 }

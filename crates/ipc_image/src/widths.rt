@@ -129,6 +129,7 @@ pub(crate) fn read_state(state: &State)
     read_each(state.mqs());
     read_each(state.psems().items());
     read_each(state.pshms().items());
+    read_each(state.shms());
 }
 
 fn read_clock(state: &State)
@@ -141,4 +142,5 @@ fn read_clock(state: &State)
     let _next_mq = state.next_mq();
     let _next_psem = state.psems().next();
     let _next_pshm = state.pshms().next();
+    let _next_shm = state.next_shm();
 }

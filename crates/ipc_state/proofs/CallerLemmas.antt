@@ -88,7 +88,7 @@ module _ (limits : Limits) where
   -- a state with another part that is sound is sound
   set-undo : (s : State) (undo : List (ℕ × Undo)) → HasSoundParts limits s → AreAdjustments (keys_of s.processes.entries) s.semset undo
       → HasSoundParts limits (record s { undo = undo })
-  set-undo s undo h good = record { processes = h.processes; wait = h.wait; undo = good; msg = h.msg; semset = h.semset; named = h.named }
+  set-undo s undo h good = record { processes = h.processes; wait = h.wait; undo = good; msg = h.msg; semset = h.semset; shm = h.shm; named = h.named }
 
   -- other adjustments of a process, at semaphores that are there, in their range and not 0
   pub with_undo-sound : (s : State) (pid : ℕ) (undo : Undo) → HasSoundParts limits s → AreAt s.semset undo → IsSoundUndo undo
@@ -117,7 +117,7 @@ module _ (limits : Limits) where
 
   pub set-wait : (s : State) (calls : List PlainWaiting) → HasSoundParts limits s → AreSoundWaits limits calls
       → HasSoundParts limits (record s { wait = calls })
-  set-wait s calls h good = record { processes = h.processes; wait = good; undo = h.undo; msg = h.msg; semset = h.semset; named = h.named }
+  set-wait s calls h good = record { processes = h.processes; wait = good; undo = h.undo; msg = h.msg; semset = h.semset; shm = h.shm; named = h.named }
 
   none-waits : AreSoundWaits limits []
   none-waits = record { pids = tt; few = omega arith; each = All-nil IsSoundWaiting }
@@ -163,7 +163,7 @@ module _ (limits : Limits) where
   pub start-sound : HasSoundParts limits start
   start-sound =
       let none : (kind : ObjectKind) → AreSound limits [] kind (objects_of start kind) =
-      mqs.on-kinds (AreSound limits []) (objects_in start) (mqs.none-sound limits kinds.MsgQueue) (mqs.none-sound limits kinds.Semset)
+      mqs.on-kinds (AreSound limits []) (objects_in start) (mqs.none-sound limits kinds.MsgQueue) (mqs.none-sound limits kinds.Semset) (mqs.none-sound limits kinds.Shm)
       (mqs.none-sound limits (kinds.Named names.Mq)) (mqs.none-sound limits (kinds.Named names.Psem)) (mqs.none-sound limits (kinds.Named names.Pshm)) in
       record {
         processes = record { numbered = none_yet-numbered limits.processes; descriptors = All-nil _ };
@@ -171,11 +171,12 @@ module _ (limits : Limits) where
         undo = record { pids = refl; each = tt; kept = tt };
         msg = none kinds.MsgQueue;
         semset = none kinds.Semset;
+        shm = none kinds.Shm;
         named = λ kind. none (kinds.Named kind);
       }
 
   pub set_moment-sound : (s : State) (moment : ℕ) → HasSoundParts limits s → HasSoundParts limits (at_moment s moment)
-  set_moment-sound s moment h = record { processes = h.processes; wait = h.wait; undo = h.undo; msg = h.msg; semset = h.semset; named = h.named }
+  set_moment-sound s moment h = record { processes = h.processes; wait = h.wait; undo = h.undo; msg = h.msg; semset = h.semset; shm = h.shm; named = h.named }
 
   pub without_due-sound : (s : State) → HasSoundParts limits s → HasSoundParts limits (without_due s)
   without_due-sound s h =
@@ -222,6 +223,7 @@ module _ (limits : Limits) where
         };
         msg = left.objects kinds.MsgQueue;
         semset = left.objects kinds.Semset;
+        shm = left.objects kinds.Shm;
         named = λ kind. left.objects (kinds.Named kind);
       }
 
@@ -235,6 +237,7 @@ module _ (limits : Limits) where
         undo = record { pids = refl; each = tt; kept = tt };
         msg = left.objects kinds.MsgQueue;
         semset = left.objects kinds.Semset;
+        shm = left.objects kinds.Shm;
         named = λ kind. left.objects (kinds.Named kind);
       }
 
@@ -251,6 +254,7 @@ module _ (limits : Limits) where
         };
         msg = come.objects kinds.MsgQueue;
         semset = come.objects kinds.Semset;
+        shm = come.objects kinds.Shm;
         named = λ kind. come.objects (kinds.Named kind);
       }
 
@@ -293,6 +297,7 @@ module _ (limits : Limits) where
         undo = record { pids = at.pids ∙ sym same; each = at.each; kept = at.kept };
         msg = parts.objects kinds.MsgQueue;
         semset = parts.objects kinds.Semset;
+        shm = parts.objects kinds.Shm;
         named = λ kind. parts.objects (kinds.Named kind);
       }
 
@@ -303,12 +308,14 @@ module _ (limits : Limits) where
   at-put s kinds.Semset n e f is may h =
       moved (keys_of s.processes.entries) s.semset (with_entry s.semset n f) s.undo (λ k was. has-with s.semset n e f is may k ∙ was) h.undo
   at-put s kinds.MsgQueue n e f is may h = h.undo
+  at-put s kinds.Shm n e f is may h = h.undo
   at-put s (kinds.Named kind) n e f is may h = h.undo
 
   at-new : (s : State) (kind : ObjectKind) (e : EntryOf kind) → HasSoundParts limits s
       → AreAdjustments (keys_of s.processes.entries) (with_kind (objects_in s) kind (with_new (objects_of s kind) e)).semset s.undo
   at-new s kinds.Semset e h = moved (keys_of s.processes.entries) s.semset (with_new s.semset e) s.undo (has-new s.semset e) h.undo
   at-new s kinds.MsgQueue e h = h.undo
+  at-new s kinds.Shm e h = h.undo
   at-new s (kinds.Named kind) e h = h.undo
 
   -- another object in the place of one that is there, used by others

@@ -98,6 +98,7 @@ module _ (s : State) (pid fd m : ℕ) (e : NamedEntry Mq) where
       by_kind : (kind : ObjectKind) → same_kind kind (kinds.Named names.Mq) ≡ true → kind ≡ kinds.Named names.Mq
       by_kind kinds.MsgQueue is = cc
       by_kind kinds.Semset is = cc
+      by_kind kinds.Shm is = cc
       by_kind (kinds.Named names.Mq) is = refl
       by_kind (kinds.Named names.Psem) is = cc
       by_kind (kinds.Named names.Pshm) is = cc

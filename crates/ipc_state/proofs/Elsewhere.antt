@@ -99,17 +99,20 @@ same-unbound {B} {X} f none kept o n m = same (entry_of o n) refl
 parted-same : (kind : ObjectKind) → is_awaited kind ≡ true → (x : Content kind) → parted kind x ≡ x
 parted-same kinds.MsgQueue may x = refl
 parted-same kinds.Semset may x = refl
+parted-same kinds.Shm may x = refl
 parted-same (kinds.Named kind) may x = refl
 
 -- others of a kind that may be open leave the queues and the sets of System V
 pub open-msg : (o : Objects) (kind : ObjectKind) (m : Those kind) → may_open kind ≡ true → (with_kind o kind m).msg ≡ o.msg
 open-msg o kinds.MsgQueue m may = cc
 open-msg o kinds.Semset m may = cc
+open-msg o kinds.Shm m may = cc
 open-msg o (kinds.Named kind) m may = refl
 
 pub open-semset : (o : Objects) (kind : ObjectKind) (m : Those kind) → may_open kind ≡ true → (with_kind o kind m).semset ≡ o.semset
 open-semset o kinds.MsgQueue m may = cc
 open-semset o kinds.Semset m may = cc
+open-semset o kinds.Shm m may = cc
 open-semset o (kinds.Named kind) m may = refl
 
 -- what a call may wait on is what it was

@@ -18,6 +18,7 @@ state_in s =
       undo = (numbered_of s.undo).entries;
       msg = s.msg.objects;
       semset = s.semset.objects;
+      shm = s.shm.objects;
       mq = s.mq.objects;
       psem = s.psem.objects;
       pshm = s.pshm.objects;

@@ -22,6 +22,7 @@ use Rattle.ipc_keys.specs.declared.check.NameKind.TheVariants as names
 use Rattle.posix_mq.specs.Queue.{Queue as Mq, PlainMessage}
 use Rattle.posix_mq.specs.declared.queue.Registration.{Registration}
 use Rattle.shm_segment.specs.Segment.{Segment}
+use Rattle.shm_segment.specs.SysSegment.{SysSegment}
 use Rattle.sysv_sem.specs.Set.{Set}
 use Rattle.ipc_state.specs.declared.descriptors.Descriptor.{Descriptor}
 use Rattle.ipc_state.specs.declared.parked.Object.{Object}
@@ -112,6 +113,7 @@ is_on-same on = rw (kind-itself on.kind) (grind (arith, nat_tests))
     kind-itself : (kind : ObjectKind) → same_kind kind kind ≡ true
     kind-itself kinds.MsgQueue = refl
     kind-itself kinds.Semset = refl
+    kind-itself kinds.Shm = refl
     kind-itself (kinds.Named names.Mq) = refl
     kind-itself (kinds.Named names.Psem) = refl
     kind-itself (kinds.Named names.Pshm) = refl
@@ -120,6 +122,7 @@ is_on-same on = rw (kind-itself on.kind) (grind (arith, nat_tests))
 access-opens : (kind : ObjectKind) (flags : ℕ) → has_access kind flags ≡ true → may_open kind ≡ true
 access-opens kinds.MsgQueue flags is = cc
 access-opens kinds.Semset flags is = cc
+access-opens kinds.Shm flags is = cc
 access-opens (kinds.Named kind) flags is = refl
 
 -- an object of a kind that may be open is there among others too
@@ -163,6 +166,7 @@ module _ (limits : Limits) (old new : Objects) where
 pub decides_of : (kind : ObjectKind) (a b : BoundOf kind) → Decides (same_bound kind a b) (a ≡ b)
 decides_of kinds.MsgQueue = Decides-int_eq
 decides_of kinds.Semset = Decides-int_eq
+decides_of kinds.Shm = Decides-int_eq
 decides_of (kinds.Named kind) = bytes_eq-Decides
 
 abbrev pub bounds_of : (kind : ObjectKind) → Bounds (BoundOf kind)
@@ -179,11 +183,13 @@ bound-keeps b k leaves some = first _ _ (by_test (b.same k b.none) refl)
 keeps-closed : (kind : ObjectKind) (b : BoundOf kind) (x : Content kind) → may_open kind ≡ false → keeps kind b x ≡ true
 keeps-closed kinds.MsgQueue b x closed = either _ _ refl
 keeps-closed kinds.Semset b x closed = either _ _ refl
+keeps-closed kinds.Shm b x closed = either _ _ refl
 keeps-closed (kinds.Named kind) b x closed = cc
 
 bound-closed : (kind : ObjectKind) (b : BoundOf kind) (perm : Perm) → may_open kind ≡ false → is_bound_so kind b perm ≡ true
 bound-closed kinds.MsgQueue b perm closed = refl
 bound-closed kinds.Semset b perm closed = refl
+bound-closed kinds.Shm b perm closed = refl
 bound-closed (kinds.Named kind) b perm closed = cc
 
 -- what holds of each kind with a name
@@ -193,14 +199,15 @@ on-names P mq psem pshm names.Psem = psem
 on-names P mq psem pshm names.Pshm = pshm
 
 -- what holds of those of each kind
-pub on-kinds : (P : (kind : ObjectKind) → Those kind → Type 0) (o : Objects) → P kinds.MsgQueue o.msg → P kinds.Semset o.semset
+pub on-kinds : (P : (kind : ObjectKind) → Those kind → Type 0) (o : Objects) → P kinds.MsgQueue o.msg → P kinds.Semset o.semset → P kinds.Shm o.shm
     → P (kinds.Named names.Mq) o.named.mq → P (kinds.Named names.Psem) o.named.psem → P (kinds.Named names.Pshm) o.named.pshm
     → (kind : ObjectKind) → P kind (of_kind o kind)
-on-kinds P o msg semset mq psem pshm kinds.MsgQueue = msg
-on-kinds P o msg semset mq psem pshm kinds.Semset = semset
-on-kinds P o msg semset mq psem pshm (kinds.Named names.Mq) = mq
-on-kinds P o msg semset mq psem pshm (kinds.Named names.Psem) = psem
-on-kinds P o msg semset mq psem pshm (kinds.Named names.Pshm) = pshm
+on-kinds P o msg semset shm mq psem pshm kinds.MsgQueue = msg
+on-kinds P o msg semset shm mq psem pshm kinds.Semset = semset
+on-kinds P o msg semset shm mq psem pshm kinds.Shm = shm
+on-kinds P o msg semset shm mq psem pshm (kinds.Named names.Mq) = mq
+on-kinds P o msg semset shm mq psem pshm (kinds.Named names.Psem) = psem
+on-kinds P o msg semset shm mq psem pshm (kinds.Named names.Pshm) = pshm
 
 module _ (P : (kind : ObjectKind) → Those kind → Type 0) (o : Objects) where
   abbrev Each : Type 0
@@ -209,27 +216,30 @@ module _ (P : (kind : ObjectKind) → Those kind → Type 0) (o : Objects) where
   -- and holds of others of a kind
   pub put-holds : (kind : ObjectKind) (m : Those kind) → Each → P kind m → (other : ObjectKind) → P other (of_kind (with_kind o kind m) other)
   put-holds kinds.MsgQueue m all one =
-      on-kinds P (with_kind o kinds.MsgQueue m) one (all kinds.Semset) (all (kinds.Named names.Mq)) (all (kinds.Named names.Psem))
+      on-kinds P (with_kind o kinds.MsgQueue m) one (all kinds.Semset) (all kinds.Shm) (all (kinds.Named names.Mq)) (all (kinds.Named names.Psem))
       (all (kinds.Named names.Pshm))
   put-holds kinds.Semset m all one =
-      on-kinds P (with_kind o kinds.Semset m) (all kinds.MsgQueue) one (all (kinds.Named names.Mq)) (all (kinds.Named names.Psem))
+      on-kinds P (with_kind o kinds.Semset m) (all kinds.MsgQueue) one (all kinds.Shm) (all (kinds.Named names.Mq)) (all (kinds.Named names.Psem))
+      (all (kinds.Named names.Pshm))
+  put-holds kinds.Shm m all one =
+      on-kinds P (with_kind o kinds.Shm m) (all kinds.MsgQueue) (all kinds.Semset) one (all (kinds.Named names.Mq)) (all (kinds.Named names.Psem))
       (all (kinds.Named names.Pshm))
   put-holds (kinds.Named names.Mq) m all one =
-      on-kinds P (with_kind o (kinds.Named names.Mq) m) (all kinds.MsgQueue) (all kinds.Semset) one (all (kinds.Named names.Psem))
+      on-kinds P (with_kind o (kinds.Named names.Mq) m) (all kinds.MsgQueue) (all kinds.Semset) (all kinds.Shm) one (all (kinds.Named names.Psem))
       (all (kinds.Named names.Pshm))
   put-holds (kinds.Named names.Psem) m all one =
-      on-kinds P (with_kind o (kinds.Named names.Psem) m) (all kinds.MsgQueue) (all kinds.Semset) (all (kinds.Named names.Mq)) one
+      on-kinds P (with_kind o (kinds.Named names.Psem) m) (all kinds.MsgQueue) (all kinds.Semset) (all kinds.Shm) (all (kinds.Named names.Mq)) one
       (all (kinds.Named names.Pshm))
   put-holds (kinds.Named names.Pshm) m all one =
-      on-kinds P (with_kind o (kinds.Named names.Pshm) m) (all kinds.MsgQueue) (all kinds.Semset) (all (kinds.Named names.Mq)) (all (kinds.Named names.Psem))
-      one
+      on-kinds P (with_kind o (kinds.Named names.Pshm) m) (all kinds.MsgQueue) (all kinds.Semset) (all kinds.Shm) (all (kinds.Named names.Mq))
+      (all (kinds.Named names.Psem)) one
 
   -- and of what is made of those of each that may be open
   pub each-holds : (f : (kind : ObjectKind) → Those kind → Those kind) → ((kind : ObjectKind) → may_open kind ≡ true → P kind (f kind (of_kind o kind)))
       → ((kind : ObjectKind) → may_open kind ≡ false → P kind (of_kind o kind)) → (kind : ObjectKind) → P kind (of_kind (each_open f o) kind)
   each-holds f may never =
-      on-kinds P (each_open f o) (never kinds.MsgQueue refl) (never kinds.Semset refl) (may (kinds.Named names.Mq) refl) (may (kinds.Named names.Psem) refl)
-      (may (kinds.Named names.Pshm) refl)
+      on-kinds P (each_open f o) (never kinds.MsgQueue refl) (never kinds.Semset refl) (never kinds.Shm refl) (may (kinds.Named names.Mq) refl)
+      (may (kinds.Named names.Psem) refl) (may (kinds.Named names.Pshm) refl)
 
 -- what is left of some has together no more than all of them
 pub fewer-sum : {X : Type 0} (size : X → ℕ) (test : ℕ × X → Bool) (es : List (ℕ × X)) → sum_by (λ e. size e.1) (filter test es) ≤ sum_by (λ e. size e.1) es
@@ -358,6 +368,7 @@ module _ (limits : Limits) (kind : ObjectKind) where
       by_kind : (k : ObjectKind) (test : ℕ × EntryOf k → Bool) (o : Those k) → AreSoundTogether limits ps k o → AreSoundTogether limits ps k (kept_if test o)
       by_kind kinds.MsgQueue test o h = tt
       by_kind kinds.Semset test o h = omega (arith, fewer-sum (λ (e : KeyedEntry Set). length e.object.semaphores) test o.entries, h)
+      by_kind kinds.Shm test o h = omega (arith, fewer-sum (λ (e : KeyedEntry SysSegment). length e.object.memory.bytes) test o.entries, h)
       by_kind (kinds.Named names.Mq) test o h = All-filter test (IsRegistered ps) o.entries h
       by_kind (kinds.Named names.Psem) test o h = tt
       by_kind (kinds.Named names.Pshm) test o h = omega (arith, fewer-sum (λ (e : NamedEntry Segment). length e.object.bytes) test o.entries, h)
@@ -405,6 +416,7 @@ module _ (limits : Limits) (kind : ObjectKind) where
       by_kind : (k : ObjectKind) (o : Those k) → AreSoundTogether limits ps k o → AreSoundTogether limits qs k o
       by_kind kinds.MsgQueue o h = h
       by_kind kinds.Semset o h = h
+      by_kind kinds.Shm o h = h
       by_kind (kinds.Named names.Mq) o h = All-weaker (IsRegistered ps) (IsRegistered qs) step o.entries h
       by_kind (kinds.Named names.Psem) o h = h
       by_kind (kinds.Named names.Pshm) o h = h
@@ -424,6 +436,7 @@ none-sound limits kind =
     by_kind : (k : ObjectKind) → AreSoundTogether limits [] k none_yet
     by_kind kinds.MsgQueue = tt
     by_kind kinds.Semset = omega arith
+    by_kind kinds.Shm = omega arith
     by_kind (kinds.Named names.Mq) = All-nil _
     by_kind (kinds.Named names.Psem) = tt
     by_kind (kinds.Named names.Pshm) = omega arith
@@ -437,6 +450,7 @@ pub record AreAllHeld (limits : Limits) (ps : Numbered Process) (o : Objects) : 
 pub sound-of : (limits : Limits) (s : State) → HasSoundParts limits s → (kind : ObjectKind) → AreSound limits s.processes.entries kind (objects_of s kind)
 sound-of limits s h kinds.MsgQueue = h.msg
 sound-of limits s h kinds.Semset = h.semset
+sound-of limits s h kinds.Shm = h.shm
 sound-of limits s h (kinds.Named kind) = h.named kind
 
 -- each number that is in use there is in use here, if the kind may be open
@@ -488,6 +502,7 @@ module _ (limits : Limits) where
       (on-kinds (MayGo limits left.entries) (without_goers goes o)
       (same kinds.MsgQueue tt)
       (same kinds.Semset (h.objects kinds.Semset).together)
+      (same kinds.Shm (h.objects kinds.Shm).together)
       (record {
         bound = deregistered-sound limits goes limits.queues o.named.mq old.held.bound;
         forms = All-seen_as (λ (e : ℕ × NamedEntry Mq). is_named_so names.Mq e ≡ true) (λ (e : ℕ × NamedEntry Mq). is_named_so names.Mq e ≡ true)

@@ -20,6 +20,7 @@ use Rattle.ipc_keys.specs.declared.check.NameKind.TheVariants as names
 use Rattle.posix_mq.specs.Queue.{Queue as Mq}
 use Rattle.posix_mq.specs.declared.queue.Registration.{Registration}
 use Rattle.shm_segment.specs.Segment.{Segment}
+use Rattle.shm_segment.specs.SysSegment.{SysSegment}
 use Rattle.sysv_sem.specs.Set.{Set}
 use Rattle.ipc_state.specs.declared.descriptors.Descriptor.{Descriptor}
 use Rattle.ipc_state.specs.declared.objects.Entry.{Entry}
@@ -37,7 +38,7 @@ use Rattle.ipc_state.specs.Numbered.{Numbered, entry_of, is_full, with_entry, wi
 use Rattle.ipc_state.specs.Opening.{descriptors_of, descriptor_at, is_by, is_by_descriptor}
 use Rattle.ipc_state.specs.Opening.{is_on, is_open, is_sound_descriptor, is_there_for, object_as, opened_as, stays, still_open, unless_so}
 use Rattle.ipc_state.specs.Opening.{deregistered, with_table}
-use Rattle.ipc_state.specs.Sound.{AreSound, AreSoundDescriptors, AreSoundTogether, IsSoundContent, most_of, segment_bytes, semaphore_count}
+use Rattle.ipc_state.specs.Sound.{AreSound, AreSoundDescriptors, AreSoundTogether, IsSoundContent, most_of, segment_bytes, semaphore_count, shm_bytes}
 use Rattle.ipc_state.proofs.Binding.{entry-mode, entry-sound, unbound-bound, with_entry-bound, with_new-bound, without_entry-bound}
 use Rattle.ipc_state.proofs.Numbering.{sum-with, with_entry-numbered}
 use Rattle.ipc_state.proofs.EntryKeys.{all_without}
@@ -95,17 +96,20 @@ perm_of-mode cred flags = omega (arith, and_le_r flags 511)
 abbrev pub MayBind : (kind : ObjectKind) → BoundOf kind → Type 0
 MayBind kinds.MsgQueue key = ⊤
 MayBind kinds.Semset key = ⊤
+MayBind kinds.Shm key = ⊤
 MayBind (kinds.Named kind) name = is_ok (check_name kind name) ≡ true
 
 pub bound-new : (kind : ObjectKind) (b : BoundOf kind) (cred : Cred) (mode : ℕ) → MayBind kind b → is_bound_so kind b (perm_of cred mode) ≡ true
 bound-new kinds.MsgQueue b cred mode may = refl
 bound-new kinds.Semset b cred mode may = refl
+bound-new kinds.Shm b cred mode may = refl
 bound-new (kinds.Named kind) b cred mode may = rw (either (is_none b) _ may) (own-new cred mode)
 
 -- what is bound to none any more is bound so too
 bound-none : (kind : ObjectKind) (b : BoundOf kind) (perm : Perm) → is_bound_so kind b perm ≡ true → is_bound_so kind (no_bound kind) perm ≡ true
 bound-none kinds.MsgQueue b perm so = refl
 bound-none kinds.Semset b perm so = refl
+bound-none kinds.Shm b perm so = refl
 bound-none (kinds.Named kind) b perm so = (both_true _ _ so).1
 
 -- what holds of what an entry becomes holds when it is bound to none
@@ -156,11 +160,15 @@ semaphores x = length x.semaphores
 abbrev bytes : Segment → ℕ
 bytes x = length x.bytes
 
+abbrev memory : SysSegment → ℕ
+memory x = length x.memory.bytes
+
 -- An object may stand in the place of one, and a new one may come, as far as those of the kind are sound together: sets
 -- have no more semaphores, and segments no more bytes, than the limits say, and whoever is registered with a queue has it open.
 abbrev pub MayStandFor : Limits → List (ℕ × Process) → (kind : ObjectKind) → Those kind → ℕ → EntryOf kind → Content kind → Type 0
 MayStandFor limits ps kinds.MsgQueue o n e q = ⊤
 MayStandFor limits ps kinds.Semset o n e x = length x.semaphores ≡ length e.object.semaphores
+MayStandFor limits ps kinds.Shm o n e x = memory x ≡ memory e.object
 MayStandFor limits ps (kinds.Named names.Mq) o n e q = is_by_descriptor ps n q.registration ≡ true
 MayStandFor limits ps (kinds.Named names.Psem) o n e value = ⊤
 MayStandFor limits ps (kinds.Named names.Pshm) o n e x = segment_bytes o - length e.object.bytes + length x.bytes ≤ limits.segment_bytes
@@ -168,6 +176,7 @@ MayStandFor limits ps (kinds.Named names.Pshm) o n e x = segment_bytes o - lengt
 abbrev pub MayJoin : Limits → (kind : ObjectKind) → Those kind → Content kind → Type 0
 MayJoin limits kinds.MsgQueue o q = ⊤
 MayJoin limits kinds.Semset o x = semaphore_count o + length x.semaphores ≤ limits.semmns
+MayJoin limits kinds.Shm o x = shm_bytes o + memory x ≤ limits.shmall
 MayJoin limits (kinds.Named names.Mq) o q = q.registration ≡ None
 MayJoin limits (kinds.Named names.Psem) o value = ⊤
 MayJoin limits (kinds.Named names.Pshm) o x = segment_bytes o + length x.bytes ≤ limits.segment_bytes
@@ -175,6 +184,7 @@ MayJoin limits (kinds.Named names.Pshm) o x = segment_bytes o + length x.bytes �
 pub keeps-new : (kind : ObjectKind) (b : BoundOf kind) (x : Content kind) → MayBind kind b → keeps kind b x ≡ true
 keeps-new kinds.MsgQueue b x may = either _ _ refl
 keeps-new kinds.Semset b x may = either _ _ refl
+keeps-new kinds.Shm b x may = either _ _ refl
 keeps-new (kinds.Named names.Mq) [] x may = cc
 keeps-new (kinds.Named names.Psem) [] x may = cc
 keeps-new (kinds.Named names.Pshm) [] x may = cc
@@ -184,6 +194,7 @@ keeps-new (kinds.Named kind) (c ∷ name) x may = refl
 parted-sound : (limits : Limits) (kind : ObjectKind) (x : Content kind) → IsSoundContent limits kind x → IsSoundContent limits kind (parted kind x)
 parted-sound limits kinds.MsgQueue x h = h
 parted-sound limits kinds.Semset x h = h
+parted-sound limits kinds.Shm x h = h
 parted-sound limits (kinds.Named kind) x h = h
 
 module _ (limits : Limits) (ps : List (ℕ × Process)) where
@@ -191,12 +202,14 @@ module _ (limits : Limits) (ps : List (ℕ × Process)) where
       → keeps kind e.bound e.object ≡ true → keeps kind e.bound x ≡ true
   keeps-put kinds.MsgQueue o n e x may h = h
   keeps-put kinds.Semset o n e x may h = h
+  keeps-put kinds.Shm o n e x may h = h
   keeps-put (kinds.Named kind) o n e x may h = h
 
   together-put : (kind : ObjectKind) (o : Those kind) (n : ℕ) (e f : EntryOf kind) → entry_of o n ≡ Some e
       → MayStandFor limits ps kind o n e f.object → AreSoundTogether limits ps kind o → AreSoundTogether limits ps kind (with_entry o n f)
   together-put kinds.MsgQueue o n e f is may h = tt
   together-put kinds.Semset o n e f is may h = omega (arith, sum-with (λ (d : KeyedEntry Set). semaphores d.object) o.entries n e f is, may, h)
+  together-put kinds.Shm o n e f is may h = omega (arith, sum-with (λ (d : KeyedEntry SysSegment). memory d.object) o.entries n e f is, may, h)
   together-put (kinds.Named names.Mq) o n e f is may h = All-put (IsRegistered ps) o.entries n f h may
   together-put (kinds.Named names.Psem) o n e f is may h = tt
   together-put (kinds.Named names.Pshm) o n e f is may h = omega (arith, sum-with (λ (d : NamedEntry Segment). bytes d.object) o.entries n e f is, may)
@@ -206,6 +219,8 @@ module _ (limits : Limits) (ps : List (ℕ × Process)) where
   together-new kinds.MsgQueue o e may h = tt
   together-new kinds.Semset o e may h =
       omega (arith, sum_by-append (λ (d : ℕ × KeyedEntry Set). semaphores d.1.object) o.entries ((o.next, e) ∷ []), may)
+  together-new kinds.Shm o e may h =
+      omega (arith, sum_by-append (λ (d : ℕ × KeyedEntry SysSegment). memory d.1.object) o.entries ((o.next, e) ∷ []), may)
   together-new (kinds.Named names.Mq) o e may h =
       All-push (IsRegistered ps) o.entries (o.next, e) h (ap (λ (r : Option Registration). is_by_descriptor ps o.next r) may)
   together-new (kinds.Named names.Psem) o e may h = tt
@@ -216,6 +231,7 @@ module _ (limits : Limits) (ps : List (ℕ × Process)) where
       → AreSoundTogether limits ps kind (unbound (parted kind) (no_bound kind) o n)
   together-unbound kinds.MsgQueue o n h = tt
   together-unbound kinds.Semset o n h = omega (arith, unbound-sum (λ x. x) (pos 0) semaphores (λ x. refl) o n, h)
+  together-unbound kinds.Shm o n h = omega (arith, unbound-sum (λ x. x) (pos 0) memory (λ x. refl) o n, h)
   together-unbound (kinds.Named names.Mq) o n h = unbound-all (λ x. x) [] o n (IsRegistered ps) (λ e r. r) h
   together-unbound (kinds.Named names.Psem) o n h = tt
   together-unbound (kinds.Named names.Pshm) o n h = omega (arith, unbound-sum (λ x. x) [] bytes (λ x. refl) o n, h)
@@ -224,6 +240,7 @@ module _ (limits : Limits) (ps : List (ℕ × Process)) where
       → AreSoundTogether limits ps kind (without_entry o n)
   together-without kinds.MsgQueue o n h = tt
   together-without kinds.Semset o n h = omega (arith, without-sum (λ (d : KeyedEntry Set). semaphores d.object) o.entries n, h)
+  together-without kinds.Shm o n h = omega (arith, without-sum (λ (d : KeyedEntry SysSegment). memory d.object) o.entries n, h)
   together-without (kinds.Named names.Mq) o n h = all_without (IsRegistered ps) o.entries n h
   together-without (kinds.Named names.Psem) o n h = tt
   together-without (kinds.Named names.Pshm) o n h = omega (arith, without-sum (λ (d : NamedEntry Segment). bytes d.object) o.entries n, h)

@@ -11,6 +11,7 @@ use Rattle.ipc_keys.specs.declared.check.NameKind.{NameKind}
 use Rattle.ipc_keys.specs.declared.check.NameKind.TheVariants as names
 use Rattle.posix_mq.specs.Queue.{Queue as Mq}
 use Rattle.shm_segment.specs.Segment.{Segment}
+use Rattle.shm_segment.specs.SysSegment.{SysSegment}
 use Rattle.sysv_msg.specs.Queue.{Queue}
 use Rattle.sysv_sem.specs.Set.{Set}
 use Rattle.ipc_state.specs.declared.objects.Entry.{Entry}
@@ -24,22 +25,26 @@ use Rattle.ipc_state.specs.Named.{Named, is_own}
 abbrev pub BoundOf : ObjectKind → Type 0
 BoundOf kinds.MsgQueue = ℤ
 BoundOf kinds.Semset = ℤ
+BoundOf kinds.Shm = ℤ
 BoundOf (kinds.Named kind) = List ℕ
 
 abbrev pub same_bound : (kind : ObjectKind) → BoundOf kind → BoundOf kind → Bool
 same_bound kinds.MsgQueue = int_eq
 same_bound kinds.Semset = int_eq
+same_bound kinds.Shm = int_eq
 same_bound (kinds.Named kind) = bytes_eq
 
 abbrev pub no_bound : (kind : ObjectKind) → BoundOf kind
 no_bound kinds.MsgQueue = pos 0
 no_bound kinds.Semset = pos 0
+no_bound kinds.Shm = pos 0
 no_bound (kinds.Named kind) = []
 
 -- what an object is
 abbrev pub Content : ObjectKind → Type 0
 Content kinds.MsgQueue = Queue
 Content kinds.Semset = Set
+Content kinds.Shm = SysSegment
 Content (kinds.Named names.Mq) = Mq
 Content (kinds.Named names.Psem) = ℕ
 Content (kinds.Named names.Pshm) = Segment
@@ -55,6 +60,7 @@ Those kind = ObjectsOf (BoundOf kind) (Content kind)
 abbrev pub may_open : ObjectKind → Bool
 may_open kinds.MsgQueue = false
 may_open kinds.Semset = false
+may_open kinds.Shm = false
 may_open (kinds.Named kind) = true
 
 abbrev pub has_access : ObjectKind → ℕ → Bool
@@ -67,12 +73,14 @@ has_access kind flags = false
 abbrev pub leaves : (kind : ObjectKind) → Content kind → Bool
 leaves kinds.MsgQueue q = false
 leaves kinds.Semset s = false
+leaves kinds.Shm x = false
 leaves (kinds.Named kind) x = true
 
 -- what an object becomes as it is bound to none any more: it stays what it is
 abbrev pub parted : (kind : ObjectKind) → Content kind → Content kind
 parted kinds.MsgQueue q = q
 parted kinds.Semset s = s
+parted kinds.Shm x = x
 parted (kinds.Named kind) x = x
 
 -- whether an object that is bound to this stays, on which no descriptor is open
@@ -87,6 +95,7 @@ keeps kind b x = keeps_by (same_bound kind) (no_bound kind) b (leaves kind x)
 abbrev pub is_bound_so : (kind : ObjectKind) → BoundOf kind → Perm → Bool
 is_bound_so kinds.MsgQueue key perm = true
 is_bound_so kinds.Semset key perm = true
+is_bound_so kinds.Shm key perm = true
 is_bound_so (kinds.Named kind) name perm = (is_none name || is_ok (check_name kind name)) && is_own perm
 
 -- ---- the objects of all kinds
@@ -100,6 +109,7 @@ pub record NamedObjects : Type 0 where
 pub record Objects : Type 0 where
   pub msg : Keyed Queue
   pub semset : Keyed Set
+  pub shm : Keyed SysSegment
   pub named : NamedObjects
 
 -- those of a kind
@@ -111,6 +121,7 @@ of_name_kind o names.Pshm = o.pshm
 abbrev pub of_kind : Objects → (kind : ObjectKind) → Those kind
 of_kind o kinds.MsgQueue = o.msg
 of_kind o kinds.Semset = o.semset
+of_kind o kinds.Shm = o.shm
 of_kind o (kinds.Named kind) = of_name_kind o.named kind
 
 -- with others of a kind
@@ -122,6 +133,7 @@ with_name_kind o names.Pshm others = record o { pshm = others }
 abbrev pub with_kind : Objects → (kind : ObjectKind) → Those kind → Objects
 with_kind o kinds.MsgQueue others = record o { msg = others }
 with_kind o kinds.Semset others = record o { semset = others }
+with_kind o kinds.Shm others = record o { shm = others }
 with_kind o (kinds.Named kind) others = record o { named = with_name_kind o.named kind others }
 
 -- with those of each kind that may be open changed so

@@ -30,6 +30,7 @@ same_name_kind kind this = false
 abbrev pub same_kind : ObjectKind → ObjectKind → Bool
 same_kind kinds.MsgQueue kinds.MsgQueue = true
 same_kind kinds.Semset kinds.Semset = true
+same_kind kinds.Shm kinds.Shm = true
 same_kind (kinds.Named kind) (kinds.Named this) = same_name_kind kind this
 same_kind kind this = false
 

@@ -6,6 +6,7 @@ use Rattle.sem_undo.specs.Undo.{key_of}
 use Rattle.sem_undo.specs.declared.undo.UndoRow.{UndoRow}
 use Rattle.posix_mq.specs.Queue.{Queue as Mq}
 use Rattle.shm_segment.specs.Segment.{Segment}
+use Rattle.shm_segment.specs.SysSegment.{SysSegment}
 use Rattle.sysv_msg.specs.Queue.{Queue}
 use Rattle.sysv_sem.specs.Set.{Set}
 use Rattle.ipc_state.specs.declared.processes.Process.{Process}
@@ -24,6 +25,7 @@ with_numbers s n =
       processes = record { next = n.next_pid; entries = s.processes.entries };
       msg = record { next = n.next_msg_queue; entries = s.msg.entries };
       semset = record { next = n.next_semset; entries = s.semset.entries };
+      shm = record { next = n.next_shm; entries = s.shm.entries };
       mq = record { next = n.next_mq; entries = s.mq.entries };
       psem = record { next = n.next_psem; entries = s.psem.entries };
       pshm = record { next = n.next_pshm; entries = s.pshm.entries };
@@ -53,6 +55,10 @@ with_last_msg_queue s id e = record s { msg = with_last s.msg id e }
 -- with a semaphore set at the end
 abbrev pub with_last_semset : State → ℕ → KeyedEntry Set → State
 with_last_semset s id e = record s { semset = with_last s.semset id e }
+
+-- with a System V segment at the end
+abbrev pub with_last_shm : State → ℕ → KeyedEntry SysSegment → State
+with_last_shm s id e = record s { shm = with_last s.shm id e }
 
 -- with a POSIX queue at the end
 abbrev pub with_last_mq : State → ℕ → NamedEntry Mq → State

@@ -14,6 +14,7 @@ use Rattle.ipc_keys.specs.declared.check.NameKind.TheVariants as names
 use Rattle.posix_mq.specs.Queue.{Queue as Mq, PlainMessage as MqMessage}
 use Rattle.posix_sem.specs.Semaphore.{sem_value_max}
 use Rattle.shm_segment.specs.Segment.{Segment}
+use Rattle.shm_segment.specs.SysSegment.{SysSegment}
 use Rattle.sysv_msg.specs.Queue.{Queue, PlainMessage, byte_count}
 use Rattle.sysv_sem.specs.Operation.{most_value}
 use Rattle.sysv_sem.specs.Set.{Set}
@@ -54,6 +55,10 @@ pub record IsSoundSemset (limits : Limits) (s : Set) : Type 0 where
   pub some : 0 < length s.semaphores
   pub few : length s.semaphores ≤ limits.semmsl
   pub values : All (λ x. x.value ≤ most_value) s.semaphores
+
+-- a System V segment has at least one byte and at most shmmax
+abbrev pub IsSoundShm : Limits → SysSegment → Type 0
+IsSoundShm limits s = (0 < length s.memory.bytes) × (length s.memory.bytes ≤ limits.shmmax)
 
 -- how many semaphores the sets have together
 abbrev pub semaphore_count : Keyed Set → ℕ
@@ -98,10 +103,14 @@ pub record AreHeld {B X : Type 0} (same : B → B → Bool) (none : B) (most : �
 abbrev pub segment_bytes : Named Segment → ℕ
 segment_bytes o = sum_by (λ e. length e.1.object.bytes) o.entries
 
+abbrev pub shm_bytes : Keyed SysSegment → ℕ
+shm_bytes o = sum_by (λ e. length e.1.object.memory.bytes) o.entries
+
 -- how many objects of a kind there may be
 abbrev pub most_of : Limits → ObjectKind → ℕ
 most_of limits kinds.MsgQueue = limits.msgmni
 most_of limits kinds.Semset = limits.semmni
+most_of limits kinds.Shm = limits.shmmni
 most_of limits (kinds.Named names.Mq) = limits.queues
 most_of limits (kinds.Named names.Psem) = limits.named_semaphores
 most_of limits (kinds.Named names.Pshm) = limits.segments
@@ -110,6 +119,7 @@ most_of limits (kinds.Named names.Pshm) = limits.segments
 abbrev pub IsSoundContent : Limits → (kind : ObjectKind) → Content kind → Type 0
 IsSoundContent limits kinds.MsgQueue q = IsSoundMsgQueue limits q
 IsSoundContent limits kinds.Semset s = IsSoundSemset limits s
+IsSoundContent limits kinds.Shm x = IsSoundShm limits x
 IsSoundContent limits (kinds.Named names.Mq) q = IsSoundMq limits q
 IsSoundContent limits (kinds.Named names.Psem) value = value ≤ sem_value_max
 IsSoundContent limits (kinds.Named names.Pshm) x = ⊤
@@ -119,6 +129,7 @@ IsSoundContent limits (kinds.Named names.Pshm) x = ⊤
 abbrev pub AreSoundTogether : Limits → List (ℕ × Process) → (kind : ObjectKind) → Those kind → Type 0
 AreSoundTogether limits processes kinds.MsgQueue o = ⊤
 AreSoundTogether limits processes kinds.Semset o = semaphore_count o ≤ limits.semmns
+AreSoundTogether limits processes kinds.Shm o = shm_bytes o ≤ limits.shmall
 AreSoundTogether limits processes (kinds.Named names.Mq) o = All (λ e. is_registered processes e ≡ true) o.entries
 AreSoundTogether limits processes (kinds.Named names.Psem) o = ⊤
 AreSoundTogether limits processes (kinds.Named names.Pshm) o = segment_bytes o ≤ limits.segment_bytes
@@ -147,6 +158,7 @@ pub record HasSoundParts (limits : Limits) (s : State) : Type 0 where
   pub undo : AreAdjustments (keys_of s.processes.entries) s.semset s.undo
   pub msg : AreSound limits s.processes.entries kinds.MsgQueue s.msg
   pub semset : AreSound limits s.processes.entries kinds.Semset s.semset
+  pub shm : AreSound limits s.processes.entries kinds.Shm s.shm
   pub named : (kind : NameKind) → AreSound limits s.processes.entries (kinds.Named kind) (named_of s kind)
 
 -- the body of a reply is no longer than the longest one

@@ -16,6 +16,7 @@ use Rattle.posix_mq.specs.Queue.{Queue as Mq}
 use Rattle.sysv_msg.specs.Queue.{Queue, new_queue}
 use Rattle.sem_undo.specs.Undo.{Key, Undo, cleared}
 use Rattle.shm_segment.specs.Segment.{Segment, empty_segment}
+use Rattle.shm_segment.specs.SysSegment.{SysSegment}
 use Rattle.sysv_sem.specs.Set.{Set, new_set, after_exit}
 use Rattle.ipc_perm.specs.declared.perm.Perm.{Perm}
 use Rattle.ipc_perm.specs.Perm.{perm_of}
@@ -47,6 +48,8 @@ pub record State : Type 0 where
   pub msg : Keyed Queue
   -- the semaphore sets
   pub semset : Keyed Set
+  -- the System V segments
+  pub shm : Keyed SysSegment
   -- the POSIX message queues
   pub mq : Named Mq
   -- the named semaphores, each with its value
@@ -64,6 +67,7 @@ start =
       undo = [];
       msg = none_yet;
       semset = none_yet;
+      shm = none_yet;
       mq = none_yet;
       psem = none_yet;
       pshm = none_yet;
@@ -129,7 +133,8 @@ deregistered_by pid fd s = record s { mq = without_registrations (is_by pid fd) 
 
 -- those of every kind
 abbrev pub objects_in : State → Objects
-objects_in s = record { msg = s.msg; semset = s.semset; named = record { mq = s.mq; psem = s.psem; pshm = s.pshm } }
+objects_in s =
+    record { msg = s.msg; semset = s.semset; shm = s.shm; named = record { mq = s.mq; psem = s.psem; pshm = s.pshm } }
 
 -- those of a kind
 abbrev pub objects_of : State → (kind : ObjectKind) → Those kind
@@ -141,7 +146,14 @@ named_of s kind = objects_of s (kinds.Named kind)
 -- with others
 abbrev pub with_objects : State → Objects → State
 with_objects s o =
-    record s { msg = o.msg; semset = o.semset; mq = o.named.mq; psem = o.named.psem; pshm = o.named.pshm }
+    record s {
+      msg = o.msg;
+      semset = o.semset;
+      shm = o.shm;
+      mq = o.named.mq;
+      psem = o.named.psem;
+      pshm = o.named.pshm;
+    }
 
 abbrev pub with_objects_of : State → (kind : ObjectKind) → Those kind → State
 with_objects_of s kind others = with_objects s (with_kind (objects_in s) kind others)

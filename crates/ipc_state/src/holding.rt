@@ -111,6 +111,7 @@ impl State {
         match kind {
             ObjectKind::MsgQueue => self.msg.get(number).is_some(),
             ObjectKind::Semset => self.semset.get(number).is_some(),
+            ObjectKind::Shm => self.shm.get(number).is_some(),
             ObjectKind::Named(kind) => self.is_named_there(kind, number),
         }
     }
@@ -256,7 +257,7 @@ fn has_access(kind: ObjectKind, flags: u32) -> bool
         ObjectKind::Named(NameKind::Mq) => flags & 3 != 3,
         ObjectKind::Named(NameKind::Psem) => true,
         ObjectKind::Named(NameKind::Pshm) => flags & 1 == 0,
-        ObjectKind::MsgQueue | ObjectKind::Semset => false,
+        ObjectKind::MsgQueue | ObjectKind::Semset | ObjectKind::Shm => false,
     }
 }
 

@@ -20,6 +20,7 @@ mod psems;
 mod pshms;
 mod rows;
 mod semsets;
+mod shms;
 mod sound;
 mod state;
 mod tables;

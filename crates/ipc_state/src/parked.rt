@@ -35,6 +35,8 @@ pub enum ObjectKind {
     MsgQueue,
     /// A semaphore set.
     Semset,
+    /// A System V segment.
+    Shm,
     /// An object with a name.
     Named(NameKind),
 }

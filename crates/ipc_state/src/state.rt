@@ -19,7 +19,7 @@ use ipc_wait::WaitList;
 use posix_mq::Mq;
 use posix_sem::NamedSem;
 use sem_undo::SemUndo;
-use shm_segment::Segment;
+use shm_segment::{Segment, SysSegment};
 use std::alloc::Global;
 use std::marker::Model;
 use sysv_msg::MsgQueue;
@@ -41,6 +41,7 @@ pub struct State {
     /// A queue that was ready and was not used: the next one to be ready takes no memory.
     pub(crate) spare_msg_queue: Option<MsgQueue>,
     pub(crate) semset: Keyed<SemSet>,
+    pub(crate) shm: Keyed<SysSegment>,
     pub(crate) mq: Named<Mq>,
     /// The same of a POSIX queue.
     pub(crate) spare_mq: Option<Mq>,
@@ -63,6 +64,7 @@ impl Drop for State {
             msg: _,
             spare_msg_queue: _,
             semset: _,
+            shm: _,
             mq: _,
             spare_mq: _,
             psem: _,
@@ -93,6 +95,7 @@ impl Model for State {
         undo = (numbered_of s.undo).entries;
         msg = s.msg.objects;
         semset = s.semset.objects;
+        shm = s.shm.objects;
         mq = s.mq.objects;
         psem = s.psem.objects;
         pshm = s.pshm.objects;
@@ -118,6 +121,7 @@ pub struct Numbers {
     pub next_pid: u32,
     pub next_msg_queue: u32,
     pub next_semset: u32,
+    pub next_shm: u32,
     pub next_mq: u32,
     pub next_psem: u32,
     pub next_pshm: u32,
@@ -142,6 +146,7 @@ impl State {
             msg: ObjectTable::new(alloc),
             spare_msg_queue: None,
             semset: ObjectTable::new(alloc),
+            shm: ObjectTable::new(alloc),
             mq: ObjectTable::new(alloc),
             spare_mq: None,
             psem: ObjectTable::new(alloc),
@@ -216,6 +221,7 @@ impl State {
         self.processes.set_next(numbers.next_pid);
         self.msg.set_next(numbers.next_msg_queue);
         self.semset.set_next(numbers.next_semset);
+        self.shm.set_next(numbers.next_shm);
         self.mq.set_next(numbers.next_mq);
         self.psem.set_next(numbers.next_psem);
         self.pshm.set_next(numbers.next_pshm);
@@ -230,6 +236,7 @@ impl State {
             && self.are_adjustments_sound()
             && self.are_msg_queues_sound()
             && self.are_semsets_sound()
+            && self.are_shms_sound()
             && self.are_named_sound()
     }
 

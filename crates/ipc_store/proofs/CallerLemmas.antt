@@ -20,7 +20,7 @@ use Rattle.ipc_image.proofs.CallerLemmas.{one-superblock, one-record, record-rea
 use Rattle.ipc_image.specs.Saved.{StandForState}
 use Rattle.ipc_store.specs.Batch.{records_of, batch_bytes, exit_record, tick_record, AreBatch}
 use Rattle.ipc_store.specs.Histories.{Takes}
-use Rattle.ipc_store.specs.Image.{journal_range, layout_of, events_of, epoch_at, HasObjects, HasBatches, HasBase, StandsFor}
+use Rattle.ipc_store.specs.Image.{journal_range, layout_of, named_sectors, events_of, epoch_at, IsDevice, HasObjects, HasBatches, HasBase, StandsFor}
 use Rattle.ipc_store.specs.View.{StoreView, HasRoomFor, events_left, numbers_used}
 use Rattle.ipc_store.proofs.Batches.{record-length, record-most}
 use Rattle.ipc_store.specs.Relations.Matches.{StoreMatches}
@@ -67,13 +67,20 @@ batches-one (l ∷ batches) (m ∷ others) each also same =
     let rest : batches ≡ others = batches-one batches others (All-tail AreBatch l batches each) (All-tail AreBatch m others also) cc in
     ap (λ (x : List PlainEvent). x ∷ batches) first ∙ ap (λ (xs : List (List PlainEvent)). m ∷ xs) rest
 
+-- a device has one set of limits
+pub IsDevice-one : (limits others : Limits) (image : Image) → length image < 2 ^ 32 → IsDevice limits image → IsDevice others image
+    → limits ≡ others
+IsDevice-one limits others image fits is also =
+    let few : named_sectors image < 2 ^ 32 = omega (arith, is.whole, fits) in
+    (one-superblock (named_sectors image) (named_sectors image) limits others (sector_at image 0) few few is.superblock also.superblock).1
+
 -- an image has one base at one epoch, under one set of limits
 pub HasBase-one : (limits others : Limits) (epoch other : ℕ) (base more : State) (image : Image) → length image < 2 ^ 32
     → HasBase limits epoch base image → HasBase others other more image → (limits ≡ others) × (epoch ≡ other) × (base ≡ more)
 HasBase-one limits others epoch other base more image fits is also =
-    let same : limits ≡ others = (one-superblock (length image) (length image) limits others (sector_at image 0) fits fits is.device also.device).1 in
+    let same : limits ≡ others = IsDevice-one limits others image fits is.device also.device in
     let there : HasObjects limits other also.objects image = subst (λ (l : Limits). HasObjects l other also.objects image) (sym same) also.there in
-    let one = Objects-one (layout_of limits (length image)) epoch other is.objects also.objects image is.there there in (
+    let one = Objects-one (layout_of limits (named_sectors image)) epoch other is.objects also.objects image is.there there in (
       same,
       one.0,
       stand-one limits others base more is.objects is.stand (subst (λ (o : PlainObjects). StandForState others more o) (sym one.1) also.stand),

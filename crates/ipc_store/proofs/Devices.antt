@@ -1,6 +1,6 @@
 -- What a device stands for, as the values of a store know it, and what calls leave alone that touch the journal or the
 -- objects.
-use Rattle.std.proofs.Common.{◌≡◌, inl, inr, ℕ, ◌+◌, List, length, sym, subst, ◌∙◌, ap, arith}
+use Rattle.std.proofs.Common.{◌≡◌, inl, inr, ℕ, ◌+◌, List, sym, subst, ◌∙◌, ap, arith}
 use Rattle.std.specs.Prelude.{map}
 use Rattle.ipc_base.specs.declared.limits.Limits.{Limits}
 use Rattle.ipc_base.specs.Objects.{PlainObjects, Fit}
@@ -21,22 +21,24 @@ use Rattle.ipc_journal.specs.View.{range_of, epoch_of}
 use Rattle.ipc_state.specs.State.{State}
 use Rattle.ipc_engine.specs.Event.{PlainEvent}
 use Rattle.ipc_image.specs.Saved.{StandForState}
-use Rattle.ipc_image.specs.Superblock.{IsSuperblock}
+use Rattle.ipc_image.specs.Superblock.{sectors_in, IsSuperblock}
 use Rattle.ipc_store.specs.Batch.{batch_bytes}
-use Rattle.ipc_store.specs.Image.{journal_range, layout_of, IsDevice, LeadTo, StandsFor}
+use Rattle.ipc_store.specs.Image.{journal_range, layout_of, named_sectors, IsDevice, LeadTo, StandsFor}
 use Rattle.ipc_store.specs.Relations.Matches.{AreOnDisk, DeviceMatches}
 
--- a device is one by its first sector and its size
+-- a device is one by its first sector, if the disk has the sectors that it names
 pub IsDevice-same : (places : ℕ → Type 0) (limits : Limits) (a b : Image) → places 0 → SameAt places a b → IsDevice limits a
     → IsDevice limits b
 IsDevice-same places limits a b first same device =
     let sector : sector_at a 0 ≡ sector_at b 0 = sector_at-same places a b 0 same first in
-    subst (λ (n : ℕ). IsSuperblock n limits (sector_at b 0)) same.count
-    (subst (λ (s : List ℕ). IsSuperblock (length a) limits s) sector device)
+    record {
+      superblock = subst (λ (s : List ℕ). IsSuperblock (sectors_in s) limits s) sector device.superblock;
+      whole = omega (arith, device.whole, same.count, ap sectors_in sector);
+    }
 
 -- the image is of a device with these limits, where the checkpoint lies
 abbrev pub IsPlace : Limits → CheckpointView → Image → Type 0
-IsPlace limits checkpoint image = IsDevice limits image × (saved_layout checkpoint ≡ layout_of limits (length image))
+IsPlace limits checkpoint image = IsDevice limits image × (saved_layout checkpoint ≡ layout_of limits (named_sectors image))
 
 -- calls that leave the first sector alone leave it one
 pub IsPlace-since : (places : ℕ → Type 0) (limits : Limits) (checkpoint : CheckpointView) (old new : Medium) → places 0
@@ -46,7 +48,7 @@ IsPlace-since places limits checkpoint old new first alone here =
     LeavesAlone-keeps places old new (IsPlace limits checkpoint) alone here
     (λ a b same is. (
       IsDevice-same places limits a b first same is.0,
-      is.1 ∙ ap (λ (n : ℕ). layout_of limits n) same.count,
+      is.1 ∙ ap (λ (s : List ℕ). layout_of limits (sectors_in s)) (sector_at-same places a b 0 same first),
     ))
 
 -- objects lie outside the journal
@@ -60,7 +62,7 @@ journal-elsewhere limits sectors i inside = (λ root. absurd (omega (arith, root
 
 -- objects and batches that are there at one epoch make a state
 pub stands-with : (limits : Limits) (layout : Layout) (range : Range) (epoch : ℕ) (image : Image) → IsDevice limits image
-    → layout ≡ layout_of limits (length image) → range ≡ journal_range
+    → layout ≡ layout_of limits (named_sectors image) → range ≡ journal_range
     → (objects : PlainObjects) → HoldsObjects layout epoch objects image → (base : State) → StandForState limits base objects
     → (batches : List (List PlainEvent)) → Holds range epoch (map batch_bytes batches) image → (s : State) → LeadTo limits base batches s
     → StandsFor limits s image
@@ -90,12 +92,12 @@ module _ (medium : Medium) (limits : Limits) (checkpoint : CheckpointView) (jour
   pub objects-outside : (i : ℕ) → IsOwn (saved_layout checkpoint) i → IsOutside (range_of journal) i
   objects-outside i own =
       subst (λ (r : Range). IsOutside r i) (sym at.range)
-      (own-outside limits (length medium.contents) i (subst (λ (l : Layout). IsOwn l i) here.1 own))
+      (own-outside limits (named_sectors medium.contents) i (subst (λ (l : Layout). IsOwn l i) here.1 own))
 
   pub journal-outside : (i : ℕ) → IsInside (range_of journal) i → IsElsewhere (saved_layout checkpoint) i
   journal-outside i inside =
       subst (λ (l : Layout). IsElsewhere l i) (sym here.1)
-      (journal-elsewhere limits (length medium.contents) i (subst (λ (r : Range). IsInside r i) at.range inside))
+      (journal-elsewhere limits (named_sectors medium.contents) i (subst (λ (r : Range). IsInside r i) at.range inside))
 
   pub first-outside : IsOutside (range_of journal) 0
   first-outside = subst (λ (r : Range). IsOutside r 0) (sym at.range) (inl (omega arith))

@@ -1,5 +1,5 @@
 -- What each call of a format makes of the images that a crash may leave.
-use Rattle.std.specs.Prelude.{◌≡◌, ◌⊎◌, ◌<◌, ◌≤◌, ℕ, List, [], length, take, replicate, slice_set, refl}
+use Rattle.std.specs.Prelude.{◌≡◌, ◌⊎◌, ◌<◌, ◌≤◌, ◌^◌, ℕ, List, [], length, take, replicate, slice_set, refl}
 use Rattle.std.proofs.Common.{inl, inr, ⊎_elim, sym, ◌∙◌, ap, subst, arith}
 use Rattle.std.proofs.lemmas.List.{get_or-set_same, get_or-set_other, length-set}
 use Rattle.std.proofs.lemmas.List.Elements.{All-nil}
@@ -18,9 +18,9 @@ use Rattle.ipc_checkpoint.proofs.CallerLemmas.{Holds-alone}
 use Rattle.ipc_state.specs.State.{start}
 use Rattle.ipc_image.specs.Saved.{saved}
 use Rattle.ipc_image.specs.Sizes.{need_of}
-use Rattle.ipc_image.specs.Superblock.{magic, IsFormatted, IsSuperblock}
-use Rattle.ipc_image.proofs.CallerLemmas.{area-counted, start-stands}
-use Rattle.ipc_store.specs.Image.{journal_range, first_epoch, layout_of, HasObjects, StandsFor, IsNotFormatted}
+use Rattle.ipc_image.specs.Superblock.{magic, IsFormatted, sectors_in, IsSuperblock}
+use Rattle.ipc_image.proofs.CallerLemmas.{area-counted, start-stands, superblock-sectors}
+use Rattle.ipc_store.specs.Image.{journal_range, first_epoch, layout_of, named_sectors, StandsFor, IsNotFormatted}
 use Rattle.ipc_store.specs.Relations.Format.{EachNow, IsErased, IsPrepared}
 
 -- a sector of zeros
@@ -40,13 +40,14 @@ erased-other image at bytes elsewhere erased =
     (sym (get_or-set_other image at 0 bytes [] (λ same. absurd (omega (arith, same))))) erased
 
 -- where the objects lie there is room for them, if the device is large enough
-pub laid-out : (limits : Limits) (size : ℕ) → ArePassed limits → need_of limits ≤ size → IsLaidOut (layout_of limits size) size
-laid-out limits size passed room = record {
-  within = omega (arith, room);
-  root = omega (arith, room);
+pub laid-out : (limits : Limits) (sectors size : ℕ) → ArePassed limits → need_of limits ≤ sectors → sectors ≤ size
+    → IsLaidOut (layout_of limits sectors) size
+laid-out limits sectors size passed room there = record {
+  within = omega (arith, room, there);
+  root = omega (arith, room, there);
   apart = inl (omega arith);
   not_first = omega arith;
-  room = omega (arith, room);
+  room = omega (arith, room, there);
   counted = area-counted limits passed;
 }
 
@@ -71,7 +72,7 @@ stays-erased limits size layout old mid new there erased header kept objects =
 -- then both are there
 pub is-prepared : (limits : Limits) (old mid new : Image) → 3 < length old → mid ≡ slice_set old 3 (header_bytes first_epoch 0)
     → SameAt (IsElsewhere (layout_of limits (length new))) mid new → IsErased new
-    → HasObjects limits first_epoch (saved start) new → IsPrepared limits new
+    → HoldsObjects (layout_of limits (length new)) first_epoch (saved start) new → IsPrepared limits new
 is-prepared limits old mid new has header same erased objects =
     let at : sector_at mid 3 ≡ header_bytes first_epoch 0 =
     ap (λ (image : Image). sector_at image 3) header ∙ sector_at-set_same old 3 (header_bytes first_epoch 0) has in
@@ -88,20 +89,24 @@ abbrev IsPast : ℕ → ℕ → Type 0
 IsPast first i = first < i
 
 -- the superblock is written
-pub becomes-device : (limits : Limits) (bytes : List ℕ) (image : Image) → IsSuperblock (length image) limits bytes
+pub becomes-device : (limits : Limits) (bytes : List ℕ) (image : Image) → length image < 2 ^ 32 → IsSuperblock (length image) limits bytes
     → IsPrepared limits image → StandsFor limits start (slice_set image 0 bytes)
-becomes-device limits bytes image is prepared =
+becomes-device limits bytes image fits is prepared =
     let new : Image = slice_set image 0 bytes in
     let here : sector_at new 0 ≡ bytes = sector_at-set_same image 0 bytes (omega (arith, is.room)) in
-    let long : length image ≡ length new = sym (length-set image 0 bytes) in
+    let named : named_sectors new ≡ length image = ap sectors_in here ∙ superblock-sectors (length image) limits bytes is fits in
     let kept : SameAt (IsPast 0) image new = SameAt-set (IsPast 0) image 0 bytes (λ past. absurd (omega (arith, past))) in
     record {
       epoch = first_epoch;
       base = start;
       kept = record {
-        device = subst (λ (s : List ℕ). IsSuperblock (length new) limits s) (sym here) (subst (λ (n : ℕ). IsSuperblock n limits bytes) long is);
+        device = record {
+          superblock = subst (λ (n : ℕ). IsSuperblock n limits (sector_at new 0)) (sym named)
+              (subst (λ (s : List ℕ). IsSuperblock (length image) limits s) (sym here) is);
+          whole = omega (arith, named, length-set image 0 bytes);
+        };
         objects = saved start;
-        there = subst (λ (n : ℕ). HoldsObjects (layout_of limits n) first_epoch (saved start) new) long
+        there = subst (λ (n : ℕ). HoldsObjects (layout_of limits n) first_epoch (saved start) new) (sym named)
             (Holds-alone (layout_of limits (length image)) (IsPast 0) first_epoch (saved start) image new
             (λ i own. ⊎_elim (λ root. omega (arith, root)) (λ inside. omega (arith, inside.0)) own) kept prepared.objects);
         stand = start-stands limits;

@@ -1,5 +1,5 @@
 -- What was loaded, step by step, is the device.
-use Rattle.std.proofs.Common.{◌≡◌, ◌↔◌, inl, inr, ⊎_elim, ℕ, ◌≤◌, List, Ok, length, sym, ap, subst, ◌∙◌, arith}
+use Rattle.std.proofs.Common.{◌≡◌, ◌↔◌, inl, inr, ⊎_elim, ℕ, ◌≤◌, List, Ok, sym, ap, subst, ◌∙◌, arith}
 use Rattle.std.specs.Prelude.{map}
 use Rattle.ipc_base.specs.declared.limits.Limits.{Limits}
 use Rattle.ipc_base.specs.Limits.{ArePassed}
@@ -25,7 +25,7 @@ use Rattle.ipc_engine.specs.Event.{PlainEvent}
 use Rattle.ipc_image.specs.Saved.{StandForState}
 use Rattle.ipc_image.specs.Sizes.{area_of, need_of}
 use Rattle.ipc_store.specs.Batch.{batch_bytes}
-use Rattle.ipc_store.specs.Image.{journal_range, layout_of, IsDevice, HasBase, LeadTo}
+use Rattle.ipc_store.specs.Image.{journal_range, layout_of, named_sectors, IsDevice, HasBase, LeadTo}
 use Rattle.ipc_store.specs.Relations.Matches.{AreOnDisk, DeviceMatches, MachineMatches}
 use Rattle.ipc_store.proofs.Formatting.{laid-out}
 
@@ -70,15 +70,15 @@ abbrev pub Led : Limits → State → State → Journal → Medium → Type 0
 Led limits from to journal medium =
     (batches : List (List PlainEvent)) × JournalMatches journal (map batch_bytes batches) medium × LeadTo limits from batches to
 
-module _ (limits : Limits) (size : ℕ) (checkpoint : CheckpointView) (layout : saved_layout checkpoint ≡ layout_of limits size) where
+module _ (limits : Limits) (sectors : ℕ) (checkpoint : CheckpointView) (layout : saved_layout checkpoint ≡ layout_of limits sectors) where
   -- a device whose objects stand for a state
-  pub has-base : (medium : Medium) (from : State) → IsHonest medium → IsDevice limits medium.contents → length medium.contents ≡ size
+  pub has-base : (medium : Medium) (from : State) → IsHonest medium → IsDevice limits medium.contents → sectors ≡ named_sectors medium.contents
       → Kept limits from checkpoint medium → HasBase limits (saved_epoch checkpoint) from medium.contents
   has-base medium from honest device count kept = record {
     device = device;
     objects = kept.0;
     there = subst (λ (l : Layout). HoldsObjects l (saved_epoch checkpoint) kept.0 medium.contents)
-        (layout ∙ ap (layout_of limits) (sym count)) (CheckpointMatches-holds checkpoint kept.0 medium kept.2 medium.contents honest.reads);
+        (layout ∙ ap (layout_of limits) count) (CheckpointMatches-holds checkpoint kept.0 medium kept.2 medium.contents honest.reads);
     stand = kept.1;
   }
 
@@ -86,7 +86,7 @@ module _ (limits : Limits) (size : ℕ) (checkpoint : CheckpointView) (layout : 
       (machine : Machine) (same : machine.limits ≡ limits) where
     -- the whole device
     pub loaded : (medium : Medium) (from : State) → IsHonest medium → IsDurable medium → IsDevice limits medium.contents
-        → length medium.contents ≡ size → Kept limits from checkpoint medium → Led limits from machine.state journal medium
+        → sectors ≡ named_sectors medium.contents → Kept limits from checkpoint medium → Led limits from machine.state journal medium
         → IsTracked machine.changed from machine.state → MachineMatches medium machine checkpoint journal
     loaded medium from honest durable device count kept led tracked =
         let Both : Limits → Type 0 =
@@ -98,8 +98,8 @@ module _ (limits : Limits) (size : ℕ) (checkpoint : CheckpointView) (layout : 
             range = range;
             epoch = epoch;
             device = λ image now.
-                subst (λ (i : Image). IsDevice limits i × (saved_layout checkpoint ≡ layout_of limits (length i))) (sym (durable image now))
-                (device, layout ∙ ap (layout_of limits) (sym count));
+                subst (λ (i : Image). IsDevice limits i × (saved_layout checkpoint ≡ layout_of limits (named_sectors i))) (sym (durable image now))
+                (device, layout ∙ ap (layout_of limits) count);
             from = from;
             objects = kept.0;
             stand = kept.1;
@@ -113,11 +113,10 @@ module _ (limits : Limits) (size : ℕ) (checkpoint : CheckpointView) (layout : 
         record { device = both.0; tracked = both.1 }
 
     -- and where it lies
-    pub on-disk : (last : ℕ) → last ≡ size → ArePassed limits → need_of limits ≤ size → AreOnDisk last machine.limits checkpoint journal
-    on-disk last is passed room = record {
-      objects = subst (λ (n : ℕ). IsLaidOut (saved_layout checkpoint) n) (sym is)
-          (subst (λ (l : Layout). IsLaidOut l size) (sym layout) (laid-out limits size passed room));
+    pub on-disk : (last : ℕ) → sectors ≤ last → ArePassed limits → need_of limits ≤ sectors → AreOnDisk last machine.limits checkpoint journal
+    on-disk last there passed room = record {
+      objects = subst (λ (l : Layout). IsLaidOut l last) (sym layout) (laid-out limits sectors last passed room there);
       room = ap (λ (l : Layout). l.area) layout ∙ ap area_of (sym same);
-      within = subst (λ (r : Range). IsWithin r last) (sym range) (omega (arith, is, room));
+      within = subst (λ (r : Range). IsWithin r last) (sym range) (omega (arith, there, room));
       epoch = epoch;
     }

@@ -14,12 +14,12 @@ use Rattle.ipc_state.specs.State.{State}
 use Rattle.ipc_engine.specs.Event.{PlainEvent}
 use Rattle.ipc_image.specs.Format.{format}
 use Rattle.ipc_image.specs.Superblock.{version_in}
-use Rattle.ipc_image.proofs.CallerLemmas.{superblock-begins, superblock-version, one-superblock}
+use Rattle.ipc_image.proofs.CallerLemmas.{superblock-begins, superblock-version}
 use Rattle.ipc_store.specs.Batch.{batch_bytes}
-use Rattle.ipc_store.specs.Image.{journal_range, IsDevice, HasBase, HasBatches, HasNoHeader, LeadTo, HasNoState, IsNotFormatted, IsDamaged}
+use Rattle.ipc_store.specs.Image.{journal_range, named_sectors, IsDevice, HasBase, HasBatches, HasNoHeader, LeadTo, HasNoState, IsNotFormatted, IsDamaged}
 use Rattle.ipc_store.specs.Image.{HasNoBatchAt, IsFirstFault}
 use Rattle.ipc_store.specs.Relations.Replay.{IsOpened, Replays, IsGoodUpTo}
-use Rattle.ipc_store.proofs.CallerLemmas.{HasBase-one}
+use Rattle.ipc_store.proofs.CallerLemmas.{IsDevice-one, HasBase-one}
 
 -- no batch has no sector
 none-fill : (range : Range) (batches : List (List ℕ)) (image : Image) → Fill range 0 0 batches image → batches ≡ []
@@ -68,9 +68,9 @@ header-none epoch image (inr past) batches (inr current) = absurd (omega (arith,
 pub device-begins : (limits : Limits) (image : Image) → IsDevice limits image
     → (¬ IsNotFormatted image) × (version_in (sector_at image 0) ≡ format.version)
 device-begins limits image device = (
-  λ not. ⊎_elim (λ small. absurd (omega (arith, small, device.room)))
-      (λ other. other (superblock-begins (length image) limits (sector_at image 0) device)) not,
-  superblock-version (length image) limits (sector_at image 0) device,
+  λ not. ⊎_elim (λ small. absurd (omega (arith, small, device.superblock.room, device.whole)))
+      (λ other. other (superblock-begins (named_sectors image) limits (sector_at image 0) device.superblock)) not,
+  superblock-version (named_sectors image) limits (sector_at image 0) device.superblock,
 )
 
 -- a device that stands for no state is damaged
@@ -85,7 +85,7 @@ pub base-damaged : (limits : Limits) (image : Image) → length image < 2 ^ 32 �
 base-damaged limits image fits device none =
     is_damaged limits image device
     (λ other s stands.
-    let same = (one-superblock (length image) (length image) other limits (sector_at image 0) fits fits stands.kept.device device).1 in
+    let same = IsDevice-one other limits image fits stands.kept.device device in
     none stands.epoch stands.base (subst (λ (l : Limits). HasBase l stands.epoch stands.base image) same stands.kept))
 
 -- the value that an open of the journal gives

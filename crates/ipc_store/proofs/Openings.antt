@@ -6,12 +6,11 @@ use Rattle.ipc_base.specs.declared.limits.Limits.{Limits}
 use Rattle.ipc_disk.specs.Medium.{Image, Medium, IsHonest, Stays}
 use Rattle.ipc_disk.specs.Since.{EachImageSince}
 use Rattle.ipc_disk.proofs.CallerLemmas.{EachImageSince-weaken, EachImageSince-join}
-use Rattle.ipc_checkpoint.specs.Checkpoint.{epoch_in}
 use Rattle.ipc_checkpoint.specs.View.{CheckpointView}
 use Rattle.ipc_disk.specs.declared.range.Range.{Range}
 use Rattle.ipc_journal.specs.declared.journal.Journal.{Journal}
 use Rattle.ipc_journal.specs.Journal.{header_epoch, header_used}
-use Rattle.ipc_disk.specs.Standing.{sector_at, sectors_for}
+use Rattle.ipc_disk.specs.Standing.{sectors_for}
 use Rattle.ipc_journal.specs.View.{range_of, epoch_of, used_of, Fits}
 use Rattle.ipc_state.specs.State.{State, restart}
 use Rattle.ipc_engine.specs.Engine.{Machine}
@@ -20,7 +19,7 @@ use Rattle.ipc_image.specs.Records.{record_bytes, HasRecord}
 use Rattle.ipc_store.specs.declared.fault.OpenError.{OpenError}
 use Rattle.ipc_store.specs.declared.fault.OpenError.TheVariants as errors
 use Rattle.ipc_store.proofs.Opened.{device-begins}
-use Rattle.ipc_store.specs.Image.{journal_range, last_epoch, IsNotFormatted, HasVersion, IsDamaged, IsFirstFault, IsAtEnd, StandsFor}
+use Rattle.ipc_store.specs.Image.{journal_range, last_epoch, IsNotFormatted, HasVersion, IsDamaged, IsFirstFault, epoch_at, IsAtEnd, StandsFor}
 use Rattle.ipc_store.specs.View.{StoreView, IsAtLastEpoch, store_view}
 use Rattle.ipc_store.specs.Relations.Matches.{MachineMatches, StoreMatches, StandsForEither, OpensTo}
 use Rattle.ipc_store.proofs.Batches.{record-length}
@@ -108,7 +107,7 @@ at_end medium store base image matches same last full used current =
       stands = subst (StandsFor store.machine.limits base) same
           (stands_now medium store base [] matches medium.contents at.honest.reads);
       current = current (omega (arith, count)) ∙ at.epoch ∙ last;
-      epoch = subst (λ (i : Image). epoch_in (sector_at i 1) ≡ last_epoch) same
+      epoch = subst (λ (i : Image). epoch_at i ≡ last_epoch) same
           (root-epoch medium store base [] matches ∙ last);
       used = ap (λ (n : ℕ). n + 1) (sym (used (omega (arith, count)))) ∙ count;
     }

@@ -1,5 +1,5 @@
 -- What a superblock that was read says of the image.
-use Rattle.std.proofs.Common.{◌≡◌, ◌≢◌, inl, inr, ℕ, ◌≤◌, List, [], length, sym, ap, subst, ◌∙◌, arith}
+use Rattle.std.proofs.Common.{◌≡◌, ◌≢◌, inl, inr, ℕ, ◌<◌, ◌≤◌, ◌^◌, List, [], length, sym, ap, subst, ◌∙◌, arith}
 use Rattle.std.specs.Prelude.{Option, Some, slice_get}
 use Rattle.std.specs.Option.{unwrap_or}
 use Rattle.std.proofs.lemmas.Option.{unwrap_or-slice_get}
@@ -7,12 +7,29 @@ use Rattle.ipc_base.specs.declared.limits.Limits.{Limits}
 use Rattle.ipc_disk.specs.Medium.{Image}
 use Rattle.ipc_disk.specs.Standing.{sector_at}
 use Rattle.ipc_image.specs.Format.{format}
-use Rattle.ipc_image.specs.Superblock.{IsFormatted, version_in, IsSuperblock}
-use Rattle.ipc_store.specs.Image.{IsDevice, IsNotFormatted, HasVersion, IsDamaged, IsFirstFault}
+use Rattle.ipc_image.specs.Superblock.{IsFormatted, version_in, sectors_in, IsSuperblock}
+use Rattle.ipc_image.specs.declared.superblock.Superblock.{Superblock}
+use Rattle.ipc_image.proofs.CallerLemmas.{superblock-sectors}
+use Rattle.ipc_store.specs.Image.{named_sectors, IsDevice, IsNotFormatted, HasVersion, IsDamaged, IsFirstFault}
 
 -- a sector that was read
 pub sector-read : (image : Image) (i : ℕ) (sector : List ℕ) → slice_get image i ≡ Some sector → sector_at image i ≡ sector
 sector-read image i sector read = sym (unwrap_or-slice_get image i []) ∙ ap (λ (o : Option (List ℕ)). unwrap_or o []) read
+
+-- a superblock that names no more sectors than there are
+pub is_device : (image : Image) (size : ℕ) (sector : List ℕ) → length image ≡ size → sector_at image 0 ≡ sector → size < 2 ^ 32
+    → (found : Superblock) → found.sectors ≤ size → IsSuperblock found.sectors found.limits sector
+    → IsDevice found.limits image × (found.sectors ≡ named_sectors image)
+is_device image size sector whole read fits found there is =
+    let named : named_sectors image ≡ found.sectors =
+    ap sectors_in read ∙ superblock-sectors found.sectors found.limits sector is (omega (arith, there, fits)) in (
+      record {
+        superblock = subst (λ (n : ℕ). IsSuperblock n found.limits (sector_at image 0)) (sym named)
+            (subst (λ (s : List ℕ). IsSuperblock found.sectors found.limits s) (sym read) is);
+        whole = omega (arith, named, there, whole);
+      },
+      sym named,
+    )
 
 module _ (image : Image) (size : ℕ) (sector : List ℕ) (whole : length image ≡ size) (read : sector_at image 0 ≡ sector) (large : 3 ≤ size) where
   -- it begins as a device
@@ -23,11 +40,13 @@ module _ (image : Image) (size : ℕ) (sector : List ℕ) (whole : length image 
   pub has_version : (found : ℕ) → IsFormatted sector × (version_in sector ≡ found) × (found ≢ format.version) → HasVersion found image
   has_version found (formatted, version, other) = record { formatted = begins formatted; version = ap version_in read ∙ version; other = other }
 
-  no_device : ((limits : Limits) → ¬ IsSuperblock size limits sector) → (limits : Limits) → ¬ IsDevice limits image
+  no_device : ((named : ℕ) (limits : Limits) → named ≤ size → ¬ IsSuperblock named limits sector) → (limits : Limits) → ¬ IsDevice limits image
   no_device none limits device =
-      none limits (subst (λ (s : List ℕ). IsSuperblock size limits s) read (subst (λ (n : ℕ). IsSuperblock n limits (sector_at image 0)) whole device))
+      none (named_sectors image) limits (omega (arith, device.whole, whole))
+      (subst (λ (s : List ℕ). IsSuperblock (named_sectors image) limits s) read device.superblock)
 
-  pub is_damaged : IsFormatted sector × (version_in sector ≡ format.version) × ((limits : Limits) → ¬ IsSuperblock size limits sector)
+  pub is_damaged : IsFormatted sector × (version_in sector ≡ format.version)
+      × ((named : ℕ) (limits : Limits) → named ≤ size → ¬ IsSuperblock named limits sector)
       → IsDamaged image × IsFirstFault image 0
   is_damaged (formatted, version, none) = (
     record {

@@ -18,7 +18,7 @@ use Rattle.ipc_engine.specs.Step.{step, run}
 use Rattle.ipc_image.specs.Format.{format, journal_first, journal_count, objects_first}
 use Rattle.ipc_image.specs.Saved.{StandForState}
 use Rattle.ipc_image.specs.Sizes.{area_of}
-use Rattle.ipc_image.specs.Superblock.{IsFormatted, version_in, IsSuperblock}
+use Rattle.ipc_image.specs.Superblock.{IsFormatted, version_in, sectors_in, IsSuperblock}
 use Rattle.ipc_store.specs.Batch.{batch_bytes, AreBatch}
 
 -- the sectors of the journal
@@ -55,13 +55,19 @@ pub record LeadTo (limits : Limits) (from : State) (batches : List (List PlainEv
   pub named : AreFor limits from (events_of batches)
   pub state : s ≡ (run limits from (events_of batches)).state
 
--- the image is of a device with these limits: its first sector is their superblock
-abbrev pub IsDevice : Limits → Image → Type 0
-IsDevice limits image = IsSuperblock (length image) limits (sector_at image 0)
+-- how many sectors the device has, as its first one says; the disk may have more
+abbrev pub named_sectors : Image → ℕ
+named_sectors image = sectors_in (sector_at image 0)
+
+-- the image is of a device with these limits: its first sector is their superblock, and it has the sectors that this
+-- names
+pub record IsDevice (limits : Limits) (image : Image) : Type 0 where
+  pub superblock : IsSuperblock (named_sectors image) limits (sector_at image 0)
+  pub whole : named_sectors image ≤ length image
 
 -- at this epoch it has these objects, where such a device has them
 abbrev pub HasObjects : Limits → ℕ → PlainObjects → Image → Type 0
-HasObjects limits epoch objects image = HoldsObjects (layout_of limits (length image)) epoch objects image
+HasObjects limits epoch objects image = HoldsObjects (layout_of limits (named_sectors image)) epoch objects image
 
 -- at this epoch its journal has these batches
 abbrev pub HasBatches : ℕ → List (List PlainEvent) → Image → Type 0
@@ -136,7 +142,7 @@ HasNoBatchAt limits s range place used image =
 pub data IsFirstFault (image : Image) : ℕ → Type 0 where
   Superblock : ((limits : Limits) → ¬ IsDevice limits image) → IsFirstFault image 0
   Objects : (limits : Limits) (sector : ℕ) → IsDevice limits image
-      → IsFirstDamage (layout_of limits (length image)) image sector
+      → IsFirstDamage (layout_of limits (named_sectors image)) image sector
       → IsFirstFault image sector
   NoState : (limits : Limits) (epoch : ℕ) (objects : PlainObjects) → IsDevice limits image
       → HasObjects limits epoch objects image → ((s : State) → ¬ StandForState limits s objects)

@@ -17,30 +17,31 @@ ghost use Rattle.ipc_image.specs.Sizes.{need_of};
 ghost use Rattle.ipc_engine.specs.Changes.{IsTracked};
 ghost use Rattle.ipc_engine.specs.Event.{PlainEvent};
 ghost use Rattle.ipc_store.specs.Batch.{most_bytes, batch_bytes};
-ghost use Rattle.ipc_store.specs.Image.{journal_range, layout_of, IsDevice, HasBase, LeadTo};
+ghost use Rattle.ipc_store.specs.Image.{journal_range, layout_of, named_sectors, IsDevice, HasBase, LeadTo};
 ghost use Rattle.ipc_store.specs.Image.{IsNotFormatted, HasVersion, IsDamaged, IsFirstFault};
 ghost use Rattle.ipc_store.specs.Relations.Matches.{AreOnDisk, MachineMatches};
 
 use crate::fault::OpenError;
 use crate::places::{JOURNAL_RANGE, layout_of};
 use crate::replay::replay;
-use ipc_base::Limits;
 use ipc_checkpoint::Checkpoint;
 use ipc_disk::SectorDisk;
 use ipc_engine::Engine;
-use ipc_image::{SUPERBLOCK, SuperblockFault, engine_of, read_superblock};
+use ipc_image::{SUPERBLOCK, Superblock, SuperblockFault, engine_of, read_superblock};
 use ipc_journal::Journal;
 use std::alloc::Global;
 
 /// The fewest sectors that a superblock can be read of.
 const LEAST_SECTORS: u32 = 3;
 
-/// The limits of a device, by its superblock.
-pub(crate) fn read_limits<D: SectorDisk>(disk: &mut D) -> Result<Limits, OpenError>
-    ensures device { IfOk result (λ limits. IsHonest (D.medium disk.old)
-        → IsDevice limits (D.medium disk.old).contents) }
-    ensures passed { IfOk result (λ limits. ArePassed limits) }
-    ensures room { IfOk result (λ limits. need_of limits ≤ D.size disk.old) }
+/// How many sectors a device has, and its limits.
+pub(crate) fn load_superblock<D: SectorDisk>(disk: &mut D) -> Result<Superblock, OpenError>
+    ensures device { IfOk result (λ found. IsHonest (D.medium disk.old)
+        → IsDevice found.limits (D.medium disk.old).contents
+        × (found.sectors ≡ named_sectors (D.medium disk.old).contents)) }
+    ensures passed { IfOk result (λ found. ArePassed found.limits) }
+    ensures room { IfOk result (λ found. need_of found.limits ≤ found.sectors) }
+    ensures there { IfOk result (λ found. found.sectors ≤ D.size disk.old) }
     // Refusals.
     ensures not_formatted { IsErrOf result OpenError.NotFormatted → IsHonest (D.medium disk.old)
         → IsNotFormatted (D.medium disk.old).contents }
@@ -59,41 +60,44 @@ pub(crate) fn read_limits<D: SectorDisk>(disk: &mut D) -> Result<Limits, OpenErr
     let mut sector = [0; 512];
     disk.read(SUPERBLOCK, &mut sector)?;
     match read_superblock(&sector, sectors) {
-        Ok(limits) => Ok(limits),
+        Ok(superblock) => Ok(superblock),
         Err(SuperblockFault::NotFormatted) => Err(OpenError::NotFormatted),
         Err(SuperblockFault::Version { found }) => Err(OpenError::Version { found }),
         Err(SuperblockFault::Damaged) => Err(OpenError::Damaged { sector: SUPERBLOCK }),
     }
 }
 
-/// The objects of a device with these limits: where they lie, and the machine that they stand for.
+/// The objects of a device with this superblock: where they lie, and the machine that they stand for.
 fn load_base<D: SectorDisk>(
     alloc: Global,
     disk: &mut D,
-    limits: Limits,
+    superblock: Superblock,
 ) -> Result<(Checkpoint, Engine), OpenError>
-    requires passed { ArePassed limits }
-    requires room { need_of limits ≤ D.size disk.old }
-    ensures layout { IfOk result (λ found. saved_layout found.0 ≡ layout_of limits (D.size disk.old)) }
-    ensures limits { IfOk result (λ found. found.1.limits ≡ limits) }
+    requires passed { ArePassed superblock.limits }
+    requires room { need_of superblock.limits ≤ superblock.sectors }
+    requires there { superblock.sectors ≤ D.size disk.old }
+    ensures layout { IfOk result (λ found. saved_layout found.0
+        ≡ layout_of superblock.limits superblock.sectors) }
+    ensures limits { IfOk result (λ found. found.1.limits ≡ superblock.limits) }
     ensures changed { IfOk result (λ found. found.1.changed ≡ []) }
     ensures spare { IfOk result (λ found. HasSpare found.0) }
     ensures base { IfOk result (λ found. IsHonest (D.medium disk.old) → IsDurable (D.medium disk.old)
-        → (objects : PlainObjects) × StandForState limits found.1.state objects
+        → (objects : PlainObjects) × StandForState superblock.limits found.1.state objects
         × CheckpointMatches found.0 objects (D.medium disk.new)) }
     // Refusals.
     ensures damaged { (sector : ℕ) → IsErrOf result (OpenError.Damaged sector) → IsHonest (D.medium disk.old)
-        → IsDevice limits (D.medium disk.old).contents
-        → ((epoch : ℕ) (base : State) → ¬ HasBase limits epoch base (D.medium disk.old).contents)
+        → IsDevice superblock.limits (D.medium disk.old).contents
+        → superblock.sectors ≡ named_sectors (D.medium disk.old).contents
+        → ((epoch : ℕ) (base : State) → ¬ HasBase superblock.limits epoch base (D.medium disk.old).contents)
         × IsFirstFault (D.medium disk.old).contents sector }
     ensures faults { (found : ℕ) → IsErrOf result OpenError.NotFormatted
         ⊎ IsErrOf result (OpenError.Version found) → ⊥ }
     // It only reads.
     ensures reads { OnlyReads D.size D.medium D.counts (IsErrOf result OpenError.Device) disk.old disk.new }
 {
-    let layout = layout_of(&limits, disk.sectors());
+    let layout = layout_of(&superblock.limits, superblock.sectors);
     let (checkpoint, objects) = Checkpoint::load(alloc, disk, layout)?;
-    let engine = engine_of(alloc, &objects, limits)?;
+    let engine = engine_of(alloc, &objects, superblock.limits)?;
     Ok((checkpoint, engine))
 }
 
@@ -165,8 +169,8 @@ pub(crate) fn load<D: SectorDisk>(
     ensures no_write { (D.counts disk.new).writes ≡ (D.counts disk.old).writes }
 {
     disk.sync()?;
-    let limits = read_limits(disk)?;
-    let (checkpoint, mut engine) = load_base(alloc, disk, limits)?;
+    let superblock = load_superblock(disk)?;
+    let (checkpoint, mut engine) = load_base(alloc, disk, superblock)?;
     let journal = load_journal(disk, &checkpoint, &mut engine, room)?;
     Ok((checkpoint, journal, engine))
 }

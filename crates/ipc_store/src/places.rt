@@ -24,7 +24,7 @@ pub(crate) fn layout_of(limits: &Limits, sectors: u32) -> Layout
     requires passed { ArePassed limits.now }
     requires least { objects_first ≤ sectors }
     ensures exact { result ≡ layout_of limits.now sectors }
-    ensures bounded { result.area ≤ 22785 }
+    ensures bounded { result.area ≤ 126090 }
 {
     Layout {
         range: Range {

@@ -6,7 +6,7 @@ abbrev pub least_length : ℕ
 least_length = 5
 
 abbrev pub greatest_length : ℕ
-greatest_length = 8448
+greatest_length = 65792
 
 -- the most bytes of a frame, its length with it
 abbrev pub greatest_frame : ℕ

@@ -16,7 +16,7 @@ use ipc_base::Cursor;
 pub const LEAST_LENGTH: u32 = 5;
 
 /// The greatest length of a request, in bytes behind the length itself.
-pub const GREATEST_LENGTH: u32 = 8448;
+pub const GREATEST_LENGTH: u32 = 65792;
 
 /// The bytes of the longest whole frame, its length with it.
 pub const GREATEST_FRAME: usize = 4 + GREATEST_LENGTH as usize;

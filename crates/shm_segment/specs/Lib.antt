@@ -1,1 +1,2 @@
 pub mod Segment
+pub mod SysSegment

@@ -86,6 +86,7 @@ module _ {limits : Limits} {s : State} {never : Bool} where
             → IsSameIn (object_as kind n) s (record s { msg = msg; semset = semset; undo = undo })
         same_in kinds.MsgQueue n apart e is = sym (queues n apart) ∙ is
         same_in kinds.Semset n apart e is = sym (sets n apart).0 ∙ is
+        same_in kinds.Shm n apart e is = is
         same_in (kinds.Named names.Mq) n apart e is = is
         same_in (kinds.Named names.Psem) n apart e is = is
         same_in (kinds.Named names.Pshm) n apart e is = is

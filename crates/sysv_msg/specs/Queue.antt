@@ -63,7 +63,7 @@ full q bytes = nat_lt q.qbytes (byte_count q.messages + bytes) || nat_lt q.qbyte
 
 -- a queue never holds more messages than this; the memory of their places is taken when the queue is made
 abbrev pub most_messages : ℕ
-most_messages = 16384
+most_messages = 65536
 
 abbrev pub new_queue : ℕ → ℕ → Queue
 new_queue qbytes ctime =

@@ -48,7 +48,7 @@ pub struct QueueNumbers {
 }
 
 /// For so many messages a queue has places from the start; it never holds more.
-const MOST_MESSAGES: usize = 16384;
+const MOST_MESSAGES: usize = 65536;
 
 /// A message queue: its messages, the oldest first, and what msgctl(2) tells of it. A contract sees it
 /// as a queue of plain messages. It has the places of all messages from the start, so that a send takes

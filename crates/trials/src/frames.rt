@@ -239,7 +239,7 @@ fn silence(alloc: Global, client: u32) -> Result<Vec<u8>, Fault> {
 const BROKEN: [(&[u8], &[u8]); 4] = [
     (
         b"0 open 1\n\
-        0 data 1 0000000d0000000101000003e80000006400002101ffffffff0000\n\
+        0 data 1 0000000d0000000101000003e80000006400010101ffffffff0000\n\
         0 open 2\n0 data 2 0000000d0000000101000003e800000064\n\
         0 open 3\n0 data 3 0000000d0000000101000003e800000064\n\
         0 open 4\n0 data 4 0000000d0000000101000003e800000064\n\

@@ -10,5 +10,5 @@ abbrev pub IsClockOf : Numbers → List ℕ → Type 0
 IsClockOf n bytes =
     (s : State) → s.clock ≡ n.clock.0 → s.processes.next ≡ n.next_pid → s.msg.next ≡ n.next_msg_queue
     → s.semset.next ≡ n.next_semset → s.mq.next ≡ n.next_mq → s.psem.next ≡ n.next_psem
-    → s.pshm.next ≡ n.next_pshm
+    → s.pshm.next ≡ n.next_pshm → s.shm.next ≡ n.next_shm
     → FitFields clock_sizes (clock_numbers s) × (bytes ≡ fields_bytes clock_sizes (clock_numbers s))

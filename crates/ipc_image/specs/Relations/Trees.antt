@@ -45,6 +45,7 @@ kind_known kinds.Semset = refl
 kind_known (kinds.Named names.Mq) = refl
 kind_known (kinds.Named names.Psem) = refl
 kind_known (kinds.Named names.Pshm) = refl
+kind_known kinds.Shm = refl
 
 pub descriptor_one : (d e : ℕ × Descriptor) → FitsDescriptor d → FitsDescriptor e
     → descriptor_numbers d ≡ descriptor_numbers e → d ≡ e

@@ -19,7 +19,7 @@ use Rattle.ipc_image.specs.Records.{HasRecord}
 use Rattle.ipc_image.specs.Saved.{StandForState}
 use Rattle.ipc_image.specs.Sizes.{area_of}
 use Rattle.ipc_store.specs.Batch.{records_of, batch_bytes}
-use Rattle.ipc_store.specs.Image.{journal_range, layout_of, AreFor, LeadTo, IsDevice, StandsFor}
+use Rattle.ipc_store.specs.Image.{journal_range, layout_of, named_sectors, AreFor, LeadTo, IsDevice, StandsFor}
 use Rattle.ipc_store.specs.View.{StoreView}
 
 -- the objects and the journal lie on a disk of so many sectors, with room for a state under these limits, and are of
@@ -38,7 +38,7 @@ pub record DeviceMatches (medium : Medium) (limits : Limits) (checkpoint : Check
   pub range : range_of journal ≡ journal_range
   pub epoch : epoch_of journal ≡ saved_epoch checkpoint
   pub device : (image : Image) → medium.images_now image
-      → IsDevice limits image × (saved_layout checkpoint ≡ layout_of limits (length image))
+      → IsDevice limits image × (saved_layout checkpoint ≡ layout_of limits (named_sectors image))
   pub from : State
   pub objects : PlainObjects
   pub stand : StandForState limits from objects

@@ -17,7 +17,7 @@ use std::alloc::Global;
 pub(crate) const NAMES: [&str; 4] = ["Heap::open", "Checkpoint::load", "engine_of", "Store::open"];
 
 /// How many sectors a state takes under small limits, and where the objects lie.
-const AREA: u32 = 94;
+const AREA: u32 = 553;
 
 const LAYOUT: Layout = Layout {
     range: Range {

@@ -30,7 +30,7 @@ pub(crate) const NAMES: [&str; 10] = [
 
 /// As many messages as any queue has places for, adjustments and descriptors as any process has, and messages as any
 /// POSIX queue has places for. The next one needs memory.
-const MESSAGES: u32 = 16384;
+const MESSAGES: u32 = 65536;
 
 const ADJUSTMENTS: u16 = 512;
 
@@ -60,7 +60,7 @@ fn arrivals(alloc: Global) -> Result<Arrivals<Message>, Fault> {
 }
 
 fn full_queue(alloc: Global) -> Result<MsgQueue, Fault> {
-    let mut queue = MsgQueue::new(alloc, 16384, Moment(1))?;
+    let mut queue = MsgQueue::new(alloc, MESSAGES, Moment(1))?;
     for _ in 0..MESSAGES {
         queue.restore(Message::new(alloc, 1, b"")?)?;
     }

@@ -21,8 +21,8 @@ both ns rest bytes s has found fit is =
 
 listed_is : (ns : List ℕ) (s : State) → s.clock ≡ get_or ns 0 0 → s.processes.next ≡ get_or ns 1 0 → s.msg.next ≡ get_or ns 2 0
     → s.semset.next ≡ get_or ns 3 0 → s.mq.next ≡ get_or ns 4 0 → s.psem.next ≡ get_or ns 5 0 → s.pshm.next ≡ get_or ns 6 0
-    → listed 7 0 ns ≡ clock_numbers s
-listed_is ns s a b c d e f g = cc
+    → s.shm.next ≡ get_or ns 7 0 → listed 8 0 ns ≡ clock_numbers s
+listed_is ns s a b c d e f g h = cc
 
 pub returns-then-not-is_empty-clause-none : goal.returns-then-not-is_empty-clause-none
 returns-then-not-is_empty-clause-none c s fit is =
@@ -35,11 +35,11 @@ returns-then-not-is_empty-clause-none c s fit is =
     cc
 
 pub returns-clause-some : goal.returns-clause-some
-returns-clause-some c s clock pid queue set mq sem segment =
+returns-clause-some c s clock pid queue set mq sem segment shm =
     let ns : List ℕ = c.in_ok-numbers.numbers in
     let rest : List ℕ = c.in_ok-numbers.rest.now in
     let found = c.in_ok-numbers.ensures.some in
-    let same : ns ≡ clock_numbers s = numbers_are clock_sizes ns found.0 ∙ listed_is ns s clock pid queue set mq sem segment in
+    let same : ns ≡ clock_numbers s = numbers_are clock_sizes ns found.0 ∙ listed_is ns s clock pid queue set mq sem segment shm in
     let empty : rest ≡ [] = nil_from_length rest (eqb-true (length rest) 0 (sym c.if-not-is_empty.ensures)) in (
       subst (FitFields clock_sizes) same found.0,
       found.1 ∙ ap (λ (l : List ℕ). fields_bytes clock_sizes ns ++ l) empty ∙ append-nil (fields_bytes clock_sizes ns)

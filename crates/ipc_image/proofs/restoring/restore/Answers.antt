@@ -8,10 +8,11 @@ use Rattle.ipc_base.specs.Table.{keys_of}
 use Rattle.sem_undo.specs.Undo.{Undo}
 use Rattle.ipc_state.specs.declared.processes.Process.{Process}
 use Rattle.ipc_state.specs.Restored.{with_numbers}
-use Rattle.ipc_state.specs.State.{State, objects_in, start}
-use Rattle.ipc_image.specs.Saved.{clock_sizes, clock_numbers, processes_bytes, waits_bytes, adjustments_bytes, queue_object, set_object, named_objects}
+use Rattle.ipc_state.specs.State.{State, start}
+use Rattle.ipc_image.specs.Saved.{clock_sizes, clock_numbers, processes_bytes, waits_bytes, adjustments_bytes}
+use Rattle.ipc_image.specs.Saved.{queue_object, set_object, later_in, later_objects}
 use Rattle.ipc_image.proofs.WholeState.{parts_of, same_object, processes_added, processes_one, all-added, AreAdjustmentsRead, all_restored, restored_once}
-use Rattle.ipc_image.proofs.WholeState.{sets_and_named, after-queues, after-sets}
+use Rattle.ipc_image.proofs.WholeState.{sets_and_later, after-queues, after-sets}
 use Rattle.ipc_image.proofs.restoring.restore.Goals as goal
 
 pub returns-in_default-clause-damaged : goal.returns-in_default-clause-damaged
@@ -71,21 +72,21 @@ returns-in_err-restore_adjustments-clause-damaged c is s all are =
 pub returns-in_err-next-clause-damaged : goal.returns-in_err-next-clause-damaged
 returns-in_err-next-clause-damaged c is s all are =
     let why = rw is at c.from_residual-in_err-next.ensures in
-    c.in_err-next.ensures.damaged (ap (λ e. Err e) (sym why.1)) s.msg.entries (sets_and_named s) (after-queues s) all.queues
+    c.in_err-next.ensures.damaged (ap (λ e. Err e) (sym why.1)) s.msg.entries (sets_and_later s) (after-queues s) all.queues
     (parts_of s c.args.objects.now are).things
 
 pub returns-in_err-next-2-clause-damaged : goal.returns-in_err-next-2-clause-damaged
 returns-in_err-next-2-clause-damaged c is s all are =
     let why = rw is at c.from_residual-in_err-next-2.ensures in
     let left = c.in_ok-next.ensures.whole s.msg.entries _ (after-queues s) (parts_of s c.args.objects.now are).things all.queues in
-    c.in_err-next-2.ensures.damaged (ap (λ e. Err e) (sym why.1)) s.semset.entries (named_objects (objects_in s).named) (after-sets s) all.sets left
+    c.in_err-next-2.ensures.damaged (ap (λ e. Err e) (sym why.1)) s.semset.entries (later_objects (later_in s)) (after-sets s) all.sets left
 
-pub returns-in_err-restore_named-clause-damaged : goal.returns-in_err-restore_named-clause-damaged
-returns-in_err-restore_named-clause-damaged c is s all are =
-    let why = rw is at c.from_residual-in_err-restore_named.ensures in
+pub returns-in_err-restore_later-clause-damaged : goal.returns-in_err-restore_later-clause-damaged
+returns-in_err-restore_later-clause-damaged c is s all are =
+    let why = rw is at c.from_residual-in_err-restore_later.ensures in
     let left = c.in_ok-next.ensures.whole s.msg.entries _ (after-queues s) (parts_of s c.args.objects.now are).things all.queues in
     let last = c.in_ok-next-2.ensures.whole s.semset.entries _ (after-sets s) left all.sets in
-    c.in_err-restore_named.ensures.damaged (ap (λ e. Err e) (sym why.1)) (objects_in s).named all.named last
+    c.in_err-restore_later.ensures.damaged (ap (λ e. Err e) (sym why.1)) (later_in s) all.later last
 
 pub returns-clause-ok : goal.returns-clause-ok
 returns-clause-ok c =
@@ -97,26 +98,26 @@ returns-clause-ok c =
     let undo : List (ℕ × Undo) = c.restore_adjustments.new.state.state.undo in
     let es = c.in_ok-next.ensures.ok in
     let fs = c.in_ok-next-2.ensures.ok in
-    let named = c.in_ok-restore_named.ensures.ok in
+    let later = c.in_ok-restore_later.ensures.ok in
     let from : (c.restore_numbers.new.self.state, c.restore_numbers.new.self.limits) ≡ (with_numbers start n, c.restore_numbers.new.self.limits) =
     ap (λ (s : State). let r : State × Limits = (s, c.restore_numbers.new.self.limits) in r)
     (c.restore_numbers.ensures.state ∙ ap (λ (s : State). with_numbers s n) c.requires) in
     let added = processes_added n c.restore_numbers.new.self.limits _ _ _ ps.0 ws.0 from ps.4 ws.5 in
-    let is = all-added n c.restore_numbers.new.self.limits _ _ _ _ _ _ (c.restore_named.new.state.state, c.restore_named.new.state.limits)
-    ps.0 ws.0 undo es.0 fs.0 named.0 from ps.4 (λ i. (ws.5 i, c.in_ok-restore_waits.ensures.limits i))
-    (λ i. (c.in_ok-restore_adjustments.ensures.others i, c.in_ok-restore_adjustments.ensures.limits i)) es.3 fs.3 named.3 in
-    let sets : drop c.in_ok-next.next objects ≡ map set_object fs.0 ++ named_objects named.0 =
-    fs.2 ∙ ap (λ (l : PlainObjects). map set_object fs.0 ++ l) named.2 in
+    let is = all-added n c.restore_numbers.new.self.limits _ _ _ _ _ _ (c.restore_later.new.state.state, c.restore_later.new.state.limits)
+    ps.0 ws.0 undo es.0 fs.0 later.0 from ps.4 (λ i. (ws.5 i, c.in_ok-restore_waits.ensures.limits i))
+    (λ i. (c.in_ok-restore_adjustments.ensures.others i, c.in_ok-restore_adjustments.ensures.limits i)) es.3 fs.3 later.3 in
+    let sets : drop c.in_ok-next.next objects ≡ map set_object fs.0 ++ later_objects later.0 =
+    fs.2 ∙ ap (λ (l : PlainObjects). map set_object fs.0 ++ l) later.2 in
     let read : AreAdjustmentsRead ps.0 undo c.in-Some-object_numbered-3.adjustments.now = record {
       count = us.0;
       fit = us.1;
       bytes = us.2;
       pids = us.3 ∙ ap (λ (l : List (ℕ × Process)). keys_of l) added;
     } in
-    all_restored objects n ps.0 ws.0 undo es.0 fs.0 named.0 _ c.in-Some.clock.now c.in-Some-object_numbered.processes.now
+    all_restored objects n ps.0 ws.0 undo es.0 fs.0 later.0 _ c.in-Some.clock.now c.in-Some-object_numbered.processes.now
     c.in-Some-object_numbered-2.calls.now c.in-Some-object_numbered-3.adjustments.now c.in-Some.ensures.some c.in-Some-object_numbered.ensures.some
     c.in-Some-object_numbered-2.ensures.some c.in-Some-object_numbered-3.ensures.some read
-    c.in-Some-read_clock.ensures.some ps.1 ps.2 ps.3 ws.1 ws.2 ws.3 ws.4 es.1 fs.1 named.1
+    c.in-Some-read_clock.ensures.some ps.1 ps.2 ps.3 ws.1 ws.2 ws.3 ws.4 es.1 fs.1 later.1
     (es.2 ∙ ap (λ (l : PlainObjects). map queue_object es.0 ++ l) sets) (ap (λ (r : State × Limits). r.0) is)
 
 pub returns-clause-once : goal.returns-clause-once
@@ -128,10 +129,10 @@ returns-clause-once c s all are =
     ap (λ (s : State). let r : State × Limits = (s, c.restore_numbers.new.self.limits) in r)
     (c.restore_numbers.ensures.state ∙ ap (λ (s : State). with_numbers s n) c.requires) in
     let added = processes_added n c.restore_numbers.new.self.limits _ _ _ ps.0 ws.0 from ps.4 ws.5 in
-    let undo : c.restore_named.new.state.state.undo ≡ c.restore_adjustments.new.state.state.undo =
-    ap (λ (r : State × Limits). r.0.undo) c.in_ok-restore_named.ensures.ok.3 ∙ ap (λ (r : State × Limits). r.0.undo) c.in_ok-next-2.ensures.ok.3
+    let undo : c.restore_later.new.state.state.undo ≡ c.restore_adjustments.new.state.state.undo =
+    ap (λ (r : State × Limits). r.0.undo) c.in_ok-restore_later.ensures.ok.3 ∙ ap (λ (r : State × Limits). r.0.undo) c.in_ok-next-2.ensures.ok.3
     ∙ ap (λ (r : State × Limits). r.0.undo) c.in_ok-next.ensures.ok.3 in
-    restored_once s c.restore_named.new.state.state c.args.objects.now ps.0 c.in-Some-object_numbered.processes.now all are (returns-clause-ok c)
+    restored_once s c.restore_later.new.state.state c.args.objects.now ps.0 c.in-Some-object_numbered.processes.now all are (returns-clause-ok c)
     c.in-Some-object_numbered.ensures.some ps.1 ps.2 ps.3
     (ap (λ (us : List (ℕ × Undo)). keys_of us) undo ∙ c.in_ok-restore_adjustments.ensures.ok.3
     ∙ ap (λ (l : List (ℕ × Process)). keys_of l) added)
@@ -139,6 +140,6 @@ returns-clause-once c s all are =
 pub returns-clause-limits : goal.returns-clause-limits
 returns-clause-limits c =
     let limits : State × Limits → Limits = λ r. r.1 in
-    ap limits c.in_ok-restore_named.ensures.ok.3 ∙ ap limits c.in_ok-next-2.ensures.ok.3 ∙ ap limits c.in_ok-next.ensures.ok.3
+    ap limits c.in_ok-restore_later.ensures.ok.3 ∙ ap limits c.in_ok-next-2.ensures.ok.3 ∙ ap limits c.in_ok-next.ensures.ok.3
     ∙ c.in_ok-restore_adjustments.ensures.limits ∙ c.in_ok-restore_waits.ensures.limits
     ∙ ap limits c.in_ok-read_counted.ensures.ok.4 ∙ c.restore_numbers.ensures.limits

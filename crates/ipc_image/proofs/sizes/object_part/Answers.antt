@@ -19,3 +19,15 @@ overflow_add-result-5 c = let b = bounds c.args.limits.now c.requires in omega a
 
 pub returns-clause-bounded : goal.returns-clause-bounded
 returns-clause-bounded c = let b = bounds c.args.limits.now c.requires in omega arith
+
+pub sectors_for_each-requires : goal.sectors_for_each-requires
+sectors_for_each-requires c = let b = bounds c.args.limits.now c.requires in omega arith
+
+pub overflow_mul-limits-3 : goal.overflow_mul-limits-3
+overflow_mul-limits-3 c = let b = bounds c.args.limits.now c.requires in omega arith
+
+pub overflow_add-limits-4 : goal.overflow_add-limits-4
+overflow_add-limits-4 c = let b = bounds c.args.limits.now c.requires in omega arith
+
+pub overflow_add-result-7 : goal.overflow_add-result-7
+overflow_add-result-7 c = let b = bounds c.args.limits.now c.requires in omega arith

@@ -17,6 +17,7 @@ invariant_of-result c =
       next_mq = c.next_mq.result;
       next_psem = c.next.result;
       next_pshm = c.next-2.result;
+      next_shm = c.next_shm.result;
     }) c.processes.result.now c.waits.result.now c.adjustments.result.now c.msg_queues.result.now c.semsets.result.now _
     c.state-state.result.now.state c.clock.ensures c.next_pid.ensures c.next_msg_queue.ensures c.next_semset.ensures c.processes.ensures
     c.waits.ensures c.adjustments.ensures c.msg_queues.ensures c.semsets.ensures (λ i. record {
@@ -29,6 +30,7 @@ invariant_of-result c =
         next = (c.next-2.ensures ∙ ap (λ (x : Named Segment). x.next) c.pshms.ensures.objects) i;
         entries = (c.items-2.ensures ∙ ap (λ (x : Named Segment). x.entries) c.pshms-2.ensures.objects) i;
       };
+      shm = record { next = c.next_shm.ensures i; entries = c.shms.ensures i };
     }) in
     let objects = saved-are c.args.engine.now.limits c.args.engine.now.state c.state-state.ensures.passed c.state-state.ensures.sound in
     (subst HasAllPlaces (sym same) c.read_state.ensures, subst (λ (s : State). AreObjects (saved s)) (sym (same ∙ c.state-state.ensures.state)) objects)
@@ -43,6 +45,7 @@ returns-clause-objects c =
       next_mq = c.next_mq.result;
       next_psem = c.next.result;
       next_pshm = c.next-2.result;
+      next_shm = c.next_shm.result;
     }) _ _ _ _ _ _ c.state-state.result.now.state c.clock.ensures c.next_pid.ensures c.next_msg_queue.ensures c.next_semset.ensures
     c.processes.ensures c.waits.ensures c.adjustments.ensures c.msg_queues.ensures c.semsets.ensures (λ i. record {
       mq = record { next = c.next_mq.ensures i; entries = c.mqs.ensures i };
@@ -54,6 +57,7 @@ returns-clause-objects c =
         next = (c.next-2.ensures ∙ ap (λ (x : Named Segment). x.next) c.pshms.ensures.objects) i;
         entries = (c.items-2.ensures ∙ ap (λ (x : Named Segment). x.entries) c.pshms-2.ensures.objects) i;
       };
+      shm = record { next = c.next_shm.ensures i; entries = c.shms.ensures i };
     }) ∙ c.state-state.ensures.state)
 
 pub returns-clause-fit : goal.returns-clause-fit

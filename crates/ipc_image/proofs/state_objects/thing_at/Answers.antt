@@ -1,22 +1,21 @@
 use Rattle.std.proofs.Common.{◌-◌, ℕ, ap, sym, subst, arith, length, get_or}
 use Rattle.std.proofs.lemmas.List.{length-map}
 use Rattle.ipc_base.specs.declared.objects.Mark.{Mark}
-use Rattle.ipc_state.specs.Kinds.{NamedObjects}
-use Rattle.ipc_state.specs.State.{State, objects_in}
+use Rattle.ipc_state.specs.State.{State}
 use Rattle.ipc_state.specs.Tables.{item_row}
 use Rattle.ipc_image.specs.Kind.{FitsIn}
-use Rattle.ipc_image.specs.Saved.{queue_object, set_object, named_objects, saved, FitsQueue, FitsSet}
-use Rattle.ipc_image.specs.SavedParts.{FitsThing, IsFound, IsMarkOfNamed, IsMarkOfQueue, IsMarkOfSet, IsMarkOfThing, MarkAt, Stands}
-use Rattle.ipc_image.specs.SavedParts.{object_of, seen_named, seen_state}
+use Rattle.ipc_image.specs.Saved.{queue_object, set_object, LaterObjects, later_in, later_objects, saved, FitsQueue, FitsSet}
+use Rattle.ipc_image.specs.SavedParts.{FitsThing, IsFound, IsMarkOfLater, IsMarkOfQueue, IsMarkOfSet, IsMarkOfThing, MarkAt, Stands}
+use Rattle.ipc_image.specs.SavedParts.{object_of, seen_later, seen_state}
 use Rattle.ipc_image.proofs.Marks.{each-at, table-at, here, past}
-use Rattle.ipc_image.proofs.NamedSizes.{named-counted}
+use Rattle.ipc_image.proofs.LaterSizes.{later-counted}
 use Rattle.ipc_image.proofs.SavedObjects.{seen_count, found-thing}
-use Rattle.ipc_image.proofs.WholeState.{sets_and_named}
+use Rattle.ipc_image.proofs.WholeState.{sets_and_later}
 use Rattle.ipc_image.proofs.state_objects.thing_at.Goals as goal
 
--- the marks of those with a name, and of the sets and them
+-- the marks of those of later kinds, and of the sets and them
 abbrev last : State → ℕ → Mark → Type 0
-last s = IsMarkOfNamed (objects_in s).named
+last s = IsMarkOfLater (later_in s)
 
 abbrev later : State → ℕ → Mark → Type 0
 later s = MarkAt IsMarkOfSet (last s) s.semset.entries
@@ -25,40 +24,40 @@ pub returns-then-at-objects : goal.returns-then-at-objects
 returns-then-at-objects c =
     let o = c.objects.inside in
     let s : State = seen_state o.numbers o.processes.now o.waits.now o.undo.now o.queues.now o.sets.now
-    (seen_named o.numbers o.mqs.now o.sems.now o.segments.now) in
+    (seen_later o.numbers o.mqs.now o.sems.now o.segments.now o.shms.now) in
     let at : ℕ = c.args.i - 4 in
     let q = get_or o.queues.now at c.index-objects-at.result in
     let is = table-at item_row o.queues.now at c.index-objects-at.result c.if-at-objects.true in
     subst (λ (t : State). IsFound t c.args.i (queue_object (item_row q)) (IsMarkOfQueue (item_row q)) (FitsIn FitsQueue (item_row q)))
     c.objects.view_is (found-thing s c.objects.invariant.1 c.args.i c.requires.thing _ _ _
     (each-at (FitsIn FitsQueue) s.msg.entries at (item_row q) c.objects.invariant.0.queues is)
-    (here queue_object IsMarkOfQueue (later s) s.msg.entries (sets_and_named s) at (item_row q) is))
+    (here queue_object IsMarkOfQueue (later s) s.msg.entries (sets_and_later s) at (item_row q) is))
 
 pub returns-then-at-objects-2 : goal.returns-then-at-objects-2
 returns-then-at-objects-2 c =
     let o = c.objects.inside in
     let s : State = seen_state o.numbers o.processes.now o.waits.now o.undo.now o.queues.now o.sets.now
-    (seen_named o.numbers o.mqs.now o.sems.now o.segments.now) in
+    (seen_later o.numbers o.mqs.now o.sems.now o.segments.now o.shms.now) in
     let at : ℕ = c.args.i - 4 - length o.queues.now in
     let e = get_or o.sets.now at c.index-objects-at-then-at-objects-2.result in
     let is = table-at item_row o.sets.now at c.index-objects-at-then-at-objects-2.result c.if-at-objects-2.true in
     subst (λ (t : State). IsFound t c.args.i (set_object (item_row e)) (IsMarkOfSet (item_row e)) (FitsIn FitsSet (item_row e)))
     c.objects.view_is (found-thing s c.objects.invariant.1 c.args.i c.requires.thing _ _ _
     (each-at (FitsIn FitsSet) s.semset.entries at (item_row e) c.objects.invariant.0.sets is)
-    (past queue_object IsMarkOfQueue (later s) s.msg.entries (sets_and_named s) (c.args.i - 4) at _ _
+    (past queue_object IsMarkOfQueue (later s) s.msg.entries (sets_and_later s) (c.args.i - 4) at _ _
     (omega (arith, length-map o.queues.now item_row, c.if-at-objects.false))
-    (here set_object IsMarkOfSet (last s) s.semset.entries (named_objects (objects_in s).named) at (item_row e) is)))
+    (here set_object IsMarkOfSet (last s) s.semset.entries (later_objects (later_in s)) at (item_row e) is)))
 
-pub named_at-requires : goal.named_at-requires
-named_at-requires c =
+pub later_at-requires : goal.later_at-requires
+later_at-requires c =
     let o = c.objects.inside in
-    let named : NamedObjects = seen_named o.numbers o.mqs.now o.sems.now o.segments.now in
+    let seen : LaterObjects = seen_later o.numbers o.mqs.now o.sems.now o.segments.now o.shms.now in
     omega (
       arith,
       ap (λ (t : State). length (saved t)) c.objects.view_is,
-      ap (λ (t : State). length (named_objects (objects_in t).named)) c.objects.view_is,
-      seen_count o.numbers o.processes.now o.waits.now o.undo.now o.queues.now o.sets.now named,
-      named-counted named,
+      ap (λ (t : State). length (later_objects (later_in t))) c.objects.view_is,
+      seen_count o.numbers o.processes.now o.waits.now o.undo.now o.queues.now o.sets.now seen,
+      later-counted seen,
       c.requires.object,
       c.requires.thing,
       c.if-at-objects.false,
@@ -69,15 +68,15 @@ pub returns : goal.returns
 returns c =
     let o = c.objects.inside in
     let s : State = seen_state o.numbers o.processes.now o.waits.now o.undo.now o.queues.now o.sets.now
-    (seen_named o.numbers o.mqs.now o.sems.now o.segments.now) in
+    (seen_later o.numbers o.mqs.now o.sems.now o.segments.now o.shms.now) in
     let second : ℕ = c.args.i - 4 - length o.queues.now in
     let at : ℕ = second - length o.sets.now in
-    let r = c.named_at.result in
-    let named = subst (λ (t : State). Stands (named_objects (objects_in t).named) (IsMarkOfNamed (objects_in t).named) at (object_of r) (IsMarkOfThing r))
-    (sym c.objects.view_is) c.named_at.ensures.stands in
+    let r = c.later_at.result in
+    let stands = subst (λ (t : State). Stands (later_objects (later_in t)) (IsMarkOfLater (later_in t)) at (object_of r) (IsMarkOfThing r))
+    (sym c.objects.view_is) c.later_at.ensures.stands in
     subst (λ (t : State). IsFound t c.args.i (object_of r) (IsMarkOfThing r) (FitsThing r))
-    c.objects.view_is (found-thing s c.objects.invariant.1 c.args.i c.requires.thing _ _ _ c.named_at.ensures.fits
-    (past queue_object IsMarkOfQueue (later s) s.msg.entries (sets_and_named s) (c.args.i - 4) second _ _
+    c.objects.view_is (found-thing s c.objects.invariant.1 c.args.i c.requires.thing _ _ _ c.later_at.ensures.fits
+    (past queue_object IsMarkOfQueue (later s) s.msg.entries (sets_and_later s) (c.args.i - 4) second _ _
     (omega (arith, length-map o.queues.now item_row, c.if-at-objects.false))
-    (past set_object IsMarkOfSet (last s) s.semset.entries (named_objects (objects_in s).named) second at _ _
-    (omega (arith, length-map o.sets.now item_row, c.if-at-objects-2.false)) named)))
+    (past set_object IsMarkOfSet (last s) s.semset.entries (later_objects (later_in s)) second at _ _
+    (omega (arith, length-map o.sets.now item_row, c.if-at-objects-2.false)) stands)))

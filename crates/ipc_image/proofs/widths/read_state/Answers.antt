@@ -12,12 +12,12 @@ use Rattle.ipc_state.specs.State.{State}
 use Rattle.ipc_state.specs.Tables.{item_row}
 use Rattle.ipc_state.specs.Waiting.{IsSoundWaiting}
 use Rattle.ipc_image.specs.Kind.{FitsIn}
-use Rattle.ipc_image.specs.Saved.{adjustments_of, FitsAdjustment, FitsProcess, FitsWaiting, FitsQueue, FitsSet, FitsMq, FitsPsem, FitsSegment}
+use Rattle.ipc_image.specs.Saved.{adjustments_of, FitsAdjustment, FitsProcess, FitsWaiting, FitsQueue, FitsSet, FitsMq, FitsPsem, FitsSegment, FitsShm}
 use Rattle.ipc_image.specs.SavedParts.{IsSmallMq}
 use Rattle.ipc_image.proofs.AdjustmentLists.{each-fit}
 use Rattle.ipc_image.proofs.Attaching.{rising-distinct}
 use Rattle.ipc_image.proofs.MqObjects.{mq-small}
-use Rattle.ipc_image.proofs.SavedObjects.{processes-numbers, rows-numbers, sets-numbers, named-numbers, undo-counted}
+use Rattle.ipc_image.proofs.SavedObjects.{processes-numbers, rows-numbers, sets-numbers, named-numbers, undo-counted, shms-small}
 use Rattle.ipc_image.proofs.widths.read_state.Goals as goal
 
 pub read_each-requires : goal.read_each-requires
@@ -51,6 +51,10 @@ read_each-requires-8 c =
     named-numbers c.args.state.now.limits c.args.state.now.state c.requires.passed c.requires.sound names.Pshm (λ x. ⊤) (λ x good. tt)
     c.items-2.result.now (c.items-2.ensures ∙ ap (λ (o : Named Segment). o.entries) c.pshms.ensures.objects)
 
+pub read_each-requires-9 : goal.read_each-requires-9
+read_each-requires-9 c =
+    shms-small c.args.state.now.limits c.args.state.now.state c.requires.passed c.requires.sound c.shms.result.now c.shms.ensures
+
 pub returns : goal.returns
 returns c =
     let b = passed-bounds c.args.state.now.limits c.requires.passed in
@@ -72,11 +76,12 @@ returns c =
           c.requires.sound.parts.processes.numbered.numbers);
       queues = subst (All (FitsIn FitsQueue)) c.msg_queues.ensures (All-map (FitsIn FitsQueue) item_row c.msg_queues.result.now c.read_each-4.ensures);
       sets = subst (All (FitsIn FitsSet)) c.semsets.ensures (All-map (FitsIn FitsSet) item_row c.semsets.result.now c.read_each-5.ensures);
-      named = record {
+      later = record {
         mqs = subst (All (FitsIn FitsMq)) c.mqs.ensures (All-map (FitsIn FitsMq) item_row c.mqs.result.now c.read_each-6.ensures);
         psems = subst (All (FitsIn FitsPsem)) (c.items.ensures ∙ ap (λ (o : Named ℕ). o.entries) c.psems.ensures.objects)
             (All-map (FitsIn FitsPsem) item_row c.items.result.now c.read_each-7.ensures);
         segments = subst (All (FitsIn FitsSegment)) (c.items-2.ensures ∙ ap (λ (o : Named Segment). o.entries) c.pshms.ensures.objects)
             (All-map (FitsIn FitsSegment) item_row c.items-2.result.now c.read_each-8.ensures);
+        shms = subst (All (FitsIn FitsShm)) c.shms.ensures (All-map (FitsIn FitsShm) item_row c.shms.result.now c.read_each-9.ensures);
       };
     }

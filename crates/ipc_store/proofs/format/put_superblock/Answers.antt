@@ -1,5 +1,5 @@
 -- Each image is as it was, or that of the new device.
-use Rattle.std.proofs.Common.{ℕ, ◌⊎◌, ◌∙◌, inl, inr, length, subst, sym}
+use Rattle.std.proofs.Common.{ℕ, ◌⊎◌, ◌<◌, ◌^◌, ◌∙◌, inl, inr, length, subst, sym, arith}
 use Rattle.std.proofs.lemmas.Result.{on_ok_weaker}
 use Rattle.ipc_disk.specs.Medium.{Image}
 use Rattle.ipc_disk.proofs.CallerLemmas.{EachImageSince-set}
@@ -18,12 +18,19 @@ the_superblock g c image now =
     subst (λ (n : ℕ). IsSuperblock n c.args.limits.now c.superblock_of-sector.result)
     (c.sectors.ensures ∙ sym (g.met.D.SectorDisk.shaped c.args.disk.now image now).count) c.superblock_of-sector.ensures
 
+-- its sectors can be counted in four bytes
+fits : (g : Over) (c : goal.After-put_durably g) (image : Image) → (g.D.SectorDisk.medium c.args.disk.now).images_now image
+    → length image < 2 ^ 32
+fits g c image now =
+    omega (arith, (g.met.D.SectorDisk.shaped c.args.disk.now image now).count, g.met.D.SectorDisk.fits c.args.disk.now)
+
 pub returns-clause-ok : goal.returns-clause-ok
 returns-clause-ok g c =
     let old = g.D.SectorDisk.medium c.args.disk.now in
     on_ok_weaker c.put_durably.result (λ written honest prepared image now.
     subst (StandsFor c.args.limits.now start) (sym (written honest image now))
-    (becomes-device c.args.limits.now c.superblock_of-sector.result old.contents (the_superblock g c old.contents honest.reads)
+    (becomes-device c.args.limits.now c.superblock_of-sector.result old.contents (fits g c old.contents honest.reads)
+    (the_superblock g c old.contents honest.reads)
     (prepared old.contents honest.reads)))
     c.put_durably.ensures.written
 
@@ -32,5 +39,5 @@ returns-clause-any_moment g c = λ honest prepared.
     let old = g.D.SectorDisk.medium c.args.disk.now in
     EachImageSince-set old _ 0 c.superblock_of-sector.result (λ image. IsErased image ⊎ StandsFor c.args.limits.now start image)
     (c.put_durably.ensures.any_moment honest) (λ image now. inl (prepared image now).erased)
-    (λ image now. inr (becomes-device c.args.limits.now c.superblock_of-sector.result image (the_superblock g c image now)
+    (λ image now. inr (becomes-device c.args.limits.now c.superblock_of-sector.result image (fits g c image now) (the_superblock g c image now)
     (prepared image now)))

@@ -11,88 +11,85 @@ use Rattle.ipc_journal.specs.View.{epoch_of, used_of}
 use Rattle.ipc_state.specs.declared.parked.Object.{Object}
 use Rattle.ipc_engine.specs.Changes.{IsTracked}
 use Rattle.ipc_store.specs.declared.fault.OpenError.TheVariants as errors
-use Rattle.ipc_store.specs.Image.{journal_range, IsDevice, HasBase, IsDamaged, IsFirstFault}
+use Rattle.ipc_image.specs.declared.superblock.Superblock.{Superblock}
+use Rattle.ipc_store.specs.Image.{journal_range, named_sectors, IsDevice, HasBase, IsDamaged, IsFirstFault}
 use Rattle.ipc_store.proofs.Faults.{passed_on, passed-device}
 use Rattle.ipc_store.proofs.Loaded.{OnlyReads-counts, chain, stays-durable, Kept, Led, has-base, loaded, on-disk}
 use Rattle.ipc_store.proofs.Opened.{base-damaged}
 use Rattle.ipc_store.proofs.loading.load.Given.{Over}
 use Rattle.ipc_store.proofs.loading.load.Goals as goal
-use Rattle.ipc_store.proofs.loading.load.Goals.{In_ok-limits, In_ok-checkpoint}
+use Rattle.ipc_store.proofs.loading.load.Goals.{In_ok-superblock, In_ok-checkpoint}
 
 -- ---- after the superblock
 
-reads-limits : (g : Over) (c : In_ok-limits g) → IsHonest (g.D.SectorDisk.medium c.args.disk.now)
-    → Stays (g.D.SectorDisk.medium c.args.disk.now) (g.D.SectorDisk.medium c.read_limits.new.disk)
-reads-limits g c honest = chain _ _ _ honest c.sync.ensures.medium c.read_limits.ensures.reads.stays
+reads-superblock : (g : Over) (c : In_ok-superblock g) → IsHonest (g.D.SectorDisk.medium c.args.disk.now)
+    → Stays (g.D.SectorDisk.medium c.args.disk.now) (g.D.SectorDisk.medium c.load_superblock.new.disk)
+reads-superblock g c honest = chain _ _ _ honest c.sync.ensures.medium c.load_superblock.ensures.reads.stays
 
--- the device
-device : (g : Over) (c : In_ok-limits g) → IsHonest (g.D.SectorDisk.medium c.args.disk.now)
-    → IsDevice c.in_ok-limits.limits (g.D.SectorDisk.medium c.args.disk.now).contents
+-- it is that of the image
+abbrev Names : Superblock → Image → Type 0
+Names superblock image = IsDevice superblock.limits image × (superblock.sectors ≡ named_sectors image)
+
+device : (g : Over) (c : In_ok-superblock g) → IsHonest (g.D.SectorDisk.medium c.args.disk.now)
+    → Names c.in_ok-superblock.superblock (g.D.SectorDisk.medium c.args.disk.now).contents
 device g c honest =
-    subst (IsDevice c.in_ok-limits.limits) (c.sync.ensures.medium.contents honest)
-    (c.in_ok-limits.ensures.device (c.sync.ensures.medium.time.honest.0 honest))
+    subst (Names c.in_ok-superblock.superblock) (c.sync.ensures.medium.contents honest)
+    (c.in_ok-superblock.ensures.device (c.sync.ensures.medium.time.honest.0 honest))
 
 -- nothing is left to be made last
-durable : (g : Over) (c : In_ok-limits g) → IsHonest (g.D.SectorDisk.medium c.args.disk.now)
-    → IsDurable (g.D.SectorDisk.medium c.read_limits.new.disk)
+durable : (g : Over) (c : In_ok-superblock g) → IsHonest (g.D.SectorDisk.medium c.args.disk.now)
+    → IsDurable (g.D.SectorDisk.medium c.load_superblock.new.disk)
 durable g c honest =
     let h1 = c.sync.ensures.medium.time.honest.0 honest in
-    stays-durable _ _ h1 (c.read_limits.ensures.reads.stays h1) c.in_ok-sync.ensures.durable
+    stays-durable _ _ h1 (c.load_superblock.ensures.reads.stays h1) c.in_ok-sync.ensures.durable
 
 -- ---- after the objects
 
 reads-base : (g : Over) (c : In_ok-checkpoint g) → IsHonest (g.D.SectorDisk.medium c.args.disk.now)
     → Stays (g.D.SectorDisk.medium c.args.disk.now) (g.D.SectorDisk.medium c.load_base.new.disk)
 reads-base g c honest =
-    chain _ _ _ honest (chain _ _ _ honest c.sync.ensures.medium c.read_limits.ensures.reads.stays) c.load_base.ensures.reads.stays
+    chain _ _ _ honest (chain _ _ _ honest c.sync.ensures.medium c.load_superblock.ensures.reads.stays) c.load_base.ensures.reads.stays
 
--- the device again
+-- the superblock again
 device-base : (g : Over) (c : In_ok-checkpoint g) → IsHonest (g.D.SectorDisk.medium c.args.disk.now)
-    → IsDevice c.in_ok-limits.limits (g.D.SectorDisk.medium c.load_base.new.disk).contents
+    → Names c.in_ok-superblock.superblock (g.D.SectorDisk.medium c.load_base.new.disk).contents
 device-base g c honest =
     let h1 = c.sync.ensures.medium.time.honest.0 honest in
-    subst (IsDevice c.in_ok-limits.limits) (sym ((reads-base g c honest).contents honest))
-    (subst (IsDevice c.in_ok-limits.limits) (c.sync.ensures.medium.contents honest) (c.in_ok-limits.ensures.device h1))
+    subst (Names c.in_ok-superblock.superblock) (sym ((reads-base g c honest).contents honest))
+    (subst (Names c.in_ok-superblock.superblock) (c.sync.ensures.medium.contents honest) (c.in_ok-superblock.ensures.device h1))
 
 -- nothing is left to be made last
 durable-base : (g : Over) (c : In_ok-checkpoint g) → IsHonest (g.D.SectorDisk.medium c.args.disk.now)
-    → IsDurable (g.D.SectorDisk.medium c.read_limits.new.disk) × IsDurable (g.D.SectorDisk.medium c.load_base.new.disk)
+    → IsDurable (g.D.SectorDisk.medium c.load_superblock.new.disk) × IsDurable (g.D.SectorDisk.medium c.load_base.new.disk)
 durable-base g c honest =
     let h1 = c.sync.ensures.medium.time.honest.0 honest in
-    let s12 = c.read_limits.ensures.reads.stays h1 in
+    let s12 = c.load_superblock.ensures.reads.stays h1 in
     let h2 = s12.time.honest.0 h1 in
     let d2 = stays-durable _ _ h1 s12 c.in_ok-sync.ensures.durable in
     (d2, stays-durable _ _ h2 (c.load_base.ensures.reads.stays h2) d2)
 
 -- the objects
 kept : (g : Over) (c : In_ok-checkpoint g) → IsHonest (g.D.SectorDisk.medium c.args.disk.now)
-    → Kept c.in_ok-limits.limits c.in_ok-checkpoint.engine.state c.in_ok-checkpoint.checkpoint (g.D.SectorDisk.medium c.load_base.new.disk)
+    → Kept c.in_ok-superblock.superblock.limits c.in_ok-checkpoint.engine.state c.in_ok-checkpoint.checkpoint (g.D.SectorDisk.medium c.load_base.new.disk)
 kept g c honest =
-    let h2 = (chain _ _ _ honest c.sync.ensures.medium c.read_limits.ensures.reads.stays).time.honest.0 honest in
+    let h2 = (chain _ _ _ honest c.sync.ensures.medium c.load_superblock.ensures.reads.stays).time.honest.0 honest in
     c.in_ok-checkpoint.ensures.base h2 (durable-base g c honest).0
-
--- how many sectors there are
-count : (g : Over) (c : In_ok-checkpoint g) → IsHonest (g.D.SectorDisk.medium c.args.disk.now)
-    → length (g.D.SectorDisk.medium c.load_base.new.disk).contents ≡ g.D.SectorDisk.size c.read_limits.new.disk
-count g c honest =
-    let h3 = (reads-base g c honest).time.honest.0 honest in
-    (g.met.D.SectorDisk.shaped c.load_base.new.disk _ h3.reads).count ∙ c.load_base.ensures.reads.same.sectors
 
 -- the same disk until then
 same-base : (g : Over) (c : In_ok-checkpoint g)
     → IsSameDisk g.D.SectorDisk.size g.D.SectorDisk.medium c.args.disk.now c.load_base.new.disk
 same-base g c =
-    IsSameDisk-then (IsSameDisk-then (IsSameDisk-call c.sync.ensures.call c.sync.ensures.medium.time) c.read_limits.ensures.reads.same)
+    IsSameDisk-then (IsSameDisk-then (IsSameDisk-call c.sync.ensures.call c.sync.ensures.medium.time) c.load_superblock.ensures.reads.same)
     c.load_base.ensures.reads.same
 
 -- ---- the exits
 
-pub returns-in_err-limits-clause-damaged : goal.returns-in_err-limits-clause-damaged
-returns-in_err-limits-clause-damaged g c = λ sector is honest.
-    let e : c.in_err-limits.field-0.0 ≡ errors.Damaged sector =
-    passed_on c.from_residual-in_err-limits.result c.in_err-limits.field-0.0 (errors.Damaged sector) c.from_residual-in_err-limits.ensures.1 is in
+pub returns-in_err-superblock-clause-damaged : goal.returns-in_err-superblock-clause-damaged
+returns-in_err-superblock-clause-damaged g c = λ sector is honest.
+    let e : c.in_err-superblock.field-0.0 ≡ errors.Damaged sector =
+    passed_on c.from_residual-in_err-superblock.result c.in_err-superblock.field-0.0 (errors.Damaged sector) c.from_residual-in_err-superblock.ensures.1 is in
     subst (λ (image : Image). IsDamaged image × IsFirstFault image sector) (c.sync.ensures.medium.contents honest)
-    (c.read_limits.ensures.damaged sector (c.in_err-limits.was ∙ ap Err e) (c.sync.ensures.medium.time.honest.0 honest))
+    (c.load_superblock.ensures.damaged sector (c.in_err-superblock.was ∙ ap Err e) (c.sync.ensures.medium.time.honest.0 honest))
 
 pub returns-in_err-checkpoint-clause-not_formatted : goal.returns-in_err-checkpoint-clause-not_formatted
 returns-in_err-checkpoint-clause-not_formatted g c = λ is honest.
@@ -108,22 +105,27 @@ returns-in_err-checkpoint-clause-version g c = λ found is honest.
 
 pub returns-in_err-checkpoint-clause-damaged : goal.returns-in_err-checkpoint-clause-damaged
 returns-in_err-checkpoint-clause-damaged g c = λ sector is honest.
-    let here = (goal.at.returns-in_err-checkpoint-clause-damaged g c).In_ok-limits in
-    let image : Image = (g.D.SectorDisk.medium c.read_limits.new.disk).contents in
-    let s02 = reads-limits g here honest in
+    let here = (goal.at.returns-in_err-checkpoint-clause-damaged g c).In_ok-superblock in
+    let image : Image = (g.D.SectorDisk.medium c.load_superblock.new.disk).contents in
+    let s02 = reads-superblock g here honest in
     let h2 = s02.time.honest.0 honest in
-    let is-device = subst (IsDevice c.in_ok-limits.limits) (sym (s02.contents honest)) (device g here honest) in
+    let names = subst (Names c.in_ok-superblock.superblock) (sym (s02.contents honest)) (device g here honest) in
     let few : length image < 2 ^ 32 =
-    omega (arith, (g.met.D.SectorDisk.shaped c.read_limits.new.disk image h2.reads).count, g.met.D.SectorDisk.fits c.read_limits.new.disk) in
+    omega (arith, (g.met.D.SectorDisk.shaped c.load_superblock.new.disk image h2.reads).count, g.met.D.SectorDisk.fits c.load_superblock.new.disk) in
     let e = ap Err (passed_on c.from_residual-in_err-checkpoint.result c.in_err-checkpoint.field-0.0 (errors.Damaged sector)
     c.from_residual-in_err-checkpoint.ensures.1 is) in
-    let both = c.in_err-checkpoint.ensures.damaged sector e h2 is-device in
+    let both = c.in_err-checkpoint.ensures.damaged sector e h2 names.0 names.1 in
     subst (λ (i : Image). IsDamaged i × IsFirstFault i sector) (s02.contents honest)
-    (base-damaged c.in_ok-limits.limits image few is-device both.0, both.1)
+    (base-damaged c.in_ok-superblock.superblock.limits image few names.0 both.0, both.1)
 
 pub returns-in_err-checkpoint-clause-reads : goal.returns-in_err-checkpoint-clause-reads
 returns-in_err-checkpoint-clause-reads g c = λ honest.
-    chain _ _ _ honest (reads-limits g (goal.at.returns-in_err-checkpoint-clause-reads g c).In_ok-limits honest) c.load_base.ensures.reads.stays
+    chain _ _ _ honest (reads-superblock g (goal.at.returns-in_err-checkpoint-clause-reads g c).In_ok-superblock honest) c.load_base.ensures.reads.stays
+
+pub returns-in_err-checkpoint-clause-same : goal.returns-in_err-checkpoint-clause-same
+returns-in_err-checkpoint-clause-same g c =
+    IsSameDisk-then (IsSameDisk-then (IsSameDisk-call c.sync.ensures.call c.sync.ensures.medium.time) c.load_superblock.ensures.reads.same)
+    c.load_base.ensures.reads.same
 
 pub returns-in_err-journal-clause-same : goal.returns-in_err-journal-clause-same
 returns-in_err-journal-clause-same g c =
@@ -145,12 +147,12 @@ returns-in_err-journal-clause-damaged g c = λ sector is honest.
     let m3 : Medium = g.D.SectorDisk.medium c.load_base.new.disk in
     let s03 = reads-base g here honest in
     let h3 = s03.time.honest.0 honest in
-    let limits : Limits = c.in_ok-limits.limits in
+    let limits : Limits = c.in_ok-superblock.superblock.limits in
     let checkpoint = c.in_ok-checkpoint.checkpoint in
     let from = c.in_ok-checkpoint.engine.state in
     let has : HasBase limits (saved_epoch checkpoint) from m3.contents =
-    has-base limits (g.D.SectorDisk.size c.read_limits.new.disk) checkpoint c.in_ok-checkpoint.ensures.layout m3 from h3
-    (device-base g here honest) (count g here honest) (kept g here honest) in
+    has-base limits c.in_ok-superblock.superblock.sectors checkpoint c.in_ok-checkpoint.ensures.layout m3 from h3
+    (device-base g here honest).0 (device-base g here honest).1 (kept g here honest) in
     let e = ap Err (passed_on c.from_residual-in_err-journal.result c.in_err-journal.field-0.0 (errors.Damaged sector)
     c.from_residual-in_err-journal.ensures.1 is) in
     subst (λ (i : Image). IsDamaged i × IsFirstFault i sector) (s03.contents honest)
@@ -179,22 +181,29 @@ returns-clause-current g c = λ honest some.
 
 pub returns-clause-on_disk : goal.returns-clause-on_disk
 returns-clause-on_disk g c =
-    on-disk c.in_ok-limits.limits (g.D.SectorDisk.size c.read_limits.new.disk) c.in_ok-checkpoint.checkpoint c.in_ok-checkpoint.ensures.layout
+    on-disk c.in_ok-superblock.superblock.limits c.in_ok-superblock.superblock.sectors c.in_ok-checkpoint.checkpoint c.in_ok-checkpoint.ensures.layout
     c.in_ok-journal.journal c.in_ok-journal.ensures.range c.in_ok-journal.ensures.epoch c.load_journal.new.engine
     (c.load_journal.ensures.limits ∙ c.in_ok-checkpoint.ensures.limits) (g.D.SectorDisk.size c.load_journal.new.disk)
-    (c.load_journal.ensures.reads.same.sectors ∙ c.load_base.ensures.reads.same.sectors) c.in_ok-limits.ensures.passed
-    (omega (arith, c.in_ok-limits.ensures.room, c.read_limits.ensures.reads.same.sectors))
+    (omega (
+      arith,
+      c.in_ok-superblock.ensures.there,
+      c.load_superblock.ensures.reads.same.sectors,
+      c.load_base.ensures.reads.same.sectors,
+      c.load_journal.ensures.reads.same.sectors,
+    ))
+    c.in_ok-superblock.ensures.passed c.in_ok-superblock.ensures.room
 
 pub returns-clause-matches : goal.returns-clause-matches
 returns-clause-matches g c = λ honest.
     let here = (goal.at.returns-clause-matches g c).In_ok-checkpoint in
     let m3 : Medium = g.D.SectorDisk.medium c.load_base.new.disk in
     let m4 : Medium = g.D.SectorDisk.medium c.load_journal.new.disk in
-    let limits : Limits = c.in_ok-limits.limits in
+    let limits : Limits = c.in_ok-superblock.superblock.limits in
     let h3 = (reads-base g here honest).time.honest.0 honest in
     let s34 = c.load_journal.ensures.reads.stays h3 in
     let h4 = s34.time.honest.0 h3 in
     let d3 = (durable-base g here honest).1 in
+    let names = subst (Names c.in_ok-superblock.superblock) (sym (s34.contents h3)) (device-base g here honest) in
     let from = c.in_ok-checkpoint.engine.state in
     let was = kept g here honest in
     let tracked : IsTracked c.load_journal.new.engine.changed from c.load_journal.new.engine.state =
@@ -203,11 +212,10 @@ returns-clause-matches g c = λ honest.
     let led : Led limits from c.load_journal.new.engine.state c.in_ok-journal.journal m4 =
     subst (λ (l : Limits). Led l from c.load_journal.new.engine.state c.in_ok-journal.journal m4) c.in_ok-checkpoint.ensures.limits
     (c.in_ok-journal.ensures.leads h3 d3) in
-    loaded limits (g.D.SectorDisk.size c.read_limits.new.disk) c.in_ok-checkpoint.checkpoint c.in_ok-checkpoint.ensures.layout
+    loaded limits c.in_ok-superblock.superblock.sectors c.in_ok-checkpoint.checkpoint c.in_ok-checkpoint.ensures.layout
     c.in_ok-journal.journal c.in_ok-journal.ensures.range c.in_ok-journal.ensures.epoch c.load_journal.new.engine
     (c.load_journal.ensures.limits ∙ c.in_ok-checkpoint.ensures.limits) m4 from h4
-    (stays-durable m3 m4 h3 s34 d3) (subst (IsDevice limits) (sym (s34.contents h3)) (device-base g here honest))
-    (ap length (s34.contents h3) ∙ count g here honest)
+    (stays-durable m3 m4 h3 s34 d3) names.0 names.1
     (was.0, was.1, CheckpointMatches-stays c.in_ok-checkpoint.checkpoint was.0 m3 m4 s34 was.2) led tracked
 
 -- ---- counts
@@ -218,13 +226,13 @@ until-base : (g : Over) (c : In_ok-checkpoint g)
     × ((g.D.SectorDisk.counts c.load_base.new.disk).writes ≡ (g.D.SectorDisk.counts c.args.disk.now).writes)
 until-base g c =
     let all = ⊎_elim (λ bad. cc) (λ same. same) c.in_ok-checkpoint.ensures.reads.no_failure
-    ∙ ⊎_elim (λ bad. cc) (λ same. same) c.in_ok-limits.ensures.reads.no_failure ∙ c.in_ok-sync.ensures.call.ok in
+    ∙ ⊎_elim (λ bad. cc) (λ same. same) c.in_ok-superblock.ensures.reads.no_failure ∙ c.in_ok-sync.ensures.call.ok in
     (ap (λ n. n.failures) all, ap (λ n. n.writes) all)
 
 pub returns-in_err-checkpoint-clause-counts : goal.returns-in_err-checkpoint-clause-counts
 returns-in_err-checkpoint-clause-counts g c =
     OnlyReads-counts
-    (ap (λ n. n.failures) (⊎_elim (λ bad. cc) (λ same. same) c.in_ok-limits.ensures.reads.no_failure ∙ c.in_ok-sync.ensures.call.ok))
+    (ap (λ n. n.failures) (⊎_elim (λ bad. cc) (λ same. same) c.in_ok-superblock.ensures.reads.no_failure ∙ c.in_ok-sync.ensures.call.ok))
     (passed-device c.load_base.result c.from_residual-in_err-checkpoint.result c.in_err-checkpoint.field-0.0 c.in_err-checkpoint.was
     c.from_residual-in_err-checkpoint.ensures.1) c.load_base.ensures.reads
 

@@ -10,7 +10,8 @@ returns-clause-count c =
     let o = c.self.inside in
     omega (
       arith,
-      tables_count o.numbers o.processes.now o.waits.now o.undo.now o.queues.now o.sets.now o.mqs.now o.sems.now o.segments.now,
+      tables_count o.numbers o.processes.now o.waits.now o.undo.now o.queues.now o.sets.now o.mqs.now o.sems.now o.segments.now
+          o.shms.now,
       ap (λ (s : State). length (saved s)) c.self.view_is,
     )
 

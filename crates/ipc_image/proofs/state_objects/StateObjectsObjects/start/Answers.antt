@@ -13,6 +13,7 @@ returns c =
           (mark-each IsMarkOfSet _ (record { parts = 0; bytes = 0 }) (λ e. refl)
           (mark-each IsMarkOfMq _ (record { parts = 0; bytes = 0 }) (λ e. refl)
           (mark-each IsAnyMark _ (record { parts = 0; bytes = 0 }) (λ e. tt)
-          (mark-each IsAnyMark _ (record { parts = 0; bytes = 0 }) (λ e. tt) (λ at. tt) s.pshm.entries) s.psem.entries) s.mq.entries)
-          s.semset.entries) s.msg.entries (c.args.i - 4);
+          (mark-each IsAnyMark _ (record { parts = 0; bytes = 0 }) (λ e. tt)
+          (mark-each IsAnyMark _ (record { parts = 0; bytes = 0 }) (λ e. tt) (λ at. tt) s.shm.entries) s.pshm.entries) s.psem.entries)
+          s.mq.entries) s.semset.entries) s.msg.entries (c.args.i - 4);
     }

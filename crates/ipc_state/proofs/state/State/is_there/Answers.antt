@@ -18,6 +18,12 @@ returns-in-Semset c =
     let is : kinds.Semset ≡ c.args.kind = cc in
     subst (λ (k : ObjectKind). c.is_some-in-Semset.result ≡ is_some (entry_of (objects_of c.args.self.now.state k) c.args.number)) is (search rules)
 
+pub returns-in-Shm : goal.returns-in-Shm
+returns-in-Shm c =
+    let at = c.in-Shm.is in
+    let is : kinds.Shm ≡ c.args.kind = cc in
+    subst (λ (k : ObjectKind). c.is_some-in-Shm.result ≡ is_some (entry_of (objects_of c.args.self.now.state k) c.args.number)) is (search rules)
+
 pub returns-in-Named : goal.returns-in-Named
 returns-in-Named c =
     let at = c.in-Named.is in

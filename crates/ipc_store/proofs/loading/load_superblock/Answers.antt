@@ -4,8 +4,16 @@ use Rattle.ipc_store.proofs.Loaded.{OnlyReads-call, OnlyReads-never}
 use Rattle.ipc_image.specs.Superblock.{IsFormatted}
 use Rattle.ipc_store.specs.Image.{HasVersion, IsDamaged, IsFirstFault}
 use Rattle.ipc_store.proofs.Faults.{ok-device, format-device}
-use Rattle.ipc_store.proofs.Superblocks.{sector-read, has_version, is_damaged}
-use Rattle.ipc_store.proofs.loading.read_limits.Goals as goal
+use Rattle.ipc_store.proofs.Superblocks.{sector-read, is_device, has_version, is_damaged}
+use Rattle.ipc_store.proofs.loading.load_superblock.Goals as goal
+
+pub returns-in-Ok-clause-device : goal.returns-in-Ok-clause-device
+returns-in-Ok-clause-device g c = λ honest.
+    let size = g.D.SectorDisk.size c.args.disk.now in
+    let image : Image = (g.D.SectorDisk.medium c.args.disk.now).contents in
+    is_device image size c.read.new.into (g.met.D.SectorDisk.shaped c.args.disk.now image honest.reads).count
+    (sector-read image 0 c.read.new.into (c.in_ok-read.ensures.bytes honest)) (g.met.D.SectorDisk.fits c.args.disk.now)
+    c.in-Ok.superblock (omega (arith, c.in-Ok.ensures.room, c.sectors-sectors.ensures)) c.in-Ok.ensures.ok
 
 pub returns-in-Err-NotFormatted-clause-not_formatted : goal.returns-in-Err-NotFormatted-clause-not_formatted
 returns-in-Err-NotFormatted-clause-not_formatted g c = λ is honest.
