@@ -25,7 +25,7 @@ pub struct Request<'a> {
 impl<'a> Request<'a> {
     ghost use Rattle.ipc_wire.specs.View.{plain_request};
 
-    /// The bytes of its frame after the length, from 5 to 8448.
+    /// The bytes of its frame after the length, from 5 to 65792.
     pub fn bytes(&self) -> &'a [u8]
         ensures { result.now ≡ request_bytes (plain_request self.now) }
     {
@@ -154,7 +154,7 @@ pub enum SysvCall<'a> {
 pub enum Frame<'a> {
     /// No whole frame yet.
     More,
-    /// A request, and how many bytes its frame takes, from 9 to 8452.
+    /// A request, and how many bytes its frame takes, from 9 to 65796.
     Whole { used: usize, request: Request<'a> },
     /// No request, whatever comes behind. The serial of the frame, or 0 where it has none.
     Fault { serial: u32 },
