@@ -101,7 +101,7 @@ RUNS = sh tests/runs.sh crates/ipcd/out/ipcd && python3 tests/terminal.py crates
 	python3 tests/words.py crates/ipcd/out/ipcd && python3 tests/scripts.py crates/ipcd/out/ipcd && \
 	python3 tests/sets.py crates/ipcd/out/ipcd && \
 	python3 tests/install.py crates/ipcd/out/ipcd && python3 tests/device.py crates/ipcd/out/ipcd && \
-	python3 tests/files.py crates/ipcd/out/ipcd
+	python3 tests/files.py crates/ipcd/out/ipcd && python3 tests/upgrade.py crates/ipcd/out/ipcd
 
 runs: program
 	@$(RUNS)

@@ -26,6 +26,7 @@ from device_layout import (  # noqa: E402
     batch,
     clock,
     need_of,
+    old_device,
     processes,
     put_into_file,
     state,
@@ -44,6 +45,7 @@ from server import (  # noqa: E402
     until,
 )
 from client import IPC_CREAT, hello_request, msgrcv_request, msgsnd_request  # noqa: E402
+from upgrade import LISTED  # noqa: E402
 from watch import OPEN, TURN, Call, Disk, build, calls, follows, order, refused_once, watched, whole_turns  # noqa: E402
 
 FAULT = "ipcd: device fault\n"
@@ -140,6 +142,66 @@ def opens_refused() -> None:
             check(not os.path.lexists("socket"), "a socket is left")
             refused_once(calls())
             check(printed("dump", "device") == wanted, f"after {name} {number}: something else is kept")
+
+
+# ---- an upgrade
+
+# The first sync makes last what is read. The new objects and their table come before the root that names them, and all
+# of them before the superblock.
+UPGRADES = "SO+SRS0S[Pc]*"
+
+
+def upgrades() -> None:
+    """A file that grows is cut to its whole sectors first, and synced once it has all."""
+    Path("device").write_bytes(old_device(need_of(SMALL)))
+    with watched():
+        printed("upgrade", "device", "--small")
+    follows(UPGRADES, calls())
+    Path("device").write_bytes(old_device() + b"x")
+    with watched():
+        printed("upgrade", "device", "--small", "--sectors", str(need_of(SMALL)))
+    them = calls()
+    follows("TO+F" + UPGRADES, them)
+    check(them[0].place == len(old_device()), f"the file is cut to {them[0].place}")
+
+
+def growth_refused() -> None:
+    """A file that cannot grow before an upgrade has its whole sectors again, and is synced no more."""
+    image = old_device()
+    zeros = -(-(SIZE - len(image)) // 4096)
+    rows = [("ftruncate", 1, errno.EIO), ("fsync", 1, errno.EIO)]
+    rows += [("pwrite", number, errno.ENOSPC) for number in (1, 2, zeros - 1, zeros)]
+    for name, number, error in rows:
+        Path("device").write_bytes(image + b"x")
+        with watched(f"{name} {number} {error}"):
+            ended = run("upgrade", "device", "--small", "--sectors", str(need_of(SMALL)))
+        found = (ended.returncode, ended.stdout, ended.stderr)
+        check(found == (1, "", FAULT), f"with {name} {number} refused: {ended}")
+        check("S" not in order(calls()), f"with {name} {number} refused: it goes on")
+        check(Path("device").read_bytes() == image, f"with {name} {number} refused: the file is another one")
+
+
+def upgrades_refused() -> None:
+    """Each call of an upgrade in turn. What was there is there after another upgrade, unless the first has come to its
+    end but for the last sync."""
+    image = old_device(need_of(SMALL))
+    Path("device").write_bytes(image)
+    with watched():
+        printed("upgrade", "device", "--small")
+    names = [call.name for call in calls()]
+    rows = [(name, number) for name in ("pread", "pwrite", "fdatasync") for number in range(1, 1 + names.count(name))]
+    for name, number in rows:
+        Path("device").write_bytes(image)
+        with watched(f"{name} {number} {errno.EIO}"):
+            ended = run("upgrade", "device", "--small")
+        found = (ended.returncode, ended.stdout, ended.stderr)
+        check(found == (1, "", FAULT), f"with {name} {number} refused: {ended}")
+        refused_once(calls())
+        is_done = (name, number) == ("fdatasync", names.count("fdatasync"))
+        again = run("upgrade", "device", "--small")
+        wanted = "ipcd: version 2\n" if is_done else ""
+        check(again.stderr == wanted, f"after {name} {number}: {again}")
+        check(printed("dump", "device") == LISTED, f"after {name} {number}: something else is kept")
 
 
 # ---- replies
@@ -365,6 +427,9 @@ TESTS = [
     formats,
     formats_refused,
     opens_refused,
+    upgrades,
+    growth_refused,
+    upgrades_refused,
     replies_wait_for_both_syncs,
     a_write_of_half,
     failing_commits,

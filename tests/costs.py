@@ -28,19 +28,25 @@ sys.dont_write_bytecode = True
 from device_layout import (  # noqa: E402
     BODY,
     OBJECTS,
+    ONE,
     QUEUE_KIND,
     RESTART,
     ROOT,
     SECTOR,
     STANDARD,
+    STANDARD_OF_ONE,
     TWO,
     Device,
     Heap,
+    NamedSem,
+    Posix,
     Queue,
     Segment,
+    Set,
     batch,
     clock,
     connect,
+    need_of,
     processes,
     put_into_file,
     read,
@@ -673,6 +679,39 @@ def saves_beside_much() -> None:
 # ---- moments
 
 
+# ---- an upgrade
+
+# In seconds of a processor, with the zeros that the file gets.
+MOST_OF_AN_UPGRADE = 3.0
+
+
+def full_old_device() -> Device:
+    """A standard device of version 1 with as many objects of each kind, messages, semaphores and bytes as there may be.
+    Its journal changes each queue."""
+    queues = {number: Queue(number, 16384 * BYTES, qbytes=16384) for number in range(1, 33)}
+    sets = {number: Set(0, 16 * ((1, 0),)) for number in range(1, 33)}
+    posix = {at: Posix(b"/%d" % at, 10 * ((0, 8192 * b"x"),), maxmsg=10, msgsize=8192) for at in range(1, 33)}
+    named = {number: NamedSem(b"/%d" % number) for number in range(1, 65)}
+    segments = {number: Segment(b"/%d" % number, 32768 * b"x") for number in range(1, 33)}
+    numbers = clock(9, 2, 33, 33, 33, 65, 33, version=ONE)
+    objects = state(numbers, processes(), queues, sets, posix=posix, named=named, segments=segments)
+    asked = [request(9, 2, struct.pack(">I", 1) + set_queue(number)) for number in queues]
+    device = Device(STANDARD_OF_ONE, version=ONE).save(1, objects, count(OBJECTS))
+    return device.journal(1, batch(connect(9, 1, 1000, 100), *asked))
+
+
+def an_upgrade_of_much() -> None:
+    put_into_file("device", full_old_device().image)
+    sectors = need_of(STANDARD)
+    before = resource.getrusage(resource.RUSAGE_CHILDREN)
+    said = printed("upgrade", "device", "--sectors", str(sectors))
+    after = resource.getrusage(resource.RUSAGE_CHILDREN)
+    took = after.ru_utime + after.ru_stime - before.ru_utime - before.ru_stime
+    check(said == f"upgraded {sectors} sectors\n", f"{said!r} is printed")
+    check(len(printed("dump", "device").splitlines()) == 192, "other objects are listed")
+    check(took <= MOST_OF_AN_UPGRADE, f"an upgrade takes {took:.2f} s of a processor, and not {MOST_OF_AN_UPGRADE}")
+
+
 def milliseconds() -> int:
     return time.time_ns() // 10**6
 
@@ -710,6 +749,7 @@ TESTS = [
     clients_beyond_the_hundredth,
     saves_and_opens_by_what_there_is,
     saves_beside_much,
+    an_upgrade_of_much,
 ]
 WATCHED = [
     turns_that_are_idle,

@@ -477,6 +477,24 @@ def start(version: Version = TWO) -> list[tuple[int, bytes]]:
 
 START = start()
 
+# A device of version 1 under small limits, of as many sectors as these need, with something of each kind. Process 20 is
+# registered with a POSIX queue; another one, a semaphore and a segment are unlinked, and are there while somebody has
+# them open; two calls wait. In its journal a message comes for one that waits, a process raises a semaphore, another is
+# interrupted, and process 20 leaves. `tests/upgrade.py` has its parts.
+OLD_DEVICE = Path(__file__).resolve().parent / "old_device.hex"
+
+
+def old_device(sectors: int = 0) -> bytes:
+    """This device, as it is kept: the number of each sector that is not all zeros, and its bytes up to the zeros at its
+    end. A file of more sectors has zeros after them."""
+    image = bytearray(SECTOR * (sectors or need_of(SMALL_OF_ONE, ONE)))
+    for line in OLD_DEVICE.read_text().splitlines():
+        number, digits = line.split()
+        data, at = bytes.fromhex(digits), SECTOR * int(number)
+        image[at : at + len(data)] = data
+    return bytes(image)
+
+
 # ---- a whole device
 
 

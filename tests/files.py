@@ -23,7 +23,7 @@ from server import check, in_a_folder, printed, run, run_tests  # noqa: E402
 
 FAULT = (1, "", "ipcd: device fault\n")
 OLD = b"\xee"
-COMMANDS = [("format", "--small"), ("run",), ("dump",), ("serve", "socket")]
+COMMANDS = [("format", "--small"), ("run",), ("dump",), ("serve", "socket"), ("upgrade", "--small")]
 
 
 def is_refused(name: str, path: str) -> None:

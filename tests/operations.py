@@ -2,8 +2,8 @@
 
     python3 tests/operations.py PROGRAM
 
-The commands of the backup are those of the page, with other paths and without another owner. It
-takes some seconds.
+The commands of the backup and of the upgrade are those of the page, with other paths and without
+another owner. It takes some seconds.
 """
 
 from __future__ import annotations
@@ -24,7 +24,17 @@ from pathlib import Path
 
 sys.dont_write_bytecode = True
 
-from device_layout import ONE, SMALL_OF_ONE, Device  # noqa: E402
+from device_layout import (  # noqa: E402
+    ONE,
+    SMALL_OF_ONE,
+    STANDARD_OF_ONE,
+    Device,
+    Queue,
+    clock,
+    processes,
+    put_into_file,
+    state,
+)
 from server import (  # noqa: E402
     PROGRAM,
     TIMEOUT,
@@ -126,6 +136,26 @@ def an_earlier_version() -> None:
             found = (ended.returncode, ended.stdout, ended.stderr)
             check(found == (1, "", f"ipcd: version {version}\n"), f"{words}: {ended}")
             check(Path("device").read_bytes() == device, f"{words}: the device has changed")
+
+
+def an_upgrade() -> None:
+    """The page's command makes a standard device of version 1 one that a server takes, with its messages. It is refused
+    while the server has it."""
+    lines = [line for line in PAGE.read_text().splitlines() if " -- ipcd upgrade " in line]
+    check(len(lines) == 1, f"{lines} are the page's commands")
+    words = lines[0].partition(" -- ipcd ")[2].replace("/var/lib/ipcd/device", "device").split()
+    queue = Queue(1, tuple((1, text) for text in TEXTS), qbytes=16384)
+    old = Device(STANDARD_OF_ONE, version=ONE)
+    old.save(2, state(clock(9, 2, 2, version=ONE), processes((1, 1000, 100)), {1: queue}))
+    put_into_file("device", old.image)
+    check(printed(*words) == "upgraded 252440 sectors\n", "the device is not upgraded")
+    with serving():
+        with process() as client:
+            texts = [client.msgrcv(client.msgget(1, 0), 64) for _ in TEXTS]
+        check(texts == [(1, text) for text in TEXTS], f"its messages are {texts}")
+        check(run(*words).stderr == "ipcd: device fault\n", "a device in use is taken")
+    check(run(*words).stderr == "ipcd: version 2\n", "a second upgrade is something else")
+    os.remove("device")
 
 
 def make_one_of_each() -> None:
@@ -314,6 +344,7 @@ def clients_that_come_and_go() -> None:
 TESTS = [
     backups,
     an_earlier_version,
+    an_upgrade,
     objects_that_move,
     removed_and_replaced,
     cut,

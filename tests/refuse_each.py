@@ -7,8 +7,9 @@ the answers to some first lines; or one request is answered ENOMEM, and all else
 Of that only the moment is left, as a tick. What a run is compared with is printed by another, of which nothing is
 refused. `IPCD dump`, and `IPCD run` of no line, on the device that the script leaves: they do all, or say that there is
 no memory, or that the device failed, where memory of the device itself was refused; and then the device still opens.
-Each call of `TRIALS refused`: it is refused, what it was made on is as before, and it is done when it is made again;
-those that take no memory are never refused.
+`IPCD upgrade` of a device of version 1: it is done, or refused, and then the file is as before. Each call of `TRIALS
+refused`: it is refused, what it was made on is as before, and it is done when it is made again; those that take no
+memory are never refused.
 
 An exit, a tick, a reply, a commit or a save that met the refusal would end the script's run with another text than
 `no memory`, or with EIO frames, or would leave out a frame. None may.
@@ -33,7 +34,7 @@ from typing import NamedTuple
 
 sys.dont_write_bytecode = True
 
-from device_layout import SMALL, Device  # noqa: E402
+from device_layout import SMALL, Device, need_of, old_device  # noqa: E402
 
 TESTS = Path(__file__).resolve().parent
 IPCD, TRIALS = (os.path.abspath(word) for word in sys.argv[1:3])
@@ -215,6 +216,21 @@ def try_device(image: bytes, command: str, wanted: str) -> str:
     return f"{runs} of `{command}`"
 
 
+def try_upgrade() -> str:
+    """Each refusal of an upgrade. It comes before anything is written, or the upgrade is done without that memory."""
+    device, image, runs = Path("device"), old_device(need_of(SMALL)), 0
+    device.write_bytes(image)
+    for ran in refused("", IPCD, "upgrade", "device", "--small"):
+        runs += 1
+        if ran.is_well():
+            ran.check(run(0, "", IPCD, "dump", "device").is_well(), "a device that was upgraded does not open")
+        else:
+            ran.check(ran.says("ipcd: no memory") or ran.says("ipcd: device fault"), "an upgrade ends otherwise")
+            ran.check(device.read_bytes() == image, "an upgrade that is refused has changed the device")
+        device.write_bytes(image)
+    return f"{runs} of `upgrade`"
+
+
 # ---- each call by itself
 
 
@@ -253,7 +269,7 @@ def main() -> None:
         )
         tried = [try_script(script, answers)]
         image = left_by(script)
-        tried += [try_device(image, "dump", LISTED), try_device(image, "run", ""), try_calls()]
+        tried += [try_device(image, "dump", LISTED), try_device(image, "run", ""), try_upgrade(), try_calls()]
     print(f"refuse_each: {', '.join(tried)}, each with one allocation refused")
 
 

@@ -287,7 +287,7 @@ fi
 
 name "no command"
 says "error: 'ipcd' requires a subcommand but one was not provided"
-says "  [subcommands: replay, format, run, dump, serve, help]"
+says "  [subcommands: replay, format, upgrade, run, dump, serve, help]"
 says ""
 says "Usage: ipcd <COMMAND>"
 says ""
@@ -645,6 +645,8 @@ name "help of a command"
 tells "^ *--small " replay --help
 name "help of format"
 tells "^ *--sectors <N> " format --help
+name "help of upgrade"
+tells "^ *--sectors <N> " upgrade --help
 name "the version"
 tells "^ipcd [0-9]*\.[0-9]*\.[0-9]*, devices of version 2$" --version
 

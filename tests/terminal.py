@@ -1,8 +1,8 @@
-"""What `ipcd format` shows on a terminal while it makes a device.
+"""What `ipcd format` shows on a terminal while it makes a device, and `ipcd upgrade` while the file grows.
 
     python3 tests/terminal.py PROGRAM
 
-Devices are made with standard error on a pseudo terminal, and one on a pipe. What is expected was
+Devices are made and upgraded with standard error on a pseudo terminal, and one on a pipe. What is expected was
 reckoned from docs/DEVICE.md, and never taken from the program. It takes a moment.
 """
 
@@ -14,7 +14,10 @@ import sys
 import tempfile
 from pathlib import Path
 
-from pseudo_terminal import all_shown, open_terminal
+sys.dont_write_bytecode = True
+
+from device_layout import old_device  # noqa: E402
+from pseudo_terminal import all_shown, open_terminal  # noqa: E402
 
 PROGRAM = os.path.abspath(sys.argv[1])
 
@@ -70,9 +73,32 @@ def tells(length: int | None, sectors: int, told: tuple[int, ...]) -> None:
     check(shown == wanted, f"{sectors} sectors of {length} bytes: {shown!r} is shown, and not {wanted!r}")
 
 
+# Of how many sectors a file is that has a device of version 1, how many are asked for, and the numbers that are shown.
+GROWN: list[tuple[int, int, tuple[int, ...]]] = [
+    (448, 5000, (2048, 4096, 5000)),
+    (2000, 2049, (2048, 2049)),
+    (2000, 1366, ()),
+]
+
+
+def tells_of_upgrade(before: int, sectors: int, told: tuple[int, ...]) -> None:
+    Path("device").write_bytes(old_device(before))
+    terminal, errors = open_terminal()
+    words = [PROGRAM, "upgrade", "device", "--small", "--sectors", str(sectors)]
+    ended = subprocess.run(words, stdout=subprocess.PIPE, stderr=errors, timeout=60)
+    os.close(errors)
+    shown, wanted = all_shown(terminal), progress(sectors, *told) if told else b""
+    os.close(terminal)
+    said = f"upgraded {max(before, sectors)} sectors\n".encode()
+    check((ended.returncode, ended.stdout) == (0, said), f"an upgrade of {sectors} sectors: {ended}")
+    check(shown == wanted, f"an upgrade of {sectors} sectors: {shown!r} is shown, and not {wanted!r}")
+
+
 def main() -> None:
     for row in TOLD:
         tells(*row)
+    for grown in GROWN:
+        tells_of_upgrade(*grown)
 
     # A terminal that takes nothing.
     terminal, errors = open_terminal()
@@ -82,7 +108,7 @@ def main() -> None:
     # No terminal.
     os.unlink("device")
     check(makes(5000, subprocess.PIPE) == b"", "a pipe is told how far a device is")
-    print(f"terminal: {len(TOLD) + 2} devices")
+    print(f"terminal: {len(TOLD) + len(GROWN) + 2} devices")
 
 
 if __name__ == "__main__":

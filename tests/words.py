@@ -35,9 +35,12 @@ REFUSED = [
     ("format", "queues", "--sectors"),
     ("format", "queues", "--sectors", "-1"),
     ("format", "missing/queues", "--sectors", "4294967296"),
+    ("upgrade",),
+    ("upgrade", "queues", "more"),
+    ("upgrade", "queues", "--sectors", "many"),
 ]
 
-HELPED = ["run", "dump", "serve"]
+HELPED = ["run", "dump", "serve", "upgrade"]
 
 # Words that print something and do nothing else.
 TOLD = [("--help",), ("--version",), ("help",), ("serve", "--help"), ("help", "format")]
@@ -51,6 +54,7 @@ FAILS = [
     (("format", "queues", "--sectors", "0", "--small"), "too small, 1366 sectors needed"),
     (("format", "--small", "--sectors=1365", "queues"), "too small, 1366 sectors needed"),
     (("format", "missing/queues", "--sectors", GREATEST), "device fault"),
+    (("upgrade", "--sectors", GREATEST, "missing/queues", "--small"), "device fault"),
     (("serve", "missing/queues", "socket", "--turns", GREATEST), "device fault"),
 ]
 

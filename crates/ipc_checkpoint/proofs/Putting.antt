@@ -14,12 +14,13 @@ use Rattle.ipc_disk.specs.Counts.{Counts, InRange, with_calls}
 use Rattle.ipc_disk.specs.declared.range.Range.{Range}
 use Rattle.ipc_disk.specs.Medium.{Image, Medium, IsHonest}
 use Rattle.ipc_disk.specs.Range.{IsOutside}
-use Rattle.ipc_disk.specs.Since.{EachImageSince, LeavesAlone}
+use Rattle.ipc_disk.specs.Since.{LeavesAlone}
 use Rattle.ipc_disk.specs.Standing.{sectors_for}
-use Rattle.ipc_disk.proofs.CallerLemmas.{EachImageSince-join, EachImageSince-start, IsSameDisk-then, LeavesAlone-fewer, LeavesAlone-join, LeavesAlone-start}
+use Rattle.ipc_disk.proofs.CallerLemmas.{EachImageSince-join, EachImageSince-now, EachImageSince-start, IsSameDisk-then, LeavesAlone-fewer}
+use Rattle.ipc_disk.proofs.CallerLemmas.{LeavesAlone-join, LeavesAlone-start}
 use Rattle.ipc_disk.proofs.CallerLemmas.{counts-calls}
-use Rattle.ipc_heap.specs.Heap.{Holds, IsElsewhere, object_on}
-use Rattle.ipc_heap.specs.Matches.{HeapMatches, IsKept}
+use Rattle.ipc_heap.specs.Heap.{Holds, object_on}
+use Rattle.ipc_heap.specs.Matches.{HeapMatches, IsKept, StaysSaved}
 use Rattle.ipc_heap.specs.View.{ArePlaced, HeapView, StaysInPlace, free, map_of, sizes_of, with_object}
 use Rattle.ipc_checkpoint.specs.Matches.{changed_sectors}
 use Rattle.ipc_checkpoint.specs.Saving.{AreThere, HasNoOthers}
@@ -99,8 +100,8 @@ module _ {D : Type 0} (size : D → ℕ) (medium : D → Medium) (counts : D →
     pub map : (saved : PlainObjects) → HeapMatches begin saved (medium old) → AreThere differs os (map_of begin (medium old))
         → (k : ℕ) (o : ℕ × List ℕ) → slice_get os k ≡ Some o → (k < i) ⊎ (differs k ≡ false) → value_at nat_eq (map_of now (medium disk)) o.0 ≡ Some o.1
     pub moment : (saved : PlainObjects) → HeapMatches begin saved (medium old)
-        → EachImageSince (medium old) (medium disk) (Holds begin.range begin.root begin.epoch saved)
-    pub others : IsHonest (medium old) → LeavesAlone (IsElsewhere begin.range begin.root) (medium old) (medium disk)
+        → StaysSaved begin.range begin.root begin.epoch saved (medium old) (medium disk)
+    pub others : IsHonest (medium old) → LeavesAlone (IsOutside begin.range) (medium old) (medium disk)
     pub same : IsSameDisk size medium old disk
     pub spent : ℕ
     pub spent_most : spent ≤ object_sectors (take i os)
@@ -113,16 +114,15 @@ module _ {D : Type 0} (size : D → ℕ) (medium : D → Medium) (counts : D →
       → HasNoOthers (sizes_of begin) os → InRange (counts old)
       → ((image : Image) → (medium old).images_since (medium old).moment image → (medium old).images_now image) → PutSoFar 0 begin old
   put-none placed bytes no_others range law = record {
-    stays = record { range = refl; root = refl; epoch = refl; table = refl };
+    stays = record { range = refl; root = refl; aim = refl; epoch = refl; table = refl };
     placed = placed;
     bytes = bytes;
     no_others = no_others;
     there = λ k o never. absurd (omega (arith, never));
     matches = λ saved at. at;
     map = λ saved at there k o is either. ⊎_elim (λ never. absurd (omega (arith, never))) (λ off. there k o is off) either;
-    moment = λ saved at. EachImageSince-start (medium old) (Holds begin.range begin.root begin.epoch saved) law
-        (λ image now. record { allocation = at.there; there = at.images image now });
-    others = λ honest. LeavesAlone-start (IsElsewhere begin.range begin.root) (medium old) honest law;
+    moment = λ saved at part within now. EachImageSince-start (medium old) (Holds part begin.root begin.epoch saved) law now;
+    others = λ honest. LeavesAlone-start (IsOutside begin.range) (medium old) honest law;
     same = record { sectors = refl; honest = (λ h. h, λ h. h) };
     spent = 0;
     spent_most = omega arith;
@@ -188,25 +188,29 @@ module _ {D : Type 0} (size : D → ℕ) (medium : D → Medium) (counts : D →
     -- the images while it is put in, whether or not that goes well
     module _ (next : D)
         (moment : (saved : PlainObjects) → HeapMatches now saved (medium disk)
-        → EachImageSince (medium disk) (medium next) (Holds now.range now.root now.epoch saved))
+        → StaysSaved now.range now.root now.epoch saved (medium disk) (medium next))
         (others : IsHonest (medium disk) → LeavesAlone (IsKept now) (medium disk) (medium next)) where
       pub put-moment : (saved : PlainObjects) → HeapMatches begin saved (medium old)
-          → EachImageSince (medium old) (medium next) (Holds begin.range begin.root begin.epoch saved)
-      put-moment saved begins =
-          let P : Image → Type 0 = Holds begin.range begin.root begin.epoch saved in
+          → StaysSaved begin.range begin.root begin.epoch saved (medium old) (medium next)
+      put-moment saved begins part within here =
+          let P : Image → Type 0 = Holds part begin.root begin.epoch saved in
+          let S : Range → ℕ → ℕ → Type 0 = λ r n e. StaysSaved r n e saved (medium disk) (medium next) in
           let stays = so_far.stays in
-          EachImageSince-join (medium old) (medium disk) (medium next) P (so_far.moment saved begins)
-          (subst (λ (e : ℕ). EachImageSince (medium disk) (medium next) (Holds begin.range begin.root e saved)) stays.epoch
-          (subst (λ (r : ℕ). EachImageSince (medium disk) (medium next) (Holds begin.range r now.epoch saved)) stays.root
-          (subst (λ (r : Range). EachImageSince (medium disk) (medium next) (Holds r now.root now.epoch saved)) stays.range
-          (moment saved (so_far.matches saved begins)))))
+          let at = so_far.matches saved begins in
+          let before = so_far.moment saved begins part within here in
+          let more : S begin.range begin.root begin.epoch =
+          subst (λ (e : ℕ). S begin.range begin.root e) stays.epoch
+          (subst (λ (n : ℕ). S begin.range n now.epoch) stays.root
+          (subst (λ (r : Range). S r now.root now.epoch) stays.range (moment saved at))) in
+          EachImageSince-join (medium old) (medium disk) (medium next) P before
+          (more part within (EachImageSince-now (medium old) (medium disk) P before at.honest))
 
-      pub put-others : IsHonest (medium old) → LeavesAlone (IsElsewhere begin.range begin.root) (medium old) (medium next)
+      pub put-others : IsHonest (medium old) → LeavesAlone (IsOutside begin.range) (medium old) (medium next)
       put-others honest =
           let run = so_far.others honest in
-          LeavesAlone-join (IsElsewhere begin.range begin.root) (medium old) (medium disk) (medium next) run
-          (LeavesAlone-fewer (IsElsewhere begin.range begin.root) (IsKept now) (medium disk) (medium next)
-          (λ s out. inl (subst (λ (r : Range). IsOutside r s) (sym so_far.stays.range) out.1))
+          LeavesAlone-join (IsOutside begin.range) (medium old) (medium disk) (medium next) run
+          (LeavesAlone-fewer (IsOutside begin.range) (IsKept now) (medium disk) (medium next)
+          (λ s out. inl (subst (λ (r : Range). IsOutside r s) (sym so_far.stays.range) out))
           (others run.honest))
 
       -- it is put in
@@ -226,6 +230,7 @@ module _ {D : Type 0} (size : D → ℕ) (medium : D → Medium) (counts : D →
           stays = record {
             range = stays.range ∙ so_far.stays.range;
             root = stays.root ∙ so_far.stays.root;
+            aim = stays.aim ∙ so_far.stays.aim;
             epoch = stays.epoch ∙ so_far.stays.epoch;
             table = stays.table ∙ so_far.stays.table;
           };

@@ -14,16 +14,17 @@ use Rattle.ipc_disk.specs.Medium.{Image, Medium, IsHonest}
 use Rattle.ipc_disk.specs.Range.{IsInside, IsOutside}
 use Rattle.ipc_disk.specs.Since.{EachImageSince, LeavesAlone}
 use Rattle.ipc_disk.specs.Standing.{sectors_for}
-use Rattle.ipc_disk.proofs.CallerLemmas.{EachImageSince-join, EachImageSince-weaken, LeavesAlone-fewer, LeavesAlone-join}
+use Rattle.ipc_disk.proofs.CallerLemmas.{EachImageSince-join, EachImageSince-now, EachImageSince-weaken, LeavesAlone-fewer, LeavesAlone-join}
 use Rattle.ipc_heap.specs.Heap.{Placed, table_sectors_for, table_words}
 use Rattle.ipc_heap.specs.Heap as heap
-use Rattle.ipc_heap.specs.Matches.{HeapMatches, IsKept, Keeps}
+use Rattle.ipc_heap.specs.Matches.{HeapMatches, IsKept, Keeps, StaysSaved}
 use Rattle.ipc_heap.specs.View.{ArePlaced, HeapView, StaysInPlace, free, map_of, sizes_of, used_by}
 use Rattle.ipc_heap.proofs.CallerLemmas.{Keeps-map, Keeps-matches, Keeps-sizes, words_for-is}
 use Rattle.ipc_checkpoint.specs.Checkpoint.{Holds, IsElsewhere, IsLaidOut}
-use Rattle.ipc_checkpoint.specs.Matches.{CheckpointMatches, HoldsEither, changed_sectors, sectors_of, table_sectors}
+use Rattle.ipc_checkpoint.specs.Matches.{CheckpointMatches, HoldsEither, IsSavedUnder, changed_sectors, sectors_of, table_sectors}
 use Rattle.ipc_checkpoint.specs.Saving.{AreThere, HasNoOthers}
 use Rattle.ipc_checkpoint.specs.View.{CheckpointView, HasSpare, epoch_of, layout_of}
+use Rattle.ipc_checkpoint.proofs.CallerLemmas.{CheckpointMatches-holds}
 use Rattle.ipc_checkpoint.proofs.Putting.{calls-more, own-value}
 use Rattle.ipc_checkpoint.proofs.Tables.{filter-at, filter-only}
 
@@ -94,10 +95,10 @@ module _ (size : ℕ) (c : CheckpointView) (os : PlainObjects) (differs : ℕ �
   abbrev kept : ℕ → Bool
   kept n = is_some (value_at nat_eq os n)
 
-  pub laid-one : heap.IsLaidOut one.range one.root size
+  pub laid-one : heap.IsLaidOut one.range one.aim size
   laid-one =
-      subst (λ (r : ℕ). heap.IsLaidOut one.range r size) (sym keeps.stays.root)
-      (subst (λ (r : Range). heap.IsLaidOut r c.heap.root size) (sym keeps.stays.range)
+      subst (λ (r : ℕ). heap.IsLaidOut one.range r size) (sym keeps.stays.aim)
+      (subst (λ (r : Range). heap.IsLaidOut r c.heap.aim size) (sym keeps.stays.range)
       (record { within = laid.within; root_there = laid.root; apart = laid.apart; not_first = laid.not_first }))
 
   pub only-one : HasNoOthers (sizes_of one) os
@@ -108,7 +109,7 @@ module _ (size : ℕ) (c : CheckpointView) (os : PlainObjects) (differs : ℕ �
   pub room-one : object_sectors os ≤ free one
   room-one = omega (arith, more, spare, fits, laid.room)
 
-  module _ (old : Medium) (saved : PlainObjects) (at : CheckpointMatches c saved old) where
+  module _ (old : Medium) {root : ℕ} (saved : PlainObjects) (at : IsSavedUnder root c saved old) where
     pub matches-one : HeapMatches one saved old
     matches-one = Keeps-matches kept c.heap one keeps saved old at.matches
 
@@ -123,23 +124,27 @@ module _ (size : ℕ) (c : CheckpointView) (os : PlainObjects) (differs : ℕ �
 
   -- while objects are put in
   module _ (old mid : Medium)
-      (moment : (saved : PlainObjects) → HeapMatches one saved old → EachImageSince old mid (heap.Holds one.range one.root one.epoch saved))
-      (others : IsHonest old → LeavesAlone (heap.IsElsewhere one.range one.root) old mid) where
+      (moment : (saved : PlainObjects) → HeapMatches one saved old → StaysSaved one.range one.root one.epoch saved old mid)
+      (others : IsHonest old → LeavesAlone (IsOutside one.range) old mid) where
+    pub moment-saved : {root : ℕ} (saved : PlainObjects) → IsSavedUnder root c saved old
+        → StaysSaved c.heap.range root (epoch_of c) saved old mid
+    moment-saved {root} saved at =
+        let S : Range → ℕ → ℕ → Type 0 = λ r n e. StaysSaved r n e saved old mid in
+        let stays = keeps.stays in
+        subst (λ (e : ℕ). S c.heap.range root e) stays.epoch
+        (subst (λ (n : ℕ). S c.heap.range n one.epoch) (stays.root ∙ at.under)
+        (subst (λ (r : Range). S r one.root one.epoch) stays.range (moment saved (matches-one old saved at))))
+
     pub moment-mid : (saved : PlainObjects) → CheckpointMatches c saved old → (epoch : ℕ)
         → EachImageSince old mid (HoldsEither (layout_of c) (epoch_of c) saved epoch os)
     moment-mid saved at epoch =
-        let P : Image → Type 0 = Holds (layout_of c) (epoch_of c) saved in
-        let stays = keeps.stays in
-        let here : EachImageSince old mid P =
-        subst (λ (e : ℕ). EachImageSince old mid (heap.Holds c.heap.range c.heap.root e saved)) stays.epoch
-        (subst (λ (r : ℕ). EachImageSince old mid (heap.Holds c.heap.range r one.epoch saved)) stays.root
-        (subst (λ (r : Range). EachImageSince old mid (heap.Holds r one.root one.epoch saved)) stays.range (moment saved (matches-one old saved at)))) in
-        EachImageSince-weaken old mid P (HoldsEither (layout_of c) (epoch_of c) saved epoch os) here (λ image holds. inl holds)
+        EachImageSince-weaken old mid (Holds (layout_of c) (epoch_of c) saved) (HoldsEither (layout_of c) (epoch_of c) saved epoch os)
+        (moment-saved saved at c.heap.range (λ i inside. inside) (CheckpointMatches-holds c saved old at)) (λ image holds. inl holds)
 
     pub others-mid : IsHonest old → LeavesAlone (IsElsewhere (layout_of c)) old mid
     others-mid honest =
-        subst (λ (r : ℕ). LeavesAlone (heap.IsElsewhere c.heap.range r) old mid) keeps.stays.root
-        (subst (λ (r : Range). LeavesAlone (heap.IsElsewhere r one.root) old mid) keeps.stays.range (others honest))
+        LeavesAlone-fewer (IsElsewhere (layout_of c)) (IsOutside one.range) old mid
+        (λ i out. subst (λ (r : Range). IsOutside r i) (sym keeps.stays.range) out.1) (others honest)
 
     -- and then the heap is turned over
     module _ (two : HeapView) (stays : StaysInPlace one two) (placed : ArePlaced two.range two.placed)
@@ -160,29 +165,49 @@ module _ (size : ℕ) (c : CheckpointView) (os : PlainObjects) (differs : ℕ �
           (matches : (saved : PlainObjects) → HeapMatches one saved old → HeapMatches two saved mid)
           (map-is : (saved : PlainObjects) → HeapMatches one saved old → AreThere differs os (map_of one old) → map_of two mid ≡ os)
           (unchanged : (saved : PlainObjects) → CheckpointMatches c saved old → OthersAreThere differs os saved) where
-        map-two : (saved : PlainObjects) → CheckpointMatches c saved old → map_of two mid ≡ os
-        map-two saved at = map-is saved (matches-one old saved at) (were-one old saved at (unchanged saved at))
+        map-two : {root : ℕ} (saved : PlainObjects) → IsSavedUnder root c saved old → OthersAreThere differs os saved → map_of two mid ≡ os
+        map-two saved at there = map-is saved (matches-one old saved at) (were-one old saved at there)
 
         pub moment-new : ((saved : PlainObjects) → HeapMatches two saved mid
-            → EachImageSince mid new (heap.HoldsEither two.range two.root two.epoch saved epoch (map_of two mid)))
+            → EachImageSince mid new (heap.HoldsEither two.range two.root two.epoch saved two.aim epoch (map_of two mid)))
             → (saved : PlainObjects) → CheckpointMatches c saved old → EachImageSince old new (HoldsEither (layout_of c) (epoch_of c) saved epoch os)
         moment-new flips saved at =
-            let E : Range → ℕ → ℕ → PlainObjects → Type 0 = λ r n e l. EachImageSince mid new (heap.HoldsEither r n e saved epoch l) in
+            let E : Range → ℕ → ℕ → ℕ → PlainObjects → Type 0 = λ r n e a l. EachImageSince mid new (heap.HoldsEither r n e saved a epoch l) in
             EachImageSince-join old mid new (HoldsEither (layout_of c) (epoch_of c) saved epoch os) (moment-mid saved at epoch)
-            (subst (E c.heap.range c.heap.root c.heap.epoch) (map-two saved at)
-            (subst (λ (e : ℕ). E c.heap.range c.heap.root e (map_of two mid)) (stays.epoch ∙ keeps.stays.epoch)
-            (subst (λ (r : ℕ). E c.heap.range r two.epoch (map_of two mid)) (stays.root ∙ keeps.stays.root)
-            (subst (λ (r : Range). E r two.root two.epoch (map_of two mid)) range-two (flips saved (matches saved (matches-one old saved at)))))))
+            (subst (E c.heap.range c.heap.aim c.heap.epoch c.heap.aim) (map-two saved at (unchanged saved at))
+            (subst (λ (a : ℕ). E c.heap.range c.heap.aim c.heap.epoch a (map_of two mid)) (stays.aim ∙ keeps.stays.aim)
+            (subst (λ (e : ℕ). E c.heap.range c.heap.aim e two.aim (map_of two mid)) (stays.epoch ∙ keeps.stays.epoch)
+            (subst (λ (r : ℕ). E c.heap.range r two.epoch two.aim (map_of two mid)) (stays.root ∙ keeps.stays.root ∙ at.under)
+            (subst (λ (r : Range). E r two.root two.epoch two.aim (map_of two mid)) range-two
+            (flips saved (matches saved (matches-one old saved at))))))))
 
-        pub others-new : (IsHonest mid → LeavesAlone (λ i. IsKept two i × (i ≢ two.root)) mid new)
+        -- what was saved under another root stays there
+        pub kept-new : (two.aim ≢ two.root → (saved : PlainObjects) → HeapMatches two saved mid
+            → StaysSaved two.range two.root two.epoch saved mid new)
+            → {root : ℕ} (saved : PlainObjects) → IsSavedUnder root c saved old → root ≢ c.heap.aim
+            → StaysSaved c.heap.range root (epoch_of c) saved old new
+        kept-new flips {root} saved at other part within now =
+            let P : Image → Type 0 = heap.Holds part root (epoch_of c) saved in
+            let S : Range → ℕ → ℕ → Type 0 = λ r n e. StaysSaved r n e saved mid new in
+            let from : two.root ≡ root = stays.root ∙ keeps.stays.root ∙ at.under in
+            let here = matches saved (matches-one old saved at) in
+            let before = moment-saved saved at part within now in
+            let more : S c.heap.range root (epoch_of c) =
+            subst (λ (e : ℕ). S c.heap.range root e) (stays.epoch ∙ keeps.stays.epoch)
+            (subst (λ (n : ℕ). S c.heap.range n two.epoch) from
+            (subst (λ (r : Range). S r two.root two.epoch) range-two
+            (flips (λ same. other (sym from ∙ sym same ∙ stays.aim ∙ keeps.stays.aim)) saved here))) in
+            EachImageSince-join old mid new P before (more part within (EachImageSince-now old mid P before here.honest))
+
+        pub others-new : (IsHonest mid → LeavesAlone (λ i. IsKept two i × (i ≢ two.aim)) mid new)
             → IsHonest old → LeavesAlone (IsElsewhere (layout_of c)) old new
         others-new flips honest =
             let run = others-mid honest in
             LeavesAlone-join (IsElsewhere (layout_of c)) old mid new run
-            (LeavesAlone-fewer (IsElsewhere (layout_of c)) (λ i. IsKept two i × (i ≢ two.root)) mid new
+            (LeavesAlone-fewer (IsElsewhere (layout_of c)) (λ i. IsKept two i × (i ≢ two.aim)) mid new
             (λ i out. (
               inl (subst (λ (r : Range). IsOutside r i) (sym range-two) out.1),
-              λ same. out.0 (same ∙ stays.root ∙ keeps.stays.root),
+              λ same. out.0 (same ∙ stays.aim ∙ keeps.stays.aim),
             )) (flips run.honest))
 
         module _ (same : three.placed ≡ two.placed) (range : three.range ≡ two.range) (table : length three.table ≡ table_sectors_for words)
@@ -190,14 +215,17 @@ module _ (size : ℕ) (c : CheckpointView) (os : PlainObjects) (differs : ℕ �
           pub free-new : free three + sectors_of os ≡ c.heap.range.count
           free-new = its-free two os placed sizes three three.range.count same table all ∙ ap (λ (r : Range). r.count) (range ∙ range-two)
 
-          pub matches-new : ((saved : PlainObjects) → HeapMatches two saved mid → HeapMatches three (map_of two mid) new)
+          pub matches-new : three.root ≡ two.aim → three.aim ≡ two.aim
+              → ((saved : PlainObjects) → HeapMatches two saved mid → HeapMatches three (map_of two mid) new)
               → ((saved : PlainObjects) → HeapMatches two saved mid → map_of three new ≡ map_of two mid)
-              → (area : ℕ) (saved : PlainObjects) → CheckpointMatches c saved old → CheckpointMatches (record { area = area; heap = three }) os new
-          matches-new flips keeps-map area saved at =
+              → (area : ℕ) {root : ℕ} (saved : PlainObjects) → IsSavedUnder root c saved old → OthersAreThere differs os saved
+              → CheckpointMatches (record { area = area; heap = three }) os new
+          matches-new under aim flips keeps-map area saved at there =
               let here = matches saved (matches-one old saved at) in
               record {
-                matches = subst (λ (l : PlainObjects). HeapMatches three l new) (map-two saved at) (flips saved here);
-                map = keeps-map saved here ∙ map-two saved at;
+                matches = subst (λ (l : PlainObjects). HeapMatches three l new) (map-two saved at there) (flips saved here);
+                under = under ∙ sym aim;
+                map = keeps-map saved here ∙ map-two saved at there;
                 inside = subst (λ (r : Range). All (IsInside r) (heap.object_sectors three.placed)) (sym range)
                     (subst (λ (l : List Placed). All (IsInside two.range) (heap.object_sectors l)) (sym same) placed.inside);
                 free = its-free two os placed sizes three three.range.count same table all;

@@ -12,9 +12,22 @@ pub record CheckpointView : Type 0 where
   pub area : ℕ
   pub heap : HeapView
 
+-- where it lies, with its root in this sector
+abbrev pub layout_under : ℕ → CheckpointView → Layout
+layout_under root checkpoint =
+    record { range = checkpoint.heap.range; root = root; area = checkpoint.area }
+
+-- where the next save will put it: under the root that it has, or under the one that it was aimed at
 abbrev pub layout_of : CheckpointView → Layout
-layout_of checkpoint =
-    record { range = checkpoint.heap.range; root = checkpoint.heap.root; area = checkpoint.area }
+layout_of checkpoint = layout_under checkpoint.heap.aim checkpoint
+
+-- the root that tells of what is saved
+abbrev pub saved_root : CheckpointView → ℕ
+saved_root checkpoint = checkpoint.heap.root
+
+-- the same, aimed at this root
+abbrev pub aimed : ℕ → CheckpointView → CheckpointView
+aimed root checkpoint = record checkpoint { heap = record checkpoint.heap { aim = root } }
 
 abbrev pub epoch_of : CheckpointView → ℕ
 epoch_of checkpoint = checkpoint.heap.epoch

@@ -1,10 +1,11 @@
 //! The checkpoint: its value, and the calls on it.
 
-ghost use Rattle.std.specs.Prelude.{◌≡◌, ◌<◌, ◌+◌, ℕ, IfOk, OnOk, OnErr, IsErrOf};
+ghost use Rattle.std.specs.Prelude.{◌≡◌, ◌≢◌, ◌<◌, ◌+◌, ℕ, IfOk, OnOk, OnErr, IsErrOf};
 ghost use Rattle.ipc_base.specs.Objects.{PlainObjects};
 ghost use Rattle.ipc_disk.specs.Calls.{IsSameDisk, CountsCalls, CountsFault, OnlyReads};
 ghost use Rattle.ipc_disk.specs.Counts.{with_calls};
 ghost use Rattle.ipc_disk.specs.Medium.{IsHonest, IsDurable};
+ghost use Rattle.ipc_disk.specs.Range.{IsOutside};
 ghost use Rattle.ipc_disk.specs.Since.{EachImageSince, LeavesAlone};
 
 use crate::loading::read_objects;
@@ -34,10 +35,11 @@ impl Model for Checkpoint {
 
 impl Checkpoint {
     ghost use Rattle.ipc_checkpoint.specs.Checkpoint.{Holds, IsLaidOut, IsElsewhere, IsOwn, IsFirstDamage};
-    ghost use Rattle.ipc_checkpoint.specs.Matches.{CheckpointMatches, HoldsEither};
+    ghost use Rattle.ipc_checkpoint.specs.Matches.{CheckpointMatches, HoldsEither, IsSavedUnder};
     ghost use Rattle.ipc_checkpoint.specs.Matches.{sectors_of, table_sectors, changed_sectors};
     ghost use Rattle.ipc_base.specs.Objects.{Fit, OthersAreThere};
-    ghost use Rattle.ipc_checkpoint.specs.View.{layout_of, epoch_of, free_of, HasSpare};
+    ghost use Rattle.ipc_heap.specs.Matches.{StaysSaved};
+    ghost use Rattle.ipc_checkpoint.specs.View.{layout_of, saved_root, aimed, epoch_of, free_of, HasSpare};
 
     /// Makes the first checkpoint, at epoch 1, with one sync. Until then, and after an `Err`, its sectors may be
     /// anything.
@@ -72,6 +74,7 @@ impl Checkpoint {
         requires laid_out { IsLaidOut layout (D.size disk.old) }
         // What is loaded, and when it is damaged.
         ensures layout { IfOk result (λ found. layout_of found.0 ≡ layout) }
+        ensures root { IfOk result (λ found. saved_root found.0 ≡ layout.root) }
         ensures holds { IfOk result (λ found. IsHonest (D.medium disk.old)
             → Holds layout (epoch_of found.0) found.1 (D.medium disk.old).contents) }
         ensures matches { IfOk result (λ found. IsHonest (D.medium disk.old) → IsDurable (D.medium disk.old)
@@ -103,9 +106,19 @@ impl Checkpoint {
         self.heap.epoch()
     }
 
+    /// Aims it at another root: the next save writes that sector, and leaves the root that tells of what is saved.
+    pub fn aim(&mut self, root: u32)
+        requires apart { IsOutside (layout_of self.old).range root }
+        requires other { root ≢ saved_root self.old }
+        ensures { self.new ≡ aimed root self.old }
+    {
+        self.heap.aim(root);
+    }
+
     /// Replaces the objects, at a later epoch. Those that have changed are written, and the table. A crash at any
-    /// moment leaves all of the old ones at the old epoch, or all of the new ones at the new. It takes no memory. After
-    /// an `Err` the checkpoint has to be loaded again.
+    /// moment leaves all of the old ones at the old epoch, or all of the new ones at the new. If it was aimed at
+    /// another root, the old ones stay under the old one as well, until the save that follows. It takes no memory.
+    /// After an `Err` the checkpoint has to be loaded again.
     pub fn save<D: SectorDisk, O: Objects>(
         &mut self,
         disk: &mut D,
@@ -132,6 +145,15 @@ impl Checkpoint {
         ensures any_moment { (saved : PlainObjects) → CheckpointMatches self.old saved (D.medium disk.old)
             → EachImageSince (D.medium disk.old) (D.medium disk.new)
             (HoldsEither (layout_of self.old) (epoch_of self.old) saved epoch (O.objects objects.now)) }
+        // After `aim` the old objects stay under the old root, also once the new ones are there.
+        ensures aimed { OnOk result ((root : ℕ) (saved : PlainObjects)
+            → IsSavedUnder root self.old saved (D.medium disk.old)
+            → OthersAreThere (O.differs objects.now) (O.objects objects.now) saved
+            → CheckpointMatches self.new (O.objects objects.now) (D.medium disk.new)) }
+        ensures kept { (root : ℕ) (saved : PlainObjects) → IsSavedUnder root self.old saved (D.medium disk.old)
+            → root ≢ (layout_of self.old).root → StaysSaved (layout_of self.old).range root (epoch_of self.old) saved
+            (D.medium disk.old) (D.medium disk.new) }
+        // No other sector is touched.
         ensures others { IsHonest (D.medium disk.old)
             → LeavesAlone (IsElsewhere (layout_of self.old)) (D.medium disk.old) (D.medium disk.new) }
         // Failures and counts: what is written is what has changed, the table and the root.

@@ -7,9 +7,10 @@ ghost use Rattle.ipc_base.specs.Table.{seen_as, value_at};
 ghost use Rattle.ipc_disk.specs.Calls.{IsSameDisk, CountsFault};
 ghost use Rattle.ipc_disk.specs.Counts.{with_calls};
 ghost use Rattle.ipc_disk.specs.Medium.{IsHonest};
-ghost use Rattle.ipc_disk.specs.Since.{EachImageSince, LeavesAlone};
-ghost use Rattle.ipc_heap.specs.Heap.{IsLaidOut, IsElsewhere, Holds};
-ghost use Rattle.ipc_heap.specs.Matches.{HeapMatches, Keeps};
+ghost use Rattle.ipc_disk.specs.Range.{IsOutside};
+ghost use Rattle.ipc_disk.specs.Since.{LeavesAlone};
+ghost use Rattle.ipc_heap.specs.Heap.{IsLaidOut};
+ghost use Rattle.ipc_heap.specs.Matches.{HeapMatches, Keeps, StaysSaved};
 ghost use Rattle.ipc_heap.specs.View.{free, map_of, sizes_of, ArePlaced, StaysInPlace};
 ghost use Rattle.ipc_checkpoint.specs.Matches.{changed_sectors};
 ghost use Rattle.ipc_checkpoint.specs.Saving.{AreThere, HasNoOthers};
@@ -53,7 +54,7 @@ pub(crate) fn put_changed<D: SectorDisk, O: Objects>(
     disk: &mut D,
     objects: &O,
 ) -> Result<(), DiskFault>
-    requires laid_out { IsLaidOut heap.old.range heap.old.root (D.size disk.old) }
+    requires laid_out { IsLaidOut heap.old.range heap.old.aim (D.size disk.old) }
     requires no_others { HasNoOthers (sizes_of heap.old) (O.objects objects.now) }
     requires room { object_sectors (O.objects objects.now) ≤ free heap.old }
     // What the map is then.
@@ -65,10 +66,9 @@ pub(crate) fn put_changed<D: SectorDisk, O: Objects>(
         → HeapMatches heap.new saved (D.medium disk.new)) }
     // A crash at any moment of the call, also of one that fails.
     ensures any_moment { (saved : PlainObjects) → HeapMatches heap.old saved (D.medium disk.old)
-        → EachImageSince (D.medium disk.old) (D.medium disk.new)
-        (Holds heap.old.range heap.old.root heap.old.epoch saved) }
+        → StaysSaved heap.old.range heap.old.root heap.old.epoch saved (D.medium disk.old) (D.medium disk.new) }
     ensures others { IsHonest (D.medium disk.old)
-        → LeavesAlone (IsElsewhere heap.old.range heap.old.root) (D.medium disk.old) (D.medium disk.new) }
+        → LeavesAlone (IsOutside heap.old.range) (D.medium disk.old) (D.medium disk.new) }
     ensures stays { StaysInPlace heap.old heap.new }
     ensures placed { OnOk result (ArePlaced heap.new.range heap.new.placed) }
     ensures spends { OnOk result (free heap.old ≤ free heap.new + object_sectors (O.objects objects.now)) }

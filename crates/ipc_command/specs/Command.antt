@@ -68,10 +68,9 @@ turns_rule = record (new_rule (codes "turns")) {
 abbrev pub replay_command : App
 replay_command = with_rule (new_app (codes "replay")) small_rule
 
--- `format`, with a device, the flag and the option
-abbrev pub format_command : App
-format_command =
-    with_rule (with_rule (with_rule (new_app (codes "format")) device_rule) small_rule) sectors_rule
+-- `format` and `upgrade`, with a device, the flag and the option
+abbrev pub sized_command : Text → App
+sized_command name = with_rule (with_rule (with_rule (new_app name) device_rule) small_rule) sectors_rule
 
 -- `run` and `dump`, with a device
 abbrev pub run_command : App
@@ -91,12 +90,12 @@ ipcd_command = record (new_app (codes "ipcd")) {
   top = record (new_app (codes "ipcd")).top { has_version = true; subcommand_required = true };
 }
 
--- the command line: `ipcd`, and below it the five commands
+-- the command line: `ipcd`, and below it the six commands
 abbrev pub declared : App
 declared =
-    with_subcommand (with_subcommand (with_subcommand (with_subcommand
-    (with_subcommand ipcd_command replay_command.top) format_command.top) run_command.top)
-    dump_command.top) serve_command.top
+    with_subcommand (with_subcommand (with_subcommand (with_subcommand (with_subcommand
+    (with_subcommand ipcd_command replay_command.top) (sized_command (codes "format")).top)
+    (sized_command (codes "upgrade")).top) run_command.top) dump_command.top) serve_command.top
 
 -- ---- what words that are taken ask for
 
@@ -104,6 +103,7 @@ declared =
 pub data PlainRequest : Type 0 where
   Replay : (small : Bool) → PlainRequest
   Format : (device : Text) → (small : Bool) → (sectors : Option ℕ) → PlainRequest
+  Upgrade : (device : Text) → (small : Bool) → (sectors : Option ℕ) → PlainRequest
   Run : (device : Text) → PlainRequest
   Dump : (device : Text) → PlainRequest
   Serve : (device socket : Text) → (turns : Option ℕ) → PlainRequest
@@ -111,6 +111,7 @@ pub data PlainRequest : Type 0 where
 abbrev pub plain_request : Request → PlainRequest
 plain_request (request.Replay small) = Replay small
 plain_request (request.Format device small sectors) = Format (string_bytes device) small sectors
+plain_request (request.Upgrade device small sectors) = Upgrade (string_bytes device) small sectors
 plain_request (request.Run device) = Run (string_bytes device)
 plain_request (request.Dump device) = Dump (string_bytes device)
 plain_request (request.Serve device socket turns) =
@@ -140,11 +141,13 @@ asked_request name rows =
     if bytes_eq name (codes "replay") then Replay (asked_small rows)
     else (if bytes_eq name (codes "format")
     then Format device (asked_small rows) (asked_number (codes "sectors") rows)
+    else (if bytes_eq name (codes "upgrade")
+    then Upgrade device (asked_small rows) (asked_number (codes "sectors") rows)
     else (if bytes_eq name (codes "run") then Run device
     else (if bytes_eq name (codes "dump") then Dump device
     else (if bytes_eq name (codes "serve")
     then Serve device (asked_text (codes "socket") rows) (asked_number (codes "turns") rows)
-    else Dump []))))
+    else Dump [])))))
 
 -- the same, by the command that was found; the parser takes no words without one
 abbrev pub asked : Option (Text × List Row) → PlainRequest

@@ -7,12 +7,12 @@ ghost use Rattle.clap.specs.Words.{app_of, rule_of, fault_of, subcommand_of, sub
 ghost use Rattle.clap.specs.Words.{FailsBy, found_of, rows_of};
 ghost use Rattle.clap.specs.declared.builder.command.Command.TheViews.{out-Command};
 ghost use Rattle.ipc_command.specs.Command.{limits_asked, refusal_status, IsTakenAs, AsksFor, declared};
-ghost use Rattle.ipc_command.specs.Command.PlainRequest.{Format, Run, Dump, Serve};
+ghost use Rattle.ipc_command.specs.Command.PlainRequest.{Format, Upgrade, Run, Dump, Serve};
 ghost use Rattle.ipc_command.specs.Command.{plain_request, asked, asked_small, asked_text};
 ghost use Rattle.ipc_command.specs.Command.{asked_number, parsed_number};
 ghost use Rattle.ipc_command.specs.Command.{is_no_flag, small_words, sectors_words, turns_words};
 ghost use Rattle.ipc_command.specs.Command.{small_rule, sectors_rule, device_rule, socket_rule, turns_rule};
-ghost use Rattle.ipc_command.specs.Command.{replay_command, format_command, run_command, dump_command};
+ghost use Rattle.ipc_command.specs.Command.{replay_command, sized_command, run_command, dump_command};
 ghost use Rattle.ipc_command.specs.Command.{serve_command};
 
 use clap::error::ErrorKind;
@@ -33,6 +33,13 @@ pub enum Request {
     },
     /// Make a device in a file, of so many sectors or of as many as it needs.
     Format {
+        device: String,
+        small: bool,
+        sectors: Option<u32>,
+    },
+    /// Bring the device in a file to the version of today, with small limits or standard ones. A file
+    /// of fewer sectors grows to so many first, if any are given.
+    Upgrade {
         device: String,
         small: bool,
         sectors: Option<u32>,
@@ -119,6 +126,11 @@ pub fn parse<S: AsStr>(alloc: Global, words: &[S]) -> Result<Request, Error>
         → map S.text words.now
         ≡ name ∷ codes "format" ∷ device ∷ small_words small ++ sectors_words number
         → AsksFor (Format device small (option_and_then parsed_number number)) result }
+    ensures upgrade { (name device : List ℕ) (small : Bool) (number : Option (List ℕ))
+        → is_no_flag device ≡ true → IfSome number (λ text. IsSome (parsed_number text))
+        → map S.text words.now
+        ≡ name ∷ codes "upgrade" ∷ device ∷ small_words small ++ sectors_words number
+        → AsksFor (Upgrade device small (option_and_then parsed_number number)) result }
     ensures run { (name device : List ℕ) → is_no_flag device ≡ true
         → map S.text words.now ≡ name ∷ codes "run" ∷ device ∷ []
         → AsksFor (Run device) result }
@@ -149,12 +161,13 @@ fn command_line<'a>(alloc: Global) -> Result<Command<'a>, AllocError>
         .subcommand_required(true)
         .subcommand(replay(alloc)?)?
         .subcommand(format(alloc)?)?
+        .subcommand(upgrade(alloc)?)?
         .subcommand(run(alloc)?)?
         .subcommand(dump(alloc)?)?
         .subcommand(serve(alloc)?)
 }
 
-// The command `replay`. None of the five has an argument for the commands below it.
+// The command `replay`. None of the six has an argument for the commands below it.
 fn replay<'a>(alloc: Global) -> Result<Command<'a>, AllocError>
     ensures app { IfOk result (λ command. app_of command ≡ replay_command) }
     ensures local { IfOk result (λ command. (out-Command command).has_globals ≡ false) }
@@ -166,14 +179,45 @@ fn replay<'a>(alloc: Global) -> Result<Command<'a>, AllocError>
 
 // The command `format`.
 fn format<'a>(alloc: Global) -> Result<Command<'a>, AllocError>
-    ensures app { IfOk result (λ command. app_of command ≡ format_command) }
+    ensures app { IfOk result (λ command. app_of command ≡ sized_command (codes "format")) }
     ensures local { IfOk result (λ command. (out-Command command).has_globals ≡ false) }
 {
-    Command::new(alloc, "format")
-        .about("Makes a device in a file. What stood there is lost. A terminal shows how far it is")
+    sized_command(
+        alloc,
+        "format",
+        "Makes a device in a file. What stood there is lost. A terminal shows how far it is",
+        "How many sectors of 512 bytes it gets, in place of as many as it needs",
+    )
+}
+
+// The command `upgrade`.
+fn upgrade<'a>(alloc: Global) -> Result<Command<'a>, AllocError>
+    ensures app { IfOk result (λ command. app_of command ≡ sized_command (codes "upgrade")) }
+    ensures local { IfOk result (λ command. (out-Command command).has_globals ≡ false) }
+{
+    sized_command(
+        alloc,
+        "upgrade",
+        "Makes a device of version 1 in a file one of version 2, with all that it keeps",
+        "How many sectors of 512 bytes the file has at least: it grows to so many first",
+    )
+}
+
+// A command of this name on a device, with limits and a number of sectors, of which `sectors` tells.
+fn sized_command<'a>(
+    alloc: Global,
+    name: &'a str,
+    about: &'a str,
+    sectors: &'a str,
+) -> Result<Command<'a>, AllocError>
+    ensures app { IfOk result (λ command. app_of command ≡ sized_command name.entry.now) }
+    ensures local { IfOk result (λ command. (out-Command command).has_globals ≡ false) }
+{
+    Command::new(alloc, name)
+        .about(about)
         .arg(device_word(alloc))?
         .arg(small_flag(alloc))?
-        .arg(sectors_option(alloc))
+        .arg(sectors_option(alloc, sectors))
 }
 
 // The command `run`.
@@ -220,7 +264,7 @@ fn small_flag<'a>(alloc: Global) -> Arg<'a>
 }
 
 // The option `--sectors N`.
-fn sectors_option<'a>(alloc: Global) -> Arg<'a>
+fn sectors_option<'a>(alloc: Global, help: &'a str) -> Arg<'a>
     ensures rule { rule_of result ≡ sectors_rule }
     ensures local { result.global ≡ false }
 {
@@ -228,7 +272,7 @@ fn sectors_option<'a>(alloc: Global) -> Arg<'a>
         .long("sectors")
         .value_name("N")
         .value_parser(value_parser!(u32))
-        .help("How many sectors of 512 bytes it gets, in place of as many as it needs")
+        .help(help)
 }
 
 // The word that names the file of a device.
@@ -282,6 +326,13 @@ fn request_in(alloc: Global, matches: &ArgMatches<'_>) -> Result<Request, AllocE
             device: text_in(alloc, format, "device")?,
             small: small_in(format),
             sectors: number_in(format, "sectors"),
+        });
+    }
+    if let Some(upgrade) = matches.subcommand_matches("upgrade") {
+        return Ok(Request::Upgrade {
+            device: text_in(alloc, upgrade, "device")?,
+            small: small_in(upgrade),
+            sectors: number_in(upgrade, "sectors"),
         });
     }
     if let Some(run) = matches.subcommand_matches("run") {

@@ -4,13 +4,15 @@ use Rattle.std.specs.Prelude.{◌≡◌, ◌≢◌, ◌⊎◌, ◌↔◌, ℕ, z
 use Rattle.std.specs.Prelude.{slice_get, slice_set, slice_index_or, map, All, refl, Result}
 use Rattle.std.specs.Option.{unwrap_or}
 use Rattle.std.proofs.Common.{inl, inr, ⊎_elim, sym, ◌∙◌, ap, subst, arith, take-append-drop}
-use Rattle.std.proofs.lemmas.List.{get_or-set_same, get_or-set_other, length-set, take_at, take_all, take-take, drop-take, length-take, length-drop}
+use Rattle.std.proofs.lemmas.List.{get_or-set_same, get_or-set_other, get_or_append_left, length-set, take_at, take_all, take-take, drop-take}
+use Rattle.std.proofs.lemmas.List.{length-take, length-drop}
 use Rattle.std.proofs.lemmas.List.Elements.{All-map}
 use Rattle.std.proofs.lemmas.Option.{unwrap_or-slice_get}
 use Rattle.ipc_disk.specs.declared.memory.Slot.{Slot}
 use Rattle.ipc_disk.specs.declared.range.Range.{Range}
 use Rattle.ipc_disk.specs.Calls.{IsSameDisk, IsOneCall, OnlyReads}
 use Rattle.ipc_disk.specs.Counts.{Counts, counted, with_calls, with_failure}
+use Rattle.ipc_disk.specs.Growth.{with_zeros}
 use Rattle.ipc_disk.specs.Medium.{Image, Medium, IsHonest, Elapses, SetOrNot, Stays, Writes}
 use Rattle.ipc_disk.specs.Range.{IsOutside}
 use Rattle.ipc_disk.specs.Since.{EachImageSince, SameAt, LeavesAlone}
@@ -286,6 +288,10 @@ sector_at-set_same image at bytes lt = get_or-set_same image at bytes [] lt
 -- another one
 pub sector_at-set_other : (image : Image) (at i : ℕ) (bytes : List ℕ) → i ≢ at → sector_at (slice_set image at bytes) i ≡ sector_at image i
 sector_at-set_other image at i bytes other = get_or-set_other image at i bytes [] other
+
+-- one that there was before the disk grew
+pub sector_at-grown : (more : ℕ) (image : Image) (i : ℕ) → i < length image → sector_at (with_zeros more image) i ≡ sector_at image i
+sector_at-grown more image i lt = get_or_append_left image (replicate more (replicate 512 0)) [] i lt
 
 SameAt-fewer : (fewer places : ℕ → Type 0) (a b : Image) → ((i : ℕ) → fewer i → places i) → SameAt places a b → SameAt fewer a b
 SameAt-fewer fewer places a b sub same = record { count = same.count; sectors = λ i here. same.sectors i (sub i here) }

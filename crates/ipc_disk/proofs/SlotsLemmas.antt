@@ -3,14 +3,16 @@ use Rattle.std.proofs.Common.{◌≡◌, inr, ℕ, zero, suc, ◌+◌, ◌<◌, 
 use Rattle.std.proofs.Common.{◌∷◌, ◌++◌, length, map, take, drop, replicate, refl, sym}
 use Rattle.std.proofs.Common.{◌∙◌, ap, subst, arith}
 use Rattle.std.specs.Prelude.{slice_set, slice_index_or, All}
-use Rattle.std.proofs.lemmas.List.{replicate-append-replicate, length-replicate}
+use Rattle.std.proofs.lemmas.List.{map-append, replicate-append-replicate, length-append, length-replicate}
 use Rattle.std.proofs.Math.Seq.{map-set_same}
 use Rattle.std.proofs.lemmas.List.Edits.{map_over_more}
-use Rattle.std.proofs.lemmas.List.Elements.{All-replicate}
+use Rattle.std.proofs.lemmas.List.Elements.{All-append, All-replicate}
 use Rattle.std.proofs.lemmas.Option.{get_or_from_slice_get, slice_get-get_or}
 use Rattle.ipc_disk.specs.declared.memory.Slot.{Slot}
 use Rattle.ipc_disk.specs.declared.memory.TheConstants.{ZEROS}
+use Rattle.ipc_disk.specs.Growth.{HasGrown, with_zeros}
 use Rattle.ipc_disk.specs.Medium.{Image, Elapses, IsSector}
+use Rattle.ipc_disk.specs.Since.{EachImageSince}
 use Rattle.ipc_disk.specs.Slots.{last_values, synced_values, MayLeave, slots_medium}
 use Rattle.ipc_disk.specs.Relations.Slots.{IsWhole, MayLeave-last_values, flushed, IsHonest-slots}
 use Rattle.ipc_disk.proofs.CallerLemmas.{written, only_contents, durable-flushed}
@@ -74,3 +76,44 @@ module _ (n : ℕ) (slots : List Slot) (is : slots ≡ replicate n ZEROS) where
 
   pub durable-zeros : (image : Image) → MayLeave slots image → image ≡ last_values slots
   durable-zeros = durable-flushed slots slots (is ∙ sym (map-replicate flushed n ZEROS) ∙ ap (λ (l : List Slot). map flushed l) (sym is))
+
+-- a disk that has grown: zeros, synced, stand after the sectors that there were
+module _ (old new : List Slot) (more : ℕ) (is : new ≡ old ++ replicate more ZEROS) where
+  pub whole-grown : All IsWhole old → All IsWhole new
+  whole-grown whole =
+      subst (All IsWhole) (sym is) (All-append IsWhole old (replicate more ZEROS) whole (whole-zeros more (replicate more ZEROS) refl))
+
+  pub length-grown : length new ≡ length old + more
+  length-grown = omega (arith, ap length is, length-append old (replicate more ZEROS), length-replicate more ZEROS)
+
+  pub contents-grown : last_values new ≡ with_zeros more (last_values old)
+  contents-grown =
+      ap last_values is ∙ map-append (λ (slot : Slot). slot.last) old (replicate more ZEROS)
+      ∙ ap (λ (l : Image). last_values old ++ l) (contents-zeros more (replicate more ZEROS) refl)
+
+  pub synced-grown : synced_values new ≡ with_zeros more (synced_values old)
+  synced-grown =
+      let zeros = synced-zeros more (replicate more ZEROS) refl ∙ contents-zeros more (replicate more ZEROS) refl in
+      ap synced_values is ∙ map-append (λ (slot : Slot). slot.synced) old (replicate more ZEROS)
+      ∙ ap (λ (l : Image). synced_values old ++ l) zeros
+
+  images-grown : (slots : List Slot) (image : Image) → MayLeave (slots ++ replicate more ZEROS) image
+      → (before : Image) × MayLeave slots before × (image ≡ with_zeros more before)
+  images-grown [] image left =
+      ([], tt, durable-zeros more (replicate more ZEROS) refl image left ∙ contents-zeros more (replicate more ZEROS) refl)
+  images-grown (slot ∷ slots) [] left = absurd left
+  images-grown (slot ∷ slots) (sector ∷ image) left =
+      let rest = images-grown slots image left.1 in
+      (sector ∷ rest.0, (left.0, rest.1), ap (λ (l : Image). sector ∷ l) rest.2)
+
+  pub moment-grown : EachImageSince (slots_medium old) (slots_medium new) (HasGrown more (slots_medium old))
+  moment-grown = record {
+    later = omega arith;
+    each = λ image left. from image left;
+    earlier = λ t image le left. inr (from image left);
+  }
+    where
+      from : (image : Image) → MayLeave new image → HasGrown more (slots_medium old) image
+      from image left =
+          let split = images-grown old image (subst (λ (l : List Slot). MayLeave l image) is left) in
+          record { before = split.0; now = split.1; more = more; within = omega arith; is = split.2 }

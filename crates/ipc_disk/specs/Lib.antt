@@ -4,6 +4,7 @@ pub mod Counts
 pub mod Crash
 pub mod File
 pub mod Fuse
+pub mod Growth
 pub mod Joined
 pub mod Medium
 pub mod Memory

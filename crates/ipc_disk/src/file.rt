@@ -1,6 +1,6 @@
 //! A disk in a file of the system: how the file is made, opened and locked.
 
-ghost use Rattle.std.specs.Prelude.{◌≡◌, ◌^◌, ◌/◌, ◌+◌, ◌-◌, ◌%◌, min, IfOk};
+ghost use Rattle.std.specs.Prelude.{◌≡◌, ◌≤◌, ◌^◌, ◌/◌, ◌+◌, ◌-◌, ◌%◌, min, IfOk};
 
 use crate::progress::Silent;
 use crate::system::{FileRuns, offset};
@@ -101,6 +101,13 @@ fn resize<P: Progress>(file: &File, len: u64, progress: &mut P) -> io::Result<()
     file.sync_all()
 }
 
+// Gives a file zeros from one place to another, and syncs it. What stands there is cut off.
+fn extend<P: Progress>(file: &File, from: u64, end: u64, progress: &mut P) -> io::Result<()> {
+    file.set_len(from)?;
+    fill(file, from, end, progress)?;
+    file.sync_all()
+}
+
 impl FileDisk {
     ghost use Rattle.ipc_disk.specs.Joined.{disk_under, IsUnused};
     ghost use Rattle.ipc_disk.specs.File.{file_size};
@@ -156,6 +163,49 @@ impl FileDisk {
             return Err(DiskFault);
         };
         FileDisk::over(rt.alloc(), file, whole_sectors(metadata.len()))
+    }
+
+    /// As `open`, but a file with fewer whole sectors gets so many: those that it has stay, and zeros
+    /// come after them; what makes no whole sector is cut off first. Then it is synced. A crash
+    /// meanwhile leaves some of the new sectors, or all, or none. `DiskFault` as of `open`, and if the
+    /// system refuses to write; then the file is cut to the sectors that it had.
+    pub fn grow<R: Files<File = File> + AllocGlobal, P: AsPath>(
+        rt: &R,
+        path: P,
+        sectors: u32,
+    ) -> Result<FileDisk, DiskFault>
+        ensures size { IfOk result (λ disk. sectors ≤ file_size (disk_under disk)) }
+        ensures unused { IfOk result (λ disk. IsUnused 0 disk) }
+    {
+        FileDisk::grow_with(rt, path, sectors, &mut Silent)
+    }
+
+    /// As `grow`. While zeros are written, `progress` hears how many sectors the file has by then, as
+    /// of `create_with`.
+    pub fn grow_with<R: Files<File = File> + AllocGlobal, P: AsPath, T: Progress>(
+        rt: &R,
+        path: P,
+        sectors: u32,
+        progress: &mut T,
+    ) -> Result<FileDisk, DiskFault>
+        ensures size { IfOk result (λ disk. sectors ≤ file_size (disk_under disk)) }
+        ensures unused { IfOk result (λ disk. IsUnused 0 disk) }
+    {
+        let Ok(file) = open_locked(rt, path) else {
+            return Err(DiskFault);
+        };
+        let Ok(metadata) = file.metadata() else {
+            return Err(DiskFault);
+        };
+        let had = whole_sectors(metadata.len());
+        if sectors <= had {
+            return FileDisk::over(rt.alloc(), file, had);
+        }
+        if extend(&file, offset(had), offset(sectors), progress).is_err() {
+            let _cut = file.set_len(offset(had));
+            return Err(DiskFault);
+        }
+        FileDisk::over(rt.alloc(), file, sectors)
     }
 
     // A disk of so many sectors in an open file. `DiskFault` if there is no memory for what waits.

@@ -1,12 +1,14 @@
 //! A disk in memory, which never fails.
 
-ghost use Rattle.std.specs.Prelude.{◌≡◌, ◌<◌, ◌≤◌, ◌^◌, ◌++◌, [], ◌∷◌, length, map};
-ghost use Rattle.std.specs.Prelude.{All, Some, IfOk, IsOk, OnOk};
+ghost use Rattle.std.specs.Prelude.{◌≡◌, ◌<◌, ◌≤◌, ◌-◌, ◌^◌, ◌++◌, [], ◌∷◌, length, map, max};
+ghost use Rattle.std.specs.Prelude.{All, Some, IfOk, IsOk, OnOk, OnErr};
 ghost use Rattle.std.specs.Prelude.{replicate, slice_get, slice_set, vec_capacity};
 ghost use Rattle.std.proofs.Common.{lit<};
 ghost use Rattle.ipc_disk.specs.Calls.{IsOneCall};
 ghost use Rattle.ipc_disk.specs.Counts.{with_write, with_sync};
 ghost use Rattle.ipc_disk.specs.Medium.{IsHonest, IsDurable, Stays, Writes};
+ghost use Rattle.ipc_disk.specs.Growth.{HasGrown, with_zeros};
+ghost use Rattle.ipc_disk.specs.Since.{EachImageSince};
 ghost use Rattle.ipc_disk.specs.Crash.{survivors, survivor, is_unsynced, survives as kept};
 ghost use Rattle.ipc_disk.specs.Relations.Slots.{IsWhole, ListsUnsynced, flushed, synced_slot};
 
@@ -91,6 +93,34 @@ impl MemoryDisk {
         choose(&mut disk.slots, keep);
         disk.recent.clear();
         disk
+    }
+
+    /// Gives it so many sectors, if it has fewer: zeros, synced, after those that it has. These stay as they are. If
+    /// memory is refused, all of it does. The next sync goes over all sectors.
+    pub fn grow(&mut self, sectors: u32) -> Result<(), AllocError>
+        ensures size { OnOk result (memory_size self.new ≡ max (memory_size self.old) sectors) }
+        ensures contents { OnOk result ((memory_medium self.new).contents
+            ≡ with_zeros (sectors - memory_size self.old) (memory_medium self.old).contents) }
+        ensures synced { OnOk result (synced_image self.new
+            ≡ with_zeros (sectors - memory_size self.old) (synced_image self.old)) }
+        ensures err { OnErr result (Stays (memory_medium self.old) (memory_medium self.new)) }
+        ensures err_synced { OnErr result (synced_image self.new ≡ synced_image self.old) }
+        ensures counts { memory_counts self.new ≡ memory_counts self.old }
+        // A crash at any moment.
+        ensures any_moment { EachImageSince (memory_medium self.old) (memory_medium self.new)
+            (HasGrown (sectors - memory_size self.old) (memory_medium self.old)) }
+    {
+        let sectors = sectors as usize;
+        if sectors <= self.slots.len() {
+            return Ok(());
+        }
+        // Room in the list comes first: after it only what changes nothing can be refused.
+        let more = sectors.saturating_sub(self.recent.len());
+        self.recent.reserve(more)?;
+        self.slots.resize(sectors, ZEROS)?;
+        // A list that had no place for a write would have one now. A full one stands for all sectors.
+        self.recent.resize(sectors, 0).unwrap();
+        Ok(())
     }
 
     /// Its writes so far, at most 18446744073709551615.

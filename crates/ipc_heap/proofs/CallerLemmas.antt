@@ -1,27 +1,29 @@
 -- What the crates above cite of a heap: it stays what it is over reads and syncs, and over calls that leave its sectors
 -- alone; an image is one heap; and what is left of a map.
-use Rattle.std.proofs.Common.{◌≡◌, ◌⊎◌, ◌↔◌, inl, inr, ⊎_elim, ℕ, ◌+◌, ◌^◌, ◌<◌, ◌≤◌, Bool, true, false, not, List, [], ◌∷◌, ◌++◌, cond, length, map, Some}
+use Rattle.std.proofs.Common.{◌≡◌, ◌↔◌, inl, inr, ℕ, ◌+◌, ◌^◌, ◌<◌, ◌≤◌, Bool, List, [], ◌∷◌, length, map, Some}
 use Rattle.std.proofs.Common.{refl, sym, ap, subst, ◌∙◌, arith}
-use Rattle.std.specs.Prelude.{All, Contains, IsTrue, nat_eq, slice_get}
+use Rattle.std.specs.Prelude.{All, Contains, IsTrue, slice_get}
 use Rattle.std.specs.List.{filter}
 use Rattle.std.proofs.lemmas.List.{length-map}
 use Rattle.std.proofs.lemmas.List.Elements.{All-contains, All-filter}
 use Rattle.ipc_base.specs.Objects.{PlainObjects, AreObjects}
-use Rattle.ipc_base.specs.Table.{IsRising, keys_of, value_at}
+use Rattle.ipc_base.specs.Table.{IsRising, keys_of}
 use Rattle.ipc_base.proofs.CallerLemmas.{rising-lower, test_cases}
 use Rattle.ipc_disk.specs.declared.range.Range.{Range}
+use Rattle.ipc_disk.specs.Growth.{with_zeros}
 use Rattle.ipc_disk.specs.Medium.{Image, Medium, IsHonest, Stays}
-use Rattle.ipc_disk.specs.Range.{IsInside}
+use Rattle.ipc_disk.specs.Range.{IsInside, IsOutside, IsWithin}
 use Rattle.ipc_disk.specs.Since.{EachImageSince, SameAt, LeavesAlone}
-use Rattle.ipc_disk.proofs.CallerLemmas.{EachImageSince-now, LeavesAlone-keeps, sector_at-same}
+use Rattle.ipc_disk.proofs.CallerLemmas.{EachImageSince-now, LeavesAlone-keeps, sector_at-grown, sector_at-same}
 use Rattle.ipc_heap.specs.declared.uses.Use.{Use}
 use Rattle.ipc_heap.specs.Heap.{Allocation, Holds, HoldsIn, IsOwn, Placed, object_on, object_sectors, used}
 use Rattle.ipc_heap.specs.Matches.{HeapMatches, Keeps}
 use Rattle.ipc_heap.specs.View.{HeapView, map_of, sizes_of}
 use Rattle.ipc_heap.proofs.Changes.{noted-from, noted-to}
-use Rattle.ipc_heap.proofs.Images.{HoldsIn-same, objects-same}
+use Rattle.ipc_heap.proofs.Images.{HoldsIn-same, HoldsIn-sectors, objects-same}
 use Rattle.ipc_heap.proofs.Sectors.{AreNoted}
 pub use Rattle.ipc_heap.proofs.Damages.{Holds-one}
+pub use Rattle.ipc_heap.proofs.Saved.{Holds-wider}
 pub use Rattle.ipc_heap.proofs.Changes.{words_for-is}
 
 module _ (range : Range) (root : ℕ) (places : ℕ → Type 0) (own : (i : ℕ) → IsOwn range root i → places i) where
@@ -42,6 +44,16 @@ module _ (range : Range) (root : ℕ) (places : ℕ → Type 0) (own : (i : ℕ)
       → ((image : Image) → old.images_now image → Holds range root epoch objects image) → EachImageSince old new (Holds range root epoch objects)
   Holds-since epoch objects old new run here = LeavesAlone-keeps places old new (Holds range root epoch objects) run here (Holds-alone epoch objects)
 
+-- it stands there once the disk has grown
+pub Holds-grown : (range : Range) (root epoch more : ℕ) (objects : PlainObjects) (image : Image) → IsWithin range (length image) → root < length image
+    → Holds range root epoch objects image → Holds range root epoch objects (with_zeros more image)
+Holds-grown range root epoch more objects image within there holds = record {
+  allocation = holds.allocation;
+  there = HoldsIn-sectors image (with_zeros more image) range root epoch holds.allocation objects (sym (sector_at-grown more image root there))
+      (λ s used-there. let here = All-contains (IsInside range) (used holds.allocation) s holds.there.allocated.inside used-there in
+      sym (sector_at-grown more image s (omega (arith, here, within)))) holds.there;
+}
+
 -- the map stays as it is where its sectors do
 pub map-alone : (heap : HeapView) (places : ℕ → Type 0) (old new : Medium) → ((i : ℕ) → IsOwn heap.range heap.root i → places i)
     → LeavesAlone places old new → All (IsInside heap.range) (object_sectors heap.placed) → map_of heap new ≡ map_of heap old
@@ -56,11 +68,26 @@ module _ (heap : HeapView) (saved : PlainObjects) where
       → Holds heap.range heap.root heap.epoch saved image
   HeapMatches-holds medium at image now = record { allocation = at.there; there = at.images image now }
 
+  -- it is aimed at another root
+  pub HeapMatches-aimed : (medium : Medium) (aim : ℕ) → HeapMatches heap saved medium → HeapMatches (record heap { aim = aim }) saved medium
+  HeapMatches-aimed medium aim at = record {
+    honest = at.honest;
+    apart = at.apart;
+    there = at.there;
+    images = at.images;
+    table = at.table;
+    are = at.are;
+    all = at.all;
+    saved_uses = at.saved_uses;
+    next_uses = at.next_uses;
+  }
+
   -- it matches a disk on which there are no other images, and the map is the same
   moved : (old new : Medium) (at : HeapMatches heap saved old) → IsHonest new → map_of heap new ≡ map_of heap old
       → ((image : Image) → new.images_now image → HoldsIn heap.range heap.root heap.epoch at.there saved image) → HeapMatches heap saved new
   moved old new at honest same images = record {
     honest = honest;
+    apart = at.apart;
     there = at.there;
     images = images;
     table = at.table;
@@ -138,6 +165,7 @@ module _ (numbers : ℕ → Bool) (old new : HeapView) (keeps : Keeps numbers ol
       let stays = keeps.stays in
       record {
         honest = at.honest;
+        apart = subst (λ (r : Range). IsOutside r new.root) (sym stays.range) (subst (λ (n : ℕ). IsOutside old.range n) (sym stays.root) at.apart);
         there = at.there;
         images = subst (λ (r : Range). Has r new.root new.epoch) (sym stays.range)
             (subst (λ (n : ℕ). Has old.range n new.epoch) (sym stays.root) (subst (λ (n : ℕ). Has old.range old.root n) (sym stays.epoch) at.images));

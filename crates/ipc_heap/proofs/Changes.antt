@@ -227,9 +227,9 @@ abbrev pub HasSize : Placed → Type 0
 HasSize p = (0 < p.len) × (p.len < 2 ^ 64) × (length p.sectors ≡ sectors_for p.len)
 
 -- what is seen of it
-abbrev pub seen : Range → ℕ → ℕ → Vec ℕ → Vec ℕ → Vec Use → HeapView
-seen range root epoch words table uses =
-    record { range = range; root = root; epoch = epoch; placed = placed_in words.items; table = table.items; uses = uses.items }
+abbrev pub seen : Range → ℕ → ℕ → ℕ → Vec ℕ → Vec ℕ → List Use → HeapView
+seen range root aim epoch words table uses =
+    record { range = range; root = root; aim = aim; epoch = epoch; placed = placed_in words.items; table = table.items; uses = uses }
 
 -- what holds of the objects of a heap
 pub record AreObjectsOf (range : Range) (placed : List Placed) (uses : List Use) : Type 0 where
@@ -242,25 +242,25 @@ pub record AreObjectsOf (range : Range) (placed : List Placed) (uses : List Use)
 pub sized-of : (placed : List Placed) → All HasSize placed → All IsSized placed
 sized-of placed sizes = All-weaker HasSize IsSized (λ p size. size.2) placed sizes
 
-pub objects-of : {range : Range} {words table : Vec ℕ} {uses : Vec Use} → IsHeap range words table uses → AreObjectsOf range (placed_in words.items) uses.items
+pub objects-of : {range : Range} {words table : Vec ℕ} {uses : List Use} → IsHeap range words table uses → AreObjectsOf range (placed_in words.items) uses
 objects-of {range} {words} {table} {uses} heap = record {
   numbers = heap.numbers;
   sizes = heap.sizes;
   inside = heap.inside;
   once = heap.once;
-  noted = noted-from (λ u. u.next) range.first uses.items (object_sectors (placed_in words.items)) heap.next_uses;
+  noted = noted-from (λ u. u.next) range.first uses (object_sectors (placed_in words.items)) heap.next_uses;
 }
 
-pub words-of : {range : Range} {words table : Vec ℕ} {uses : Vec Use} → IsHeap range words table uses → AreWords words.items (placed_in words.items)
+pub words-of : {range : Range} {words table : Vec ℕ} {uses : List Use} → IsHeap range words table uses → AreWords words.items (placed_in words.items)
 words-of {range} {words} {table} {uses} heap = record { are = heap.is_table; numbers = heap.numbers; sizes = heap.sizes }
 
 -- it is made of its objects
-pub heap-of : (range : Range) (placed : List Placed) (words table : Vec ℕ) (uses : Vec Use) → words.items ≡ table_words placed
-    → AreObjectsOf range placed uses.items → All (IsInside range) table.items → length uses.items ≡ range.count
+pub heap-of : (range : Range) (placed : List Placed) (words table : Vec ℕ) (uses : List Use) → words.items ≡ table_words placed
+    → AreObjectsOf range placed uses → All (IsInside range) table.items → length uses ≡ range.count
     → 5 * range.count + 5 ≤ vec_capacity words → table_sectors_for (5 * range.count + 5) ≤ vec_capacity table → IsHeap range words table uses
 heap-of range placed words table uses are objects table_within all_uses room table_room =
     let is : placed ≡ placed_in words.items = sym (ap placed_in are ∙ placed_in-table placed (sized-of placed objects.sizes)) in
-    let here : AreObjectsOf range (placed_in words.items) uses.items = subst (λ (l : List Placed). AreObjectsOf range l uses.items) is objects in
+    let here : AreObjectsOf range (placed_in words.items) uses = subst (λ (l : List Placed). AreObjectsOf range l uses) is objects in
     record {
       is_table = are ∙ ap table_words is;
       numbers = here.numbers;
@@ -269,7 +269,7 @@ heap-of range placed words table uses are objects table_within all_uses room tab
       once = here.once;
       table_within = table_within;
       all_uses = all_uses;
-      next_uses = noted-to (λ u. u.next) range.first uses.items (object_sectors (placed_in words.items)) here.noted;
+      next_uses = noted-to (λ u. u.next) range.first uses (object_sectors (placed_in words.items)) here.noted;
       room = room;
       table_room = table_room;
     }
@@ -349,17 +349,17 @@ here-inside range placed object place found inside =
     (all-right (IsInside range) (object_sectors found.before) (object_sectors found.here ++ object_sectors found.after)
     (subst (All (IsInside range)) parts inside))
 
-module _ {range : Range} {words table : Vec ℕ} {uses : Vec Use} {object : ℕ} {place : Place} (new_words : Vec ℕ) (new_uses : Vec Use)
+module _ {range : Range} {words table : Vec ℕ} {uses : List Use} {object : ℕ} {place : Place} (new_words : Vec ℕ) (new_uses : List Use)
     (heap : IsHeap range words table uses)
-    (found : IsPlace (placed_in words.items) object place) (given : AreGiven range.first uses.items (object_sectors found.here) new_uses.items)
+    (found : IsPlace (placed_in words.items) object place) (given : AreGiven range.first uses (object_sectors found.here) new_uses)
     (now : new_words.items ≡ replaced words.items place [] (slice_index words.items 0 - min place.len 1))
     (room : vec_capacity new_words ≡ vec_capacity words) where
   removed-table : new_words.items ≡ table_words (found.before ++ found.after)
   removed-table = now ∙ taken-table words.items (placed_in words.items) object place heap.is_table found
 
-  removed-objects : AreObjectsOf range (found.before ++ found.after) new_uses.items
+  removed-objects : AreObjectsOf range (found.before ++ found.after) new_uses
   removed-objects =
-      objects-without range (placed_in words.items) uses.items new_uses.items object place found (objects-of heap) given
+      objects-without range (placed_in words.items) uses new_uses object place found (objects-of heap) given
 
   pub removed-heap : IsHeap range new_words table new_uses
   removed-heap =
@@ -481,18 +481,18 @@ free-inside range uses sectors all free =
     All-weaker (WasFree range.first uses) (IsInside range)
     (λ s was. (was.0, omega (arith, was.0, slice_get_within uses (s - range.first) was.1 was.2, all))) sectors free
 
-module _ {range : Range} {words table : Vec ℕ} {uses : Vec Use} {mid : List Use} {place : Place} (new_words : Vec ℕ) (new_uses : Vec Use) (p : Placed)
+module _ {range : Range} {words table : Vec ℕ} {uses mid : List Use} {place : Place} (new_words : Vec ℕ) (new_uses : List Use) (p : Placed)
     (heap : IsHeap range words table uses)
-    (found : IsPlace (placed_in words.items) p.number place) (taken : AreTaken range.first uses.items p.sectors mid)
-    (given : AreGiven range.first mid (object_sectors found.here) new_uses.items) (size : HasSize p) (number : p.number < 2 ^ 64)
+    (found : IsPlace (placed_in words.items) p.number place) (taken : AreTaken range.first uses p.sectors mid)
+    (given : AreGiven range.first mid (object_sectors found.here) new_uses) (size : HasSize p) (number : p.number < 2 ^ 64)
     (now : new_words.items ≡ replaced words.items place (object_words p) (slice_index words.items 0 + (1 - place.len)))
     (room : vec_capacity new_words ≡ vec_capacity words) where
   with-table : new_words.items ≡ table_words (found.before ++ p ∷ found.after)
   with-table = now ∙ put-table words.items (placed_in words.items) p.number place heap.is_table found p
 
-  pub with-objects : AreObjectsOf range (found.before ++ p ∷ found.after) new_uses.items
+  pub with-objects : AreObjectsOf range (found.before ++ p ∷ found.after) new_uses
   with-objects =
-      objects-with range (placed_in words.items) uses.items mid new_uses.items p place found
+      objects-with range (placed_in words.items) uses mid new_uses p place found
       (objects-of heap) taken given size number heap.all_uses
 
   pub with-heap : IsHeap range new_words table new_uses
@@ -505,13 +505,13 @@ module _ {range : Range} {words table : Vec ℕ} {uses : Vec Use} {mid : List Us
   with-placed = ap placed_in with-table ∙ placed_in-table (found.before ++ p ∷ found.after) (sized-of (found.before ++ p ∷ found.after) with-objects.sizes)
 
 -- what was taken for an object that is not put is given back
-pub back-heap : {range : Range} {words table : Vec ℕ} {uses : Vec Use} {mid : List Use} {sectors : List ℕ} (new_words : Vec ℕ) (new_uses : Vec Use)
+pub back-heap : {range : Range} {words table : Vec ℕ} {uses mid : List Use} {sectors : List ℕ} (new_words : Vec ℕ) (new_uses : List Use)
     → IsHeap range words table uses
-    → AreTaken range.first uses.items sectors mid → AreGiven range.first mid sectors new_uses.items → new_words.items ≡ words.items
+    → AreTaken range.first uses sectors mid → AreGiven range.first mid sectors new_uses → new_words.items ≡ words.items
     → vec_capacity new_words ≡ vec_capacity words → IsHeap range new_words table new_uses
 back-heap {range} {words} {table} {uses} {mid} {sectors} new_words new_uses heap taken given now room =
     heap-of range (placed_in words.items) new_words table new_uses (now ∙ heap.is_table)
-    (objects-back range (placed_in words.items) uses.items mid mid new_uses.items sectors (objects-of heap) taken refl given)
+    (objects-back range (placed_in words.items) uses mid mid new_uses sectors (objects-of heap) taken refl given)
     heap.table_within (given.long ∙ taken.long ∙ heap.all_uses) (omega (arith, heap.room, room)) heap.table_room
 
 -- ---- a heap is turned over
@@ -524,26 +524,26 @@ pub turned-saved : (uses : List Use) → saved_bits (map turned uses) ≡ next_b
 turned-saved [] = refl
 turned-saved (u ∷ uses) = ap (λ (l : List Bool). u.next ∷ l) (turned-saved uses)
 
-module _ {range : Range} {words table : Vec ℕ} {uses : Vec Use} {mid near : List Use} (new_table : Vec ℕ) (new_uses : Vec Use)
+module _ {range : Range} {words table : Vec ℕ} {uses mid near : List Use} (new_table : Vec ℕ) (new_uses : List Use)
     (heap : IsHeap range words table uses)
-    (taken : AreTaken range.first uses.items new_table.items mid) (same : next_bits near ≡ next_bits mid) (long : length near ≡ length mid)
-    (given : AreGiven range.first near new_table.items new_uses.items) (room : vec_capacity new_table ≡ vec_capacity table) where
+    (taken : AreTaken range.first uses new_table.items mid) (same : next_bits near ≡ next_bits mid) (long : length near ≡ length mid)
+    (given : AreGiven range.first near new_table.items new_uses) (room : vec_capacity new_table ≡ vec_capacity table) where
   table-inside : All (IsInside range) new_table.items
-  table-inside = free-inside range uses.items new_table.items heap.all_uses taken.were_free
+  table-inside = free-inside range uses new_table.items heap.all_uses taken.were_free
 
   pub flipped-heap : IsHeap range words new_table new_uses
   flipped-heap =
       heap-of range (placed_in words.items) words new_table new_uses heap.is_table
-      (objects-back range (placed_in words.items) uses.items mid near new_uses.items new_table.items (objects-of heap) taken same given)
+      (objects-back range (placed_in words.items) uses mid near new_uses new_table.items (objects-of heap) taken same given)
       table-inside (given.long ∙ long ∙ taken.long ∙ heap.all_uses) heap.room (omega (arith, heap.table_room, room))
 
-module _ {range : Range} {words table : Vec ℕ} {new_table : List ℕ} {uses : Vec Use} {mid : List Use} (heap : IsHeap range words table uses)
-    (taken : AreTaken range.first uses.items new_table mid) where
+module _ {range : Range} {words table : Vec ℕ} {new_table : List ℕ} {uses mid : List Use} (heap : IsHeap range words table uses)
+    (taken : AreTaken range.first uses new_table mid) where
   -- the sectors of the table are none of the map's
   pub table-apart : (s : ℕ) → Contains new_table s → Contains (object_sectors (placed_in words.items)) s → ⊥
   table-apart s there =
-      free-apart range.first uses.items (object_sectors (placed_in words.items)) (objects-of heap).noted s
-      (All-contains (WasFree range.first uses.items) new_table s taken.were_free there)
+      free-apart range.first uses (object_sectors (placed_in words.items)) (objects-of heap).noted s
+      (All-contains (WasFree range.first uses) new_table s taken.were_free there)
 
   -- what is used then
   pub both-once : IsDistinct nat_eq (object_sectors (placed_in words.items) ++ new_table)
@@ -553,11 +553,11 @@ module _ {range : Range} {words table : Vec ℕ} {new_table : List ℕ} {uses : 
   pub both-inside : All (IsInside range) (object_sectors (placed_in words.items) ++ new_table)
   both-inside =
       All-append (IsInside range) (object_sectors (placed_in words.items)) new_table heap.inside
-      (free-inside range uses.items new_table heap.all_uses taken.were_free)
+      (free-inside range uses new_table heap.all_uses taken.were_free)
 
   both-noted : AreNoted range.first (next_bits mid) (object_sectors (placed_in words.items) ++ new_table)
   both-noted =
-      noted-taken range.first uses.items mid (object_sectors (placed_in words.items)) new_table (objects-of heap).noted taken
+      noted-taken range.first uses mid (object_sectors (placed_in words.items)) new_table (objects-of heap).noted taken
 
   module _ (new_uses : List Use) (given : AreGiven range.first (map turned mid) new_table new_uses) where
     bits : saved_bits new_uses ≡ next_bits mid
@@ -584,19 +584,19 @@ module _ {range : Range} {words table : Vec ℕ} {new_table : List ℕ} {uses : 
         )
 
 -- there is room for the words of any object
-pub heap-fits : {range : Range} {words table : Vec ℕ} {uses : Vec Use} → IsHeap range words table uses
-    → length words.items + 4 + count_by is_free uses.items ≤ vec_capacity words
+pub heap-fits : {range : Range} {words table : Vec ℕ} {uses : List Use} → IsHeap range words table uses
+    → length words.items + 4 + count_by is_free uses ≤ vec_capacity words
 heap-fits {range} {words} {table} {uses} heap =
-    let fit = words-fit range (placed_in words.items) uses.items (objects-of heap) heap.all_uses in
+    let fit = words-fit range (placed_in words.items) uses (objects-of heap) heap.all_uses in
     omega (arith, fit, heap.room, ap length heap.is_table)
 
 -- and few objects
-pub heap-few : {range : Range} {words table : Vec ℕ} {uses : Vec Use} → IsHeap range words table uses → slice_index words.items 0 ≤ range.count
+pub heap-few : {range : Range} {words table : Vec ℕ} {uses : List Use} → IsHeap range words table uses → slice_index words.items 0 ≤ range.count
 heap-few {range} {words} {table} {uses} heap =
     omega (
       arith,
       ap (λ (l : List ℕ). slice_index l 0) heap.is_table,
-      objects-few range (placed_in words.items) uses.items (objects-of heap) heap.all_uses,
+      objects-few range (placed_in words.items) uses (objects-of heap) heap.all_uses,
     )
 
 -- the words of an object that were pushed, one after another
@@ -619,6 +619,6 @@ module _ (ws one two all : List ℕ) (p : Placed) (first : one ≡ ws ++ p.numbe
       ∙ append_assoc ws (p.number / 2 ^ 32 ∷ p.number % 2 ^ 32 ∷ p.len / 2 ^ 32 ∷ p.len % 2 ^ 32 ∷ []) p.sectors
 
 -- and how many words there are
-pub words-room : {range : Range} {words table : Vec ℕ} {uses : Vec Use} → IsHeap range words table uses → length words.items ≤ 5 * range.count + 1
+pub words-room : {range : Range} {words table : Vec ℕ} {uses : List Use} → IsHeap range words table uses → length words.items ≤ 5 * range.count + 1
 words-room {range} {words} {table} {uses} heap =
-    omega (arith, words-fit range (placed_in words.items) uses.items (objects-of heap) heap.all_uses, ap length heap.is_table)
+    omega (arith, words-fit range (placed_in words.items) uses (objects-of heap) heap.all_uses, ap length heap.is_table)

@@ -281,18 +281,27 @@ module _ (range : Range) (root epoch : ℕ) (a : Allocation) (objects : PlainObj
         more)
         bad
 
+-- an image has one heap, in the same sectors
+pub HoldsIn-one : (range : Range) (root epoch other : ℕ) (a b : Allocation) (objects others : PlainObjects) (image : Image)
+    → HoldsIn range root epoch a objects image → HoldsIn range root other b others image → a ≡ b
+HoldsIn-one range root epoch other a b objects others image one two =
+    let is : IsTable range root image a.table = holds-table range root epoch a objects image one in
+    let words : table_words a.placed ≡ table_words b.placed =
+    sym (words-same range root epoch a objects image one a.table is) ∙ words-same range root other b others image two a.table is in
+    let placed : a.placed ≡ b.placed =
+    sym (placed_in-table a.placed (λ k d lt. (one.allocated.sizes k d lt).2)) ∙ ap placed_in words
+    ∙ placed_in-table b.placed (λ k d lt. (two.allocated.sizes k d lt).2) in
+    let new : List Placed → List ℕ → Allocation = λ ps ss. record { placed = ps; table = ss } in
+    ap (new a.placed) (table-same range root other b others image two a.table is) ∙ ap (λ (ps : List Placed). new ps b.table) placed
+
 pub Holds-one : (range : Range) (root epoch other : ℕ) (objects others : PlainObjects) (image : Image) → Holds range root epoch objects image
     → Holds range root other others image → (epoch ≡ other) × (objects ≡ others)
 Holds-one range root epoch other objects others image one two =
-    let a : Allocation = one.allocation in
-    let b : Allocation = two.allocation in
-    let is : IsTable range root image a.table = holds-table range root epoch a objects image one.there in
-    let words : table_words a.placed ≡ table_words b.placed =
-    sym (words-same range root epoch a objects image one.there a.table is) ∙ words-same range root other b others image two.there a.table is in
-    let placed : a.placed ≡ b.placed =
-    sym (placed_in-table a.placed (λ k d lt. (one.there.allocated.sizes k d lt).2)) ∙ ap placed_in words
-    ∙ placed_in-table b.placed (λ k d lt. (two.there.allocated.sizes k d lt).2) in
-    (sym one.there.current ∙ two.there.current, one.there.stand ∙ ap (map (object_on image)) placed ∙ sym two.there.stand)
+    let same : one.allocation ≡ two.allocation =
+    HoldsIn-one range root epoch other one.allocation two.allocation objects others image one.there two.there in (
+      sym one.there.current ∙ two.there.current,
+      one.there.stand ∙ ap (λ (a : Allocation). map (object_on image) a.placed) same ∙ sym two.there.stand,
+    )
 
 pub no-damage : (range : Range) (root : ℕ) (image : Image) (sector : ℕ) → IsFirstDamage range root image sector → (epoch : ℕ) (objects : PlainObjects)
     → Holds range root epoch objects image → ⊥

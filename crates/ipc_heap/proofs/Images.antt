@@ -14,9 +14,9 @@ use Rattle.ipc_disk.specs.Medium.{Image, Medium}
 use Rattle.ipc_disk.specs.Range.{IsInside}
 use Rattle.ipc_disk.specs.Since.{EachImageSince, LeavesAlone, SameAt}
 use Rattle.ipc_disk.specs.Standing.{sector_at}
-use Rattle.ipc_disk.proofs.CallerLemmas.{EachImageSince-now, EachImageSince-weaken, LeavesAlone-keeps, sector_at-same}
+use Rattle.ipc_disk.proofs.CallerLemmas.{EachImageSince-now, LeavesAlone-keeps, sector_at-same}
 use Rattle.ipc_heap.specs.declared.uses.Use.{Use}
-use Rattle.ipc_heap.specs.Heap.{Allocation, Holds, HoldsIn, IsLaidOut, Placed, epoch_in, first_in, len_in, next_in, words_in, object_on, object_sectors}
+use Rattle.ipc_heap.specs.Heap.{Allocation, HoldsIn, Placed, epoch_in, first_in, len_in, next_in, words_in, object_on, object_sectors}
 use Rattle.ipc_heap.specs.Heap.{table_words, used, words_at}
 use Rattle.ipc_heap.specs.Matches.{HeapMatches}
 use Rattle.ipc_heap.specs.View.{HeapView, with_object}
@@ -42,13 +42,12 @@ module _ (a b : Image) where
       ∙ ap (λ (l : PlainObjects). object_on b p ∷ l) (objects-same placed (λ s there. same s (Contains-append_right p.sectors (object_sectors placed) s there)))
 
   -- an image that has the same in the root and in all sectors that are used holds the same
-  pub HoldsIn-same : (range : Range) (root epoch : ℕ) (a-has : Allocation) (objects : PlainObjects) (places : ℕ → Type 0) → SameAt places a b
-      → places root → ((s : ℕ) → Contains (used a-has) s → places s) → HoldsIn range root epoch a-has objects a → HoldsIn range root epoch a-has objects b
-  HoldsIn-same range root epoch a-has objects places same at_root at_used holds =
-      let at : (s : ℕ) → Contains (used a-has) s → sector_at a s ≡ sector_at b s = λ s there. sector_at-same places a b s same (at_used s there) in
+  pub HoldsIn-sectors : (range : Range) (root epoch : ℕ) (a-has : Allocation) (objects : PlainObjects) → sector_at a root ≡ sector_at b root
+      → ((s : ℕ) → Contains (used a-has) s → sector_at a s ≡ sector_at b s)
+      → HoldsIn range root epoch a-has objects a → HoldsIn range root epoch a-has objects b
+  HoldsIn-sectors range root epoch a-has objects head at holds =
       let in_table : (s : ℕ) → Contains a-has.table s → sector_at a s ≡ sector_at b s =
       λ s there. at s (Contains-append_right (object_sectors a-has.placed) a-has.table s there) in
-      let head : sector_at a root ≡ sector_at b root = sector_at-same places a b root same at_root in
       record {
         are = holds.are;
         positive = holds.positive;
@@ -63,6 +62,12 @@ module _ (a b : Image) where
             ∙ holds.table;
         stand = holds.stand ∙ objects-same a-has.placed (λ s there. at s (Contains-append_left (object_sectors a-has.placed) a-has.table s there));
       }
+
+  pub HoldsIn-same : (range : Range) (root epoch : ℕ) (a-has : Allocation) (objects : PlainObjects) (places : ℕ → Type 0) → SameAt places a b
+      → places root → ((s : ℕ) → Contains (used a-has) s → places s) → HoldsIn range root epoch a-has objects a → HoldsIn range root epoch a-has objects b
+  HoldsIn-same range root epoch a-has objects places same at_root at_used =
+      HoldsIn-sectors range root epoch a-has objects (sector_at-same places a b root same at_root)
+      (λ s there. sector_at-same places a b s same (at_used s there))
 
 -- ---- what is not free
 
@@ -84,8 +89,7 @@ noted-kept range uses s all inside noted =
 
 -- ---- a heap that matches a disk
 
-module _ (heap : HeapView) (saved : PlainObjects) (medium : Medium) (size : ℕ) (laid : IsLaidOut heap.range heap.root size)
-    (matches : HeapMatches heap saved medium) where
+module _ (heap : HeapView) (saved : PlainObjects) (medium : Medium) (matches : HeapMatches heap saved medium) where
   -- what is saved stands in sectors that are not free
   pub saved-kept : (s : ℕ) → Contains (used matches.there) s → IsNotFree heap.range heap.uses s
   saved-kept s there =
@@ -106,19 +110,14 @@ module _ (heap : HeapView) (saved : PlainObjects) (medium : Medium) (size : ℕ)
   pub saved-same : (a b : Image) → SameAt (IsNotFree heap.range heap.uses) a b → HoldsIn heap.range heap.root heap.epoch matches.there saved a
       → HoldsIn heap.range heap.root heap.epoch matches.there saved b
   saved-same a b same =
-      HoldsIn-same a b heap.range heap.root heap.epoch matches.there saved (IsNotFree heap.range heap.uses) same (inl laid.apart) saved-kept
+      HoldsIn-same a b heap.range heap.root heap.epoch matches.there saved (IsNotFree heap.range heap.uses) same (inl matches.apart) saved-kept
 
   module _ (new : Medium) (run : LeavesAlone (IsNotFree heap.range heap.uses) medium new) where
-    kept-images : EachImageSince medium new (HoldsIn heap.range heap.root heap.epoch matches.there saved)
+    -- a crash at any moment leaves what is saved
+    pub kept-images : EachImageSince medium new (HoldsIn heap.range heap.root heap.epoch matches.there saved)
     kept-images =
         LeavesAlone-keeps (IsNotFree heap.range heap.uses) medium new
         (HoldsIn heap.range heap.root heap.epoch matches.there saved) run matches.images saved-same
-
-    -- a crash at any moment leaves what is saved
-    pub kept-moment : EachImageSince medium new (Holds heap.range heap.root heap.epoch saved)
-    kept-moment =
-        EachImageSince-weaken medium new (HoldsIn heap.range heap.root heap.epoch matches.there saved) (Holds heap.range heap.root heap.epoch saved) kept-images
-        (λ image holds. record { allocation = matches.there; there = holds })
 
     pub kept-now : (image : Image) → new.images_now image → HoldsIn heap.range heap.root heap.epoch matches.there saved image
     kept-now = EachImageSince-now medium new (HoldsIn heap.range heap.root heap.epoch matches.there saved) kept-images run.honest
@@ -227,15 +226,16 @@ module _ (image : Image) (before here after : List Placed) (p : Placed) (bytes :
 
 -- ---- a heap that matches a disk still matches it
 
-pub kept-matches : (heap : HeapView) (saved : PlainObjects) (medium new : Medium) (size : ℕ) (laid : IsLaidOut heap.range heap.root size)
-    (matches : HeapMatches heap saved medium) → LeavesAlone (IsNotFree heap.range heap.uses) medium new → (placed : List Placed) (uses : List Use)
+pub kept-matches : (heap : HeapView) (saved : PlainObjects) (medium new : Medium) (matches : HeapMatches heap saved medium)
+    → LeavesAlone (IsNotFree heap.range heap.uses) medium new → (placed : List Placed) (uses : List Use)
     → length uses ≡ heap.range.count → map (λ u. u.saved) uses ≡ map (λ u. u.saved) heap.uses
     → ((i : ℕ) (u : Use) → slice_get uses i ≡ Some u → IsTrue u.next ↔ Contains (object_sectors placed) (heap.range.first + i))
     → AreObjects (map (object_on new.contents) placed) → HeapMatches (record heap { placed = placed; uses = uses }) saved new
-kept-matches heap saved medium new size laid matches run placed uses all bits next are = record {
+kept-matches heap saved medium new matches run placed uses all bits next are = record {
   honest = run.honest;
+  apart = matches.apart;
   there = matches.there;
-  images = kept-now heap saved medium size laid matches new run;
+  images = kept-now heap saved medium matches new run;
   table = matches.table;
   are = are;
   all = all;

@@ -12,6 +12,7 @@ mod Parts
 mod Placed
 mod Roots
 mod Runs
+mod Saved
 mod Sectors
 mod Stands
 mod Writes

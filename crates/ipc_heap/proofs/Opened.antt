@@ -4,15 +4,15 @@ use Rattle.std.proofs.Common.{length, get_or, take, drop, map, replicate, cond, 
 use Rattle.std.specs.Prelude.{◌≢◌, ◌⊎◌, IsTrue, MatchBool, All, Any, Contains, nat_eq, count_by, slice_get, flat_map, vec_capacity}
 use Rattle.std.specs.List.{IsDistinct}
 use Rattle.std.proofs.lemmas.Bool.{cases_lt}
-use Rattle.std.proofs.lemmas.List.{append-nil, get_or-replicate, get_or_past, length-append, length-map, length-replicate, length-take-le}
-use Rattle.std.proofs.lemmas.List.Elements.{All-contains, All-map, All-tail, Contains-append_right, Contains-get_or}
+use Rattle.std.proofs.lemmas.List.{append-nil, get_or-replicate, get_or_past, length-append, length-map, length-replicate}
+use Rattle.std.proofs.lemmas.List.Elements.{All-contains, All-map, Contains-append_right, Contains-get_or}
 use Rattle.std.proofs.lemmas.List.Folds.{sum_by-replicate}
 use Rattle.std.proofs.lemmas.Option.{slice_get_within, get_or_from_slice_get}
 use Rattle.ipc_base.specs.Objects.{PlainObjects}
 use Rattle.ipc_base.specs.Table.{IsRising}
 use Rattle.ipc_disk.specs.declared.range.Range.{Range}
 use Rattle.ipc_disk.specs.Medium.{Image, Medium, IsShaped, IsHonest, IsDurable}
-use Rattle.ipc_disk.specs.Range.{IsInside, IsWithin}
+use Rattle.ipc_disk.specs.Range.{IsInside, IsWithin, IsOutside}
 use Rattle.ipc_disk.specs.Standing.{sector_at, sectors_for}
 use Rattle.ipc_heap.specs.declared.root.Root.{Root}
 use Rattle.ipc_heap.specs.declared.uses.Use.{Use}
@@ -105,7 +105,7 @@ length-objects [] = omega arith
 length-objects (p ∷ placed) = omega (arith, length-append (object_words p) (flat_map object_words placed), length-objects placed)
 
 module _ (range : Range) (at : ℕ) (root : Root) (image : Image) (parts : Parts)
-    (noted : AreAllNoted range parts.table.items parts.words.items parts.uses.items true)
+    (noted : AreAllNoted range parts.table.items parts.words.items parts.uses true)
     (all : 4 * length parts.words.items ≡ root.len) (sound : IsSound range root) where
   abbrev objects : List Placed
   objects = noted.placed
@@ -114,20 +114,20 @@ module _ (range : Range) (at : ℕ) (root : Root) (image : Image) (parts : Parts
   some = omega (arith, all, sound.some)
 
   its-words : parts.words.items ≡ table_words objects
-  its-words = words-are range parts.table.items parts.words.items parts.uses.items noted some
+  its-words = words-are range parts.table.items parts.words.items parts.uses noted some
 
   pub its-objects : placed_in parts.words.items ≡ objects
-  its-objects = placed-are range parts.table.items parts.words.items parts.uses.items noted some
+  its-objects = placed-are range parts.table.items parts.words.items parts.uses noted some
 
   its-sizes : All (λ p. (0 < p.len) × (p.len < 2 ^ 64) × (length p.sectors ≡ sectors_for p.len)) objects
-  its-sizes = all-sizes range parts.table.items parts.words.items parts.uses.items noted some
+  its-sizes = all-sizes range parts.table.items parts.words.items parts.uses noted some
 
   -- the parts can be kept
   pub parts-heap : 5 * range.count + 5 ≤ vec_capacity parts.words → table_sectors_for (5 * range.count + 5) ≤ vec_capacity parts.table
       → IsHeap range parts.words parts.table parts.uses
   parts-heap room table-room =
       let kept = sym its-objects in
-      let uses : AreNoted range (object_sectors objects) parts.table.items parts.uses.items = noted.noted in
+      let uses : AreNoted range (object_sectors objects) parts.table.items parts.uses = noted.noted in
       record {
         is_table = its-words ∙ ap table_words kept;
         numbers = subst (λ (l : List Placed). IsRising 0 (map (λ p. p.number) l) (2 ^ 64)) kept noted.are.numbers;
@@ -139,7 +139,7 @@ module _ (range : Range) (at : ℕ) (root : Root) (image : Image) (parts : Parts
             All-contains (IsInside range) (object_sectors objects ++ parts.table.items) x uses.inside
             (Contains-append_right (object_sectors objects) parts.table.items x (Contains-get_or parts.table.items k d lt));
         all_uses = uses.all;
-        next_uses = subst (λ (l : List Placed). (i : ℕ) (u : Use) → slice_get parts.uses.items i ≡ Some u
+        next_uses = subst (λ (l : List Placed). (i : ℕ) (u : Use) → slice_get parts.uses i ≡ Some u
             → IsTrue u.next ↔ Contains (object_sectors l) (range.first + i)) kept uses.next;
         room = room;
         table_room = table-room;
@@ -149,15 +149,16 @@ module _ (range : Range) (at : ℕ) (root : Root) (image : Image) (parts : Parts
   kept = record {
     range = range;
     root = at;
+    aim = at;
     epoch = root.epoch;
     placed = placed_in parts.words.items;
     table = parts.table.items;
-    uses = parts.uses.items;
+    uses = parts.uses;
   }
 
   pub kept-free : free kept + length (used_by kept) ≡ range.count
   kept-free =
-      subst (λ (l : List Placed). count_by is_free parts.uses.items + length (object_sectors l ++ parts.table.items) ≡ range.count) (sym its-objects)
+      subst (λ (l : List Placed). count_by is_free parts.uses + length (object_sectors l ++ parts.table.items) ≡ range.count) (sym its-objects)
       noted.noted.free
 
   pub kept-table : length parts.table.items ≡ chain_for root.len → length kept.table ≡ table_sectors_for (length (table_words kept.placed))
@@ -228,15 +229,16 @@ module _ (range : Range) (at : ℕ) (root : Root) (image : Image) (parts : Parts
       pub kept-holds : Holds range at root.epoch (map_of kept medium) image
       kept-holds = record { allocation = allocated; there = kept-there }
 
-      pub kept-matches : IsHonest medium → IsDurable medium → HeapMatches kept (map_of kept medium) medium
-      kept-matches honest durable = record {
+      pub kept-matches : IsOutside range at → IsHonest medium → IsDurable medium → HeapMatches kept (map_of kept medium) medium
+      kept-matches apart honest durable = record {
         honest = honest;
+        apart = apart;
         there = allocated;
         images = λ i now. subst (HoldsIn range at root.epoch allocated (map_of kept medium)) (sym (durable i now ∙ same)) kept-there;
         table = refl;
         are = kept-there.are;
         all = noted.noted.all;
         saved_uses = noted.noted.saved;
-        next_uses = subst (λ (l : List Placed). (i : ℕ) (u : Use) → slice_get parts.uses.items i ≡ Some u
+        next_uses = subst (λ (l : List Placed). (i : ℕ) (u : Use) → slice_get parts.uses i ≡ Some u
             → IsTrue u.next ↔ Contains (object_sectors l) (range.first + i)) (sym its-objects) noted.noted.next;
       }

@@ -40,7 +40,7 @@ use Rattle.ipc_heap.specs.Relations.Opening.{AreNoted, IsSound, HasObject, Lacks
 use Rattle.ipc_heap.specs.Relations.Words.{wide_at}
 use Rattle.ipc_heap.proofs.Damages.{hop, one-object}
 use Rattle.ipc_heap.proofs.Placed.{IsSized}
-use Rattle.ipc_heap.proofs.Distinct.{insert-cases, insert-keeps, distinct-insert}
+use Rattle.ipc_heap.proofs.Distinct.{in-none, insert-cases, insert-keeps, distinct-insert}
 
 -- an error that is passed on
 pub passed_on : {T : Type 0} (r : Result T OpenError) (came went : OpenError) → IsErrAnd r (λ y. y ≡ came) → IsErrOf r went → came ≡ went
@@ -205,12 +205,14 @@ module _ (range : Range) (used table : List ℕ) (uses : List Use) (noted : AreN
 -- one sector more of the table
 pub noted-table : (range : Range) (table : List ℕ) (uses : List Use) (noted : AreNoted range [] table uses) (s : ℕ) (inside : IsInside range s)
     (was : Use) (there : slice_get uses (s - range.first) ≡ Some was) (unused : was.saved ≡ false)
-    → AreNoted range [] (table ++ s ∷ []) (set uses (s - range.first) (record was { saved = true }))
+    → AreNoted range [] (table ++ s ∷ []) (set uses (s - range.first) (record { saved = true; next = false }))
 noted-table range table uses noted s inside was there unused =
-    let u : Use = record was { saved = true } in
+    let u : Use = record { saved = true; next = false } in
+    let off : was.next ≡ false =
+    false_from_ne_true was.next (λ on. in-none (range.first + (s - range.first)) ((noted.next (s - range.first) was there).0 on)) in
     now-noted range [] table uses noted s inside was there unused [] (table ++ s ∷ []) table [] u refl (sym (append-nil table))
     (sym (append-nil (table ++ s ∷ [])))
-    (now-same range [] table uses noted s inside was there unused (λ (v : Use). v.next) u [] refl noted.next)
+    (now-same range [] table uses noted s inside was there unused (λ (v : Use). v.next) u [] (sym off) noted.next)
 
 -- The walk through the sectors of an object.
 module _ (range : Range) (used table from : List ℕ) (uses : List Use) (k sectors s : ℕ) (noted : AreNoted range (used ++ take k from) table uses)
@@ -488,7 +490,8 @@ take-more (suc n) (x ∷ front) back =
 module _ (range : Range) (root : Root) (table words : List ℕ) (at next : ℕ) (sector : List ℕ) where
   -- a sector more is noted
   pub noted-more : (uses : List Use) (count : ℕ) (was : Use) → AreRead range root table words uses count at → count < chain_for root.len
-      → slice_get uses (at - range.first) ≡ Some was → AreNoted range [] (table ++ at ∷ []) (set uses (at - range.first) (record was { saved = true }))
+      → slice_get uses (at - range.first) ≡ Some was
+      → AreNoted range [] (table ++ at ∷ []) (set uses (at - range.first) (record { saved = true; next = false }))
   noted-more uses count was read less there =
       let inside : IsInside range at = (read.next less).0 in
       let same : range.first + (at - range.first) ≡ at = omega (arith, inside) in

@@ -1,6 +1,6 @@
 -- Sectors that are noted, sector by sector: which are, and how many are free.
 use Rattle.std.proofs.Common.{◌≡◌, ◌≢◌, ◌⊎◌, ◌↔◌, inl, inr, ⊎_elim, ℕ, zero, suc, ◌+◌, ◌-◌, ◌<◌, ◌≤◌, Bool, true, false, not, ◌||◌, cond, List, [], ◌∷◌, ◌++◌}
-use Rattle.std.proofs.Common.{length, get_or, set, map, refl, sym, ap, subst, ◌∙◌, arith}
+use Rattle.std.proofs.Common.{length, get_or, set, take, drop, map, refl, sym, ap, subst, ◌∙◌, arith}
 use Rattle.std.specs.Prelude.{All, Contains, nat_eq, slice_get, count_by}
 use Rattle.std.specs.List.{IsDistinct}
 use Rattle.std.proofs.lemmas.Bool.{cases_eq, both_ways, false_from_ne_true}
@@ -13,8 +13,8 @@ use Rattle.std.proofs.lemmas.Map.Keys.{IsDistinct-tail}
 use Rattle.ipc_heap.specs.declared.uses.Use.{Use}
 pub use Rattle.ipc_heap.proofs.Distinct.{in-none, in-first, in-rest, in-cases, apart-cons}
 pub use Rattle.ipc_heap.proofs.Distinct.{distinct-cons, distinct-left, distinct-right, distinct-apart, distinct-append}
-use Rattle.ipc_heap.specs.View.{is_free}
-use Rattle.ipc_heap.specs.Relations.Uses.{IsTaken, AreTaken, AreGiven, WasFree, next_bits, saved_bits}
+use Rattle.ipc_heap.specs.View.{is_free, turned}
+use Rattle.ipc_heap.specs.Relations.Uses.{HasTop, IsTaken, AreTaken, AreGiven, WasFree, next_bits, saved_bits}
 
 -- what holds of one place of a list of notes, after one of them is changed
 bit-set : (bits : List Bool) (i j : ℕ) (b : Bool) → i < length bits
@@ -86,6 +86,59 @@ module _ (first : ℕ) (old mid new : List Use) (sectors : List ℕ) where
                 (before.0, λ there. ⊎_elim before.1 (λ same. other (omega (arith, same, low))) (Contains-push_cases sectors s (first + i) there)),
             λ on. was ∙ so_far.1 (on.0, λ there. on.1 (Contains-append_left sectors (s ∷ []) (first + i) there)),
           )
+
+-- ---- from the top on nothing is used
+
+-- the top is as it was if what is noted from there on is free
+pub top-set : (uses : List Use) (top j : ℕ) (u : Use) → HasTop uses top → (top ≤ j → j < length uses → is_free u ≡ true) → HasTop (set uses j u) top
+top-set uses top j u has free = record {
+  within = omega (arith, has.within, length-set uses j u);
+  unused = λ k d low high.
+      let less : k < length uses = omega (arith, high, length-set uses j u) in
+      ⊎_elim
+      (λ same. ap (λ (n : ℕ). is_free (get_or (set uses n u) k d)) (sym same) ∙ ap is_free (get_or-set_same uses k u d less)
+      ∙ free (omega (arith, low, same)) (omega (arith, less, same)))
+      (λ other. ap is_free (get_or-set_other uses j k u d other) ∙ has.unused k d low less)
+      (cases_eq k j);
+}
+
+-- what is given back there was free
+pub top-given : (uses : List Use) (top j : ℕ) (d : Use) → HasTop uses top
+    → HasTop (set uses j (record { saved = (get_or uses j d).saved; next = false })) top
+top-given uses top j d has =
+    let was : Use = get_or uses j d in
+    top-set uses top j (record { saved = was.saved; next = false }) has
+    (λ low less. free-from was.saved false (free-parts was.saved was.next (has.unused j d low less)).0 refl)
+
+-- turning over changes nothing there
+turned-free : (u : Use) → is_free u ≡ true → u ≡ turned u
+turned-free u free =
+    let parts = free-parts u.saved u.next free in
+    ap (λ (b : Bool). record { saved = b; next = u.next }) (parts.0 ∙ sym parts.1)
+
+turned-front : (uses : List Use) (top : ℕ) → ((k : ℕ) (d : Use) → top ≤ k → k < length uses → is_free (get_or uses k d) ≡ true)
+    → map turned (take top uses) ++ drop top uses ≡ map turned uses
+turned-front [] zero free = refl
+turned-front [] (suc top) free = refl
+turned-front (u ∷ uses) zero free =
+    ap (λ (v : Use). v ∷ uses) (turned-free u (free 0 u (omega arith) (omega arith)))
+    ∙ ap (λ (l : List Use). turned u ∷ l) (turned-front uses zero (λ k d low less. free (suc k) d (omega arith) (omega (arith, less))))
+turned-front (u ∷ uses) (suc top) free =
+    ap (λ (l : List Use). turned u ∷ l) (turned-front uses top (λ k d low less. free (suc k) d (omega (arith, low)) (omega (arith, less))))
+
+module _ (uses : List Use) (top : ℕ) (has : HasTop uses top) where
+  pub top-turned : map turned (take top uses) ++ drop top uses ≡ map turned uses
+  top-turned = turned-front uses top has.unused
+
+  pub turned-top : HasTop (map turned uses) top
+  turned-top = record {
+    within = omega (arith, has.within, length-map uses turned);
+    unused = λ k d low high.
+        let less : k < length uses = omega (arith, high, length-map uses turned) in
+        let u : Use = get_or uses k d in
+        let free = has.unused k d low less in
+        ap is_free (get_or-map turned uses k d d less) ∙ ap is_free (sym (turned-free u free)) ∙ free;
+  }
 
 pub distinct-none : IsDistinct nat_eq []
 unfolding IsDistinct

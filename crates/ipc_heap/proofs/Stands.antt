@@ -29,7 +29,7 @@ use Rattle.ipc_heap.specs.Relations.Words.{wide_at, object_len_at, placed_in, Ar
 use Rattle.ipc_heap.proofs.Placed.{words_for, words_for-append, number-at, len-at, object_len-at, words-within, table-from, all-at}
 
 -- the words of a heap are those of its objects
-pub words-heap : {range : Range} {words table : Vec ℕ} {uses : Vec Use} {placed : List Placed} → IsHeap range words table uses → placed_in words.items ≡ placed
+pub words-heap : {range : Range} {words table : Vec ℕ} {uses : List Use} {placed : List Placed} → IsHeap range words table uses → placed_in words.items ≡ placed
     → AreWords words.items placed
 words-heap {range} {words} {table} {uses} {placed} heap is =
     subst (AreWords words.items) is (record { are = heap.is_table; numbers = heap.numbers; sizes = heap.sizes })

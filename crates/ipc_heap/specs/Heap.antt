@@ -125,7 +125,7 @@ pub record Holds (range : Range) (root epoch : ℕ) (objects : PlainObjects) (im
   pub allocation : Allocation
   pub there : HoldsIn range root epoch allocation objects image
 
--- it has the one or the other
-abbrev pub HoldsEither : Range → ℕ → ℕ → PlainObjects → ℕ → PlainObjects → Image → Type 0
-HoldsEither range root epoch objects next others image =
-    Holds range root epoch objects image ⊎ Holds range root next others image
+-- it has the one under this root, or the other under that
+abbrev pub HoldsEither : Range → ℕ → ℕ → PlainObjects → ℕ → ℕ → PlainObjects → Image → Type 0
+HoldsEither range root epoch objects aim next others image =
+    Holds range root epoch objects image ⊎ Holds range aim next others image

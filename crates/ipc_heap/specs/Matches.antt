@@ -4,9 +4,11 @@ use Rattle.std.specs.Prelude.{◌≡◌, ◌⊎◌, ◌↔◌, ℕ, ◌+◌, ◌
 use Rattle.std.specs.Prelude.{nat_eq, length, map, filter, Contains, IsTrue, Some, slice_get}
 use Rattle.ipc_base.specs.Objects.{PlainObjects, AreObjects}
 use Rattle.ipc_disk.specs.Medium.{Image, Medium, IsHonest}
-use Rattle.ipc_disk.specs.Range.{IsOutside}
+use Rattle.ipc_disk.specs.declared.range.Range.{Range}
+use Rattle.ipc_disk.specs.Range.{IsInside, IsOutside}
+use Rattle.ipc_disk.specs.Since.{EachImageSince}
 use Rattle.ipc_heap.specs.declared.uses.Use.{Use}
-use Rattle.ipc_heap.specs.Heap.{Allocation, HoldsIn, object_sectors, used}
+use Rattle.ipc_heap.specs.Heap.{Allocation, Holds, HoldsIn, object_sectors, used}
 use Rattle.ipc_heap.specs.View.{HeapView, StaysInPlace, is_free, map_of}
 
 -- a sector has a part of an object of the map just if it is noted as one that will be saved
@@ -15,11 +17,12 @@ AreNext heap =
     (i : ℕ) (u : Use) → slice_get heap.uses i ≡ Some u
     → IsTrue u.next ↔ Contains (object_sectors heap.placed) (heap.range.first + i)
 
--- The disk is honest. Each image that a crash now may leave has the saved objects, all in the same sectors. A sector
--- is used by what is saved if it has a part of these objects or of their table, and by what will be saved next if it
--- has a part of an object of the map.
+-- The disk is honest. Each image that a crash now may leave has the saved objects, all in the same sectors, and under a
+-- root that is none of the range. A sector is used by what is saved if it has a part of these objects or of their table,
+-- and by what will be saved next if it has a part of an object of the map.
 pub record HeapMatches (heap : HeapView) (saved : PlainObjects) (medium : Medium) : Type 0 where
   pub honest : IsHonest medium
+  pub apart : IsOutside heap.range heap.root
   pub there : Allocation
   pub images : (image : Image) → medium.images_now image
       → HoldsIn heap.range heap.root heap.epoch there saved image
@@ -29,6 +32,13 @@ pub record HeapMatches (heap : HeapView) (saved : PlainObjects) (medium : Medium
   pub saved_uses : (i : ℕ) (u : Use) → slice_get heap.uses i ≡ Some u
       → IsTrue u.saved ↔ Contains (used there) (heap.range.first + i)
   pub next_uses : AreNext heap
+
+-- In whatever part of the range all images that a crash might leave had these objects, all images since have them.
+abbrev pub StaysSaved : Range → ℕ → ℕ → PlainObjects → Medium → Medium → Type 0
+StaysSaved range root epoch objects old new =
+    (part : Range) → ((i : ℕ) → IsInside part i → IsInside range i)
+    → ((image : Image) → old.images_now image → Holds part root epoch objects image)
+    → EachImageSince old new (Holds part root epoch objects)
 
 -- a sector that no put may touch: it is none of the range, or not free
 abbrev pub IsKept : HeapView → ℕ → Type 0

@@ -12,7 +12,10 @@ use Rattle.ipc_heap.specs.Heap.{Placed, object_on, object_sectors}
 
 pub record HeapView : Type 0 where
   pub range : Range
+  -- the root that tells of what is saved
   pub root : ℕ
+  -- the root that the next flip writes: the same, or the one that the heap was aimed at
+  pub aim : ℕ
   pub epoch : ℕ
   -- the objects, by rising number, with the puts and removals so far
   pub placed : List Placed
@@ -53,10 +56,11 @@ pub record ArePlaced (range : Range) (placed : List Placed) : Type 0 where
 abbrev pub used_by : HeapView → List ℕ
 used_by heap = object_sectors heap.placed ++ heap.table
 
--- where it lies, its epoch and the table that is on the disk are the same
+-- where it lies and is saved next, its epoch and the table that is on the disk are the same
 pub record StaysInPlace (old new : HeapView) : Type 0 where
   pub range : new.range ≡ old.range
   pub root : new.root ≡ old.root
+  pub aim : new.aim ≡ old.aim
   pub epoch : new.epoch ≡ old.epoch
   pub table : new.table ≡ old.table
 

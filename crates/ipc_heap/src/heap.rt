@@ -8,6 +8,7 @@ ghost use Rattle.ipc_base.specs.Table.{seen_as, value_at};
 ghost use Rattle.ipc_disk.specs.Calls.{IsSameDisk, CountsCalls, CountsFaultIf, OnlyReads};
 ghost use Rattle.ipc_disk.specs.Counts.{with_calls};
 ghost use Rattle.ipc_disk.specs.Medium.{IsHonest, IsDurable};
+ghost use Rattle.ipc_disk.specs.Range.{IsOutside};
 ghost use Rattle.ipc_disk.specs.Since.{EachImageSince, LeavesAlone};
 ghost use Rattle.ipc_disk.specs.Standing.{sectors_for};
 
@@ -17,7 +18,7 @@ use crate::reading::{read_window, words_of};
 use crate::root::{Root, root_sector};
 use crate::table::{Table, WORDS, write_table};
 use crate::turning::{take_table, turn};
-use crate::uses::{Use, give_back, turn_over};
+use crate::uses::Uses;
 use crate::words::{object_len, place_of, push_wide, sectors_in, take_out, wide};
 use crate::{HeapError, OpenError};
 use ipc_base::Objects;
@@ -30,16 +31,17 @@ use std::marker::Model;
 #[derive(Drop)]
 pub struct Heap {
     range: Range,
+    /// The root that tells of what is saved.
     root: u32,
+    /// The root that the next flip writes.
+    aim: u32,
     epoch: u64,
     /// The table, word by word.
     words: Vec<u32>,
     /// The sectors in which the saved table stands.
     table: Vec<u32>,
     /// Who uses each sector of the range.
-    uses: Vec<Use>,
-    /// Where the next search for a free sector begins. It means nothing.
-    hint: usize,
+    uses: Uses,
 }
 
 impl Model for Heap {
@@ -52,10 +54,11 @@ impl Model for Heap {
     ghost view = { λ h. record {
       range = h.range;
       root = h.root;
+      aim = h.aim;
       epoch = h.epoch;
       placed = placed_in h.words.items;
       table = h.table.items;
-      uses = h.uses.items;
+      uses = h.uses;
     } };
 
     ghost invariant = { λ h. IsHeap h.range h.words h.table h.uses };
@@ -65,7 +68,7 @@ impl Heap {
     ghost use Rattle.ipc_heap.specs.Heap.{IsLaidOut, IsElsewhere, IsOwn, Holds};
     ghost use Rattle.ipc_heap.specs.Heap.{HoldsEither, table_words, table_sectors_for};
     ghost use Rattle.ipc_heap.specs.View.{free, map_of, with_object, used_by, sizes_of, ArePlaced, StaysInPlace};
-    ghost use Rattle.ipc_heap.specs.Matches.{HeapMatches, IsKept, Removes};
+    ghost use Rattle.ipc_heap.specs.Matches.{HeapMatches, IsKept, Removes, StaysSaved};
     ghost use Rattle.ipc_heap.specs.Damage.{IsFirstDamage};
 
     /// Makes the first heap, at epoch 1, with one sync. Until then, and after an `Err`, its sectors may be anything.
@@ -118,6 +121,7 @@ impl Heap {
         // What is opened, and when it is damaged.
         ensures range { IfOk result (λ heap. heap.range ≡ range) }
         ensures root { IfOk result (λ heap. heap.root ≡ root) }
+        ensures aim { IfOk result (λ heap. heap.aim ≡ root) }
         ensures holds { IfOk result (λ heap. IsHonest (D.medium disk.old)
             → Holds range root heap.epoch (map_of heap (D.medium disk.old)) (D.medium disk.old).contents) }
         ensures matches { IfOk result (λ heap. IsHonest (D.medium disk.old) → IsDurable (D.medium disk.old)
@@ -141,11 +145,11 @@ impl Heap {
         Ok(Heap {
             range,
             root,
+            aim: root,
             epoch: found.epoch,
             words: parts.words,
             table: parts.table,
             uses: parts.uses,
-            hint: 0,
         })
     }
 
@@ -190,7 +194,7 @@ impl Heap {
 
     /// Each object has the sectors that its bytes take, and an honest disk has as many bytes of it.
     pub fn objects_have_their_bytes<D: SectorDisk>(&self, disk: &D)
-        requires { IsLaidOut self.now.range self.now.root (D.size disk.now) }
+        requires { IsLaidOut self.now.range self.now.aim (D.size disk.now) }
         ensures placed { ArePlaced self.now.range self.now.placed }
         ensures bytes { IsHonest (D.medium disk.now)
             → sizes_of self.now ≡ seen_as (λ bytes. length bytes) (map_of self.now (D.medium disk.now)) }
@@ -206,7 +210,7 @@ impl Heap {
         place: u64,
         into: &mut [u8; 512],
     ) -> Result<(), DiskFault>
-        requires laid_out { IsLaidOut self.now.range self.now.root (D.size disk.old) }
+        requires laid_out { IsLaidOut self.now.range self.now.aim (D.size disk.old) }
         requires object { is_some (value_at nat_eq (map_of self.now (D.medium disk.old)) object) ≡ true }
         ensures bytes { OnOk result (IsHonest (D.medium disk.old)
             → option_map (window place) (value_at nat_eq (map_of self.now (D.medium disk.old)) object)
@@ -226,7 +230,7 @@ impl Heap {
         objects: &O,
         i: u32,
     ) -> Result<(), HeapError>
-        requires laid_out { IsLaidOut self.old.range self.old.root (D.size disk.old) }
+        requires laid_out { IsLaidOut self.old.range self.old.aim (D.size disk.old) }
         requires object { i < length (O.objects objects.now) }
         // What the map is then.
         ensures map { OnOk result ((saved : PlainObjects) → HeapMatches self.old saved (D.medium disk.old)
@@ -237,11 +241,10 @@ impl Heap {
         // A crash at any moment of the call, also of one that fails: what is saved is there, and no sector is touched
         // but those that were free.
         ensures any_moment { (saved : PlainObjects) → HeapMatches self.old saved (D.medium disk.old)
-            → EachImageSince (D.medium disk.old) (D.medium disk.new)
-            (Holds self.old.range self.old.root self.old.epoch saved) }
+            → StaysSaved self.old.range self.old.root self.old.epoch saved (D.medium disk.old) (D.medium disk.new) }
         ensures others { IsHonest (D.medium disk.old)
             → LeavesAlone (IsKept self.old) (D.medium disk.old) (D.medium disk.new) }
-        // Where it lies, and its epoch, stay.
+        // Where it lies and is saved next, and its epoch, stay.
         ensures stays { StaysInPlace self.old self.new }
         ensures sizes { OnOk result (IfSome (slice_get (O.objects objects.now) i) (λ o. sizes_of self.new
             ≡ with_object (sizes_of self.old) o.0 (length o.1))) }
@@ -268,7 +271,6 @@ impl Heap {
             objects,
             i,
             &mut self.uses,
-            &mut self.hint,
             &mut self.words,
         ) {
             Ok(()) => {
@@ -295,19 +297,27 @@ impl Heap {
     {
         let place = place_of(&self.words, object);
         // What is saved uses these sectors as long as it did.
-        give_back(
-            &mut self.uses,
-            self.range.first,
-            sectors_in(&self.words, place),
-        );
+        self.uses
+            .give_back(self.range.first, sectors_in(&self.words, place));
         take_out(&mut self.words, place);
+    }
+
+    /// Aims the heap at another root: the next flip writes that sector, and leaves the root that tells of what is
+    /// saved.
+    pub fn aim(&mut self, root: u32)
+        requires apart { IsOutside self.old.range root }
+        requires other { root ≢ self.old.root }
+        ensures { self.new ≡ record self.old { aim = root } }
+    {
+        self.aim = root;
     }
 
     /// Turns the heap over: the map is what is saved, at a later epoch. A crash at any moment leaves all of what was
     /// saved at the old epoch, or all of the map at the new one. The sectors that nothing uses any more are free then,
-    /// and not before. It takes no memory. After an `Err` the heap has to be opened again.
+    /// and not before. If the heap was aimed at another root, what was saved stays under the old one as well, until a
+    /// put or a flip that follows. It takes no memory. After an `Err` the heap has to be opened again.
     pub fn flip<D: SectorDisk>(&mut self, disk: &mut D, epoch: u64) -> Result<(), HeapError>
-        requires laid_out { IsLaidOut self.old.range self.old.root (D.size disk.old) }
+        requires laid_out { IsLaidOut self.old.range self.old.aim (D.size disk.old) }
         requires later { self.old.epoch < epoch }
         requires counted { 4 * length (table_words self.old.placed) < 2 ^ 32 }
         // What is there then.
@@ -321,12 +331,17 @@ impl Heap {
         // A crash at any moment of the call, also of one that fails.
         ensures any_moment { (saved : PlainObjects) → HeapMatches self.old saved (D.medium disk.old)
             → EachImageSince (D.medium disk.old) (D.medium disk.new)
-            (HoldsEither self.old.range self.old.root self.old.epoch saved epoch
+            (HoldsEither self.old.range self.old.root self.old.epoch saved self.old.aim epoch
             (map_of self.old (D.medium disk.old))) }
+        ensures kept { self.old.aim ≢ self.old.root
+            → (saved : PlainObjects) → HeapMatches self.old saved (D.medium disk.old)
+            → StaysSaved self.old.range self.old.root self.old.epoch saved (D.medium disk.old) (D.medium disk.new) }
         ensures others { IsHonest (D.medium disk.old)
-            → LeavesAlone (λ i. IsKept self.old i × (i ≢ self.old.root)) (D.medium disk.old) (D.medium disk.new) }
+            → LeavesAlone (λ i. IsKept self.old i × (i ≢ self.old.aim)) (D.medium disk.old) (D.medium disk.new) }
         ensures range { self.new.range ≡ self.old.range }
-        ensures root { self.new.root ≡ self.old.root }
+        ensures root { OnOk result (self.new.root ≡ self.old.aim) }
+        ensures err_root { OnErr result (self.new.root ≡ self.old.root) }
+        ensures aim { self.new.aim ≡ self.old.aim }
         ensures placed { self.new.placed ≡ self.old.placed }
         ensures table { OnOk result (length self.new.table
             ≡ table_sectors_for (length (table_words self.old.placed))) }
@@ -341,27 +356,21 @@ impl Heap {
             ≡ with_calls (table_sectors_for (length (table_words self.old.placed)) + 1) 2 (D.counts disk.old)) }
     {
         let count = self.words.len().div_ceil(WORDS);
-        if !take_table(
-            &mut self.uses,
-            &mut self.hint,
-            self.range.first,
-            count,
-            &mut self.table,
-        ) {
-            give_back(&mut self.uses, self.range.first, &self.table);
+        if !take_table(&mut self.uses, self.range.first, count, &mut self.table) {
+            self.uses.give_back(self.range.first, &self.table);
             return Err(HeapError::Full);
         }
-        match turn(disk, &self.words, &self.table, self.root, epoch) {
+        match turn(disk, &self.words, &self.table, self.aim, epoch) {
             Ok(()) => {
                 // What was to be saved next is saved, and the table's sectors are none of the map's.
-                turn_over(&mut self.uses);
-                give_back(&mut self.uses, self.range.first, &self.table);
+                self.uses.turn_over();
+                self.uses.give_back(self.range.first, &self.table);
+                self.root = self.aim;
                 self.epoch = epoch;
-                self.hint = 0;
                 Ok(())
             }
             Err(DiskFault) => {
-                give_back(&mut self.uses, self.range.first, &self.table);
+                self.uses.give_back(self.range.first, &self.table);
                 Err(HeapError::Device)
             }
         }

@@ -1,8 +1,10 @@
 //! What follows from the definitions alone.
 
-ghost use Rattle.std.specs.Prelude.{◌≡◌, ℕ};
+ghost use Rattle.std.specs.Prelude.{◌≡◌, ◌<◌, ℕ, length};
 ghost use Rattle.ipc_base.specs.Objects.{PlainObjects};
+ghost use Rattle.ipc_disk.specs.Growth.{with_zeros};
 ghost use Rattle.ipc_disk.specs.Medium.{Image};
+ghost use Rattle.ipc_disk.specs.Range.{IsInside, IsWithin};
 ghost use Rattle.ipc_disk.specs.declared.range.Range.{Range};
 ghost use Rattle.ipc_heap.specs.Damage.{IsFirstDamage};
 ghost use Rattle.ipc_heap.specs.Heap.{Holds};
@@ -12,6 +14,20 @@ pub fn an_image_is_one_heap()
     ensures { (range : Range) (root epoch other : ℕ) (objects others : PlainObjects) (image : Image)
         → Holds range root epoch objects image → Holds range root other others image
         → (epoch ≡ other) × (objects ≡ others) }
+{}
+
+/// A heap stands on a disk that has grown as it stood there before.
+pub fn a_disk_that_has_grown_has_the_same_heap()
+    ensures { (range : Range) (root epoch more : ℕ) (objects : PlainObjects) (image : Image)
+        → IsWithin range (length image) → root < length image
+        → Holds range root epoch objects image → Holds range root epoch objects (with_zeros more image) }
+{}
+
+/// A range with more sectors has the same heap.
+pub fn a_wider_range_has_the_same_heap()
+    ensures { (range wide : Range) (root epoch : ℕ) (objects : PlainObjects) (image : Image)
+        → ((i : ℕ) → IsInside range i → IsInside wide i)
+        → Holds range root epoch objects image → Holds wide root epoch objects image }
 {}
 
 /// Where damage is seen, no heap stands.

@@ -16,4 +16,7 @@ mod words;
 
 pub use error::{HeapError, OpenError};
 pub use heap::Heap;
-pub use laws::{a_damaged_image_is_no_heap, an_image_is_one_heap};
+pub use laws::{
+    a_damaged_image_is_no_heap, a_disk_that_has_grown_has_the_same_heap,
+    a_wider_range_has_the_same_heap, an_image_is_one_heap,
+};

@@ -18,7 +18,7 @@ ghost use Rattle.ipc_heap.specs.Relations.Table.{placed_after, placed_at, object
 
 use crate::HeapError;
 use crate::table::Table;
-use crate::uses::{Use, give_back, take_sector};
+use crate::uses::Uses;
 use crate::words::{bring_in, place_of, sectors_in};
 use ipc_base::Objects;
 use ipc_disk::{DiskFault, Range, SectorDisk};
@@ -29,8 +29,7 @@ pub(crate) fn write_object<D: SectorDisk, O: Objects>(
     range: Range,
     objects: &O,
     i: u32,
-    uses: &mut [Use],
-    hint: &mut usize,
+    uses: &mut Uses,
     words: &mut Vec<u32>,
 ) -> Result<(), HeapError>
     requires within { IsWithin range (D.size disk.old) }
@@ -57,7 +56,7 @@ pub(crate) fn write_object<D: SectorDisk, O: Objects>(
 {
     let mut mark = objects.start(i);
     for k in 0..objects.len(i).div_ceil(512) {
-        let Some(free) = take_sector(uses, hint) else {
+        let Some(free) = uses.take() else {
             return Err(HeapError::Full);
         };
         let at = range.first + free as u32;
@@ -70,7 +69,7 @@ pub(crate) fn write_object<D: SectorDisk, O: Objects>(
 }
 
 /// The object whose words stand at the end, after those of a table, takes the place of the one of its number.
-pub(crate) fn put_in(words: &mut Vec<u32>, uses: &mut [Use], first: u32, end: usize, number: u64)
+pub(crate) fn put_in(words: &mut Vec<u32>, uses: &mut Uses, first: u32, end: usize, number: u64)
     requires some { 0 < end }
     requires end { end ≤ length words.old.items }
     requires table { AreWords (take end words.old.items) (placed_in (take end words.old.items)) }
@@ -82,19 +81,19 @@ pub(crate) fn put_in(words: &mut Vec<u32>, uses: &mut [Use], first: u32, end: us
     ensures capacity { vec_capacity words.new ≡ vec_capacity words.old }
 {
     let place = place_of(&words[..end], number);
-    give_back(uses, first, sectors_in(&words[..end], place));
+    uses.give_back(first, sectors_in(&words[..end], place));
     bring_in(words, end, place);
 }
 
 /// The words that stand at the end, after those of a table, are away. They are four, and sectors.
-pub(crate) fn take_back(words: &mut Vec<u32>, uses: &mut [Use], first: u32, end: usize)
+pub(crate) fn take_back(words: &mut Vec<u32>, uses: &mut Uses, first: u32, end: usize)
     requires end { end + 4 ≤ length words.old.items }
     requires inside { All (λ s. (first ≤ s) × (s < first + length uses.old)) (drop (end + 4) words.old.items) }
     ensures words { words.new.items ≡ take end words.old.items }
     ensures given { AreGiven first uses.old (drop (end + 4) words.old.items) uses.new }
     ensures capacity { vec_capacity words.new ≡ vec_capacity words.old }
 {
-    give_back(uses, first, &words[end + 4..]);
+    uses.give_back(first, &words[end + 4..]);
     words.truncate(end);
 }
 

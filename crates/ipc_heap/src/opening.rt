@@ -17,7 +17,7 @@ ghost use Rattle.ipc_heap.specs.Relations.Root.{IsRead};
 use crate::OpenError;
 use crate::root::{Root, is_inside, root_in};
 use crate::table::WORDS;
-use crate::uses::{UNUSED, Use};
+use crate::uses::{Use, Uses};
 use crate::words::wide;
 use byteorder::{BigEndian, ByteOrder};
 use ipc_disk::{Range, SectorDisk};
@@ -46,12 +46,24 @@ pub(crate) fn read_root<D: SectorDisk>(
     }
 }
 
+// A table that is saved uses it. The next one will stand in other sectors.
+const TABLE: Use = Use {
+    saved: true,
+    next: false,
+};
+
+// An object uses it that is saved, and will be saved next.
+const OBJECT: Use = Use {
+    saved: true,
+    next: true,
+};
+
 /// What a heap keeps in memory: the words of the table, its sectors, and who uses each sector of the range.
 #[derive(Drop)]
 pub(crate) struct Parts {
     pub words: Vec<u32>,
     pub table: Vec<u32>,
-    pub uses: Vec<Use>,
+    pub uses: Uses,
 }
 
 /// Memory for all objects and sectors that a range can hold, and for a table of so many bytes that stands there.
@@ -63,7 +75,7 @@ pub(crate) fn room_for(alloc: Global, range: Range, len: u32) -> Result<Parts, A
     // The uses are written at once, so the rest is taken before them.
     let words = Vec::with_capacity(alloc, most.max(len / 4))?;
     let table = Vec::with_capacity(alloc, most.div_ceil(WORDS).max(len.div_ceil(508)))?;
-    let uses = vec![in alloc; UNUSED; range.count as usize]?;
+    let uses = Uses::new(alloc, range.count as usize)?;
     Ok(Parts { words, table, uses })
 }
 
@@ -80,7 +92,7 @@ pub(crate) fn read_parts<D: SectorDisk>(
     requires room { HaveRoom range root.len parts.old }
     // What they are, and where they are damaged.
     ensures noted { OnOk result
-        (AreAllNoted range parts.new.table.items parts.new.words.items parts.new.uses.items true) }
+        (AreAllNoted range parts.new.table.items parts.new.words.items parts.new.uses true) }
     ensures all { OnOk result (4 * length parts.new.words.items ≡ root.len) }
     ensures table { OnOk result (length parts.new.table.items ≡ chain_for root.len) }
     ensures stand { OnOk result (IsHonest (D.medium disk.old)
@@ -118,7 +130,7 @@ fn read_table<D: SectorDisk>(
     root: Root,
     table: &mut Vec<u32>,
     words: &mut Vec<u32>,
-    uses: &mut [Use],
+    uses: &mut Uses,
 ) -> Result<(), OpenError>
     requires sound { IsSound range root }
     requires within { IsWithin range (D.size disk.old) }
@@ -151,7 +163,7 @@ fn read_table<D: SectorDisk>(
         let mut sector = [0; 512];
         disk.read(at, &mut sector)?;
         table.push_reserved(at);
-        uses[(at - range.first) as usize].saved = true;
+        uses.note((at - range.first) as usize, TABLE);
         push_words(words, &sector, root.len as usize / 4);
         let next = BigEndian::read_u32(&sector);
         if !can_follow(next, j + 1 == count, range, uses) {
@@ -176,7 +188,7 @@ fn push_words(words: &mut Vec<u32>, sector: &[u8; 512], most: usize)
 }
 
 // Whether a sector can come next: none after the last one, and else one of the range that is not used yet.
-fn can_follow(next: u32, is_last: bool, range: Range, uses: &[Use]) -> bool
+fn can_follow(next: u32, is_last: bool, range: Range, uses: &Uses) -> bool
     requires { length uses.now ≡ range.count }
     ensures last { is_last ≡ true → MatchBool result (next ≡ 0) (next ≡ 0 → ⊥) }
     ensures more { is_last ≡ false → (table : List ℕ) → AreNoted range [] table uses.now
@@ -186,7 +198,7 @@ fn can_follow(next: u32, is_last: bool, range: Range, uses: &[Use]) -> bool
     if is_last {
         return next == 0;
     }
-    is_inside(range, next) && !uses[(next - range.first) as usize].saved
+    is_inside(range, next) && !uses.of((next - range.first) as usize).saved
 }
 
 // Goes through the objects of a table, and notes which sectors they use. Whether they are a map.
@@ -194,7 +206,7 @@ fn note_objects(
     words: &[u32],
     table: &[u32],
     range: Range,
-    uses: &mut [Use],
+    uses: &mut Uses,
 ) -> Result<bool, OpenError>
     requires some { 0 < length words.now }
     requires fits { length words.now ≤ 127 * length table.now }
@@ -246,7 +258,7 @@ fn note_sectors(
     at: usize,
     sectors: usize,
     range: Range,
-    uses: &mut [Use],
+    uses: &mut Uses,
 ) -> Result<(), OpenError>
     requires whole { at + 4 + sectors ≤ length words.now }
     requires fits { length words.now ≤ 127 * length table.now }
@@ -265,16 +277,13 @@ fn note_sectors(
                 sector: sector_of_word(words, table, at + 4 + k),
             });
         }
-        let of = &mut uses[(sector - range.first) as usize];
-        if of.saved {
+        let place = (sector - range.first) as usize;
+        if uses.of(place).saved {
             return Err(OpenError::Damaged {
                 sector: sector_of_word(words, table, at),
             });
         }
-        *of = Use {
-            saved: true,
-            next: true,
-        };
+        uses.note(place, OBJECT);
     }
     Ok(())
 }

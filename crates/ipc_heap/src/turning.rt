@@ -15,17 +15,11 @@ ghost use Rattle.ipc_heap.specs.Relations.Uses.{AreTaken};
 
 use crate::root::{Root, root_sector};
 use crate::table::{Kept, write_table};
-use crate::uses::{Use, take_sector};
+use crate::uses::Uses;
 use ipc_disk::{DiskFault, SectorDisk, write_durably};
 
 /// Takes so many free sectors of a range for a table, or all if there are fewer. Whether there were enough.
-pub(crate) fn take_table(
-    uses: &mut [Use],
-    hint: &mut usize,
-    first: u32,
-    count: usize,
-    table: &mut Vec<u32>,
-) -> bool
+pub(crate) fn take_table(uses: &mut Uses, first: u32, count: usize, table: &mut Vec<u32>) -> bool
     requires fits { first + length uses.old < 2 ^ 32 }
     requires room { count ≤ vec_capacity table.old }
     ensures taken { AreTaken first uses.old table.new.items uses.new }
@@ -35,7 +29,7 @@ pub(crate) fn take_table(
 {
     table.clear();
     for _ in 0..count {
-        let Some(i) = take_sector(uses, hint) else {
+        let Some(i) = uses.take() else {
             return false;
         };
         table.push_reserved(first + i as u32);

@@ -4,29 +4,37 @@ use Rattle.std.proofs.lemmas.Nat.{mul-le}
 use Rattle.ipc_base.specs.declared.limits.Limits.{Limits}
 use Rattle.ipc_base.specs.Limits.{ArePassed}
 use Rattle.ipc_base.proofs.CallerLemmas.{passed-bounds}
-use Rattle.ipc_image.specs.Format.{format}
-use Rattle.ipc_image.specs.Sizes.{sectors, process_sectors, object_sectors}
+use Rattle.ipc_image.specs.declared.format.Format.{Format}
+use Rattle.ipc_image.specs.Format.{IsFormat}
+use Rattle.ipc_image.specs.Sizes.{sectors, process_sectors, shm_sectors, object_sectors}
+use Rattle.ipc_image.proofs.Formats.{by-form}
 
 -- what is used of them
-pub record Bounds (l : Limits) : Type 0 where
+pub record Bounds (form : Format) (l : Limits) : Type 0 where
+  pub numbers : form.numbers ≤ 6
+  pub requests : l.processes * (16 + form.request) ≤ 4211712
   pub descriptors : l.processes * (16 + 16 * l.descriptors) ≤ 33792
   pub adjustments : 12 * l.processes * l.semmns ≤ 393216
-  pub processes : process_sectors l ≤ 9064
+  pub processes : process_sectors form l ≤ 9064
   pub queues : l.msgmni * sectors (64 + 13 * l.msgmnb) ≤ 106560
   pub sets : l.semmni * sectors (44 + 6 * l.semmsl) ≤ 32
   pub messages : l.maxmsg * (8 + l.msgsize) ≤ 82000
   pub posix_queues : l.queues * sectors (299 + l.maxmsg * (8 + l.msgsize)) ≤ 5152
   pub named_semaphores : l.named_semaphores * sectors 271 ≤ 64
-  pub objects : object_sectors l ≤ 116032
+  pub objects : object_sectors form l ≤ 116032
 
-pub bounds : (l : Limits) → ArePassed l → Bounds l
-bounds l passed =
+pub bounds : (form : Format) (l : Limits) → IsFormat form → ArePassed l → Bounds form l
+bounds form l known passed =
     let b = passed-bounds l passed in
+    let numbers : form.numbers ≤ 6 = by-form (λ f. f.numbers ≤ 6) (omega arith) (omega arith) form known in
+    let request : form.request ≤ 65792 = by-form (λ f. f.request ≤ 65792) (omega arith) (omega arith) form known in
     let descriptors : l.processes * (16 + 16 * l.descriptors) ≤ 33792 =
     mul-le l.processes (16 + 16 * l.descriptors) 64 528 b.processes.1 (omega arith) in
     let adjustments : 12 * l.processes * l.semmns ≤ 393216 = mul-le (12 * l.processes) l.semmns 768 512 (omega arith) b.semmns in
     let first : sectors (4 + l.processes * (16 + 16 * l.descriptors)) ≤ 67 = omega (arith, descriptors) in
-    let second : sectors (4 + l.processes * (16 + format.request)) ≤ 8227 = omega (arith, b.processes) in
+    let requests : l.processes * (16 + form.request) ≤ 4211712 =
+    mul-le l.processes (16 + form.request) 64 65808 b.processes.1 (omega (arith, request)) in
+    let second : sectors (4 + l.processes * (16 + form.request)) ≤ 8227 = omega (arith, requests) in
     let third : sectors (4 + 12 * l.processes * l.semmns) ≤ 769 = omega (arith, adjustments) in
     let messages : l.maxmsg * (8 + l.msgsize) ≤ 82000 = mul-le l.maxmsg (8 + l.msgsize) 10 8200 b.maxmsg (omega arith) in
     let queues : l.msgmni * sectors (64 + 13 * l.msgmnb) ≤ 106560 =
@@ -36,11 +44,14 @@ bounds l passed =
     mul-le l.queues (sectors (299 + l.maxmsg * (8 + l.msgsize))) 32 161 b.queues (omega arith) in
     let named : l.named_semaphores * sectors 271 ≤ 64 = omega (arith, b.named_semaphores) in
     let segments : 2 * l.segments + sectors l.segment_bytes ≤ 2112 = omega (arith, b.segments, b.segment_bytes) in
-    let shms : 2 * l.shmmni + sectors l.shmall ≤ 2112 = omega (arith, b.shmmni, b.shmall) in
+    let shms : shm_sectors form l ≤ 2112 =
+    by-form (λ f. shm_sectors f l ≤ 2112) (omega arith) (omega (arith, b.shmmni, b.shmall)) form known in
     record {
+      numbers = numbers;
+      requests = requests;
       descriptors = descriptors;
       adjustments = adjustments;
-      processes = omega (arith, first, second, third);
+      processes = omega (arith, numbers, first, second, third);
       queues = queues;
       sets = sets;
       messages = messages;

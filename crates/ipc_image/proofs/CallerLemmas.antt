@@ -1,56 +1,73 @@
 -- What the crates above cite of superblocks, of records, and of states as objects.
-use Rattle.std.proofs.Common.{◌≡◌, ℕ, ◌+◌, ◌*◌, ◌≤◌, ◌<◌, ◌^◌, List, [], ◌++◌, length, Some, refl, sym, ap, subst, ◌∙◌, arith}
+use Rattle.std.proofs.Common.{◌≡◌, ℕ, ◌+◌, ◌*◌, ◌≤◌, ◌<◌, ◌^◌, List, [], ◌++◌, length, Some, inl, inr, refl, sym, ap, subst, ◌∙◌, arith}
 use Rattle.std.specs.Int.{w32, w64, to_be_bytes}
 use Rattle.std.proofs.lemmas.List.{take_at}
 use Rattle.std.proofs.lemmas.Nat.{from_be_bytes-to_be_bytes_4, from_be_bytes-to_be_bytes_8}
 use Rattle.ipc_base.specs.declared.limits.Limits.{Limits}
 use Rattle.ipc_base.specs.Limits.{ArePassed}
-use Rattle.ipc_base.specs.Objects.{Fit, PlainObjects}
+use Rattle.ipc_base.specs.Objects.{Fit, PlainObjects, object_sectors, table_bytes}
 use Rattle.ipc_base.proofs.CallerLemmas.{passed-bounds}
 use Rattle.ipc_engine.specs.Sound.{IsSound}
 use Rattle.ipc_state.specs.State.{State, start}
 use Rattle.ipc_engine.proofs.CallerLemmas.{start-sound}
-use Rattle.ipc_image.specs.Format.{format}
-use Rattle.ipc_image.specs.Saved.{saved, StandForState}
+use Rattle.ipc_image.specs.declared.format.Format.{Format}
+use Rattle.ipc_image.specs.Format.{IsFormat, format, format_one}
+use Rattle.ipc_image.specs.Saved.{saved, saved_in, StandForState, StandForStateIn}
 use Rattle.ipc_image.specs.Sizes.{entries, area_of}
 use Rattle.ipc_image.proofs.Bounds.{bounds}
+use Rattle.ipc_image.proofs.SavedObjects as objects
 use Rattle.ipc_image.proofs.SavedObjects.{saved-fit, start-places}
 use Rattle.ipc_wire.specs.Spelling.{request_bytes}
 use Rattle.ipc_wire.proofs.CallerLemmas.{one_text}
 use Rattle.ipc_engine.specs.Event.{PlainEvent, Connect, Call, Interrupt, Tick, Exit, Restart, moment_of}
 use Rattle.ipc_image.specs.Records.{kind_of, details, text_of, record_bytes, HasDetails, HasRecord, BeginsWith}
 use Rattle.ipc_image.specs.RecordParts.{IsOf}
-use Rattle.ipc_image.specs.Superblock.{IsFormatted, version_in, sectors_in, IsSuperblock}
+use Rattle.ipc_image.specs.Superblock.{IsFormatted, version_in, sectors_in, AreOf, IsSuperblockIn}
 use Rattle.ipc_base.proofs.CallerLemmas.{number32_known}
 use Rattle.ipc_image.proofs.EventRecords.{Got, GotLong, connect_only, call_only, interrupt_only, text_only, length_text, begun, text_cut}
 use Rattle.ipc_image.proofs.Reading as reading
 use Rattle.ipc_image.proofs.WholeState.{saved_once}
 -- what was saved, and has not changed since
-pub use Rattle.ipc_image.proofs.Unchanged.{others-there}
+pub use Rattle.ipc_image.proofs.Unchanged.{others-there, old-others-there}
+-- limits of which none is below an old one
+pub use Rattle.ipc_image.proofs.AtLeast.{EachAtLeast, each-at-least}
+
+-- the two forms of a device are known
+pub last-known : IsFormat format
+last-known = inr refl
+
+pub one-known : IsFormat format_one
+one-known = inl refl
+
+-- limits that passed their check are of the last version
+pub last-of : (limits : Limits) → ArePassed limits → AreOf format limits
+last-of = reading.last_of
 
 -- a superblock begins as one
-pub superblock-begins : (sectors : ℕ) (limits : Limits) (sector : List ℕ) → IsSuperblock sectors limits sector → IsFormatted sector
+pub superblock-begins : (form : Format) → IsFormat form → (sectors : ℕ) (limits : Limits) (sector : List ℕ) → IsSuperblockIn form sectors limits sector
+    → IsFormatted sector
 superblock-begins = reading.begins
 
--- it is of the version of the devices that are opened
-pub superblock-version : (sectors : ℕ) (limits : Limits) (sector : List ℕ) → IsSuperblock sectors limits sector → version_in sector ≡ format.version
+-- it is of its version
+pub superblock-version : (form : Format) → IsFormat form → (sectors : ℕ) (limits : Limits) (sector : List ℕ) → IsSuperblockIn form sectors limits sector
+    → version_in sector ≡ form.version
 superblock-version = reading.has_version
 
 -- it names the sectors of its device
-pub superblock-sectors : (sectors : ℕ) (limits : Limits) (sector : List ℕ) → IsSuperblock sectors limits sector → sectors < 2 ^ 32
-    → sectors_in sector ≡ sectors
+pub superblock-sectors : (form : Format) → IsFormat form → (sectors : ℕ) (limits : Limits) (sector : List ℕ) → IsSuperblockIn form sectors limits sector
+    → sectors < 2 ^ 32 → sectors_in sector ≡ sectors
 superblock-sectors = reading.has_sectors
 
--- a sector is the superblock of one device with one set of limits
-pub one-superblock : (sectors others : ℕ) (limits more : Limits) (sector : List ℕ) → sectors < 2 ^ 32 → others < 2 ^ 32
-    → IsSuperblock sectors limits sector → IsSuperblock others more sector → (sectors ≡ others) × (limits ≡ more)
+-- a sector is, in a version, the superblock of one device with one set of limits
+pub one-superblock : (form : Format) → IsFormat form → (sectors others : ℕ) (limits more : Limits) (sector : List ℕ) → sectors < 2 ^ 32 → others < 2 ^ 32
+    → IsSuperblockIn form sectors limits sector → IsSuperblockIn form others more sector → (sectors ≡ others) × (limits ≡ more)
 one-superblock = reading.one_superblock
 
 -- the bytes of an area can be counted in four
 pub area-counted : (limits : Limits) → ArePassed limits → 512 * area_of limits < 2 ^ 32
 area-counted limits passed =
-    let b = bounds limits passed in
-    let few : entries limits ≤ 260 = omega (arith, passed-bounds limits passed) in
+    let b = bounds format limits last-known passed in
+    let few : entries format limits ≤ 260 = omega (arith, passed-bounds limits passed) in
     omega (arith, b.processes, b.objects, few)
 
 -- a sound state fits where it is kept
@@ -59,7 +76,18 @@ saved-fits = saved-fit
 
 -- the state to which nothing has happened stands as its objects
 pub start-stands : (limits : Limits) → StandForState limits start (saved start)
-start-stands limits = record { sound = start-sound limits; places = start-places; are = refl }
+start-stands limits = record { sound = start-sound limits; places = start-places; kinds = λ none. refl; are = refl }
+
+-- the objects of a state that the version before it has, too, take as many sectors in its form, and as many bytes of a table
+pub saved-one-less : (s : State) → object_sectors (saved_in format_one s) ≡ object_sectors (saved s)
+saved-one-less = objects.saved-one-less
+
+pub table-one-less : (s : State) → table_bytes (saved_in format_one s) ≡ table_bytes (saved s)
+table-one-less = objects.table-one-less
+
+-- so they fit where they are kept under any limits
+pub old-saved-fits : (limits : Limits) (s : State) → ArePassed limits → IsSound limits s → Fit (area_of limits) (saved_in format_one s)
+old-saved-fits = objects.old-saved-fit
 
 -- bytes begin with the record that was written to their front
 pub record-read : (e : PlainEvent) (rest : List ℕ) → HasRecord e → BeginsWith (record_bytes e ++ rest) e
@@ -122,6 +150,7 @@ one-record bytes e f is also =
 
 -- ---- objects stand for one state
 
-pub stand-one : (limits others : Limits) (s t : State) (objects : PlainObjects) → StandForState limits s objects → StandForState others t objects
-    → s ≡ t
-stand-one limits others s t objects is also = saved_once s t is.places also.places (sym is.are ∙ also.are)
+pub stand-one : (form : Format) → IsFormat form → (limits others : Limits) (s t : State) (objects : PlainObjects) → StandForStateIn form limits s objects
+    → StandForStateIn form others t objects → s ≡ t
+stand-one form known limits others s t objects is also =
+    saved_once form known s t is.places also.places is.kinds also.kinds (sym is.are ∙ also.are)

@@ -1,4 +1,6 @@
 -- Lemmas on sizes, on numbers side by side, and on records.
+mod Formats
+mod AtLeast
 mod Bounds
 mod Numbers
 mod Reading

@@ -11,7 +11,7 @@ use Rattle.std.specs.List.{flat_map, slice_get}
 use Rattle.ipc_state.specs.declared.processes.Process.{Process}
 use Rattle.ipc_base.specs.declared.limits.Limits.{Limits}
 use Rattle.ipc_base.specs.Limits.{ArePassed}
-use Rattle.ipc_base.specs.Objects.{PlainObjects, AreObjects, object_sectors, Fit}
+use Rattle.ipc_base.specs.Objects.{PlainObjects, AreObjects, object_sectors, table_bytes, Fit}
 use Rattle.ipc_base.specs.Table.{keys_of, IsRising}
 use Rattle.ipc_base.proofs.CallerLemmas.{passed-bounds, rising-lower}
 use Rattle.sysv_msg.specs.Queue.{Queue, PlainMessage, byte_count, stat_of as queue_stat}
@@ -34,12 +34,13 @@ use Rattle.ipc_state.specs.State.{State, objects_in, named_of, start}
 use Rattle.ipc_state.specs.Waiting.{PlainWaiting}
 use Rattle.ipc_state.specs.Tables.{item_row}
 use Rattle.ipc_base.specs.Numbers.{fields_bytes}
-use Rattle.ipc_image.specs.Format.{format}
+use Rattle.ipc_image.specs.Format.{format, format_one}
 use Rattle.ipc_image.specs.Saved.{counted_bytes, queue_sizes, queue_numbers, set_sizes, set_numbers}
 use Rattle.ipc_image.specs.Saved.{clock_sizes, clock_numbers, count_bytes, process_bytes, processes_bytes, message_bytes}
 use Rattle.ipc_image.specs.Saved.{waiting_bytes, waits_bytes, Adjustment, adjustment_bytes, adjustments_in, adjustments_bytes}
 use Rattle.sem_undo.specs.Undo.{Undo}
-use Rattle.ipc_image.specs.Saved.{queue_bytes, queue_object, semaphore_bytes, set_bytes, set_object, LaterObjects, later_in, later_objects, saved, HasAllPlaces}
+use Rattle.ipc_image.specs.Saved.{queue_bytes, queue_object, semaphore_bytes, set_bytes, set_object, LaterObjects, later_in, later_objects}
+use Rattle.ipc_image.specs.Saved.{saved, saved_in, HasAllPlaces}
 use Rattle.ipc_image.specs.Saved.{descriptor_bytes}
 use Rattle.ipc_state.specs.declared.state.Numbers.{Numbers}
 use Rattle.ipc_image.specs.SavedParts.{IsMarkAfter, IsFound, IsSmallNamed, Stands, seen_later, seen_state}
@@ -97,7 +98,7 @@ things s = map queue_object s.msg.entries ++ (map set_object s.semset.entries ++
 
 module _ (s : State) where
   pub saved-count : length (saved s) ≡ 4 + (length s.msg.entries + (length s.semset.entries + later_count (later_in s)))
-  unfolding saved
+  unfolding saved_in
   saved-count =
       omega (
         arith,
@@ -109,23 +110,23 @@ module _ (s : State) where
       )
 
   pub saved-clock : slice_get (saved s) 0 ≡ Some (0, fields_bytes clock_sizes (clock_numbers s))
-  unfolding saved
+  unfolding saved_in
   saved-clock = refl
 
   pub saved-processes : slice_get (saved s) 1 ≡ Some (1, processes_bytes s.processes.entries)
-  unfolding saved
+  unfolding saved_in
   saved-processes = refl
 
   pub saved-waits : slice_get (saved s) 2 ≡ Some (2, waits_bytes s.wait)
-  unfolding saved
+  unfolding saved_in
   saved-waits = refl
 
   pub saved-adjustments : slice_get (saved s) 3 ≡ Some (3, adjustments_bytes s.undo)
-  unfolding saved
+  unfolding saved_in
   saved-adjustments = refl
 
   pub saved-number : (i : ℕ) → i < 4 → option_map (λ o. o.0) (slice_get (saved s) i) ≡ Some i
-  unfolding saved
+  unfolding saved_in
   saved-number zero few = refl
   saved-number (suc zero) few = refl
   saved-number (suc (suc zero)) few = refl
@@ -135,7 +136,7 @@ module _ (s : State) where
   -- an object after the four
   pub found-thing : AreObjects (saved s) → (i : ℕ) → 4 ≤ i → (o : ℕ × List ℕ) (IsOfIt : Mark → Type 0) (Fits : Type 0) → Fits
       → Stands (things s) (IsMarkAfter s) (i - 4) o IsOfIt → IsFound s i o IsOfIt Fits
-  unfolding saved
+  unfolding saved_in
   found-thing are i four o IsOfIt Fits fits stands =
       let deep : i ≡ suc (suc (suc (suc (i - 4)))) = omega (arith, four) in
       let found = ap (slice_get (saved s)) deep ∙ stands.object in
@@ -146,7 +147,7 @@ module _ (s : State) where
   each-saved : (P : ℕ × List ℕ → Type 0) → P (0, fields_bytes clock_sizes (clock_numbers s)) → P (1, processes_bytes s.processes.entries)
       → P (2, waits_bytes s.wait) → P (3, adjustments_bytes s.undo) → All (λ e. P (queue_object e)) s.msg.entries
       → All (λ e. P (set_object e)) s.semset.entries → All P (later_objects (later_in s)) → All P (saved s)
-  unfolding saved
+  unfolding saved_in
   each-saved P clock processes waiting adjustments queues sets later =
       let two : List (ℕ × List ℕ) = (2, waits_bytes s.wait) ∷ (3, adjustments_bytes s.undo) ∷ things s in
       All-cons P _ ((1, processes_bytes s.processes.entries) ∷ two) clock
@@ -311,7 +312,7 @@ module _ (limits : Limits) (s : State) (passed : ArePassed limits) (sound : IsSo
       omega (arith, undo-few, mul-le limits.processes limits.semmns 64 512 b.processes.1 b.semmns)
 
   numbers-rise : IsRising 0 (keys_of (saved s)) (2 ^ 64)
-  unfolding saved
+  unfolding saved_in
   numbers-rise =
       let later : PlainObjects = later_objects (later_in s) in
       let third : IsRising (3 * 2 ^ 32 + 1) (keys_of later) (2 ^ 64) = later-rise limits s sound in
@@ -364,9 +365,9 @@ module _ (limits : Limits) (s : State) (passed : ArePassed limits) (sound : IsSo
   -- ---- they fit
 
   object-sectors : object_sectors (saved s)
-      ≤ process_sectors limits + limits.msgmni * sectors (64 + 13 * limits.msgmnb) + limits.semmni * sectors (44 + 6 * limits.semmsl)
+      ≤ process_sectors format limits + limits.msgmni * sectors (64 + 13 * limits.msgmnb) + limits.semmni * sectors (44 + 6 * limits.semmsl)
       + later_most limits
-  unfolding saved
+  unfolding saved_in
   object-sectors =
       let of : ℕ × List ℕ → ℕ = λ o. sectors (length o.1) in
       let queues = kind-sectors (2 ^ 32) limits.msgmni (64 + 13 * limits.msgmnb) queue_bytes s.msg.entries queues-short
@@ -400,6 +401,18 @@ module _ (limits : Limits) (s : State) (passed : ArePassed limits) (sound : IsSo
         later-few limits s sound,
       )
 
+-- in a form without a next number of System V segments they take as many sectors, and so does their table
+pub saved-one-less : (s : State) → object_sectors (saved_in format_one s) ≡ object_sectors (saved s)
+unfolding saved_in
+saved-one-less s = refl
+
+pub table-one-less : (s : State) → table_bytes (saved_in format_one s) ≡ table_bytes (saved s)
+unfolding saved_in
+table-one-less s = refl
+
+pub old-saved-fit : (limits : Limits) (s : State) → ArePassed limits → IsSound limits s → Fit (area_of limits) (saved_in format_one s)
+old-saved-fit limits s passed sound = omega (arith, saved-fit limits s passed sound, saved-one-less s, table-one-less s)
+
 -- ---- the state to which nothing has happened
 
 pub start-places : HasAllPlaces start
@@ -420,7 +433,7 @@ start-places = record {
 }
 
 pub start-are : AreObjects (saved start)
-unfolding saved
+unfolding saved_in
 start-are =
     record {
       numbers = (omega arith, (omega arith, (omega arith, (omega arith, omega arith))));

@@ -14,9 +14,11 @@ use Rattle.ipc_state.specs.declared.parked.ObjectKind.TheVariants as kinds
 use Rattle.ipc_state.specs.Opening.{object_as}
 use Rattle.ipc_state.specs.State.{State}
 use Rattle.ipc_engine.specs.Changes.{IsTracked, is_changed}
+use Rattle.ipc_image.specs.declared.format.Format.{Format}
+use Rattle.ipc_image.specs.Format.{format, format_one}
 use Rattle.ipc_image.specs.Changed.{differs_in}
 use Rattle.ipc_image.specs.Kind.{object_in, FitsIn}
-use Rattle.ipc_image.specs.Saved.{mq_bytes, mq_object, later_objects, psem_bytes, psem_object, pshm_object, queue_bytes, queue_object, saved}
+use Rattle.ipc_image.specs.Saved.{mq_bytes, mq_object, later_objects, psem_bytes, psem_object, pshm_object, queue_bytes, queue_object, saved, saved_in}
 use Rattle.ipc_image.specs.Saved.{FitsMq, FitsPsem, FitsQueue, FitsSegment, FitsSet, FitsShm, later_in}
 use Rattle.ipc_image.specs.Saved.{segment_bytes, set_bytes, set_object, shm_bytes, shm_object, StandForState}
 use Rattle.ipc_image.proofs.LaterObjects.{from_pshms}
@@ -207,18 +209,26 @@ module _ (limits : Limits) (marks : List Object) (before after : State) (tracked
             ])
       ]
 
-  saved-there : (i : ℕ) → slice_get (saved after) i ≡ Some o → Among (saved before) o
-  unfolding saved
-  saved-there zero at = absurd (always marks 0 _ o (omega arith) at kept)
-  saved-there (suc zero) at = absurd (always marks 1 _ o (omega arith) at kept)
-  saved-there (suc (suc zero)) at = absurd (always marks 2 _ o (omega arith) at kept)
-  saved-there (suc (suc (suc zero))) at = absurd (always marks 3 _ o (omega arith) at kept)
-  saved-there (suc (suc (suc (suc i)))) at = let there = things-there (i, at) in (suc (suc (suc (suc there.0))), there.1)
+  saved-there : (form : Format) (i : ℕ) → slice_get (saved after) i ≡ Some o → Among (saved_in form before) o
+  unfolding saved_in
+  saved-there form zero at = absurd (always marks 0 _ o (omega arith) at kept)
+  saved-there form (suc zero) at = absurd (always marks 1 _ o (omega arith) at kept)
+  saved-there form (suc (suc zero)) at = absurd (always marks 2 _ o (omega arith) at kept)
+  saved-there form (suc (suc (suc zero))) at = absurd (always marks 3 _ o (omega arith) at kept)
+  saved-there form (suc (suc (suc (suc i)))) at = let there = things-there (i, at) in (suc (suc (suc (suc there.0))), there.1)
 
--- each object that does not count as changed is among the saved ones
-pub others-there : (limits : Limits) (marks : List Object) (before after : State) → IsTracked marks before after
-    → StandForState limits after (saved after) → OthersAreThere (differs_in marks (saved after)) (saved after) (saved before)
-others-there limits marks before after tracked stand i o at off =
+-- each object that does not count as changed is among those that were saved in a form
+saved-others : (form : Format) (limits : Limits) (marks : List Object) (before after : State) → IsTracked marks before after
+    → StandForState limits after (saved after) → OthersAreThere (differs_in marks (saved after)) (saved after) (saved_in form before)
+saved-others form limits marks before after tracked stand i o at off =
     let kept : is_changed marks (o.0 / 2 ^ 32) (o.0 % 2 ^ 32) ≡ false =
     sym (ap (λ (r : Option (ℕ × List ℕ)). unwrap_or (option_map (λ p. is_changed marks (p.0 / 2 ^ 32) (p.0 % 2 ^ 32)) r) false) at) ∙ off in
-    saved-there limits marks before after tracked stand o kept i at
+    saved-there limits marks before after tracked stand o kept form i at
+
+pub others-there : (limits : Limits) (marks : List Object) (before after : State) → IsTracked marks before after
+    → StandForState limits after (saved after) → OthersAreThere (differs_in marks (saved after)) (saved after) (saved before)
+others-there = saved-others format
+
+pub old-others-there : (limits : Limits) (marks : List Object) (before after : State) → IsTracked marks before after
+    → StandForState limits after (saved after) → OthersAreThere (differs_in marks (saved after)) (saved after) (saved_in format_one before)
+old-others-there = saved-others format_one

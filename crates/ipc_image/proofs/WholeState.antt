@@ -3,7 +3,6 @@ use Rattle.std.proofs.Common.{◌≡◌, ℕ, ◌*◌, ◌<◌, ◌^◌, List, �
 use Rattle.std.specs.Prelude.{All, slice_get, unwrap_or, nat_eq}
 use Rattle.std.specs.List.{IsDistinct}
 use Rattle.ipc_base.specs.declared.limits.Limits.{Limits}
-use Rattle.ipc_base.specs.Numbers.{fields_bytes}
 use Rattle.ipc_base.specs.Objects.{PlainObjects}
 use Rattle.ipc_base.specs.Table.{keys_of}
 use Rattle.sem_undo.specs.Undo.{Undo}
@@ -16,13 +15,15 @@ use Rattle.ipc_state.specs.Restored.{with_numbers, with_waits}
 use Rattle.ipc_state.specs.State.{State, start}
 use Rattle.ipc_state.specs.Waiting.{PlainWaiting}
 use Rattle.ipc_wait.specs.Waits.{HaveDistinctPids}
+use Rattle.ipc_image.specs.declared.format.Format.{Format}
+use Rattle.ipc_image.specs.Format.{IsFormat}
 use Rattle.ipc_image.specs.Kind.{FitsIn, IsOther}
 use Rattle.ipc_image.specs.Relations.Restored.{IsClockOf}
-use Rattle.ipc_image.specs.Saved.{clock_sizes, clock_numbers, process_shape, process_tree, process_bytes, processes_bytes, FitsProcess}
+use Rattle.ipc_image.specs.Saved.{clock_bytes, process_shape, process_tree, process_bytes, processes_bytes, FitsProcess}
 use Rattle.ipc_image.specs.Saved.{message_shape, message_tree, message_bytes, FitsMessage, messages_of, queue_sizes, queue_numbers, queue_bytes, queue_object}
 use Rattle.ipc_image.specs.Saved.{FitsQueue, semaphore_shape, semaphore_numbers, semaphore_bytes, FitsSemaphore, semaphores_of, set_sizes, set_numbers}
 use Rattle.ipc_image.specs.Saved.{set_bytes, set_object, FitsSet, waits_bytes, FitsWaiting}
-use Rattle.ipc_image.specs.Saved.{LaterObjects, later_in, later_objects, FitLater, saved, HasAllPlaces}
+use Rattle.ipc_image.specs.Saved.{LaterObjects, later_in, later_objects, FitLater, saved_in, HasAllPlaces, HasKindsOf}
 use Rattle.ipc_image.specs.Saved.{adjustment_shape, adjustment_numbers, adjustment_bytes, adjustments_in, adjustments_bytes, FitsAdjustment}
 use Rattle.ipc_image.specs.SavedParts.{queue_from, set_from, with_more, with_more_later, put_processes, put_queues, put_sets}
 use Rattle.ipc_image.specs.Relations.Trees.{process_one, message_one, semaphore_one, adjustment_one}
@@ -36,16 +37,16 @@ use Rattle.ipc_image.proofs.SavedObjects.{things}
 use Rattle.ipc_image.proofs.WaitingCalls.{waits_one}
 
 -- the objects of a state, each in its place
-pub record HasParts (s : State) (objects : PlainObjects) : Type 0 where
-  pub clock : slice_get objects 0 ≡ Some (0, fields_bytes clock_sizes (clock_numbers s))
+pub record HasParts (form : Format) (s : State) (objects : PlainObjects) : Type 0 where
+  pub clock : slice_get objects 0 ≡ Some (0, clock_bytes form s)
   pub processes : slice_get objects 1 ≡ Some (1, processes_bytes s.processes.entries)
   pub calls : slice_get objects 2 ≡ Some (2, waits_bytes s.wait)
   pub adjustments : slice_get objects 3 ≡ Some (3, adjustments_bytes s.undo)
   pub things : drop 4 objects ≡ things s
 
-pub parts_of : (s : State) (objects : PlainObjects) → objects ≡ saved s → HasParts s objects
-unfolding saved
-parts_of s objects are = record {
+pub parts_of : (form : Format) (s : State) (objects : PlainObjects) → objects ≡ saved_in form s → HasParts form s objects
+unfolding saved_in
+parts_of form s objects are = record {
   clock = ap (λ (os : PlainObjects). slice_get os 0) are;
   processes = ap (λ (os : PlainObjects). slice_get os 1) are;
   calls = ap (λ (os : PlainObjects). slice_get os 2) are;
@@ -53,11 +54,11 @@ parts_of s objects are = record {
   things = ap (λ (os : PlainObjects). drop 4 os) are;
 }
 
-pub are_saved : (s : State) (objects : PlainObjects) → HasParts s objects → objects ≡ saved s
-unfolding saved
-are_saved s objects parts =
+pub are_saved : (form : Format) (s : State) (objects : PlainObjects) → HasParts form s objects → objects ≡ saved_in form s
+unfolding saved_in
+are_saved form s objects parts =
     let next : ℕ → List ℕ → PlainObjects → PlainObjects = λ n bytes os. (n, bytes) ∷ os in
-    object_at objects 0 _ parts.clock ∙ ap (next 0 (fields_bytes clock_sizes (clock_numbers s)))
+    object_at objects 0 _ parts.clock ∙ ap (next 0 (clock_bytes form s))
     (object_at objects 1 _ parts.processes ∙ ap (next 1 (processes_bytes s.processes.entries)) (object_at objects 2 _ parts.calls
     ∙ ap (next 2 (waits_bytes s.wait)) (object_at objects 3 _ parts.adjustments ∙ ap (next 3 (adjustments_bytes s.undo)) parts.things)))
 
@@ -121,15 +122,15 @@ pub record AreAdjustmentsRead (ps : List (ℕ × Process)) (us : List (ℕ × Un
   pub pids : keys_of us ≡ keys_of ps
 
 -- the objects are those of the state that they make; its numbers have their places, if no two processes have the same pid
-pub all_restored : (objects : PlainObjects) (n : Numbers) (ps : List (ℕ × Process)) (ws : List PlainWaiting) (us : List (ℕ × Undo))
+pub all_restored : (form : Format) (objects : PlainObjects) (n : Numbers) (ps : List (ℕ × Process)) (ws : List PlainWaiting) (us : List (ℕ × Undo))
     (es : List (ℕ × KeyedEntry Queue)) (fs : List (ℕ × KeyedEntry Set)) (o : LaterObjects) (s : State) (clock processes calls adjustments : List ℕ)
     → slice_get objects 0 ≡ Some (0, clock) → slice_get objects 1 ≡ Some (1, processes) → slice_get objects 2 ≡ Some (2, calls)
-    → slice_get objects 3 ≡ Some (3, adjustments) → AreAdjustmentsRead ps us adjustments → IsClockOf n clock
+    → slice_get objects 3 ≡ Some (3, adjustments) → AreAdjustmentsRead ps us adjustments → IsClockOf form n clock
     → length ps < 2 ^ 32 → All FitsProcess ps → processes ≡ processes_bytes ps
     → length ws < 2 ^ 32 → All FitsWaiting ws → HaveDistinctPids ws → calls ≡ waits_bytes ws → All (FitsIn FitsQueue) es → All (FitsIn FitsSet) fs
     → FitLater o → drop 4 objects ≡ map queue_object es ++ (map set_object fs ++ later_objects o) → s ≡ state_of n ps ws us es fs o
-    → (IsDistinct nat_eq (keys_of s.undo) → HasAllPlaces s) × (objects ≡ saved s)
-all_restored objects n ps ws us es fs o s clock processes calls adjustments at0 at1 at2 at3 adjusted of few fit read less fits distinct heard places
+    → (IsDistinct nat_eq (keys_of s.undo) → HasAllPlaces s) × (objects ≡ saved_in form s)
+all_restored form objects n ps ws us es fs o s clock processes calls adjustments at0 at1 at2 at3 adjusted of few fit read less fits distinct heard places
     holds later others is =
     let t : State = state_of n ps ws us es fs o in
     let numbers = of t refl refl refl refl refl refl refl refl in
@@ -148,14 +149,14 @@ all_restored objects n ps ws us es fs o s clock processes calls adjustments at0 
       sets = holds;
       later = record { mqs = later.mqs; psems = later.psems; segments = later.segments; shms = later.shms };
     } in
-    let parts : HasParts t objects = record {
+    let parts : HasParts form t objects = record {
       clock = at0 ∙ ap (λ (l : List ℕ). let o : Option (ℕ × List ℕ) = Some (0, l) in o) numbers.1;
       processes = at1 ∙ ap (λ (l : List ℕ). let o : Option (ℕ × List ℕ) = Some (1, l) in o) read;
       calls = at2 ∙ ap (λ (l : List ℕ). let o : Option (ℕ × List ℕ) = Some (2, l) in o) heard;
       adjustments = at3 ∙ ap (λ (l : List ℕ). let o : Option (ℕ × List ℕ) = Some (3, l) in o) adjusted.bytes;
       things = others;
     } in
-    (subst (λ (u : State). IsDistinct nat_eq (keys_of u.undo) → HasAllPlaces u) (sym is) all, are_saved t objects parts ∙ ap saved (sym is))
+    (subst (λ (u : State). IsDistinct nat_eq (keys_of u.undo) → HasAllPlaces u) (sym is) all, are_saved form t objects parts ∙ ap (saved_in form) (sym is))
 
 -- ---- told apart
 
@@ -201,14 +202,15 @@ pub after-sets : (s : State) → IsOther (2 * 2 ^ 32) (later_objects (later_in s
 after-sets s = of-later-kinds (2 * 2 ^ 32) (later_in s) (omega arith)
 
 -- two states
-pub saved_once : (s t : State) → HasAllPlaces s → HasAllPlaces t → saved s ≡ saved t → s ≡ t
-saved_once s t at also same =
-    let objects : PlainObjects = saved t in
+pub saved_once : (form : Format) → IsFormat form → (s t : State) → HasAllPlaces s → HasAllPlaces t → HasKindsOf form s → HasKindsOf form t
+    → saved_in form s ≡ saved_in form t → s ≡ t
+saved_once form known s t at also has kinds same =
+    let objects : PlainObjects = saved_in form t in
     let ps : List (ℕ × Process) = s.processes.entries in
     let qs : List (ℕ × Process) = t.processes.entries in
-    let mine = parts_of s objects (sym same) in
-    let its = parts_of t objects refl in
-    let clock = clock_one s t at.clock also.clock (same_object objects 0 _ _ mine.clock its.clock) in
+    let mine = parts_of form s objects (sym same) in
+    let its = parts_of form t objects refl in
+    let clock = clock_one form known s t at.clock also.clock has kinds (same_object objects 0 _ _ mine.clock its.clock) in
     let processes = processes_one ps qs at.count also.count at.processes also.processes (same_object objects 1 _ _ mine.processes its.processes) in
     let waits = waits_one s.wait t.wait at.wait_count also.wait_count at.waits also.waits (same_object objects 2 _ _ mine.calls its.calls) in
     let adjustments = counted_one adjustment_bytes FitsAdjustment
@@ -230,12 +232,13 @@ saved_once s t at also same =
     ∙ ap (λ (o : LaterLists). with_parts t qs t.wait t.undo t.msg.entries t.semset.entries (listed (later_in t) o)) later
 
 -- what was read is the state, if one has these objects
-pub restored_once : (s t : State) (objects : PlainObjects) (ps : List (ℕ × Process)) (processes : List ℕ) → HasAllPlaces s → objects ≡ saved s
-    → (IsDistinct nat_eq (keys_of t.undo) → HasAllPlaces t) × (objects ≡ saved t) → slice_get objects 1 ≡ Some (1, processes)
+pub restored_once : (form : Format) → IsFormat form → (s t : State) (objects : PlainObjects) (ps : List (ℕ × Process)) (processes : List ℕ)
+    → HasAllPlaces s → HasKindsOf form s → HasKindsOf form t → objects ≡ saved_in form s
+    → (IsDistinct nat_eq (keys_of t.undo) → HasAllPlaces t) × (objects ≡ saved_in form t) → slice_get objects 1 ≡ Some (1, processes)
     → length ps < 2 ^ 32 → All FitsProcess ps → processes ≡ processes_bytes ps → keys_of t.undo ≡ keys_of ps → s ≡ t
-restored_once s t objects ps processes all are made at1 few fit read pids =
+restored_once form known s t objects ps processes all has kinds are made at1 few fit read pids =
     let same = processes_one s.processes.entries ps all.count few all.processes fit
-    (same_object objects 1 _ _ (parts_of s objects are).processes at1 ∙ read) in
+    (same_object objects 1 _ _ (parts_of form s objects are).processes at1 ∙ read) in
     let apart : IsDistinct nat_eq (keys_of t.undo) =
     subst (IsDistinct nat_eq) (all.undo_pids ∙ ap (λ (l : List (ℕ × Process)). keys_of l) same ∙ sym pids) all.distinct in
-    saved_once s t all (made.0 apart) (sym are ∙ made.1)
+    saved_once form known s t all (made.0 apart) has kinds (sym are ∙ made.1)

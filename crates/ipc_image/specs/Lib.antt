@@ -11,3 +11,4 @@ pub mod Relations
 pub mod RecordParts
 pub mod Window
 pub mod SavedParts
+pub mod Greater

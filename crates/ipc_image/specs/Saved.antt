@@ -2,8 +2,8 @@
 -- state has, and one for each message queue, semaphore set, POSIX queue, named semaphore, segment and System V segment.
 -- Of a call that waits the object on which it waits is not kept: its request says it.
 use Rattle.std.specs.Prelude.{◌≡◌, ◌+◌, ◌*◌, ◌-◌, ◌<◌, ◌≤◌, ◌^◌, ℕ, ℤ, List, [], ◌∷◌, ◌++◌}
-use Rattle.std.specs.Prelude.{length, map, slice_index, All, FitsSigned, Option, Some, None, IfSome, nat_eq}
-use Rattle.std.specs.Prelude.{Bool, if◌then◌else◌, true, ⊤}
+use Rattle.std.specs.Prelude.{length, map, take, slice_index, All, FitsSigned, Option, Some, None, IfSome, nat_eq}
+use Rattle.std.specs.Prelude.{Bool, if◌then◌else◌, true, false, ⊤}
 use Rattle.std.specs.FinMap as fin
 use Rattle.std.specs.Int.{w16, w32, w64, cast_unsigned}
 use Rattle.std.specs.List.{flat_map, IsDistinct}
@@ -32,11 +32,13 @@ use Rattle.ipc_state.specs.Keyed.{Keyed, KeyedEntry}
 use Rattle.ipc_state.specs.Named.{Named, NamedEntry, is_own}
 use Rattle.ipc_state.specs.declared.processes.Process.{Process}
 use Rattle.ipc_engine.specs.Sound.{IsSound}
-use Rattle.ipc_state.specs.State.{State}
+use Rattle.ipc_state.specs.State.{State, start}
 use Rattle.ipc_state.specs.Waiting.{PlainWaiting, awaited_by}
 use Rattle.ipc_base.specs.declared.field.Size.{Size}
 use Rattle.ipc_base.specs.declared.field.Size.TheVariants.{Two, Four, Eight}
 use Rattle.ipc_base.specs.Numbers.{fields_bytes, FitFields}
+use Rattle.ipc_image.specs.declared.format.Format.{Format}
+use Rattle.ipc_image.specs.Format.{format, has_shms}
 use Rattle.ipc_image.specs.Kind.{object_in, FitsIn}
 use Rattle.ipc_image.specs.Shape.{Shape, Fields, Texts, Tree, IsTree, bytes_in}
 
@@ -379,13 +381,24 @@ later_objects o =
     map mq_object o.mq.entries
     ++ (map psem_object o.psem.entries ++ (map pshm_object o.pshm.entries ++ map shm_object o.shm.entries))
 
+-- the bytes of the first: the clock, the next pid, and the next number of each kind that the version has
+abbrev pub clock_bytes : Format → State → List ℕ
+clock_bytes form s = fields_bytes (take (2 + form.numbers) clock_sizes) (take (2 + form.numbers) (clock_numbers s))
+
 -- the objects: the clock, the processes, the waiting calls, the adjustments, the queues by identifier, the semaphore
 -- sets by identifier, and those of later kinds
-unfoldable pub saved : State → PlainObjects
-saved s =
-    (0, fields_bytes clock_sizes (clock_numbers s)) ∷ (1, processes_bytes s.processes.entries)
+unfoldable pub saved_in : Format → State → PlainObjects
+saved_in form s =
+    (0, clock_bytes form s) ∷ (1, processes_bytes s.processes.entries)
     ∷ (2, waits_bytes s.wait) ∷ (3, adjustments_bytes s.undo)
     ∷ map queue_object s.msg.entries ++ (map set_object s.semset.entries ++ later_objects (later_in s))
+
+abbrev pub saved : State → PlainObjects
+saved = saved_in format
+
+-- A version without System V segments has a state without one, in which none has been made.
+abbrev pub HasKindsOf : Format → State → Type 0
+HasKindsOf form s = has_shms form ≡ false → s.shm ≡ start.shm
 
 -- ---- each number has its place
 
@@ -477,8 +490,12 @@ pub record HasAllPlaces (s : State) : Type 0 where
   pub sets : All (FitsIn FitsSet) s.semset.entries
   pub later : FitLater (later_in s)
 
--- the objects stand for a sound state
-pub record StandForState (limits : Limits) (s : State) (objects : PlainObjects) : Type 0 where
+-- the objects of a device of that version stand for a sound state
+pub record StandForStateIn (form : Format) (limits : Limits) (s : State) (objects : PlainObjects) : Type 0 where
   pub sound : IsSound limits s
   pub places : HasAllPlaces s
-  pub are : objects ≡ saved s
+  pub kinds : HasKindsOf form s
+  pub are : objects ≡ saved_in form s
+
+abbrev pub StandForState : Limits → State → PlainObjects → Type 0
+StandForState = StandForStateIn format

@@ -1,5 +1,8 @@
 //! The form of a device.
 
+ghost use Rattle.std.specs.Prelude.{◌≡◌};
+ghost use Rattle.ipc_image.specs.Format.{has_shms};
+
 use ipc_wire::GREATEST_LENGTH;
 
 /// What a version of the device fixes.
@@ -17,6 +20,12 @@ pub struct Format {
     pub request: u32,
     /// The most bytes of a batch of events, with its length.
     pub batch: u32,
+    /// The most message queues that its limits may allow.
+    pub msgmni: u32,
+    /// The most bytes of one message that they may allow.
+    pub msgmax: u32,
+    /// The most bytes of one queue that they may allow.
+    pub msgmnb: u32,
 }
 
 /// The one of the devices that are made and opened.
@@ -27,7 +36,32 @@ pub const FORMAT: Format = Format {
     numbers: 6,
     request: GREATEST_LENGTH,
     batch: 131072,
+    msgmni: 64,
+    msgmax: 65536,
+    msgmnb: 65536,
 };
+
+/// The one before it, of the devices that can be upgraded.
+pub const FORMAT_ONE: Format = Format {
+    version: 1,
+    root: 1,
+    limits: 16,
+    numbers: 5,
+    request: 8448,
+    batch: 32768,
+    msgmni: 32,
+    msgmax: 8192,
+    msgmnb: 16384,
+};
+
+impl Format {
+    /// Whether the version has System V segments, the sixth kind of objects.
+    pub(crate) fn has_shms(self) -> bool
+        ensures { result ≡ has_shms self }
+    {
+        self.numbers == 6
+    }
+}
 
 /// The most bytes of the record of an event: one of a call has 17 beside its request.
 pub const LONGEST_RECORD: u32 = 17 + FORMAT.request;

@@ -8,9 +8,11 @@ ghost use Rattle.ipc_engine.specs.Event.{PlainEvent};
 ghost use Rattle.ipc_engine.specs.Sound.{IsSound};
 ghost use Rattle.ipc_state.specs.State.{State};
 ghost use Rattle.ipc_image.specs.Records.{record_bytes, HasRecord, BeginsWith};
-ghost use Rattle.ipc_image.specs.Saved.{saved, StandForState};
+ghost use Rattle.ipc_image.specs.declared.format.Format.{Format};
+ghost use Rattle.ipc_image.specs.Format.{IsFormat};
+ghost use Rattle.ipc_image.specs.Saved.{saved, StandForStateIn};
 ghost use Rattle.ipc_image.specs.Sizes.{area_of, need_of};
-ghost use Rattle.ipc_image.specs.Superblock.{IsSuperblock, superblock_bytes};
+ghost use Rattle.ipc_image.specs.Superblock.{IsSuperblock, IsSuperblockIn, superblock_bytes};
 
 /// What was written is the superblock of that device with those limits, if they passed their check
 /// and the device has room for them.
@@ -19,11 +21,11 @@ pub fn superblock_is_read()
         → IsSuperblock sectors limits (superblock_bytes sectors limits) }
 {}
 
-/// A sector is the superblock of one device with one set of limits, and no two.
+/// A sector is, in a version, the superblock of one device with one set of limits, and no two.
 pub fn a_sector_is_one_superblock()
-    ensures { (sectors others : ℕ) (limits more : Limits) (sector : List ℕ)
+    ensures { (form : Format) → IsFormat form → (sectors others : ℕ) (limits more : Limits) (sector : List ℕ)
         → sectors < 2 ^ 32 → others < 2 ^ 32
-        → IsSuperblock sectors limits sector → IsSuperblock others more sector
+        → IsSuperblockIn form sectors limits sector → IsSuperblockIn form others more sector
         → (sectors ≡ others) × (limits ≡ more) }
 {}
 
@@ -43,10 +45,10 @@ pub fn a_saved_state_fits()
         → Fit (area_of limits) (saved s) }
 {}
 
-/// Objects stand for one state, and no two.
+/// Objects of a device of a version stand for one state, and no two.
 pub fn objects_stand_for_one_state()
-    ensures { (limits others : Limits) (s t : State) (objects : PlainObjects) → StandForState limits s objects
-        → StandForState others t objects → s ≡ t }
+    ensures { (form : Format) → IsFormat form → (limits others : Limits) (s t : State) (objects : PlainObjects)
+        → StandForStateIn form limits s objects → StandForStateIn form others t objects → s ≡ t }
 {}
 
 /// An area takes at most 126090 sectors under limits that passed their check, so its bytes can be

@@ -23,6 +23,7 @@ mod entry;
 mod fault;
 mod fields;
 mod format;
+mod greater;
 mod kind;
 mod laws;
 mod mq;
@@ -47,7 +48,8 @@ mod window;
 
 pub use engine_objects::{EngineObjects, objects_of};
 pub use fault::SuperblockFault;
-pub use format::{FORMAT, Format, LONGEST_RECORD};
+pub use format::{FORMAT, FORMAT_ONE, Format, LONGEST_RECORD};
+pub use greater::first_below;
 pub use laws::{
     a_record_is_of_one_event, a_saved_state_fits, a_sector_is_one_superblock,
     an_area_can_be_counted, objects_stand_for_one_state, record_is_read, superblock_is_read,

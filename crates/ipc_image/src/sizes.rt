@@ -1,61 +1,67 @@
 //! How many sectors a device must have under given limits.
 
-ghost use Rattle.std.specs.Prelude.{◌≡◌, ◌≤◌, ◌<◌, ◌+◌, ◌*◌, ◌^◌};
+ghost use Rattle.std.specs.Prelude.{◌≡◌, ◌≤◌, ◌<◌, ◌+◌, ◌*◌, ◌^◌, if◌then◌else◌};
 ghost use Rattle.ipc_base.specs.Limits.{ArePassed};
+ghost use Rattle.ipc_image.specs.Format.{IsFormat, has_shms};
 ghost use Rattle.ipc_image.specs.Sizes.{
   sectors,
   process_sectors,
+  shm_sectors,
   object_sectors,
   entries,
-  area_of,
-  need_of,
+  area_in,
+  need_in,
 };
 
-use crate::format::FORMAT;
+use crate::format::Format;
 use crate::places::OBJECTS;
 use ipc_base::Limits;
 
-/// How many sectors an image of all that is kept takes at most, with its table: 553 under small
-/// limits, 126090 under standard ones.
-pub fn area(limits: &Limits) -> u32
-    requires { ArePassed limits.now }
-    ensures exact { result ≡ area_of limits.now }
+/// How many sectors an image of all that is kept takes at most, with its table, on a device of that version: of the
+/// last one 553 under small limits, 126090 under standard ones.
+pub fn area(form: Format, limits: &Limits) -> u32
+    requires passed { ArePassed limits.now }
+    requires known { IsFormat form }
+    ensures exact { result ≡ area_in form limits.now }
     ensures bounded { result ≤ 126090 }
 {
-    let image = process_part(limits) + object_part(limits);
-    let table = 4 + 16 * entry_count(limits) + 4 * image;
+    let image = process_part(form, limits) + object_part(form, limits);
+    let table = 4 + 16 * entry_count(form, limits) + 4 * image;
     image + table.div_ceil(508)
 }
 
-/// How many sectors a device has at least: room for the image that is there and for the next one,
-/// so a save is never short of sectors. 1366 under small limits, 252440 under standard ones.
-pub fn need(limits: &Limits) -> u32
-    requires { ArePassed limits.now }
-    ensures exact { result ≡ need_of limits.now }
+/// How many sectors a device of that version has at least: room for the image that is there and for the next one, so a
+/// save is never short of sectors. Of the last one 1366 under small limits, 252440 under standard ones.
+pub fn need(form: Format, limits: &Limits) -> u32
+    requires passed { ArePassed limits.now }
+    requires known { IsFormat form }
+    ensures exact { result ≡ need_in form limits.now }
     ensures bounded { result ≤ 252440 }
 {
-    OBJECTS + 2 * area(limits)
+    OBJECTS + 2 * area(form, limits)
 }
 
 /// The clock, the processes, their waiting calls and their adjustments.
 #[tactic(auto, using(crate::proofs::Bounds::bounds))]
-fn process_part(limits: &Limits) -> u32
-    requires { ArePassed limits.now }
-    ensures exact { result ≡ process_sectors limits.now }
+fn process_part(form: Format, limits: &Limits) -> u32
+    requires passed { ArePassed limits.now }
+    requires known { IsFormat form }
+    ensures exact { result ≡ process_sectors form limits.now }
     ensures bounded { result ≤ 9064 }
 {
     let processes = limits.processes;
-    sectors_for(12 + 4 * FORMAT.numbers)
+    sectors_for(12 + 4 * form.numbers)
         + sectors_for(4 + processes * (16 + 16 * limits.descriptors))
-        + sectors_for(4 + processes * (16 + FORMAT.request))
+        + sectors_for(4 + processes * (16 + form.request))
         + sectors_for(4 + 12 * processes * limits.semmns)
 }
 
 /// The objects of each kind.
 #[tactic(auto, using(crate::proofs::Bounds::bounds))]
-fn object_part(limits: &Limits) -> u32
-    requires { ArePassed limits.now }
-    ensures exact { result ≡ object_sectors limits.now }
+fn object_part(form: Format, limits: &Limits) -> u32
+    requires passed { ArePassed limits.now }
+    requires known { IsFormat form }
+    ensures exact { result ≡ object_sectors form limits.now }
     ensures bounded { result ≤ 116032 }
 {
     sectors_for_each(limits.msgmni, 64 + 13 * limits.msgmnb)
@@ -63,13 +69,26 @@ fn object_part(limits: &Limits) -> u32
         + sectors_for_each(limits.queues, 299 + limits.maxmsg * (8 + limits.msgsize))
         + sectors_for_each(limits.named_semaphores, 271)
         + (2 * limits.segments + sectors_for(limits.segment_bytes))
-        + (2 * limits.shmmni + sectors_for(limits.shmall))
+        + shm_part(form, limits)
+}
+
+/// The System V segments.
+#[tactic(auto, using(crate::proofs::Bounds::bounds))]
+fn shm_part(form: Format, limits: &Limits) -> u32
+    requires passed { ArePassed limits.now }
+    ensures exact { result ≡ shm_sectors form limits.now }
+    ensures bounded { result ≤ 2112 }
+{
+    if !form.has_shms() {
+        return 0;
+    }
+    2 * limits.shmmni + sectors_for(limits.shmall)
 }
 
 /// The entries of the table.
-fn entry_count(limits: &Limits) -> u32
-    requires { ArePassed limits.now }
-    ensures exact { result ≡ entries limits.now }
+fn entry_count(form: Format, limits: &Limits) -> u32
+    requires passed { ArePassed limits.now }
+    ensures exact { result ≡ entries form limits.now }
     ensures bounded { result ≤ 260 }
 {
     4 + limits.msgmni
@@ -77,7 +96,14 @@ fn entry_count(limits: &Limits) -> u32
         + limits.queues
         + limits.named_semaphores
         + limits.segments
-        + limits.shmmni
+        + shm_count(form, limits)
+}
+
+/// Those of System V segments.
+fn shm_count(form: Format, limits: &Limits) -> u32
+    ensures { result ≡ (if has_shms form then limits.now.shmmni else 0) }
+{
+    if form.has_shms() { limits.shmmni } else { 0 }
 }
 
 fn sectors_for(bytes: u32) -> u32

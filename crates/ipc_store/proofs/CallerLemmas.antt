@@ -1,6 +1,6 @@
 -- What the crates above cite of a store: which events the bytes of a batch hold, which state an image stands for, what a list
 -- of calls accepts, and how many events and bytes a store still takes.
-use Rattle.std.proofs.Common.{◌≡◌, ◌+◌, ◌-◌, ◌≤◌, ◌<◌, ◌^◌, ℕ, Bool, true, false, List, [], ◌∷◌, ◌++◌, length, drop, map, refl, sym, ap, subst, ◌∙◌, arith}
+use Rattle.std.proofs.Common.{◌≡◌, ◌+◌, ◌-◌, ◌≤◌, ◌<◌, ◌^◌, inr, ℕ, Bool, true, false, List, [], ◌∷◌, ◌++◌, length, drop, map, refl, sym, ap, subst, ◌∙◌, arith}
 use Rattle.std.specs.Prelude.{if◌then◌else◌, All}
 use Rattle.std.proofs.lemmas.List.{drop_at, length-append}
 use Rattle.std.proofs.lemmas.List.Elements.{All-head, All-tail}
@@ -14,13 +14,15 @@ use Rattle.ipc_journal.proofs.CallerLemmas.{Holds-one}
 use Rattle.ipc_state.specs.State.{State}
 use Rattle.ipc_engine.specs.Event.{PlainEvent, Exit, Tick}
 use Rattle.ipc_engine.specs.Step.{run}
-use Rattle.ipc_image.specs.Format.{longest_record}
+use Rattle.ipc_image.specs.declared.format.Format.{Format}
+use Rattle.ipc_image.specs.Format.{format, longest_record, IsFormat}
 use Rattle.ipc_image.specs.Records.{record_bytes, HasRecord, BeginsWith}
 use Rattle.ipc_image.proofs.CallerLemmas.{one-superblock, one-record, record-read, stand-one}
-use Rattle.ipc_image.specs.Saved.{StandForState}
-use Rattle.ipc_store.specs.Batch.{records_of, batch_bytes, exit_record, tick_record, AreBatch}
+use Rattle.ipc_image.specs.Saved.{StandForStateIn}
+use Rattle.ipc_store.specs.Batch.{records_of, batch_bytes, exit_record, tick_record, AreBatchOf}
 use Rattle.ipc_store.specs.Histories.{Takes}
-use Rattle.ipc_store.specs.Image.{journal_range, layout_of, named_sectors, events_of, epoch_at, IsDevice, HasObjects, HasBatches, HasBase, StandsFor}
+use Rattle.ipc_store.specs.Image.{journal_range, layout_in, named_sectors, events_of, epoch_at, IsDeviceIn, HasObjectsIn, HasBatches, HasBaseIn}
+use Rattle.ipc_store.specs.Image.{StandsFor, StandsForIn}
 use Rattle.ipc_store.specs.View.{StoreView, HasRoomFor, events_left, numbers_used}
 use Rattle.ipc_store.proofs.Batches.{record-length, record-most}
 use Rattle.ipc_store.specs.Relations.Matches.{StoreMatches}
@@ -49,57 +51,65 @@ records-one (e ∷ events) (f ∷ others) each also same =
     (records-one events others (All-tail HasRecord e events each) (All-tail HasRecord f others also) rest)
 
 -- a batch says which events it holds
-pub batch-one : (events others : List PlainEvent) → AreBatch events → AreBatch others → batch_bytes events ≡ batch_bytes others → events ≡ others
+pub batch-one : (most : ℕ) (events others : List PlainEvent) → AreBatchOf most events → AreBatchOf most others
+    → batch_bytes events ≡ batch_bytes others → events ≡ others
 unfolding batch_bytes
-batch-one events others is also same =
+batch-one most events others is also same =
     records-one events others is.each also.each
     (sym (drop_at (big_bytes 4 (length (records_of events))) (records_of events) 4 refl) ∙ ap (drop 4) same
     ∙ drop_at (big_bytes 4 (length (records_of others))) (records_of others) 4 refl)
 
 -- so do the batches of a journal
-batches-one : (batches others : List (List PlainEvent)) → All AreBatch batches → All AreBatch others → map batch_bytes batches ≡ map batch_bytes others
-    → batches ≡ others
-batches-one [] [] each also same = refl
-batches-one [] (m ∷ others) each also same = absurd (omega (arith, ap length same))
-batches-one (l ∷ batches) [] each also same = absurd (omega (arith, ap length same))
-batches-one (l ∷ batches) (m ∷ others) each also same =
-    let first : l ≡ m = batch-one l m (All-head AreBatch l batches each) (All-head AreBatch m others also) cc in
-    let rest : batches ≡ others = batches-one batches others (All-tail AreBatch l batches each) (All-tail AreBatch m others also) cc in
+batches-one : (most : ℕ) (batches others : List (List PlainEvent)) → All (AreBatchOf most) batches → All (AreBatchOf most) others
+    → map batch_bytes batches ≡ map batch_bytes others → batches ≡ others
+batches-one most [] [] each also same = refl
+batches-one most [] (m ∷ others) each also same = absurd (omega (arith, ap length same))
+batches-one most (l ∷ batches) [] each also same = absurd (omega (arith, ap length same))
+batches-one most (l ∷ batches) (m ∷ others) each also same =
+    let P : List PlainEvent → Type 0 = AreBatchOf most in
+    let first : l ≡ m = batch-one most l m (All-head P l batches each) (All-head P m others also) cc in
+    let rest : batches ≡ others = batches-one most batches others (All-tail P l batches each) (All-tail P m others also) cc in
     ap (λ (x : List PlainEvent). x ∷ batches) first ∙ ap (λ (xs : List (List PlainEvent)). m ∷ xs) rest
 
--- a device has one set of limits
-pub IsDevice-one : (limits others : Limits) (image : Image) → length image < 2 ^ 32 → IsDevice limits image → IsDevice others image
-    → limits ≡ others
-IsDevice-one limits others image fits is also =
-    let few : named_sectors image < 2 ^ 32 = omega (arith, is.whole, fits) in
-    (one-superblock (named_sectors image) (named_sectors image) limits others (sector_at image 0) few few is.superblock also.superblock).1
+module _ (form : Format) (known : IsFormat form) (limits others : Limits) where
+  -- a device has one set of limits
+  pub IsDevice-one : (image : Image) → length image < 2 ^ 32 → IsDeviceIn form limits image → IsDeviceIn form others image → limits ≡ others
+  IsDevice-one image fits is also =
+      let few : named_sectors image < 2 ^ 32 = omega (arith, is.whole, fits) in
+      (one-superblock form known (named_sectors image) (named_sectors image) limits others (sector_at image 0) few few is.superblock also.superblock).1
 
--- an image has one base at one epoch, under one set of limits
-pub HasBase-one : (limits others : Limits) (epoch other : ℕ) (base more : State) (image : Image) → length image < 2 ^ 32
-    → HasBase limits epoch base image → HasBase others other more image → (limits ≡ others) × (epoch ≡ other) × (base ≡ more)
-HasBase-one limits others epoch other base more image fits is also =
-    let same : limits ≡ others = IsDevice-one limits others image fits is.device also.device in
-    let there : HasObjects limits other also.objects image = subst (λ (l : Limits). HasObjects l other also.objects image) (sym same) also.there in
-    let one = Objects-one (layout_of limits (named_sectors image)) epoch other is.objects also.objects image is.there there in (
-      same,
-      one.0,
-      stand-one limits others base more is.objects is.stand (subst (λ (o : PlainObjects). StandForState others more o) (sym one.1) also.stand),
-    )
+  -- an image has one base at one epoch, under one set of limits
+  pub HasBase-one : (epoch other : ℕ) (base more : State) (image : Image) → length image < 2 ^ 32
+      → HasBaseIn form limits epoch base image → HasBaseIn form others other more image → (limits ≡ others) × (epoch ≡ other) × (base ≡ more)
+  HasBase-one epoch other base more image fits is also =
+      let same : limits ≡ others = IsDevice-one image fits is.device also.device in
+      let there : HasObjectsIn form limits other also.objects image =
+      subst (λ (l : Limits). HasObjectsIn form l other also.objects image) (sym same) also.there in
+      let one = Objects-one (layout_in form limits (named_sectors image)) epoch other is.objects also.objects image is.there there in (
+        same,
+        one.0,
+        stand-one form known limits others base more is.objects is.stand
+            (subst (λ (o : PlainObjects). StandForStateIn form others more o) (sym one.1) also.stand),
+      )
 
--- an image stands for one state under one set of limits
+  -- an image stands for one state under one set of limits
+  pub StandsForIn-one : (s t : State) (image : Image) → length image < 2 ^ 32 → StandsForIn form limits s image → StandsForIn form others t image
+      → (limits ≡ others) × (s ≡ t)
+  StandsForIn-one s t image fits is also =
+      let same = HasBase-one is.epoch also.epoch is.base also.base image fits is.kept also.kept in
+      let its : HasBatches is.epoch also.batches image = subst (λ (n : ℕ). HasBatches n also.batches image) (sym same.1) also.journal in
+      let bytes : map batch_bytes is.batches ≡ map batch_bytes also.batches =
+      Holds-one journal_range is.epoch (map batch_bytes is.batches) (map batch_bytes also.batches) image is.journal its in
+      let batches : is.batches ≡ also.batches = batches-one form.batch is.batches also.batches is.leads.each also.leads.each bytes in (
+        same.0,
+        is.leads.state ∙ ap (λ (l : Limits). (run l is.base (events_of is.batches)).state) same.0
+            ∙ ap (λ (b : State). (run others b (events_of is.batches)).state) same.2
+            ∙ ap (λ (bs : List (List PlainEvent)). (run others also.base (events_of bs)).state) batches ∙ sym also.leads.state,
+      )
+
 pub StandsFor-one : (limits others : Limits) (s t : State) (image : Image) → length image < 2 ^ 32 → StandsFor limits s image → StandsFor others t image
     → (limits ≡ others) × (s ≡ t)
-StandsFor-one limits others s t image fits is also =
-    let same = HasBase-one limits others is.epoch also.epoch is.base also.base image fits is.kept also.kept in
-    let its : HasBatches is.epoch also.batches image = subst (λ (n : ℕ). HasBatches n also.batches image) (sym same.1) also.journal in
-    let bytes : map batch_bytes is.batches ≡ map batch_bytes also.batches =
-    Holds-one journal_range is.epoch (map batch_bytes is.batches) (map batch_bytes also.batches) image is.journal its in
-    let batches : is.batches ≡ also.batches = batches-one is.batches also.batches is.leads.each also.leads.each bytes in (
-      same.0,
-      is.leads.state ∙ ap (λ (l : Limits). (run l is.base (events_of is.batches)).state) same.0
-          ∙ ap (λ (b : State). (run others b (events_of is.batches)).state) same.2
-          ∙ ap (λ (bs : List (List PlainEvent)). (run others also.base (events_of bs)).state) batches ∙ sym also.leads.state,
-    )
+StandsFor-one = StandsForIn-one format (inr refl)
 
 -- each image that a crash now may leave stands for the base of a store
 pub StoreMatches-stands : {D : Type 0} (medium : Medium) (store : StoreView D) (base : State) (pending : List PlainEvent)

@@ -67,7 +67,7 @@ module _ {D : Type 0} (medium : Medium) (store : StoreView D) (base : State) (pe
   root-epoch =
       let reads = at.device.honest.reads in
       ap (λ (l : Layout). epoch_in (sector_at medium.contents l.root)) (sym (at.device.device medium.contents reads).1)
-      ∙ (at.device.saved.matches.images medium.contents reads).current
+      ∙ (CheckpointMatches-holds store.checkpoint at.device.objects medium at.device.saved medium.contents reads).there.current
 
   -- what waits makes a batch
   waits-batch : 4 + length store.records ≤ most_bytes → AreBatch pending
@@ -96,7 +96,7 @@ module _ {D : Type 0} (medium : Medium) (store : StoreView D) (base : State) (pe
   leads-more : 4 + length store.records ≤ most_bytes
       → LeadTo store.machine.limits at.device.from (at.device.batches ++ pending ∷ []) (run store.machine.limits base pending).state
   leads-more size =
-      LeadTo-more store.machine.limits at.device.from at.device.batches pending base at.device.leads (waits-batch size) at.waits.named
+      LeadTo-more most_bytes store.machine.limits at.device.from at.device.batches pending base at.device.leads (waits-batch size) at.waits.named
 
 -- what a commit that appends has counted
 pub append-counts : {D : Type 0} (counts : D → Counts) (old new : D) (writes : ℕ) (done : Result ⊤ CommitError) → done ≢ Err commit.Stopped
@@ -240,7 +240,7 @@ module _ {D : Type 0} (old new : Medium) (store : StoreView D) (base : State) (p
     no-batch : LeadTo store.machine.limits store.machine.state [] (run store.machine.limits base pending).state
     no-batch =
         subst (λ (s : State). LeadTo store.machine.limits store.machine.state [] s) at.waits.state
-        (LeadTo-start store.machine.limits store.machine.state)
+        (LeadTo-start most_bytes store.machine.limits store.machine.state)
 
     -- the old objects or the new
     turned-or-not : (image : Image)

@@ -1,12 +1,12 @@
 -- What a device stands for, as the values of a store know it, and what calls leave alone that touch the journal or the
 -- objects.
-use Rattle.std.proofs.Common.{◌≡◌, inl, inr, ℕ, ◌+◌, List, sym, subst, ◌∙◌, ap, arith}
+use Rattle.std.proofs.Common.{◌≡◌, inl, inr, ℕ, ◌+◌, ◌<◌, List, sym, subst, ◌∙◌, ap, arith}
 use Rattle.std.specs.Prelude.{map}
 use Rattle.ipc_base.specs.declared.limits.Limits.{Limits}
 use Rattle.ipc_base.specs.Objects.{PlainObjects, Fit}
 use Rattle.ipc_checkpoint.specs.declared.layout.Layout.{Layout}
 use Rattle.ipc_checkpoint.specs.Checkpoint.{IsLaidOut, IsOwn, IsElsewhere, Holds as HoldsObjects}
-use Rattle.ipc_checkpoint.specs.Matches.{sectors_of}
+use Rattle.ipc_checkpoint.specs.Matches.{sectors_of as image_sectors}
 use Rattle.ipc_checkpoint.specs.View.{CheckpointView, HasSpare, epoch_of as saved_epoch, free_of, layout_of as saved_layout}
 use Rattle.ipc_checkpoint.proofs.CallerLemmas.{CheckpointMatches-holds}
 use Rattle.ipc_disk.specs.declared.range.Range.{Range}
@@ -16,25 +16,42 @@ use Rattle.ipc_disk.specs.Since.{EachImageSince, SameAt, LeavesAlone}
 use Rattle.ipc_disk.specs.Standing.{sector_at}
 use Rattle.ipc_disk.proofs.CallerLemmas.{sector_at-same, LeavesAlone-keeps}
 use Rattle.ipc_journal.specs.declared.journal.Journal.{Journal}
-use Rattle.ipc_journal.specs.Journal.{Holds}
+use Rattle.ipc_journal.specs.Journal.{sectors_of, Holds}
 use Rattle.ipc_journal.specs.View.{range_of, epoch_of}
+use Rattle.ipc_journal.proofs.CallerLemmas.{Fill-end, Holds-same}
 use Rattle.ipc_state.specs.State.{State}
 use Rattle.ipc_engine.specs.Event.{PlainEvent}
 use Rattle.ipc_image.specs.Saved.{StandForState}
-use Rattle.ipc_image.specs.Superblock.{sectors_in, IsSuperblock}
+use Rattle.ipc_image.specs.declared.format.Format.{Format}
+use Rattle.ipc_image.specs.Format.{format}
+use Rattle.ipc_image.specs.Superblock.{sectors_in, IsSuperblockIn}
 use Rattle.ipc_store.specs.Batch.{batch_bytes}
-use Rattle.ipc_store.specs.Image.{journal_range, layout_of, named_sectors, IsDevice, LeadTo, StandsFor}
+use Rattle.ipc_store.specs.Image.{journal_range, layout_of, named_sectors, HasBatches, IsDevice, IsDeviceIn, LeadTo, StandsFor}
 use Rattle.ipc_store.specs.Relations.Matches.{AreOnDisk, DeviceMatches}
 
 -- a device is one by its first sector, if the disk has the sectors that it names
-pub IsDevice-same : (places : ℕ → Type 0) (limits : Limits) (a b : Image) → places 0 → SameAt places a b → IsDevice limits a
-    → IsDevice limits b
-IsDevice-same places limits a b first same device =
+pub IsDeviceIn-same : (form : Format) (places : ℕ → Type 0) (limits : Limits) (a b : Image) → places 0 → SameAt places a b → IsDeviceIn form limits a
+    → IsDeviceIn form limits b
+IsDeviceIn-same form places limits a b first same device =
     let sector : sector_at a 0 ≡ sector_at b 0 = sector_at-same places a b 0 same first in
     record {
-      superblock = subst (λ (s : List ℕ). IsSuperblock (sectors_in s) limits s) sector device.superblock;
+      superblock = subst (λ (s : List ℕ). IsSuperblockIn form (sectors_in s) limits s) sector device.superblock;
       whole = omega (arith, device.whole, same.count, ap sectors_in sector);
     }
+
+-- the batches of a journal have room in it
+pub journal-short : (epoch : ℕ) (batches : List (List PlainEvent)) (image : Image) → HasBatches epoch batches image
+    → sectors_of (map batch_bytes batches) < journal_range.count
+journal-short epoch batches image (inl older) = omega (arith, ap (λ (l : List (List ℕ)). sectors_of l) older.1)
+journal-short epoch batches image (inr current) =
+    omega (arith, current.within, Fill-end journal_range 0 _ (map batch_bytes batches) image current.filled)
+
+-- and stand in its sectors
+pub journal-same : (places : ℕ → Type 0) (epoch : ℕ) (batches : List (List PlainEvent)) (a b : Image)
+    → ((i : ℕ) → IsInside journal_range i → places i) → SameAt places a b → HasBatches epoch batches a → HasBatches epoch batches b
+journal-same places epoch batches a b inside same holds =
+    Holds-same journal_range epoch (map batch_bytes batches) a b
+    (λ j low high. sector_at-same places a b j same (inside j (low, omega (arith, high, journal-short epoch batches a holds)))) holds
 
 -- the image is of a device with these limits, where the checkpoint lies
 abbrev pub IsPlace : Limits → CheckpointView → Image → Type 0
@@ -47,7 +64,7 @@ pub IsPlace-since : (places : ℕ → Type 0) (limits : Limits) (checkpoint : Ch
 IsPlace-since places limits checkpoint old new first alone here =
     LeavesAlone-keeps places old new (IsPlace limits checkpoint) alone here
     (λ a b same is. (
-      IsDevice-same places limits a b first same is.0,
+      IsDeviceIn-same format places limits a b first same is.0,
       is.1 ∙ ap (λ (s : List ℕ). layout_of limits (sectors_in s)) (sector_at-same places a b 0 same first),
     ))
 
@@ -119,6 +136,6 @@ stays-on-disk limits old new checkpoint next journal more size layout range epoc
 
 -- if its objects fit, all of a checkpoint's sectors are free but those of an area
 pub has-spare : (layout : Layout) (checkpoint : CheckpointView) (objects : PlainObjects) → saved_layout checkpoint ≡ layout
-    → Fit layout.area objects → free_of checkpoint + sectors_of objects ≡ layout.range.count → HasSpare checkpoint
+    → Fit layout.area objects → free_of checkpoint + image_sectors objects ≡ layout.range.count → HasSpare checkpoint
 has-spare layout checkpoint objects is fit free =
     omega (arith, fit, free, ap (λ (l : Layout). l.area) is, ap (λ (l : Layout). l.range.count) is)

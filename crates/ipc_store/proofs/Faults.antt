@@ -1,24 +1,24 @@
 -- The faults that an open passes on.
-use Rattle.std.proofs.Common.{◌≡◌, ◌↔◌, ℕ, Ok, Err, sym, ap, ◌∙◌}
+use Rattle.std.proofs.Common.{◌≡◌, ◌↔◌, ℕ, Ok, Err, refl, sym, ap, ◌∙◌}
 use Rattle.std.specs.Prelude.{Result, IsErrOf}
 use Rattle.std.specs.Result.{IsErrAnd}
 use Rattle.std.proofs.lemmas.Result.{err_from_is_err_and}
 use Rattle.ipc_checkpoint.specs.declared.error.LoadError.{LoadError}
 use Rattle.ipc_checkpoint.specs.declared.error.LoadError.TheVariants as loads
-use Rattle.ipc_engine.specs.declared.fault.StateFault.{StateFault}
 use Rattle.ipc_engine.specs.declared.fault.StateFault.TheVariants as states
 use Rattle.ipc_journal.specs.declared.error.JournalError.{JournalError}
 use Rattle.ipc_journal.specs.declared.error.JournalError.TheVariants as journals
-use Rattle.ipc_image.specs.Format.{format}
 use Rattle.ipc_store.specs.declared.fault.OpenError.{OpenError}
 use Rattle.ipc_store.specs.declared.fault.OpenError.TheVariants as errors
-use Rattle.ipc_store.specs.View.{of_journal_error, of_load_error, of_state_fault}
+use Rattle.ipc_store.specs.declared.fault.UpgradeError.{UpgradeError}
+use Rattle.ipc_store.specs.declared.fault.UpgradeError.TheVariants as upgrades
+use Rattle.ipc_store.specs.View.{of_journal_error, of_load_error, of_open_error}
 
-pub err-same : {T : Type 0} (r : Result T OpenError) (a b : OpenError) → r ≡ Err a → r ≡ Err b → a ≡ b
+pub err-same : {T E : Type 0} (r : Result T E) (a b : E) → r ≡ Err a → r ≡ Err b → a ≡ b
 err-same r a b one other = cc
 
 -- an error that is passed on is the one that came
-pub passed_on : {T : Type 0} (r : Result T OpenError) (came went : OpenError) → IsErrAnd r (λ y. y ≡ came) → IsErrOf r went → came ≡ went
+pub passed_on : {T E : Type 0} (r : Result T E) (came went : E) → IsErrAnd r (λ y. y ≡ came) → IsErrOf r went → came ≡ went
 passed_on r came went is went-is = let q = err_from_is_err_and r is in sym q.2 ∙ err-same r q.0 went q.1 went-is
 
 -- which fault it was: of the journal
@@ -37,11 +37,6 @@ pub load-fault : (fault : LoadError) (sector : ℕ) → of_load_error fault ≡ 
 load-fault loads.Device sector is = cc
 load-fault (loads.Damaged n) sector is = cc
 load-fault loads.NoMemory sector is = cc
-
--- of the state that they are
-pub image-fault : (fault : StateFault) (sector : ℕ) → of_state_fault fault ≡ errors.Damaged sector → (fault ≡ states.Unsound) × (sector ≡ format.root)
-image-fault states.Unsound sector is = (cc, cc)
-image-fault states.NoMemory sector is = absurd cc
 
 -- ---- answers that are no failure of the disk
 
@@ -66,18 +61,56 @@ memory-device went and is = let e = passed_on went errors.NoMemory errors.Device
     other : errors.NoMemory ≡ errors.Device → ⊥
     other e = cc
 
-pub state-device : {T : Type 0} (went : Result T OpenError) (fault : StateFault) → IsErrAnd went (λ y. y ≡ of_state_fault fault)
-    → IsErrOf went errors.Device → ⊥
-state-device went fault and is = other fault (passed_on went (of_state_fault fault) errors.Device and is)
-  where
-    other : (fault : StateFault) → of_state_fault fault ≡ errors.Device → ⊥
-    other states.Unsound e = cc
-    other states.NoMemory e = cc
-
 -- an error that is passed on is the disk's just if it was
 pub passed-device : {S T : Type 0} (r : Result S OpenError) (went : Result T OpenError) (fault : OpenError) → r ≡ Err fault
     → IsErrAnd went (λ y. y ≡ fault) → IsErrOf r errors.Device ↔ IsErrOf went errors.Device
 passed-device r went fault was and = (
   λ device. let q = err_from_is_err_and went and in q.1 ∙ ap Err (q.2 ∙ err-same r fault errors.Device was device),
   λ device. was ∙ ap Err (passed_on went fault errors.Device and device),
+)
+
+-- ---- an upgrade that meets the fault of a load
+
+pub open-damaged : (fault : OpenError) (sector : ℕ) → of_open_error fault ≡ upgrades.Damaged sector → fault ≡ errors.Damaged sector
+open-damaged errors.Device sector is = cc
+open-damaged errors.NotFormatted sector is = cc
+open-damaged (errors.Version found) sector is = cc
+open-damaged (errors.Damaged n) sector is = let same : n ≡ sector = cc in ap errors.Damaged same
+open-damaged errors.NoMemory sector is = cc
+
+open-device : (fault : OpenError) → of_open_error fault ≡ upgrades.Device → fault ≡ errors.Device
+open-device errors.Device is = refl
+open-device errors.NotFormatted is = cc
+open-device (errors.Version found) is = cc
+open-device (errors.Damaged n) is = cc
+open-device errors.NoMemory is = cc
+
+-- it is passed on as the disk's just if it is that
+pub upgrade-device : {S T : Type 0} (r : Result S OpenError) (went : Result T UpgradeError) (fault : OpenError) → r ≡ Err fault
+    → IsErrAnd went (λ y. y ≡ of_open_error fault) → IsErrOf r errors.Device ↔ IsErrOf went upgrades.Device
+upgrade-device r went fault was and = (
+  λ device. let q = err_from_is_err_and went and in q.1 ∙ ap Err (q.2 ∙ ap of_open_error (err-same r fault errors.Device was device)),
+  λ device. was ∙ ap Err (open-device fault (passed_on went (of_open_error fault) upgrades.Device and device)),
+)
+
+pub open-not_formatted : (fault : OpenError) → of_open_error fault ≡ upgrades.NotFormatted → fault ≡ errors.NotFormatted
+open-not_formatted errors.Device is = cc
+open-not_formatted errors.NotFormatted is = refl
+open-not_formatted (errors.Version found) is = cc
+open-not_formatted (errors.Damaged n) is = cc
+open-not_formatted errors.NoMemory is = cc
+
+pub open-found : (fault : OpenError) (found : ℕ) → of_open_error fault ≡ upgrades.Version found → fault ≡ errors.Version found
+open-found errors.Device found is = cc
+open-found errors.NotFormatted found is = cc
+open-found (errors.Version n) found is = let same : n ≡ found = cc in ap errors.Version same
+open-found (errors.Damaged n) found is = cc
+open-found errors.NoMemory found is = cc
+
+-- what is passed on as it came is a fault just if it was
+pub passed-same : {S T E : Type 0} (r : Result S E) (went : Result T E) (fault e : E) → r ≡ Err fault → IsErrAnd went (λ y. y ≡ fault)
+    → IsErrOf r e ↔ IsErrOf went e
+passed-same r went fault e was and = (
+  λ is. let q = err_from_is_err_and went and in q.1 ∙ ap Err (q.2 ∙ err-same r fault e was is),
+  λ is. was ∙ ap Err (passed_on went fault e and is),
 )

@@ -15,13 +15,19 @@ use Rattle.ipc_journal.proofs.CallerLemmas.{Holds-header, Holds-same}
 use Rattle.ipc_checkpoint.specs.declared.layout.Layout.{Layout}
 use Rattle.ipc_checkpoint.specs.Checkpoint.{IsLaidOut, IsElsewhere, Holds as HoldsObjects}
 use Rattle.ipc_checkpoint.proofs.CallerLemmas.{Holds-alone}
-use Rattle.ipc_state.specs.State.{start}
+use Rattle.ipc_state.specs.State.{State, start}
 use Rattle.ipc_image.specs.Saved.{saved}
-use Rattle.ipc_image.specs.Sizes.{need_of}
+use Rattle.ipc_image.specs.declared.format.Format.{Format}
+use Rattle.ipc_image.specs.Format.{format, format_one, IsFormat}
+use Rattle.ipc_image.specs.Sizes.{area_in, area_of, need_in}
 use Rattle.ipc_image.specs.Superblock.{magic, IsFormatted, sectors_in, IsSuperblock}
 use Rattle.ipc_image.proofs.CallerLemmas.{area-counted, start-stands, superblock-sectors}
-use Rattle.ipc_store.specs.Image.{journal_range, first_epoch, layout_of, named_sectors, StandsFor, IsNotFormatted}
+use Rattle.ipc_store.specs.Image.{journal_range, first_epoch, layout_in, layout_of, named_sectors, StandsFor, IsNotFormatted}
 use Rattle.ipc_store.specs.Relations.Format.{EachNow, IsErased, IsPrepared}
+
+-- the root of each form lies before the journal
+pub form-root : (form : Format) → IsFormat form → form.root ≤ 2
+form-root form known = ⊎_elim (λ one. omega (arith, ap (λ (f : Format). f.root) one)) (λ two. omega (arith, ap (λ (f : Format). f.root) two)) known
 
 -- a sector of zeros
 abbrev pub zeros : List ℕ
@@ -39,16 +45,24 @@ erased-other image at bytes elsewhere erased =
     subst (λ (s : List ℕ). ¬ IsFormatted s)
     (sym (get_or-set_other image at 0 bytes [] (λ same. absurd (omega (arith, same))))) erased
 
+-- an area of the old version is no larger than one of today under the same limits
+area-least : (form : Format) → IsFormat form → (limits : Limits) → area_in form limits ≤ area_of limits
+area-least form known limits = ⊎_elim (λ one. subst (λ (f : Format). area_in f limits ≤ area_of limits) (sym one) smaller)
+    (λ two. omega (arith, ap (λ (f : Format). area_in f limits) two)) known
+  where
+    smaller : area_in format_one limits ≤ area_of limits
+    smaller = omega arith
+
 -- where the objects lie there is room for them, if the device is large enough
-pub laid-out : (limits : Limits) (sectors size : ℕ) → ArePassed limits → need_of limits ≤ sectors → sectors ≤ size
-    → IsLaidOut (layout_of limits sectors) size
-laid-out limits sectors size passed room there = record {
+pub laid-out : (form : Format) → IsFormat form → (limits : Limits) (sectors size : ℕ) → ArePassed limits → need_in form limits ≤ sectors → sectors ≤ size
+    → IsLaidOut (layout_in form limits sectors) size
+laid-out form known limits sectors size passed room there = record {
   within = omega (arith, room, there);
-  root = omega (arith, room, there);
-  apart = inl (omega arith);
+  root = omega (arith, room, there, form-root form known);
+  apart = inl (omega (arith, form-root form known));
   not_first = omega arith;
   room = omega (arith, room, there);
-  counted = area-counted limits passed;
+  counted = omega (arith, area-counted limits passed, area-least form known limits);
 }
 
 -- the header of the journal is written
@@ -71,14 +85,16 @@ stays-erased limits size layout old mid new there erased header kept objects =
 
 -- then both are there
 pub is-prepared : (limits : Limits) (old mid new : Image) → 3 < length old → mid ≡ slice_set old 3 (header_bytes first_epoch 0)
-    → SameAt (IsElsewhere (layout_of limits (length new))) mid new → IsErased new
-    → HoldsObjects (layout_of limits (length new)) first_epoch (saved start) new → IsPrepared limits new
-is-prepared limits old mid new has header same erased objects =
+    → SameAt (IsElsewhere (layout_of limits (length new))) mid new
+    → HoldsObjects (layout_of limits (length new)) first_epoch (saved start) new → IsPrepared limits start new
+is-prepared limits old mid new has header same objects =
     let at : sector_at mid 3 ≡ header_bytes first_epoch 0 =
     ap (λ (image : Image). sector_at image 3) header ∙ sector_at-set_same old 3 (header_bytes first_epoch 0) has in
     record {
-      erased = erased;
-      objects = objects;
+      epoch = first_epoch;
+      objects = saved start;
+      there = objects;
+      stand = start-stands limits;
       journal = Holds-header journal_range first_epoch new (omega arith) (omega arith)
           (sym (sector_at-same (IsElsewhere (layout_of limits (length new))) mid new 3 same (λ is. absurd (omega (arith, is)), inl (omega arith)))
           ∙ at);
@@ -89,30 +105,30 @@ abbrev IsPast : ℕ → ℕ → Type 0
 IsPast first i = first < i
 
 -- the superblock is written
-pub becomes-device : (limits : Limits) (bytes : List ℕ) (image : Image) → length image < 2 ^ 32 → IsSuperblock (length image) limits bytes
-    → IsPrepared limits image → StandsFor limits start (slice_set image 0 bytes)
-becomes-device limits bytes image fits is prepared =
+pub becomes-device : (limits : Limits) (s : State) (bytes : List ℕ) (image : Image) → length image < 2 ^ 32
+    → IsSuperblock (length image) limits bytes → IsPrepared limits s image → StandsFor limits s (slice_set image 0 bytes)
+becomes-device limits s bytes image fits is prepared =
     let new : Image = slice_set image 0 bytes in
     let here : sector_at new 0 ≡ bytes = sector_at-set_same image 0 bytes (omega (arith, is.room)) in
-    let named : named_sectors new ≡ length image = ap sectors_in here ∙ superblock-sectors (length image) limits bytes is fits in
+    let named : named_sectors new ≡ length image = ap sectors_in here ∙ superblock-sectors format (inr refl) (length image) limits bytes is fits in
     let kept : SameAt (IsPast 0) image new = SameAt-set (IsPast 0) image 0 bytes (λ past. absurd (omega (arith, past))) in
     record {
-      epoch = first_epoch;
-      base = start;
+      epoch = prepared.epoch;
+      base = s;
       kept = record {
         device = record {
           superblock = subst (λ (n : ℕ). IsSuperblock n limits (sector_at new 0)) (sym named)
               (subst (λ (s : List ℕ). IsSuperblock (length image) limits s) (sym here) is);
           whole = omega (arith, named, length-set image 0 bytes);
         };
-        objects = saved start;
-        there = subst (λ (n : ℕ). HoldsObjects (layout_of limits n) first_epoch (saved start) new) (sym named)
-            (Holds-alone (layout_of limits (length image)) (IsPast 0) first_epoch (saved start) image new
-            (λ i own. ⊎_elim (λ root. omega (arith, root)) (λ inside. omega (arith, inside.0)) own) kept prepared.objects);
-        stand = start-stands limits;
+        objects = prepared.objects;
+        there = subst (λ (n : ℕ). HoldsObjects (layout_of limits n) prepared.epoch prepared.objects new) (sym named)
+            (Holds-alone (layout_of limits (length image)) (IsPast 0) prepared.epoch prepared.objects image new
+            (λ i own. ⊎_elim (λ root. omega (arith, root)) (λ inside. omega (arith, inside.0)) own) kept prepared.there);
+        stand = prepared.stand;
       };
       batches = [];
-      journal = Holds-same journal_range first_epoch [] image new
+      journal = Holds-same journal_range prepared.epoch [] image new
           (λ j low high. sector_at-same (IsPast 0) image new j kept (omega (arith, low))) prepared.journal;
       leads = record { each = All-nil _; named = tt; state = refl };
     }
@@ -137,10 +153,10 @@ module _ (limits : Limits) (old : Medium) where
       (EachImageSince-weaken mid new IsErased OnTheWay run (λ image erased. inr (inl (inr erased))))
 
   -- the third
-  pub way-superblock : (mid new : Medium) → EachImageSince old mid OnTheWay
-      → EachImageSince mid new (λ image. IsErased image ⊎ StandsFor limits start image)
+  pub way-superblock : (mid new : Medium) → EachImageSince old mid OnTheWay → EachNow mid IsErased
+      → EachImageSince mid new (λ image. mid.images_now image ⊎ StandsFor limits start image)
       → EachImageSince old new OnTheWay
-  way-superblock mid new before run =
+  way-superblock mid new before erased run =
       EachImageSince-join old mid new OnTheWay before
-      (EachImageSince-weaken mid new (λ image. IsErased image ⊎ StandsFor limits start image) OnTheWay run
-      (λ image so. ⊎_elim (λ erased. inr (inl (inr erased))) (λ stands. inr (inr stands)) so))
+      (EachImageSince-weaken mid new (λ image. mid.images_now image ⊎ StandsFor limits start image) OnTheWay run
+      (λ image so. ⊎_elim (λ now. inr (inl (inr (erased image now)))) (λ stands. inr (inr stands)) so))

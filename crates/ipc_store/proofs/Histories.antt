@@ -1,5 +1,5 @@
 -- What batches lead to, and what one batch more does.
-use Rattle.std.proofs.Common.{◌≡◌, List, [], ◌∷◌, ◌++◌, refl, sym, ap, subst, ◌∙◌, append-nil}
+use Rattle.std.proofs.Common.{◌≡◌, ℕ, List, [], ◌∷◌, ◌++◌, refl, sym, ap, subst, ◌∙◌, append-nil}
 use Rattle.std.proofs.lemmas.List.Elements.{All-nil, All-cons, All-append}
 use Rattle.std.proofs.lemmas.List.Concat.{flat_map-append}
 use Rattle.ipc_base.specs.declared.limits.Limits.{Limits}
@@ -7,8 +7,8 @@ use Rattle.ipc_state.specs.State.{State}
 use Rattle.ipc_engine.specs.Event.{PlainEvent}
 use Rattle.ipc_engine.specs.Step.{step, run}
 use Rattle.ipc_engine.proofs.CallerLemmas.{run-parts}
-use Rattle.ipc_store.specs.Batch.{AreBatch}
-use Rattle.ipc_store.specs.Image.{AreFor, events_of, LeadTo}
+use Rattle.ipc_store.specs.Batch.{AreBatchOf}
+use Rattle.ipc_store.specs.Image.{AreFor, events_of, LeadToBy}
 
 -- events that were for the state, and events for the state after them
 pub AreFor-parts : (limits : Limits) (s : State) (before after : List PlainEvent) → AreFor limits s before
@@ -23,19 +23,19 @@ events-more batches events =
     flat_map-append (λ (es : List PlainEvent). es) batches (events ∷ []) ∙ ap (λ (es : List PlainEvent). events_of batches ++ es) (append-nil events)
 
 -- no batch leads to the same state
-pub LeadTo-start : (limits : Limits) (from : State) → LeadTo limits from [] from
-LeadTo-start limits from = record { each = All-nil AreBatch; named = tt; state = refl }
+pub LeadTo-start : (most : ℕ) (limits : Limits) (from : State) → LeadToBy most limits from [] from
+LeadTo-start most limits from = record { each = All-nil (AreBatchOf most); named = tt; state = refl }
 
 -- one batch more leads on
-pub LeadTo-more : (limits : Limits) (from : State) (batches : List (List PlainEvent)) (events : List PlainEvent) (s : State)
-    → LeadTo limits from batches s → AreBatch events → AreFor limits s events
-    → LeadTo limits from (batches ++ events ∷ []) (run limits s events).state
-LeadTo-more limits from batches events s leads batch named =
+pub LeadTo-more : (most : ℕ) (limits : Limits) (from : State) (batches : List (List PlainEvent)) (events : List PlainEvent) (s : State)
+    → LeadToBy most limits from batches s → AreBatchOf most events → AreFor limits s events
+    → LeadToBy most limits from (batches ++ events ∷ []) (run limits s events).state
+LeadTo-more most limits from batches events s leads batch named =
     let all = events-more batches events in
     let next : AreFor limits (run limits from (events_of batches)).state events =
     subst (λ (t : State). AreFor limits t events) leads.state named in
     record {
-      each = All-append AreBatch batches (events ∷ []) leads.each (All-cons AreBatch events [] batch (All-nil AreBatch));
+      each = All-append (AreBatchOf most) batches (events ∷ []) leads.each (All-cons (AreBatchOf most) events [] batch (All-nil (AreBatchOf most)));
       named = subst (λ (es : List PlainEvent). AreFor limits from es) (sym all)
           (AreFor-parts limits from (events_of batches) events leads.named next);
       state =

@@ -1,18 +1,21 @@
 -- What a stop leaves, what opens that are stopped make of it, and what an open finds.
-use Rattle.std.proofs.Common.{◌≡◌, inl, inr, ⊎_elim, ◌<◌, ◌^◌, List, [], ◌∷◌, ◌++◌, length, refl, sym, ap, subst, ◌∙◌, append-nil}
+use Rattle.std.proofs.Common.{◌≡◌, inl, inr, ⊎_elim, ℕ, ◌<◌, ◌^◌, List, [], ◌∷◌, ◌++◌, length, refl, sym, ap, subst, ◌∙◌, append-nil}
 use Rattle.ipc_base.specs.declared.limits.Limits.{Limits}
+use Rattle.ipc_disk.specs.Growth.{HasGrown}
 use Rattle.ipc_disk.specs.Medium.{Image, Medium, IsHonest}
 use Rattle.ipc_state.specs.State.{State, restart}
 use Rattle.ipc_state.proofs.CallerLemmas.{restart-twice}
 use Rattle.ipc_engine.specs.Event.{PlainEvent, Restart}
 use Rattle.ipc_engine.proofs.CallerLemmas.{run-parts}
+use Rattle.ipc_image.specs.Format.{format}
 use Rattle.ipc_store.specs.Histories.{History, Past, grown, past_of, reopened, state_after, Keeps, Takes, OpensOn, StandsForPrefix}
 use Rattle.ipc_store.specs.Image.{StandsFor}
 use Rattle.ipc_store.specs.Lives.{IsLeft, StoppedOpens, StandsAfter, ReopensTo, Rests, Found}
-use Rattle.ipc_store.specs.Lives.StoppedOpens.{None, More}
+use Rattle.ipc_store.specs.Lives.StoppedOpens.{None, More, Larger}
 use Rattle.ipc_store.specs.View.{StoreView}
 use Rattle.ipc_store.specs.Relations.Matches.{StoreMatches, StandsForEither, OpensTo}
 use Rattle.ipc_store.proofs.CallerLemmas.{StandsFor-one}
+use Rattle.ipc_store.proofs.Growing.{StandsForIn-with_zeros}
 
 -- a store that was opened on an image which stands for the state after these events, or for one that a restart makes the same
 pub reopens : {D : Type 0} (medium : Medium) (store : StoreView D) (image : Image) (past : Past) (t : State)
@@ -84,6 +87,20 @@ reopens-opened past others old image fits rests (inl now) = rests.left image now
 reopens-opened past others old image fits rests (inr (other, s, was, either)) =
     reopens-either past other others s old.contents image fits (rests.left old.contents rests.honest.reads) was either
 
+-- what a growth may leave
+reopens-grown : (past : Past) (others : List PlainEvent) (most : ℕ) (old : Medium) (image : Image) → Rests past others old
+    → HasGrown most old image → ReopensTo past others image
+reopens-grown past others most old image rests is =
+    let opens = rests.left is.before is.now in
+    subst (ReopensTo past others) (sym is.is) (record {
+      kept = opens.kept;
+      lost = opens.lost;
+      prefix = opens.prefix;
+      state = opens.state;
+      stands = StandsForIn-with_zeros is.more format (inr refl) past.limits opens.state is.before opens.stands;
+      same = opens.same;
+    })
+
 -- opens that are stopped; the law is that of a disk's size
 pub rests-still : {D : Type 0} (medium : D → Medium) → ((d : D) → IsHonest (medium d) → length (medium d).contents < 2 ^ 32)
     → (past : Past) (others : List PlainEvent) (left disk : D) → Rests past others (medium left) → StoppedOpens medium left disk
@@ -96,6 +113,9 @@ rests-still medium fits past others first left rests (More before after _ opens 
       left = λ image now. reopens-opened past others (medium before) image (fits before so_far.honest) so_far
           (each.each image (is.images image now));
     }
+rests-still medium fits past others first left rests (Larger before _ most opens honest grown) =
+    let so_far = rests-still medium fits past others first before rests opens in
+    record { honest = honest; left = λ image now. reopens-grown past others most (medium before) image so_far (grown image now) }
 
 -- what an open finds
 pub finds : {D : Type 0} (past : Past) (others : List PlainEvent) (image : Image) (medium : Medium) (store : StoreView D) → length image < 2 ^ 32

@@ -13,3 +13,7 @@ mod Superblocks
 mod Leaving
 mod Replaying
 mod Formatting
+mod Growing
+mod Greater
+mod Upgrading
+mod Upgrades

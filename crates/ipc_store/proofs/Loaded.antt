@@ -1,5 +1,5 @@
 -- What was loaded, step by step, is the device.
-use Rattle.std.proofs.Common.{◌≡◌, ◌↔◌, inl, inr, ⊎_elim, ℕ, ◌≤◌, List, Ok, sym, ap, subst, ◌∙◌, arith}
+use Rattle.std.proofs.Common.{◌≡◌, ◌↔◌, inl, inr, ⊎_elim, ℕ, ◌≤◌, List, Ok, sym, ap, subst, refl, ◌∙◌, arith}
 use Rattle.std.specs.Prelude.{map}
 use Rattle.ipc_base.specs.declared.limits.Limits.{Limits}
 use Rattle.ipc_base.specs.Limits.{ArePassed}
@@ -22,10 +22,12 @@ use Rattle.ipc_state.specs.State.{State}
 use Rattle.ipc_engine.specs.Changes.{IsTracked}
 use Rattle.ipc_engine.specs.Engine.{Machine}
 use Rattle.ipc_engine.specs.Event.{PlainEvent}
-use Rattle.ipc_image.specs.Saved.{StandForState}
+use Rattle.ipc_image.specs.declared.format.Format.{Format}
+use Rattle.ipc_image.specs.Format.{format}
+use Rattle.ipc_image.specs.Saved.{StandForStateIn}
 use Rattle.ipc_image.specs.Sizes.{area_of, need_of}
 use Rattle.ipc_store.specs.Batch.{batch_bytes}
-use Rattle.ipc_store.specs.Image.{journal_range, layout_of, named_sectors, IsDevice, HasBase, LeadTo}
+use Rattle.ipc_store.specs.Image.{journal_range, layout_in, layout_of, named_sectors, IsDevice, IsDeviceIn, HasBaseIn, LeadTo}
 use Rattle.ipc_store.specs.Relations.Matches.{AreOnDisk, DeviceMatches, MachineMatches}
 use Rattle.ipc_store.proofs.Formatting.{laid-out}
 
@@ -62,31 +64,34 @@ pub stays-durable : (m0 m1 : Medium) → IsHonest m0 → Stays m0 m1 → IsDurab
 stays-durable m0 m1 honest call durable = λ now left. durable now (call.images now left) ∙ sym (call.contents honest)
 
 -- the objects that stand for a state, as a checkpoint knows them
-abbrev pub Kept : Limits → State → CheckpointView → Medium → Type 0
-Kept limits from checkpoint medium = (objects : PlainObjects) × StandForState limits from objects × CheckpointMatches checkpoint objects medium
+abbrev pub Kept : Format → Limits → State → CheckpointView → Medium → Type 0
+Kept form limits from checkpoint medium =
+    (objects : PlainObjects) × StandForStateIn form limits from objects × CheckpointMatches checkpoint objects medium
 
 -- the batches that lead on from there
 abbrev pub Led : Limits → State → State → Journal → Medium → Type 0
 Led limits from to journal medium =
     (batches : List (List PlainEvent)) × JournalMatches journal (map batch_bytes batches) medium × LeadTo limits from batches to
 
-module _ (limits : Limits) (sectors : ℕ) (checkpoint : CheckpointView) (layout : saved_layout checkpoint ≡ layout_of limits sectors) where
-  -- a device whose objects stand for a state
-  pub has-base : (medium : Medium) (from : State) → IsHonest medium → IsDevice limits medium.contents → sectors ≡ named_sectors medium.contents
-      → Kept limits from checkpoint medium → HasBase limits (saved_epoch checkpoint) from medium.contents
-  has-base medium from honest device count kept = record {
-    device = device;
-    objects = kept.0;
-    there = subst (λ (l : Layout). HoldsObjects l (saved_epoch checkpoint) kept.0 medium.contents)
-        (layout ∙ ap (layout_of limits) count) (CheckpointMatches-holds checkpoint kept.0 medium kept.2 medium.contents honest.reads);
-    stand = kept.1;
-  }
+-- a device whose objects stand for a state
+pub has-base : (form : Format) (limits : Limits) (sectors : ℕ) (checkpoint : CheckpointView)
+    → saved_layout checkpoint ≡ layout_in form limits sectors
+    → (medium : Medium) (from : State) → IsHonest medium → IsDeviceIn form limits medium.contents → sectors ≡ named_sectors medium.contents
+    → Kept form limits from checkpoint medium → HasBaseIn form limits (saved_epoch checkpoint) from medium.contents
+has-base form limits sectors checkpoint layout medium from honest device count kept = record {
+  device = device;
+  objects = kept.0;
+  there = subst (λ (l : Layout). HoldsObjects l (saved_epoch checkpoint) kept.0 medium.contents)
+      (layout ∙ ap (layout_in form limits) count) (CheckpointMatches-holds checkpoint kept.0 medium kept.2 medium.contents honest.reads);
+  stand = kept.1;
+}
 
+module _ (limits : Limits) (sectors : ℕ) (checkpoint : CheckpointView) (layout : saved_layout checkpoint ≡ layout_of limits sectors) where
   module _ (journal : Journal) (range : range_of journal ≡ journal_range) (epoch : epoch_of journal ≡ saved_epoch checkpoint)
       (machine : Machine) (same : machine.limits ≡ limits) where
     -- the whole device
     pub loaded : (medium : Medium) (from : State) → IsHonest medium → IsDurable medium → IsDevice limits medium.contents
-        → sectors ≡ named_sectors medium.contents → Kept limits from checkpoint medium → Led limits from machine.state journal medium
+        → sectors ≡ named_sectors medium.contents → Kept format limits from checkpoint medium → Led limits from machine.state journal medium
         → IsTracked machine.changed from machine.state → MachineMatches medium machine checkpoint journal
     loaded medium from honest durable device count kept led tracked =
         let Both : Limits → Type 0 =
@@ -115,7 +120,7 @@ module _ (limits : Limits) (sectors : ℕ) (checkpoint : CheckpointView) (layout
     -- and where it lies
     pub on-disk : (last : ℕ) → sectors ≤ last → ArePassed limits → need_of limits ≤ sectors → AreOnDisk last machine.limits checkpoint journal
     on-disk last there passed room = record {
-      objects = subst (λ (l : Layout). IsLaidOut l last) (sym layout) (laid-out limits sectors last passed room there);
+      objects = subst (λ (l : Layout). IsLaidOut l last) (sym layout) (laid-out format (inr refl) limits sectors last passed room there);
       room = ap (λ (l : Layout). l.area) layout ∙ ap area_of (sym same);
       within = subst (λ (r : Range). IsWithin r last) (sym range) (omega (arith, there, room));
       epoch = epoch;

@@ -12,12 +12,13 @@ use Rattle.ipc_journal.specs.View.{range_of, epoch_of, used_of}
 use Rattle.ipc_journal.proofs.CallerLemmas.{Fill-end}
 use Rattle.ipc_state.specs.State.{State}
 use Rattle.ipc_engine.specs.Event.{PlainEvent}
-use Rattle.ipc_image.specs.Format.{format}
+use Rattle.ipc_image.specs.declared.format.Format.{Format}
+use Rattle.ipc_image.specs.Format.{IsFormat}
 use Rattle.ipc_image.specs.Superblock.{version_in}
 use Rattle.ipc_image.proofs.CallerLemmas.{superblock-begins, superblock-version}
 use Rattle.ipc_store.specs.Batch.{batch_bytes}
-use Rattle.ipc_store.specs.Image.{journal_range, named_sectors, IsDevice, HasBase, HasBatches, HasNoHeader, LeadTo, HasNoState, IsNotFormatted, IsDamaged}
-use Rattle.ipc_store.specs.Image.{HasNoBatchAt, IsFirstFault}
+use Rattle.ipc_store.specs.Image.{journal_range, named_sectors, IsDeviceIn, HasBaseIn, HasBatches, HasNoHeader, LeadToBy, HasNoStateIn}
+use Rattle.ipc_store.specs.Image.{IsNotFormatted, IsDamagedIn, HasNoBatchOfAt, IsFirstFaultIn}
 use Rattle.ipc_store.specs.Relations.Replay.{IsOpened, Replays, IsGoodUpTo}
 use Rattle.ipc_store.proofs.CallerLemmas.{IsDevice-one, HasBase-one}
 
@@ -64,29 +65,30 @@ header-none epoch image (inl later) batches (inr current) = absurd (omega (arith
 header-none epoch image (inr past) batches (inl older) = absurd (omega (arith, past.0, older.0.older))
 header-none epoch image (inr past) batches (inr current) = absurd (omega (arith, past.1, current.within))
 
--- a device begins as one, and has the version of today
-pub device-begins : (limits : Limits) (image : Image) → IsDevice limits image
-    → (¬ IsNotFormatted image) × (version_in (sector_at image 0) ≡ format.version)
-device-begins limits image device = (
+-- a device begins as one, and has its version
+pub device-begins : (form : Format) → IsFormat form → (limits : Limits) (image : Image) → IsDeviceIn form limits image
+    → (¬ IsNotFormatted image) × (version_in (sector_at image 0) ≡ form.version)
+device-begins form known limits image device = (
   λ not. ⊎_elim (λ small. absurd (omega (arith, small, device.superblock.room, device.whole)))
-      (λ other. other (superblock-begins (named_sectors image) limits (sector_at image 0) device.superblock)) not,
-  superblock-version (named_sectors image) limits (sector_at image 0) device.superblock,
+      (λ other. other (superblock-begins form known (named_sectors image) limits (sector_at image 0) device.superblock)) not,
+  superblock-version form known (named_sectors image) limits (sector_at image 0) device.superblock,
 )
 
 -- a device that stands for no state is damaged
-pub is_damaged : (limits : Limits) (image : Image) → IsDevice limits image → HasNoState image → IsDamaged image
-is_damaged limits image device none =
-    let begins = device-begins limits image device in
+pub is_damaged : (form : Format) → IsFormat form → (limits : Limits) (image : Image) → IsDeviceIn form limits image → HasNoStateIn form image
+    → IsDamagedIn form image
+is_damaged form known limits image device none =
+    let begins = device-begins form known limits image device in
     record { formatted = begins.0; version = begins.1; stands_for_none = none }
 
 -- a device without a base
-pub base-damaged : (limits : Limits) (image : Image) → length image < 2 ^ 32 → IsDevice limits image
-    → ((epoch : ℕ) (base : State) → ¬ HasBase limits epoch base image) → IsDamaged image
-base-damaged limits image fits device none =
-    is_damaged limits image device
+pub base-damaged : (form : Format) → IsFormat form → (limits : Limits) (image : Image) → length image < 2 ^ 32 → IsDeviceIn form limits image
+    → ((epoch : ℕ) (base : State) → ¬ HasBaseIn form limits epoch base image) → IsDamagedIn form image
+base-damaged form known limits image fits device none =
+    is_damaged form known limits image device
     (λ other s stands.
-    let same = IsDevice-one other limits image fits stands.kept.device device in
-    none stands.epoch stands.base (subst (λ (l : Limits). HasBase l stands.epoch stands.base image) same stands.kept))
+    let same = IsDevice-one form known other limits image fits stands.kept.device device in
+    none stands.epoch stands.base (subst (λ (l : Limits). HasBaseIn form l stands.epoch stands.base image) same stands.kept))
 
 -- the value that an open of the journal gives
 pub is_opened : (journal : Journal) (epoch : ℕ) (found image : Image) → found ≡ image → range_of journal ≡ journal_range → epoch_of journal ≡ epoch
@@ -106,14 +108,15 @@ current-is image epoch used older not_newer some =
     ⊎_elim (λ lt. absurd (omega (arith, some, older lt))) (λ le. omega (arith, le, not_newer))
     (cases_lt (header_epoch journal_range image) epoch)
 
-module _ (limits : Limits) (epoch : ℕ) (base : State) (image : Image) (fits : length image < 2 ^ 32) (has : HasBase limits epoch base image) where
+module _ (form : Format) (known : IsFormat form) (limits : Limits) (epoch : ℕ) (base : State) (image : Image) (fits : length image < 2 ^ 32)
+    (has : HasBaseIn form limits epoch base image) where
   -- a header that is no header of this journal
-  pub header-damaged : (sector : ℕ) → sector ≡ 3 → HasNoHeader epoch image → IsDamaged image × IsFirstFault image sector
+  pub header-damaged : (sector : ℕ) → sector ≡ 3 → HasNoHeader epoch image → IsDamagedIn form image × IsFirstFaultIn form image sector
   header-damaged sector at fault = (
-    is_damaged limits image has.device
-        (λ other s stands. let one = HasBase-one limits other epoch stands.epoch base stands.base image fits has stands.kept in
+    is_damaged form known limits image has.device
+        (λ other s stands. let one = HasBase-one form known limits other epoch stands.epoch base stands.base image fits has stands.kept in
         header-none epoch image fault stands.batches (subst (λ (n : ℕ). HasBatches n stands.batches image) (sym one.1) stands.journal)),
-    subst (IsFirstFault image) (sym at) (IsFirstFault.Header limits epoch base has fault),
+    subst (IsFirstFaultIn form image) (sym at) (IsFirstFaultIn.Header limits epoch base has fault),
   )
 
   module _ (journal : Journal) (range : range_of journal ≡ journal_range) (is-epoch : epoch_of journal ≡ epoch) (opened : IsOpened journal image) where
@@ -125,18 +128,18 @@ module _ (limits : Limits) (epoch : ℕ) (base : State) (image : Image) (fits : 
         (subst (λ (r : Range). Holds r epoch (map batch_bytes batches) image) (sym range) holds)
 
     -- where a replay finds none, the image stands for no state
-    none-replays : ((batches : List (List PlainEvent)) (s : State) → ¬ Replays limits base journal image batches s) → HasNoState image
+    none-replays : ((batches : List (List PlainEvent)) (s : State) → ¬ Replays form.batch limits base journal image batches s) → HasNoStateIn form image
     none-replays none other s stands =
-        let one = HasBase-one limits other epoch stands.epoch base stands.base image fits has stands.kept in
+        let one = HasBase-one form known limits other epoch stands.epoch base stands.base image fits has stands.kept in
         let batches : HasBatches epoch stands.batches image = subst (λ (n : ℕ). HasBatches n stands.batches image) (sym one.1) stands.journal in
         none stands.batches s (record {
           filled = fills journal image opened (map batch_bytes stands.batches) (of-journal stands.batches batches);
-          leads = subst (λ (b : State). LeadTo limits b stands.batches s) (sym one.2)
-              (subst (λ (l : Limits). LeadTo l stands.base stands.batches s) (sym one.0) stands.leads);
+          leads = subst (λ (b : State). LeadToBy form.batch limits b stands.batches s) (sym one.2)
+              (subst (λ (l : Limits). LeadToBy form.batch l stands.base stands.batches s) (sym one.0) stands.leads);
         })
 
     -- the sector of a fault after good batches
-    first-fault : (sector : ℕ) → IsGoodUpTo limits base journal image sector → IsFirstFault image sector
+    first-fault : (sector : ℕ) → IsGoodUpTo form.batch limits base journal image sector → IsFirstFaultIn form image sector
     first-fault sector up_to =
         let end : ℕ = sectors_of (map batch_bytes up_to.batches) in
         let used : used_of journal ≡ header_used journal_range image =
@@ -144,12 +147,12 @@ module _ (limits : Limits) (epoch : ℕ) (base : State) (image : Image) (fits : 
         (λ le. opened.current (omega (arith, le, opened.not_newer)) ∙ ap (λ (r : Range). header_used r image) range)
         (cases_lt (header_epoch (range_of journal) image) (epoch_of journal)) in
         let P : Range → ℕ → Type 0 = λ r n. Fill r 0 end (map batch_bytes up_to.batches) image × (end < n)
-        × HasNoBatchAt limits up_to.state r end n image × (sector ≡ r.first + 1 + end) in
+        × HasNoBatchOfAt form.batch limits up_to.state r end n image × (sector ≡ r.first + 1 + end) in
         let all : P journal_range (header_used journal_range image) =
         subst (P journal_range) used (subst (λ (r : Range). P r (used_of journal)) range (up_to.filled, up_to.used, up_to.none, up_to.sector_is)) in
-        subst (IsFirstFault image) (sym all.3) (IsFirstFault.AtBatch limits epoch base up_to.batches up_to.state has up_to.leads all.0 all.1 all.2)
+        subst (IsFirstFaultIn form image) (sym all.3) (IsFirstFaultIn.AtBatch limits epoch base up_to.batches up_to.state has up_to.leads all.0 all.1 all.2)
 
     -- a fault of a batch
-    pub batch-damaged : ((batches : List (List PlainEvent)) (s : State) → ¬ Replays limits base journal image batches s)
-        → (sector : ℕ) → IsGoodUpTo limits base journal image sector → IsDamaged image × IsFirstFault image sector
-    batch-damaged none sector up_to = (is_damaged limits image has.device (none-replays none), first-fault sector up_to)
+    pub batch-damaged : ((batches : List (List PlainEvent)) (s : State) → ¬ Replays form.batch limits base journal image batches s)
+        → (sector : ℕ) → IsGoodUpTo form.batch limits base journal image sector → IsDamagedIn form image × IsFirstFaultIn form image sector
+    batch-damaged none sector up_to = (is_damaged form known limits image has.device (none-replays none), first-fault sector up_to)

@@ -19,6 +19,7 @@ use Rattle.ipc_image.specs.Records.{record_bytes, HasRecord}
 use Rattle.ipc_store.specs.declared.fault.OpenError.{OpenError}
 use Rattle.ipc_store.specs.declared.fault.OpenError.TheVariants as errors
 use Rattle.ipc_store.proofs.Opened.{device-begins}
+use Rattle.ipc_image.specs.Format.{format}
 use Rattle.ipc_store.specs.Image.{journal_range, last_epoch, IsNotFormatted, HasVersion, IsDamaged, IsFirstFault, epoch_at, IsAtEnd, StandsFor}
 use Rattle.ipc_store.specs.View.{StoreView, IsAtLastEpoch, store_view}
 use Rattle.ipc_store.specs.Relations.Matches.{MachineMatches, StoreMatches, StandsForEither, OpensTo}
@@ -118,9 +119,9 @@ pub refused_by : (image : Image) (limits : Limits) (s : State) (error : OpenErro
     → ((sector : ℕ) → error ≡ errors.Damaged sector → IsDamaged image × IsFirstFault image sector)
     → (error ≡ errors.Device) ⊎ (error ≡ errors.NoMemory) ⊎ IsAtEnd image
 refused_by image limits s errors.Device stands not version damaged = inl refl
-refused_by image limits s errors.NotFormatted stands not version damaged = absurd ((device-begins limits image stands.kept.device).0 (not refl))
+refused_by image limits s errors.NotFormatted stands not version damaged = absurd ((device-begins format (inr refl) limits image stands.kept.device).0 (not refl))
 refused_by image limits s (errors.Version found) stands not version damaged =
     let other = version found refl in
-    absurd (other.other (sym other.version ∙ (device-begins limits image stands.kept.device).1))
+    absurd (other.other (sym other.version ∙ (device-begins format (inr refl) limits image stands.kept.device).1))
 refused_by image limits s (errors.Damaged sector) stands not version damaged = absurd ((damaged sector refl).0.stands_for_none limits s stands)
 refused_by image limits s errors.NoMemory stands not version damaged = inr (inl refl)

@@ -25,8 +25,8 @@ use Rattle.ipc_engine.specs.Event.{PlainEvent}
 use Rattle.ipc_engine.specs.Step.{step, run}
 use Rattle.ipc_engine.proofs.CallerLemmas.{run-parts}
 use Rattle.ipc_image.specs.Records.{record_bytes, HasRecord, BeginsWith}
-use Rattle.ipc_store.specs.Batch.{most_bytes, records_of, batch_bytes, AreBatch}
-use Rattle.ipc_store.specs.Image.{AreFor, events_of, LeadTo, HasNoBatchAt}
+use Rattle.ipc_store.specs.Batch.{most_bytes, records_of, batch_bytes, AreBatchOf}
+use Rattle.ipc_store.specs.Image.{AreFor, events_of, LeadToBy, HasNoBatchOfAt}
 use Rattle.ipc_store.specs.Relations.Replay.{AreRecords, Replays, IsGoodUpTo}
 use Rattle.ipc_store.proofs.Accepting.{records-more}
 use Rattle.ipc_store.proofs.Committing.{is_batch}
@@ -182,55 +182,55 @@ batch_is batch events is below records =
 -- ---- the batches of a journal
 
 -- batches that go on from a place, and lead from the state there to another
-record GoOn (limits : Limits) (journal : Journal) (image : Image) (place : ℕ) (s : State) (more : List (List PlainEvent)) (to : State) : Type 0 where
+record GoOn (most : ℕ) (limits : Limits) (journal : Journal) (image : Image) (place : ℕ) (s : State) (more : List (List PlainEvent)) (to : State) : Type 0 where
   filled : Fill (range_of journal) place (used_of journal) (map batch_bytes more) image
-  each : All AreBatch more
+  each : All (AreBatchOf most) more
   named : AreFor limits s (events_of more)
   state : to ≡ (run limits s (events_of more)).state
 
 -- the machine has gone through the batches before this place
-pub record Replayed (limits : Limits) (from : State) (journal : Journal) (image : Image) (place : ℕ) (s : State) : Type 0 where
-  so_far : (batches : List (List PlainEvent)) × LeadTo limits from batches s × Fill (range_of journal) 0 place (map batch_bytes batches) image
-  ahead : (batches : List (List PlainEvent)) (to : State) → Replays limits from journal image batches to
-      → (more : List (List PlainEvent)) × GoOn limits journal image place s more to
+pub record Replayed (most : ℕ) (limits : Limits) (from : State) (journal : Journal) (image : Image) (place : ℕ) (s : State) : Type 0 where
+  so_far : (batches : List (List PlainEvent)) × LeadToBy most limits from batches s × Fill (range_of journal) 0 place (map batch_bytes batches) image
+  ahead : (batches : List (List PlainEvent)) (to : State) → Replays most limits from journal image batches to
+      → (more : List (List PlainEvent)) × GoOn most limits journal image place s more to
 
-pub replayed_none : (limits : Limits) (from : State) (journal : Journal) (image : Image) → Replayed limits from journal image 0 from
-replayed_none limits from journal image = record {
-  so_far = ([], LeadTo-start limits from, refl);
+pub replayed_none : (most : ℕ) (limits : Limits) (from : State) (journal : Journal) (image : Image) → Replayed most limits from journal image 0 from
+replayed_none most limits from journal image = record {
+  so_far = ([], LeadTo-start most limits from, refl);
   ahead = λ batches to is. (batches, record { filled = is.filled; each = is.leads.each; named = is.leads.named; state = is.leads.state });
 }
 
 -- the bytes of a batch say how many they are
-batch-right : (events : List PlainEvent) → AreBatch events → IsBatch (batch_bytes events)
+batch-right : (most : ℕ) → most ≤ most_bytes → (events : List PlainEvent) → AreBatchOf most events → IsBatch (batch_bytes events)
 unfolding batch_bytes
-batch-right events batch = is_batch (records_of events) (batch_bytes events) refl batch.size
+batch-right most few events batch = is_batch (records_of events) (batch_bytes events) refl (omega (arith, batch.size, few))
 
 -- the batch that was found at a place
-pub record Found (journal : Journal) (image : Image) (place : ℕ) (batch : List ℕ) : Type 0 where
+pub record Found (most : ℕ) (journal : Journal) (image : Image) (place : ℕ) (batch : List ℕ) : Type 0 where
   pub is : IsBatch batch
   pub stands : StandsAt ((range_of journal).first + 1 + place) batch image
-  pub short : length batch ≤ most_bytes
+  pub short : length batch ≤ most
   pub field : (i : ℕ) → slice_index (take 4 batch) i < 256
   pub inside : place + sectors_for (length batch) ≤ used_of journal
 
-pub found_batch : (journal : Journal) (old mid : Medium) (place next len size : ℕ) (room : List ℕ) → IsHonest old → Stays old mid
-    → ((image : Image) → mid.images_now image → IsShaped size image) → length room ≡ most_bytes → 4 ≤ len → len ≤ most_bytes
+pub found_batch : (most : ℕ) (journal : Journal) (old mid : Medium) (place next len size : ℕ) (room : List ℕ) → IsHonest old → Stays old mid
+    → ((image : Image) → mid.images_now image → IsShaped size image) → length room ≡ most → 4 ≤ len → len ≤ most
     → (IsHonest mid → StandsAt ((range_of journal).first + 1 + place) (take len room) mid.contents)
     → (IsHonest mid → len ≡ length_in (sector_at mid.contents ((range_of journal).first + 1 + place)) + 4)
-    → next ≡ place + sectors_for len → next ≤ used_of journal → Found journal old.contents place (take len room)
-found_batch journal old mid place next len size room honest reads shaped whole least fits stands said passes inside =
+    → next ≡ place + sectors_for len → next ≤ used_of journal → Found most journal old.contents place (take len room)
+found_batch most journal old mid place next len size room honest reads shaped whole least fits stands said passes inside =
     let at = (range_of journal).first + 1 + place in
     let image = mid.contents in
     let now = reads.time.honest.0 honest in
     let long : length (take len room) ≡ len = length-take-le len room (omega (arith, fits, whole)) in
-    let here : Found journal image place (take len room) = record {
+    let here : Found most journal image place (take len room) = record {
       is = IsBatch-there at (take len room) image (omega (arith, long, least)) (stands now) (omega (arith, long, said now));
       stands = stands now;
       short = omega (arith, long, fits);
       field = field_below size at (take len room) image (shaped image now.reads) (omega (arith, long, least)) (stands now);
       inside = subst (λ (n : ℕ). place + sectors_for n ≤ used_of journal) (sym long) (omega (arith, passes, inside));
     } in
-    subst (λ (c : Image). Found journal c place (take len room)) (reads.contents honest) here
+    subst (λ (c : Image). Found most journal c place (take len room)) (reads.contents honest) here
 
 -- the records in a batch
 pub records_slice : (len : ℕ) (room : List ℕ) → 4 ≤ len → take (len - 4) (drop 4 room) ≡ drop 4 (take len room)
@@ -244,8 +244,9 @@ AreRecords-same a b s t x y events limits bytes are =
     subst (λ (l : Limits). AreRecords l s y events t) limits (subst (λ (z : List ℕ). AreRecords a s z events t) bytes are)
 
 -- what goes on from a place begins with the batch that is found there
-module _ (limits : Limits) (journal : Journal) (image : Image) (place : ℕ) (s : State) (batch : List ℕ) (found : Found journal image place batch)
-    (m : List PlainEvent) (ms : List (List PlainEvent)) (to : State) (left : GoOn limits journal image place s (m ∷ ms) to) where
+module _ (most : ℕ) (limits : Limits) (journal : Journal) (image : Image) (place : ℕ) (s : State) (batch : List ℕ)
+    (found : Found most journal image place batch)
+    (m : List PlainEvent) (ms : List (List PlainEvent)) (to : State) (left : GoOn most limits journal image place s (m ∷ ms) to) where
   first_is : batch_bytes m ≡ batch
   first_is =
       let at = (range_of journal).first + 1 + place in
@@ -255,43 +256,43 @@ module _ (limits : Limits) (journal : Journal) (image : Image) (place : ℕ) (s 
 
   first_records : AreRecords limits s (drop 4 batch) m (run limits s m).state
   first_records = record {
-    each = (All-head AreBatch m ms left.each).each;
+    each = (All-head (AreBatchOf most) m ms left.each).each;
     spelled = ap (drop 4) (sym first_is) ∙ records_in m;
     named = AreFor-first limits s m (events_of ms) left.named;
     state = refl;
   }
 
-  after_first : GoOn limits journal image (place + sectors_for (length batch)) (run limits s m).state ms to
+  after_first : GoOn most limits journal image (place + sectors_for (length batch)) (run limits s m).state ms to
   after_first = record {
     filled = subst (λ (l : List ℕ). Fill (range_of journal) (place + sectors_for (length l)) (used_of journal) (map batch_bytes ms) image)
         first_is left.filled.2;
-    each = All-tail AreBatch m ms left.each;
+    each = All-tail (AreBatchOf most) m ms left.each;
     named = AreFor-next limits s m (events_of ms) left.named;
     state = left.state ∙ run-parts limits s m (events_of ms);
   }
 
-module _ (limits : Limits) (from : State) (journal : Journal) (image : Image) (place : ℕ) (s : State) (batch : List ℕ)
-    (replayed : Replayed limits from journal image place s)
-    (found : Found journal image place batch) where
+module _ (most : ℕ) (few : most ≤ most_bytes) (limits : Limits) (from : State) (journal : Journal) (image : Image) (place : ℕ) (s : State) (batch : List ℕ)
+    (replayed : Replayed most limits from journal image place s)
+    (found : Found most journal image place batch) where
   -- where a batch was found, something goes on
-  something : (to : State) → GoOn limits journal image place s [] to → ⊥
+  something : (to : State) → GoOn most limits journal image place s [] to → ⊥
   something to left = omega (arith, left.filled, found.inside, found.is.field)
 
   -- batches that are good are not refused
   pub replayed_refused : ((events : List PlainEvent) (to : State) → AreRecords limits s (drop 4 batch) events to → ⊥)
-      → (batches : List (List PlainEvent)) (to : State) → Replays limits from journal image batches to → ⊥
+      → (batches : List (List PlainEvent)) (to : State) → Replays most limits from journal image batches to → ⊥
   replayed_refused refuses batches to good = let rest = replayed.ahead batches to good in first rest.0 rest.1
     where
-      first : (more : List (List PlainEvent)) → GoOn limits journal image place s more to → ⊥
+      first : (more : List (List PlainEvent)) → GoOn most limits journal image place s more to → ⊥
       first [] left = something to left
-      first (m ∷ ms) left = refuses m (run limits s m).state (first_records limits journal image place s batch found m ms to left)
+      first (m ∷ ms) left = refuses m (run limits s m).state (first_records most limits journal image place s batch found m ms to left)
 
   -- nor does one stand there that can come
   pub none_refused : ((events : List PlainEvent) (to : State) → AreRecords limits s (drop 4 batch) events to → ⊥)
-      → HasNoBatchAt limits s (range_of journal) place (used_of journal) image
+      → HasNoBatchOfAt most limits s (range_of journal) place (used_of journal) image
   none_refused refuses events each named stands =
       let at = (range_of journal).first + 1 + place in
-      let right = batch-right events each in
+      let right = batch-right most few events each in
       let same : batch_bytes events ≡ batch =
       stands-same at (batch_bytes events) batch image
       (sym (length-there at (batch_bytes events) image right stands) ∙ length-there at batch image found.is found.stands) stands found.stands in
@@ -300,14 +301,14 @@ module _ (limits : Limits) (from : State) (journal : Journal) (image : Image) (p
 
   module _ (events : List PlainEvent) (t : State) (are : AreRecords limits s (drop 4 batch) events t)
       (only : (es : List PlainEvent) (to : State) → AreRecords limits s (drop 4 batch) es to → t ≡ to) where
-    next_leads : LeadTo limits from (replayed.so_far.0 ++ events ∷ []) t
+    next_leads : LeadToBy most limits from (replayed.so_far.0 ++ events ∷ []) t
     next_leads =
-        let batch_of : AreBatch events = record {
+        let batch_of : AreBatchOf most events = record {
           each = are.each;
           size = omega (arith, ap length are.spelled, length-drop 4 batch, found.is.field, found.short);
         } in
-        subst (λ (u : State). LeadTo limits from (replayed.so_far.0 ++ events ∷ []) u) (sym are.state)
-        (LeadTo-more limits from replayed.so_far.0 events s replayed.so_far.1 batch_of are.named)
+        subst (λ (u : State). LeadToBy most limits from (replayed.so_far.0 ++ events ∷ []) u) (sym are.state)
+        (LeadTo-more most limits from replayed.so_far.0 events s replayed.so_far.1 batch_of are.named)
 
     next_filled : Fill (range_of journal) 0 (place + sectors_for (length batch)) (map batch_bytes (replayed.so_far.0 ++ events ∷ [])) image
     next_filled =
@@ -318,27 +319,27 @@ module _ (limits : Limits) (from : State) (journal : Journal) (image : Image) (p
         subst (λ (bs : List (List ℕ)). Fill (range_of journal) 0 (place + sectors_for (length batch)) bs image) same
         (Fill-push (range_of journal) 0 place (map batch_bytes batches) batch image replayed.so_far.2 found.is found.stands)
 
-    ahead_next : (more : List (List PlainEvent)) (to : State) → GoOn limits journal image place s more to
-        → (rest : List (List PlainEvent)) × GoOn limits journal image (place + sectors_for (length batch)) t rest to
+    ahead_next : (more : List (List PlainEvent)) (to : State) → GoOn most limits journal image place s more to
+        → (rest : List (List PlainEvent)) × GoOn most limits journal image (place + sectors_for (length batch)) t rest to
     ahead_next [] to left = absurd (something to left)
     ahead_next (m ∷ ms) to left =
-        let same : t ≡ (run limits s m).state = only m (run limits s m).state (first_records limits journal image place s batch found m ms to left) in (
+        let same : t ≡ (run limits s m).state = only m (run limits s m).state (first_records most limits journal image place s batch found m ms to left) in (
           ms,
-          subst (λ (u : State). GoOn limits journal image (place + sectors_for (length batch)) u ms to) (sym same)
-              (after_first limits journal image place s batch found m ms to left),
+          subst (λ (u : State). GoOn most limits journal image (place + sectors_for (length batch)) u ms to) (sym same)
+              (after_first most limits journal image place s batch found m ms to left),
         )
 
     -- one batch more
-    pub replayed_more : Replayed limits from journal image (place + sectors_for (length batch)) t
+    pub replayed_more : Replayed most limits from journal image (place + sectors_for (length batch)) t
     replayed_more = record {
       so_far = (replayed.so_far.0 ++ events ∷ [], next_leads, next_filled);
       ahead = λ all to good. let rest = replayed.ahead all to good in ahead_next rest.0 to rest.1;
     }
 
-module _ (limits : Limits) (from : State) (journal : Journal) (image : Image) (place : ℕ) (s : State)
-    (replayed : Replayed limits from journal image place s) where
+module _ (most : ℕ) (few : most ≤ most_bytes) (limits : Limits) (from : State) (journal : Journal) (image : Image) (place : ℕ) (s : State)
+    (replayed : Replayed most limits from journal image place s) where
   -- where no more is used, the journal is gone through
-  pub replayed_all : place ≡ used_of journal → (batches : List (List PlainEvent)) × Replays limits from journal image batches s
+  pub replayed_all : place ≡ used_of journal → (batches : List (List PlainEvent)) × Replays most limits from journal image batches s
   replayed_all end =
       let batches = replayed.so_far.0 in (
         batches,
@@ -349,30 +350,30 @@ module _ (limits : Limits) (from : State) (journal : Journal) (image : Image) (p
       )
 
   -- a batch that does not fit is none
-  pub replayed_damaged : (size said : ℕ) → size ≡ most_bytes → said ≡ length_in (sector_at image ((range_of journal).first + 1 + place))
+  pub replayed_damaged : (size said : ℕ) → size ≡ most → said ≡ length_in (sector_at image ((range_of journal).first + 1 + place))
       → place < used_of journal → (used_of journal < place + sectors_for (said + 4)) ⊎ (size < said + 4)
-      → (batches : List (List PlainEvent)) (to : State) → Replays limits from journal image batches to → ⊥
+      → (batches : List (List PlainEvent)) (to : State) → Replays most limits from journal image batches to → ⊥
   replayed_damaged size said room there more_used bad batches to good = let rest = replayed.ahead batches to good in first rest.0 rest.1
     where
-      first : (more : List (List PlainEvent)) → GoOn limits journal image place s more to → ⊥
+      first : (more : List (List PlainEvent)) → GoOn most limits journal image place s more to → ⊥
       first [] left = omega (arith, left.filled, more_used)
       first (m ∷ ms) left =
           let long = length-there ((range_of journal).first + 1 + place) (batch_bytes m) image left.filled.0 left.filled.1 in
           let after = Fill-end (range_of journal) (place + sectors_for (length (batch_bytes m))) (used_of journal) (map batch_bytes ms) image left.filled.2 in
-          let short = (All-head AreBatch m ms left.each).size in
+          let short = (All-head (AreBatchOf most) m ms left.each).size in
           ⊎_elim (λ over. omega (arith, over, long, there, after)) (λ over. omega (arith, over, long, there, room, length_batch m, short)) bad
 
   -- a batch that does not fit is none that can come
-  pub none_damaged : (size said : ℕ) → size ≡ most_bytes → said ≡ length_in (sector_at image ((range_of journal).first + 1 + place))
+  pub none_damaged : (size said : ℕ) → size ≡ most → said ≡ length_in (sector_at image ((range_of journal).first + 1 + place))
       → (used_of journal < place + sectors_for (said + 4)) ⊎ (size < said + 4)
-      → HasNoBatchAt limits s (range_of journal) place (used_of journal) image
+      → HasNoBatchOfAt most limits s (range_of journal) place (used_of journal) image
   none_damaged size said room there bad events batch named stands =
-      let long = length-there ((range_of journal).first + 1 + place) (batch_bytes events) image (batch-right events batch) stands in
+      let long = length-there ((range_of journal).first + 1 + place) (batch_bytes events) image (batch-right most few events batch) stands in
       ⊎_elim (λ over. omega (arith, over, long, there)) (λ over. absurd (omega (arith, over, long, there, room, length_batch events, batch.size))) bad
 
   -- what is before the place is good
   pub replayed_good : (sector : ℕ) → sector ≡ (range_of journal).first + 1 + place → place < used_of journal
-      → HasNoBatchAt limits s (range_of journal) place (used_of journal) image → IsGoodUpTo limits from journal image sector
+      → HasNoBatchOfAt most limits s (range_of journal) place (used_of journal) image → IsGoodUpTo most limits from journal image sector
   replayed_good sector is more_used none =
       let batches = replayed.so_far.0 in
       let end : place ≡ sectors_of (map batch_bytes batches) =
@@ -384,5 +385,5 @@ module _ (limits : Limits) (from : State) (journal : Journal) (image : Image) (p
         filled = subst (λ (n : ℕ). Fill (range_of journal) 0 n (map batch_bytes batches) image) end replayed.so_far.2;
         sector_is = is ∙ ap (λ (n : ℕ). (range_of journal).first + 1 + n) end;
         used = subst (λ (n : ℕ). n < used_of journal) end more_used;
-        none = subst (λ (n : ℕ). HasNoBatchAt limits s (range_of journal) n (used_of journal) image) end none;
+        none = subst (λ (n : ℕ). HasNoBatchOfAt most limits s (range_of journal) n (used_of journal) image) end none;
       }

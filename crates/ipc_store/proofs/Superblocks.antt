@@ -6,53 +6,56 @@ use Rattle.std.proofs.lemmas.Option.{unwrap_or-slice_get}
 use Rattle.ipc_base.specs.declared.limits.Limits.{Limits}
 use Rattle.ipc_disk.specs.Medium.{Image}
 use Rattle.ipc_disk.specs.Standing.{sector_at}
-use Rattle.ipc_image.specs.Format.{format}
-use Rattle.ipc_image.specs.Superblock.{IsFormatted, version_in, sectors_in, IsSuperblock}
+use Rattle.ipc_image.specs.declared.format.Format.{Format}
+use Rattle.ipc_image.specs.Format.{IsFormat}
+use Rattle.ipc_image.specs.Superblock.{IsFormatted, version_in, sectors_in, IsSuperblockIn}
 use Rattle.ipc_image.specs.declared.superblock.Superblock.{Superblock}
 use Rattle.ipc_image.proofs.CallerLemmas.{superblock-sectors}
-use Rattle.ipc_store.specs.Image.{named_sectors, IsDevice, IsNotFormatted, HasVersion, IsDamaged, IsFirstFault}
+use Rattle.ipc_store.specs.Image.{named_sectors, IsDeviceIn, IsNotFormatted, HasVersionBut, IsDamagedIn, IsFirstFaultIn}
 
 -- a sector that was read
 pub sector-read : (image : Image) (i : ℕ) (sector : List ℕ) → slice_get image i ≡ Some sector → sector_at image i ≡ sector
 sector-read image i sector read = sym (unwrap_or-slice_get image i []) ∙ ap (λ (o : Option (List ℕ)). unwrap_or o []) read
 
 -- a superblock that names no more sectors than there are
-pub is_device : (image : Image) (size : ℕ) (sector : List ℕ) → length image ≡ size → sector_at image 0 ≡ sector → size < 2 ^ 32
-    → (found : Superblock) → found.sectors ≤ size → IsSuperblock found.sectors found.limits sector
-    → IsDevice found.limits image × (found.sectors ≡ named_sectors image)
-is_device image size sector whole read fits found there is =
+pub is_device : (form : Format) → IsFormat form → (image : Image) (size : ℕ) (sector : List ℕ) → length image ≡ size → sector_at image 0 ≡ sector → size < 2 ^ 32
+    → (found : Superblock) → found.sectors ≤ size → IsSuperblockIn form found.sectors found.limits sector
+    → IsDeviceIn form found.limits image × (found.sectors ≡ named_sectors image)
+is_device form known image size sector whole read fits found there is =
     let named : named_sectors image ≡ found.sectors =
-    ap sectors_in read ∙ superblock-sectors found.sectors found.limits sector is (omega (arith, there, fits)) in (
+    ap sectors_in read ∙ superblock-sectors form known found.sectors found.limits sector is (omega (arith, there, fits)) in (
       record {
-        superblock = subst (λ (n : ℕ). IsSuperblock n found.limits (sector_at image 0)) (sym named)
-            (subst (λ (s : List ℕ). IsSuperblock found.sectors found.limits s) (sym read) is);
+        superblock = subst (λ (n : ℕ). IsSuperblockIn form n found.limits (sector_at image 0)) (sym named)
+            (subst (λ (s : List ℕ). IsSuperblockIn form found.sectors found.limits s) (sym read) is);
         whole = omega (arith, named, there, whole);
       },
       sym named,
     )
 
-module _ (image : Image) (size : ℕ) (sector : List ℕ) (whole : length image ≡ size) (read : sector_at image 0 ≡ sector) (large : 3 ≤ size) where
+module _ (form : Format) (image : Image) (size : ℕ) (sector : List ℕ) (whole : length image ≡ size) (read : sector_at image 0 ≡ sector) (large : 3 ≤ size) where
   -- it begins as a device
   begins : IsFormatted sector → ¬ IsNotFormatted image
   begins formatted (inl small) = absurd (omega (arith, small, whole, large))
   begins formatted (inr other) = other (subst IsFormatted (sym read) formatted)
 
-  pub has_version : (found : ℕ) → IsFormatted sector × (version_in sector ≡ found) × (found ≢ format.version) → HasVersion found image
+  pub has_version : (found : ℕ) → IsFormatted sector × (version_in sector ≡ found) × (found ≢ form.version)
+      → HasVersionBut form found image
   has_version found (formatted, version, other) = record { formatted = begins formatted; version = ap version_in read ∙ version; other = other }
 
-  no_device : ((named : ℕ) (limits : Limits) → named ≤ size → ¬ IsSuperblock named limits sector) → (limits : Limits) → ¬ IsDevice limits image
+  no_device : ((named : ℕ) (limits : Limits) → named ≤ size → ¬ IsSuperblockIn form named limits sector) → (limits : Limits)
+      → ¬ IsDeviceIn form limits image
   no_device none limits device =
       none (named_sectors image) limits (omega (arith, device.whole, whole))
-      (subst (λ (s : List ℕ). IsSuperblock (named_sectors image) limits s) read device.superblock)
+      (subst (λ (s : List ℕ). IsSuperblockIn form (named_sectors image) limits s) read device.superblock)
 
-  pub is_damaged : IsFormatted sector × (version_in sector ≡ format.version)
-      × ((named : ℕ) (limits : Limits) → named ≤ size → ¬ IsSuperblock named limits sector)
-      → IsDamaged image × IsFirstFault image 0
+  pub is_damaged : IsFormatted sector × (version_in sector ≡ form.version)
+      × ((named : ℕ) (limits : Limits) → named ≤ size → ¬ IsSuperblockIn form named limits sector)
+      → IsDamagedIn form image × IsFirstFaultIn form image 0
   is_damaged (formatted, version, none) = (
     record {
       formatted = begins formatted;
       version = ap version_in read ∙ version;
       stands_for_none = λ limits s stands. no_device none limits stands.kept.device;
     },
-    IsFirstFault.Superblock (no_device none),
+    IsFirstFaultIn.Superblock (no_device none),
   )

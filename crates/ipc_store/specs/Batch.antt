@@ -29,7 +29,10 @@ records_of events = flat_map record_bytes events
 unfoldable pub batch_bytes : List PlainEvent → List ℕ
 batch_bytes events = big_bytes 4 (length (records_of events)) ++ records_of events
 
--- the events make one batch
-pub record AreBatch (events : List PlainEvent) : Type 0 where
+-- the events make one batch, of at most so many bytes
+pub record AreBatchOf (most : ℕ) (events : List PlainEvent) : Type 0 where
   pub each : All HasRecord events
-  pub size : 4 + length (records_of events) ≤ most_bytes
+  pub size : 4 + length (records_of events) ≤ most
+
+abbrev pub AreBatch : List PlainEvent → Type 0
+AreBatch = AreBatchOf most_bytes

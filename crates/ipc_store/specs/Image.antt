@@ -1,5 +1,5 @@
--- What an image of a device stands for. Its objects stand for a base, the state that the last save has kept, and the
--- batches of its journal at the same epoch lead from there to the state of the image.
+-- What an image of a device stands for, by the form of the device. Its objects stand for a base, the state that the
+-- last save has kept, and the batches of its journal at the same epoch lead from there to the state of the image.
 use Rattle.std.specs.Prelude.{◌≡◌, ◌≢◌, ◌⊎◌, ◌<◌, ◌≤◌, ◌+◌, ◌-◌, ◌^◌}
 use Rattle.std.specs.Prelude.{ℕ, List, [], ◌∷◌, length, map, All}
 use Rattle.std.specs.List.{flat_map}
@@ -15,11 +15,12 @@ use Rattle.ipc_state.specs.State.{State}
 use Rattle.ipc_engine.specs.Event.{PlainEvent}
 use Rattle.ipc_engine.specs.Engine.{IsForProcess}
 use Rattle.ipc_engine.specs.Step.{step, run}
+use Rattle.ipc_image.specs.declared.format.Format.{Format}
 use Rattle.ipc_image.specs.Format.{format, journal_first, journal_count, objects_first}
-use Rattle.ipc_image.specs.Saved.{StandForState}
-use Rattle.ipc_image.specs.Sizes.{area_of}
-use Rattle.ipc_image.specs.Superblock.{IsFormatted, version_in, sectors_in, IsSuperblock}
-use Rattle.ipc_store.specs.Batch.{batch_bytes, AreBatch}
+use Rattle.ipc_image.specs.Saved.{StandForStateIn}
+use Rattle.ipc_image.specs.Sizes.{area_in}
+use Rattle.ipc_image.specs.Superblock.{IsFormatted, version_in, sectors_in, IsSuperblockIn}
+use Rattle.ipc_store.specs.Batch.{batch_bytes, AreBatchOf, most_bytes}
 
 -- the sectors of the journal
 abbrev pub journal_range : Range
@@ -30,8 +31,11 @@ abbrev pub objects_range : ℕ → Range
 objects_range sectors = record { first = objects_first; count = sectors - objects_first }
 
 -- where its objects lie
+abbrev pub layout_in : Format → Limits → ℕ → Layout
+layout_in form limits sectors = record { range = objects_range sectors; root = form.root; area = area_in form limits }
+
 abbrev pub layout_of : Limits → ℕ → Layout
-layout_of limits sectors = record { range = objects_range sectors; root = format.root; area = area_of limits }
+layout_of = layout_in format
 
 -- the first epoch, with which a device is made, and the last
 abbrev pub first_epoch : ℕ
@@ -49,11 +53,15 @@ AreFor limits s (e ∷ es) = IsForProcess s e × AreFor limits (step limits s e)
 abbrev pub events_of : List (List PlainEvent) → List PlainEvent
 events_of batches = flat_map (λ (events : List PlainEvent). events) batches
 
--- the batches lead from one state to another
-pub record LeadTo (limits : Limits) (from : State) (batches : List (List PlainEvent)) (s : State) : Type 0 where
-  pub each : All AreBatch batches
+-- the batches, each of at most so many bytes, lead from one state to another
+pub record LeadToBy (most : ℕ) (limits : Limits) (from : State) (batches : List (List PlainEvent)) (s : State)
+    : Type 0 where
+  pub each : All (AreBatchOf most) batches
   pub named : AreFor limits from (events_of batches)
   pub state : s ≡ (run limits from (events_of batches)).state
+
+abbrev pub LeadTo : Limits → State → List (List PlainEvent) → State → Type 0
+LeadTo = LeadToBy most_bytes
 
 -- how many sectors the device has, as its first one says; the disk may have more
 abbrev pub named_sectors : Image → ℕ
@@ -61,37 +69,54 @@ named_sectors image = sectors_in (sector_at image 0)
 
 -- the image is of a device with these limits: its first sector is their superblock, and it has the sectors that this
 -- names
-pub record IsDevice (limits : Limits) (image : Image) : Type 0 where
-  pub superblock : IsSuperblock (named_sectors image) limits (sector_at image 0)
+pub record IsDeviceIn (form : Format) (limits : Limits) (image : Image) : Type 0 where
+  pub superblock : IsSuperblockIn form (named_sectors image) limits (sector_at image 0)
   pub whole : named_sectors image ≤ length image
 
+abbrev pub IsDevice : Limits → Image → Type 0
+IsDevice = IsDeviceIn format
+
 -- at this epoch it has these objects, where such a device has them
+abbrev pub HasObjectsIn : Format → Limits → ℕ → PlainObjects → Image → Type 0
+HasObjectsIn form limits epoch objects image =
+    HoldsObjects (layout_in form limits (named_sectors image)) epoch objects image
+
 abbrev pub HasObjects : Limits → ℕ → PlainObjects → Image → Type 0
-HasObjects limits epoch objects image = HoldsObjects (layout_of limits (named_sectors image)) epoch objects image
+HasObjects = HasObjectsIn format
 
 -- at this epoch its journal has these batches
 abbrev pub HasBatches : ℕ → List (List PlainEvent) → Image → Type 0
 HasBatches epoch batches image = Holds journal_range epoch (map batch_bytes batches) image
 
 -- it is of a device with these limits, and at this epoch its objects stand for the base
-pub record HasBase (limits : Limits) (epoch : ℕ) (base : State) (image : Image) : Type 0 where
-  pub device : IsDevice limits image
+pub record HasBaseIn (form : Format) (limits : Limits) (epoch : ℕ) (base : State) (image : Image) : Type 0 where
+  pub device : IsDeviceIn form limits image
   pub objects : PlainObjects
-  pub there : HasObjects limits epoch objects image
-  pub stand : StandForState limits base objects
+  pub there : HasObjectsIn form limits epoch objects image
+  pub stand : StandForStateIn form limits base objects
+
+abbrev pub HasBase : Limits → ℕ → State → Image → Type 0
+HasBase = HasBaseIn format
 
 -- the image stands for a state under these limits
-pub record StandsFor (limits : Limits) (s : State) (image : Image) : Type 0 where
+pub record StandsForIn (form : Format) (limits : Limits) (s : State) (image : Image) : Type 0 where
   pub epoch : ℕ
   pub base : State
-  pub kept : HasBase limits epoch base image
+  pub kept : HasBaseIn form limits epoch base image
   pub batches : List (List PlainEvent)
   pub journal : HasBatches epoch batches image
-  pub leads : LeadTo limits base batches s
+  pub leads : LeadToBy form.batch limits base batches s
+
+-- and so for an open, which reads devices of the one version that is made
+abbrev pub StandsFor : Limits → State → Image → Type 0
+StandsFor = StandsForIn format
 
 -- it stands for none
+abbrev pub HasNoStateIn : Format → Image → Type 0
+HasNoStateIn form image = (limits : Limits) (s : State) → ¬ StandsForIn form limits s image
+
 abbrev pub HasNoState : Image → Type 0
-HasNoState image = (limits : Limits) (s : State) → ¬ StandsFor limits s image
+HasNoState = HasNoStateIn format
 
 -- The faults that a superblock has, in their order. The device has too few sectors for one, or
 -- begins otherwise.
@@ -99,20 +124,29 @@ abbrev pub IsNotFormatted : Image → Type 0
 IsNotFormatted image = (length image < 3) ⊎ (¬ IsFormatted (sector_at image 0))
 
 -- it is of another version
-pub record HasVersion (found : ℕ) (image : Image) : Type 0 where
+pub record HasVersionBut (form : Format) (found : ℕ) (image : Image) : Type 0 where
   pub formatted : ¬ IsNotFormatted image
   pub version : version_in (sector_at image 0) ≡ found
-  pub other : found ≢ format.version
+  pub other : found ≢ form.version
+
+abbrev pub HasVersion : ℕ → Image → Type 0
+HasVersion = HasVersionBut format
 
 -- it is of this version, and stands for no state
-pub record IsDamaged (image : Image) : Type 0 where
+pub record IsDamagedIn (form : Format) (image : Image) : Type 0 where
   pub formatted : ¬ IsNotFormatted image
-  pub version : version_in (sector_at image 0) ≡ format.version
-  pub stands_for_none : HasNoState image
+  pub version : version_in (sector_at image 0) ≡ form.version
+  pub stands_for_none : HasNoStateIn form image
+
+abbrev pub IsDamaged : Image → Type 0
+IsDamaged = IsDamagedIn format
 
 -- the epoch of its objects, which their root has
+abbrev pub epoch_at_in : Format → Image → ℕ
+epoch_at_in form image = epoch_in (sector_at image form.root)
+
 abbrev pub epoch_at : Image → ℕ
-epoch_at image = epoch_in (sector_at image format.root)
+epoch_at = epoch_at_in format
 
 -- The device stands for a state, its objects and its journal are of the last epoch, and the journal has no room for one
 -- batch more.
@@ -129,30 +163,33 @@ abbrev pub HasNoHeader : ℕ → Image → Type 0
 HasNoHeader epoch image = (epoch < header_epoch journal_range image)
     ⊎ ((header_epoch journal_range image ≡ epoch) × (journal_range.count ≤ header_used journal_range image))
 
--- no batch of events that can come stands at this place, within the sectors that are used
-abbrev pub HasNoBatchAt : Limits → State → Range → ℕ → ℕ → Image → Type 0
-HasNoBatchAt limits s range place used image =
-    (events : List PlainEvent) → AreBatch events → AreFor limits s events
+-- no batch of events that can come, of at most so many bytes, stands at this place, within the sectors that are used
+abbrev pub HasNoBatchOfAt : ℕ → Limits → State → Range → ℕ → ℕ → Image → Type 0
+HasNoBatchOfAt most limits s range place used image =
+    (events : List PlainEvent) → AreBatchOf most events → AreFor limits s events
     → StandsAt (range.first + 1 + place) (batch_bytes events) image
     → used < place + sectors_for (length (batch_bytes events))
 
 -- Where a damage is first seen: in sector 0, which is no superblock of this device; in the root or the sectors of the
 -- objects, which are none; in the root, whose objects stand for no state; in the header of the journal; or behind
 -- good batches, where more is used but no batch of events that can come there stands within it.
-pub data IsFirstFault (image : Image) : ℕ → Type 0 where
-  Superblock : ((limits : Limits) → ¬ IsDevice limits image) → IsFirstFault image 0
-  Objects : (limits : Limits) (sector : ℕ) → IsDevice limits image
-      → IsFirstDamage (layout_of limits (named_sectors image)) image sector
-      → IsFirstFault image sector
-  NoState : (limits : Limits) (epoch : ℕ) (objects : PlainObjects) → IsDevice limits image
-      → HasObjects limits epoch objects image → ((s : State) → ¬ StandForState limits s objects)
-      → IsFirstFault image format.root
-  Header : (limits : Limits) (epoch : ℕ) (base : State) → HasBase limits epoch base image
-      → HasNoHeader epoch image → IsFirstFault image journal_first
+pub data IsFirstFaultIn (form : Format) (image : Image) : ℕ → Type 0 where
+  Superblock : ((limits : Limits) → ¬ IsDeviceIn form limits image) → IsFirstFaultIn form image 0
+  Objects : (limits : Limits) (sector : ℕ) → IsDeviceIn form limits image
+      → IsFirstDamage (layout_in form limits (named_sectors image)) image sector
+      → IsFirstFaultIn form image sector
+  NoState : (limits : Limits) (epoch : ℕ) (objects : PlainObjects) → IsDeviceIn form limits image
+      → HasObjectsIn form limits epoch objects image → ((s : State) → ¬ StandForStateIn form limits s objects)
+      → IsFirstFaultIn form image form.root
+  Header : (limits : Limits) (epoch : ℕ) (base : State) → HasBaseIn form limits epoch base image
+      → HasNoHeader epoch image → IsFirstFaultIn form image journal_first
   AtBatch : (limits : Limits) (epoch : ℕ) (base : State) (batches : List (List PlainEvent)) (s : State)
-      → HasBase limits epoch base image → LeadTo limits base batches s
+      → HasBaseIn form limits epoch base image → LeadToBy form.batch limits base batches s
       → Fill journal_range 0 (sectors_of (map batch_bytes batches)) (map batch_bytes batches) image
       → sectors_of (map batch_bytes batches) < header_used journal_range image
-      → HasNoBatchAt limits s journal_range (sectors_of (map batch_bytes batches))
+      → HasNoBatchOfAt form.batch limits s journal_range (sectors_of (map batch_bytes batches))
       (header_used journal_range image) image
-      → IsFirstFault image (journal_first + 1 + sectors_of (map batch_bytes batches))
+      → IsFirstFaultIn form image (journal_first + 1 + sectors_of (map batch_bytes batches))
+
+abbrev pub IsFirstFault : Image → ℕ → Type 0
+IsFirstFault = IsFirstFaultIn format

@@ -3,5 +3,6 @@ pub mod Batch
 pub mod Image
 pub mod Histories
 pub mod Lives
+pub mod Upgrade
 pub mod View
 pub mod Relations

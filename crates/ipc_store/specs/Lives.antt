@@ -1,7 +1,8 @@
 -- What the life of a store leaves on its disk, and what the next open finds there. A life may end at any moment, and so
 -- may an open.
-use Rattle.std.specs.Prelude.{◌≡◌, List, ◌++◌}
+use Rattle.std.specs.Prelude.{◌≡◌, ℕ, List, ◌++◌}
 use Rattle.ipc_disk.specs.Medium.{Image, Medium, IsHonest}
+use Rattle.ipc_disk.specs.Growth.{HasGrown}
 use Rattle.ipc_disk.specs.Since.{EachImageSince}
 use Rattle.ipc_state.specs.State.{State, restart}
 use Rattle.ipc_engine.specs.Event.{PlainEvent}
@@ -18,12 +19,15 @@ pub record IsLeft (old new left : Medium) : Type 0 where
   pub images : (image : Image) → left.images_now image → new.images_since old.moment image
 
 -- Any number of opens, one after another, each of which was refused, or stopped at some moment of it. `after` is the
--- disk as that open would have left it, or did.
+-- disk as that open would have left it, or did. Between them the disk may have grown, or begun to.
 pub data StoppedOpens {D : Type 0} (medium : D → Medium) (disk : D) : D → Type 0 where
   None : StoppedOpens medium disk disk
   More : (before after left : D) → StoppedOpens medium disk before
       → EachImageSince (medium before) (medium after) (OpensTo (medium before))
       → IsLeft (medium before) (medium after) (medium left) → StoppedOpens medium disk left
+  Larger : (before left : D) (most : ℕ) → StoppedOpens medium disk before → IsHonest (medium left)
+      → ((image : Image) → (medium left).images_now image → HasGrown most (medium before) image)
+      → StoppedOpens medium disk left
 
 -- the disk stands for the state after these events
 pub record StandsAfter (past : Past) (medium : Medium) : Type 0 where

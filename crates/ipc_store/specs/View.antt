@@ -9,17 +9,18 @@ use Rattle.ipc_checkpoint.specs.declared.error.LoadError.{LoadError}
 use Rattle.ipc_checkpoint.specs.declared.error.LoadError.TheVariants as load
 use Rattle.ipc_checkpoint.specs.Matches.{changed_sectors, table_sectors}
 use Rattle.ipc_checkpoint.specs.View.{CheckpointView, epoch_of}
-use Rattle.ipc_engine.specs.declared.fault.StateFault.{StateFault}
-use Rattle.ipc_engine.specs.declared.fault.StateFault.TheVariants as state
 use Rattle.ipc_journal.specs.declared.journal.Journal.{Journal}
 use Rattle.ipc_journal.specs.View.{Fits, used_of}
 use Rattle.ipc_journal.specs.declared.error.JournalError.{JournalError}
 use Rattle.ipc_journal.specs.declared.error.JournalError.TheVariants as journal
-use Rattle.ipc_image.specs.Format.{format, longest_record}
+use Rattle.ipc_image.specs.Format.{longest_record}
 use Rattle.ipc_store.specs.Batch.{most_bytes}
 use Rattle.ipc_store.specs.Image.{last_epoch}
 use Rattle.ipc_store.specs.declared.fault.OpenError.{OpenError}
 use Rattle.ipc_store.specs.declared.fault.OpenError.TheVariants.{Device, Damaged, NoMemory}
+use Rattle.ipc_store.specs.declared.fault.OpenError.TheVariants as opening
+use Rattle.ipc_store.specs.declared.fault.UpgradeError.{UpgradeError}
+use Rattle.ipc_store.specs.declared.fault.UpgradeError.TheVariants as upgrade
 
 -- a batch as its callers see it: the records of its events, and how many they are
 pub record BatchView : Type 0 where
@@ -121,12 +122,15 @@ of_load_error load.Device = Device
 of_load_error (load.Damaged sector) = Damaged sector
 of_load_error load.NoMemory = NoMemory
 
--- the fault of an open whose objects are no state: the root's
-abbrev pub of_state_fault : StateFault → OpenError
-of_state_fault state.Unsound = Damaged format.root
-of_state_fault state.NoMemory = NoMemory
-
 -- the fault of an open that meets this fault of the journal
 abbrev pub of_journal_error : JournalError → OpenError
 of_journal_error journal.Device = Device
 of_journal_error (journal.Damaged sector) = Damaged sector
+
+-- the fault of an upgrade that meets this fault of a load
+abbrev pub of_open_error : OpenError → UpgradeError
+of_open_error opening.Device = upgrade.Device
+of_open_error opening.NotFormatted = upgrade.NotFormatted
+of_open_error (opening.Version found) = upgrade.Version found
+of_open_error (opening.Damaged sector) = upgrade.Damaged sector
+of_open_error opening.NoMemory = upgrade.NoMemory

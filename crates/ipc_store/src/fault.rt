@@ -3,13 +3,12 @@
 ghost use Rattle.std.specs.Prelude.{◌≡◌};
 ghost use Rattle.ipc_store.specs.declared.fault.FormatError.TheVariants as format_errors;
 ghost use Rattle.ipc_store.specs.declared.fault.OpenError.TheVariants as open_errors;
-ghost use Rattle.ipc_store.specs.View.{of_state_fault, of_journal_error, of_load_error};
+ghost use Rattle.ipc_store.specs.declared.fault.UpgradeError.TheVariants as upgrade_errors;
+ghost use Rattle.ipc_store.specs.View.{of_journal_error, of_load_error, of_open_error};
 
 use ipc_base::BadLimits;
 use ipc_checkpoint::LoadError;
 use ipc_disk::DiskFault;
-use ipc_engine::StateFault;
-use ipc_image::FORMAT;
 use ipc_journal::JournalError;
 use std::alloc::AllocError;
 use thiserror::Error;
@@ -79,6 +78,71 @@ pub enum OpenError {
     NoMemory,
 }
 
+/// Why a device was not upgraded.
+#[derive(Clone, Copy, Debug, PartialEq, Eq, Error)]
+pub enum UpgradeError {
+    /// The limits do not pass their check, or one of them is below the device's.
+    #[error("{0}")]
+    BadLimits(BadLimits),
+    /// It does not begin as a device of a store.
+    #[error("the device is not formatted")]
+    NotFormatted,
+    /// It is of another version than the one that is upgraded.
+    #[error("the device is of version {found}")]
+    Version {
+        /// The version that it names.
+        found: u32,
+    },
+    /// It stands for no state, or its epochs are at their end.
+    #[error("the device is damaged at sector {sector}")]
+    Damaged {
+        /// The first sector in which the fault is seen.
+        sector: u32,
+    },
+    /// The disk has fewer sectors than a device needs under these limits.
+    #[error("the device needs {need} sectors")]
+    TooSmall {
+        /// How many it needs.
+        need: u32,
+    },
+    /// A call on the disk has failed.
+    #[error("the disk has failed")]
+    Device,
+    /// The machine on it wants memory.
+    #[error("no memory")]
+    NoMemory,
+}
+
+impl From<BadLimits> for UpgradeError {
+    ghost from_gives = { λ fault e. e ≡ upgrade_errors.BadLimits fault };
+
+    fn from(fault: BadLimits) -> Self {
+        UpgradeError::BadLimits(fault)
+    }
+}
+
+impl From<DiskFault> for UpgradeError {
+    ghost from_gives = { λ _ e. e ≡ upgrade_errors.Device };
+
+    fn from(_: DiskFault) -> Self {
+        UpgradeError::Device
+    }
+}
+
+impl From<OpenError> for UpgradeError {
+    ghost from_gives = { λ error e. e ≡ of_open_error error };
+
+    fn from(error: OpenError) -> Self {
+        match error {
+            OpenError::Device => UpgradeError::Device,
+            OpenError::NotFormatted => UpgradeError::NotFormatted,
+            OpenError::Version { found } => UpgradeError::Version { found },
+            OpenError::Damaged { sector } => UpgradeError::Damaged { sector },
+            OpenError::NoMemory => UpgradeError::NoMemory,
+        }
+    }
+}
+
 impl From<BadLimits> for FormatError {
     ghost from_gives = { λ fault e. e ≡ format_errors.BadLimits fault };
 
@@ -119,19 +183,6 @@ impl From<LoadError> for OpenError {
             LoadError::Device => OpenError::Device,
             LoadError::Damaged { sector } => OpenError::Damaged { sector },
             LoadError::NoMemory => OpenError::NoMemory,
-        }
-    }
-}
-
-impl From<StateFault> for OpenError {
-    ghost from_gives = { λ error e. e ≡ of_state_fault error };
-
-    fn from(error: StateFault) -> Self {
-        match error {
-            StateFault::Unsound => OpenError::Damaged {
-                sector: FORMAT.root,
-            },
-            StateFault::NoMemory => OpenError::NoMemory,
         }
     }
 }

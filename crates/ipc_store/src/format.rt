@@ -7,7 +7,7 @@ ghost use Rattle.ipc_base.specs.declared.limits.BadLimits.{BadLimits as BadLimit
 ghost use Rattle.ipc_disk.specs.Calls.{IsSameDisk, CountsFault, CountsFaultIf};
 ghost use Rattle.ipc_disk.specs.Medium.{Image, IsHonest, IsDurable, SetOrNot};
 ghost use Rattle.ipc_disk.specs.Since.{EachImageSince};
-ghost use Rattle.ipc_state.specs.State.{start};
+ghost use Rattle.ipc_state.specs.State.{State, start};
 ghost use Rattle.ipc_image.specs.Format.{objects_first};
 ghost use Rattle.ipc_image.specs.Sizes.{need_of};
 ghost use Rattle.ipc_image.specs.Superblock.{IsSuperblock};
@@ -15,12 +15,12 @@ ghost use Rattle.ipc_store.specs.Image.{StandsFor, IsNotFormatted};
 ghost use Rattle.ipc_store.specs.Relations.Format.{EachNow, IsErased, IsPrepared};
 
 use crate::fault::FormatError;
-use crate::places::{FIRST_EPOCH, JOURNAL_RANGE, layout_of};
+use crate::places::{FIRST_EPOCH, JOURNAL_RANGE, layout_in};
 use crate::store::Store;
 use ipc_base::Limits;
 use ipc_checkpoint::Checkpoint;
 use ipc_disk::{DiskFault, SectorDisk, write_durably};
-use ipc_image::{SUPERBLOCK, need, start_objects, superblock_is_read, write_superblock};
+use ipc_image::{FORMAT, SUPERBLOCK, need, start_objects, superblock_is_read, write_superblock};
 use ipc_journal::Journal;
 
 impl<D: SectorDisk> Store<D> {
@@ -50,7 +50,7 @@ impl<D: SectorDisk> Store<D> {
         ensures counts { CountsFaultIf D.counts (IsErrOf result FormatError.Device) disk.old disk.new }
     {
         limits.check()?;
-        let need = need(limits);
+        let need = need(FORMAT, limits);
         if disk.sectors() < need {
             return Err(FormatError::TooSmall { need });
         }
@@ -98,28 +98,30 @@ fn prepare<D: SectorDisk>(disk: &mut D, limits: &Limits) -> Result<(), DiskFault
     requires passed { ArePassed limits.now }
     requires room { need_of limits.now ≤ D.size disk.old }
     ensures prepared { OnOk result (IsHonest (D.medium disk.old) → EachNow (D.medium disk.old) IsErased
-        → EachNow (D.medium disk.new) (IsPrepared limits.now)) }
+        → EachNow (D.medium disk.new) (λ image. IsErased image × IsPrepared limits.now start image)) }
     ensures any_moment { IsHonest (D.medium disk.old) → EachNow (D.medium disk.old) IsErased
         → EachImageSince (D.medium disk.old) (D.medium disk.new) IsErased }
     ensures same { IsSameDisk D.size D.medium disk.old disk.new }
     ensures counts { CountsFault D.counts result disk.old disk.new }
 {
-    let layout = layout_of(limits, disk.sectors());
+    let layout = layout_in(FORMAT, limits, disk.sectors());
     Journal::put_header(disk, JOURNAL_RANGE, FIRST_EPOCH)?;
     Checkpoint::create(disk, layout, &start_objects())?;
     Ok(())
 }
 
 // The disk becomes a device: its superblock is the last that is written.
-fn put_superblock<D: SectorDisk>(disk: &mut D, limits: &Limits) -> Result<(), DiskFault>
+pub(crate) fn put_superblock<D: SectorDisk>(disk: &mut D, limits: &Limits) -> Result<(), DiskFault>
     requires passed { ArePassed limits.now }
     requires room { need_of limits.now ≤ D.size disk.old }
-    ensures ok { OnOk result (IsHonest (D.medium disk.old) → EachNow (D.medium disk.old) (IsPrepared limits.now)
-        → EachNow (D.medium disk.new) (StandsFor limits.now start)) }
+    ensures ok { OnOk result ((s : State) → IsHonest (D.medium disk.old)
+        → EachNow (D.medium disk.old) (IsPrepared limits.now s)
+        → EachNow (D.medium disk.new) (StandsFor limits.now s)) }
     ensures durable { OnOk result (IsDurable (D.medium disk.new)) }
-    ensures any_moment { IsHonest (D.medium disk.old) → EachNow (D.medium disk.old) (IsPrepared limits.now)
+    ensures any_moment { (s : State) → IsHonest (D.medium disk.old)
+        → EachNow (D.medium disk.old) (IsPrepared limits.now s)
         → EachImageSince (D.medium disk.old) (D.medium disk.new)
-        (λ image. IsErased image ⊎ StandsFor limits.now start image) }
+        (λ image. (D.medium disk.old).images_now image ⊎ StandsFor limits.now s image) }
     ensures same { IsSameDisk D.size D.medium disk.old disk.new }
     ensures counts { CountsFault D.counts result disk.old disk.new }
 {

@@ -3,12 +3,13 @@
 ghost use Rattle.std.specs.Prelude.{◌≡◌, ◌<◌, ◌^◌, ◌++◌, List, [], length};
 ghost use Rattle.ipc_base.specs.declared.limits.Limits.{Limits};
 ghost use Rattle.ipc_disk.specs.Medium.{Image};
-ghost use Rattle.ipc_state.specs.State.{State};
+ghost use Rattle.ipc_state.specs.State.{State, restart};
 ghost use Rattle.ipc_engine.specs.Event.{PlainEvent};
 ghost use Rattle.ipc_store.specs.Batch.{batch_bytes, AreBatch};
 ghost use Rattle.ipc_store.specs.Histories.{History, Past, past_of, reopened, Keeps, Takes, OpensOn};
 ghost use Rattle.ipc_store.specs.Image.{StandsFor};
 ghost use Rattle.ipc_store.specs.Lives.{IsLeft, StoppedOpens, StandsAfter, Rests, Found};
+ghost use Rattle.ipc_store.specs.Upgrade.{IsUpgraded, RestsOldOrNew, StoppedUpgrades};
 ghost use Rattle.ipc_store.specs.View.{StoreView};
 
 use ipc_disk::SectorDisk;
@@ -53,4 +54,15 @@ pub fn an_open_finds_what_stands_there<D: SectorDisk>()
     ensures keeps { (past : Past) (disk : D) (opened : StoreView D) → StandsAfter past (D.medium disk)
         → OpensOn (D.medium disk).contents (D.medium opened.disk) opened
         → Keeps (D.medium opened.disk) opened (reopened past) }
+{}
+
+/// A device of the version before stays one that stands for its state, or becomes one of the version of today that
+/// stands for it after a restart, whatever number of upgrades are stopped; after one that is not, the law over lives
+/// begins with that state.
+pub fn an_upgrade_keeps_the_state<D: SectorDisk>()
+    ensures rests { (own limits : Limits) (s : State) (left disk : D) → RestsOldOrNew own limits s (D.medium left)
+        → StoppedUpgrades D.medium limits left disk → RestsOldOrNew own limits s (D.medium disk) }
+    ensures stands { (own limits : Limits) (s : State) (disk new : D) → RestsOldOrNew own limits s (D.medium disk)
+        → IsUpgraded limits (D.medium disk) (D.medium new)
+        → StandsAfter (record { limits = limits; base = restart s; events = [] }) (D.medium new) }
 {}

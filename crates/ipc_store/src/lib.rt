@@ -11,12 +11,15 @@ mod opening;
 mod places;
 mod replay;
 mod store;
+mod upgrade;
 
 pub use batch::{EXIT_RECORD, TICK_RECORD};
-pub use fault::{CommitError, FormatError, OpenError, StepError};
+pub use fault::{CommitError, FormatError, OpenError, StepError, UpgradeError};
 pub use laws::{
     a_batch_is_of_one_list, a_stop_leaves_what_was_acknowledged, an_image_stands_for_one_state,
     an_open_finds_what_stands_there, an_open_finds_what_was_acknowledged,
+    an_upgrade_keeps_the_state,
 };
 pub use opening::Unopened;
 pub use store::Store;
+pub use upgrade::Unupgraded;

@@ -1,10 +1,12 @@
 //! The loading of a device: its superblock, its objects, its journal, and the machine that they lead to.
 
-ghost use Rattle.std.specs.Prelude.{◌≡◌, ◌⊎◌, ◌<◌, ◌≤◌, ℕ, [], length, map, List, IfOk, IsErrOf};
+ghost use Rattle.std.specs.Prelude.{◌≡◌, ◌⊎◌, ◌<◌, ◌≤◌, ◌+◌, ◌-◌, ℕ, [], length, map, List, IfOk, IsErrOf};
 ghost use Rattle.ipc_base.specs.Limits.{ArePassed};
 ghost use Rattle.ipc_base.specs.Objects.{PlainObjects};
-ghost use Rattle.ipc_checkpoint.specs.Matches.{CheckpointMatches};
-ghost use Rattle.ipc_checkpoint.specs.View.{epoch_of as saved_epoch, layout_of as saved_layout, HasSpare};
+ghost use Rattle.ipc_checkpoint.specs.Checkpoint.{IsLaidOut};
+ghost use Rattle.ipc_checkpoint.specs.Matches.{CheckpointMatches, sectors_of};
+ghost use Rattle.ipc_checkpoint.specs.View.{epoch_of as saved_epoch, layout_of as saved_layout};
+ghost use Rattle.ipc_checkpoint.specs.View.{free_of, saved_root, HasSpare};
 ghost use Rattle.ipc_disk.specs.Calls.{IsSameDisk, CountsFaultIf, OnlyReads};
 ghost use Rattle.ipc_disk.specs.Medium.{IsHonest, IsDurable, Stays};
 ghost use Rattle.ipc_disk.specs.Range.{IsWithin};
@@ -12,43 +14,55 @@ ghost use Rattle.ipc_journal.specs.Journal.{header_epoch, header_used};
 ghost use Rattle.ipc_journal.specs.Matches.{JournalMatches};
 ghost use Rattle.ipc_journal.specs.View.{range_of, epoch_of, used_of};
 ghost use Rattle.ipc_state.specs.State.{State};
-ghost use Rattle.ipc_image.specs.Saved.{StandForState};
-ghost use Rattle.ipc_image.specs.Sizes.{need_of};
+ghost use Rattle.ipc_image.specs.Format.{objects_first, IsFormat};
+ghost use Rattle.ipc_image.specs.Saved.{StandForStateIn};
+ghost use Rattle.ipc_image.specs.Sizes.{need_in};
+ghost use Rattle.ipc_image.specs.Superblock.{AreOf};
+ghost use Rattle.ipc_image.specs.declared.format.Format.{Format as AnyForm};
 ghost use Rattle.ipc_engine.specs.Changes.{IsTracked};
 ghost use Rattle.ipc_engine.specs.Event.{PlainEvent};
 ghost use Rattle.ipc_store.specs.Batch.{most_bytes, batch_bytes};
-ghost use Rattle.ipc_store.specs.Image.{journal_range, layout_of, named_sectors, IsDevice, HasBase, LeadTo};
+ghost use Rattle.ipc_store.specs.Image.{journal_range, layout_in, named_sectors, IsDeviceIn, HasBaseIn, LeadToBy};
 ghost use Rattle.ipc_store.specs.Image.{IsNotFormatted, HasVersion, IsDamaged, IsFirstFault};
+ghost use Rattle.ipc_store.specs.Image.{HasVersionBut, IsDamagedIn, IsFirstFaultIn};
+ghost use Rattle.ipc_store.specs.Relations.Loading.{HasNoObjects, HasOthers};
 ghost use Rattle.ipc_store.specs.Relations.Matches.{AreOnDisk, MachineMatches};
 
 use crate::fault::OpenError;
-use crate::places::{JOURNAL_RANGE, layout_of};
+use crate::places::{JOURNAL_RANGE, layout_in};
 use crate::replay::replay;
-use ipc_checkpoint::Checkpoint;
+use ipc_base::Limits;
+use ipc_checkpoint::{Checkpoint, Layout};
 use ipc_disk::SectorDisk;
-use ipc_engine::Engine;
-use ipc_image::{SUPERBLOCK, Superblock, SuperblockFault, engine_of, read_superblock};
+use ipc_engine::{Engine, StateFault};
+use ipc_image::{
+    FORMAT, Format, SUPERBLOCK, Superblock, SuperblockFault, engine_of, read_superblock,
+};
 use ipc_journal::Journal;
 use std::alloc::Global;
 
 /// The fewest sectors that a superblock can be read of.
 const LEAST_SECTORS: u32 = 3;
 
-/// How many sectors a device has, and its limits.
-pub(crate) fn load_superblock<D: SectorDisk>(disk: &mut D) -> Result<Superblock, OpenError>
+/// How many sectors a device of this form has, and its limits.
+pub(crate) fn load_superblock<D: SectorDisk>(
+    form: Format,
+    disk: &mut D,
+) -> Result<Superblock, OpenError>
+    requires known { IsFormat form }
     ensures device { IfOk result (λ found. IsHonest (D.medium disk.old)
-        → IsDevice found.limits (D.medium disk.old).contents
+        → IsDeviceIn form found.limits (D.medium disk.old).contents
         × (found.sectors ≡ named_sectors (D.medium disk.old).contents)) }
-    ensures passed { IfOk result (λ found. ArePassed found.limits) }
-    ensures room { IfOk result (λ found. need_of found.limits ≤ found.sectors) }
+    ensures limits { IfOk result (λ found. AreOf form found.limits) }
+    ensures room { IfOk result (λ found. need_in form found.limits ≤ found.sectors) }
     ensures there { IfOk result (λ found. found.sectors ≤ D.size disk.old) }
     // Refusals.
     ensures not_formatted { IsErrOf result OpenError.NotFormatted → IsHonest (D.medium disk.old)
         → IsNotFormatted (D.medium disk.old).contents }
     ensures version { (found : ℕ) → IsErrOf result (OpenError.Version found) → IsHonest (D.medium disk.old)
-        → HasVersion found (D.medium disk.old).contents }
+        → HasVersionBut form found (D.medium disk.old).contents }
     ensures damaged { (sector : ℕ) → IsErrOf result (OpenError.Damaged sector) → IsHonest (D.medium disk.old)
-        → IsDamaged (D.medium disk.old).contents × IsFirstFault (D.medium disk.old).contents sector }
+        → IsDamagedIn form (D.medium disk.old).contents × IsFirstFaultIn form (D.medium disk.old).contents sector }
     ensures faults { IsErrOf result OpenError.NoMemory → ⊥ }
     // It only reads.
     ensures reads { OnlyReads D.size D.medium D.counts (IsErrOf result OpenError.Device) disk.old disk.new }
@@ -59,7 +73,7 @@ pub(crate) fn load_superblock<D: SectorDisk>(disk: &mut D) -> Result<Superblock,
     }
     let mut sector = [0; 512];
     disk.read(SUPERBLOCK, &mut sector)?;
-    match read_superblock(&sector, sectors) {
+    match read_superblock(form, &sector, sectors) {
         Ok(superblock) => Ok(superblock),
         Err(SuperblockFault::NotFormatted) => Err(OpenError::NotFormatted),
         Err(SuperblockFault::Version { found }) => Err(OpenError::Version { found }),
@@ -67,50 +81,88 @@ pub(crate) fn load_superblock<D: SectorDisk>(disk: &mut D) -> Result<Superblock,
     }
 }
 
-/// The objects of a device with this superblock: where they lie, and the machine that they stand for.
-fn load_base<D: SectorDisk>(
+/// The objects that lie there, of a device of this form: where each of them is, and the machine that they stand for.
+pub(crate) fn load_objects<D: SectorDisk>(
     alloc: Global,
     disk: &mut D,
-    superblock: Superblock,
+    form: Format,
+    limits: Limits,
+    layout: Layout,
 ) -> Result<(Checkpoint, Engine), OpenError>
-    requires passed { ArePassed superblock.limits }
-    requires room { need_of superblock.limits ≤ superblock.sectors }
-    requires there { superblock.sectors ≤ D.size disk.old }
-    ensures layout { IfOk result (λ found. saved_layout found.0
-        ≡ layout_of superblock.limits superblock.sectors) }
-    ensures limits { IfOk result (λ found. found.1.limits ≡ superblock.limits) }
+    requires known { IsFormat form }
+    requires passed { ArePassed limits }
+    requires laid_out { IsLaidOut layout (D.size disk.old) }
+    ensures layout { IfOk result (λ found. saved_layout found.0 ≡ layout) }
+    ensures root { IfOk result (λ found. saved_root found.0 ≡ layout.root) }
+    ensures limits { IfOk result (λ found. found.1.limits ≡ limits) }
     ensures changed { IfOk result (λ found. found.1.changed ≡ []) }
-    ensures spare { IfOk result (λ found. HasSpare found.0) }
-    ensures base { IfOk result (λ found. IsHonest (D.medium disk.old) → IsDurable (D.medium disk.old)
-        → (objects : PlainObjects) × StandForState superblock.limits found.1.state objects
-        × CheckpointMatches found.0 objects (D.medium disk.new)) }
-    // Refusals.
+    ensures base { IfOk result (λ found. (objects : PlainObjects)
+        × StandForStateIn form limits found.1.state objects
+        × (free_of found.0 + sectors_of objects ≡ layout.range.count)
+        × (IsHonest (D.medium disk.old) → IsDurable (D.medium disk.old)
+        → CheckpointMatches found.0 objects (D.medium disk.new))) }
+    // Refusals: there are none, or they stand for no state.
     ensures damaged { (sector : ℕ) → IsErrOf result (OpenError.Damaged sector) → IsHonest (D.medium disk.old)
-        → IsDevice superblock.limits (D.medium disk.old).contents
-        → superblock.sectors ≡ named_sectors (D.medium disk.old).contents
-        → ((epoch : ℕ) (base : State) → ¬ HasBase superblock.limits epoch base (D.medium disk.old).contents)
-        × IsFirstFault (D.medium disk.old).contents sector }
+        → HasNoObjects layout (D.medium disk.old).contents sector
+        ⊎ HasOthers form limits layout (D.medium disk.old).contents sector }
     ensures faults { (found : ℕ) → IsErrOf result OpenError.NotFormatted
         ⊎ IsErrOf result (OpenError.Version found) → ⊥ }
     // It only reads.
     ensures reads { OnlyReads D.size D.medium D.counts (IsErrOf result OpenError.Device) disk.old disk.new }
 {
-    let layout = layout_of(&superblock.limits, superblock.sectors);
     let (checkpoint, objects) = Checkpoint::load(alloc, disk, layout)?;
-    let engine = engine_of(alloc, &objects, superblock.limits)?;
-    Ok((checkpoint, engine))
+    match engine_of(alloc, &objects, limits, form) {
+        Ok(engine) => Ok((checkpoint, engine)),
+        Err(StateFault::NoMemory) => Err(OpenError::NoMemory),
+        Err(StateFault::Unsound) => Err(OpenError::Damaged { sector: form.root }),
+    }
+}
+
+/// The objects of a device of this form with this superblock.
+pub(crate) fn load_base<D: SectorDisk>(
+    alloc: Global,
+    disk: &mut D,
+    form: Format,
+    superblock: Superblock,
+) -> Result<(Checkpoint, Engine), OpenError>
+    requires known { IsFormat form }
+    requires passed { ArePassed superblock.limits }
+    requires room { need_in form superblock.limits ≤ superblock.sectors }
+    requires there { superblock.sectors ≤ D.size disk.old }
+    ensures layout { IfOk result (λ found. saved_layout found.0
+        ≡ layout_in form superblock.limits superblock.sectors) }
+    ensures limits { IfOk result (λ found. found.1.limits ≡ superblock.limits) }
+    ensures changed { IfOk result (λ found. found.1.changed ≡ []) }
+    ensures base { IfOk result (λ found. (objects : PlainObjects)
+        × StandForStateIn form superblock.limits found.1.state objects
+        × (free_of found.0 + sectors_of objects ≡ superblock.sectors - objects_first)
+        × (IsHonest (D.medium disk.old) → IsDurable (D.medium disk.old)
+        → CheckpointMatches found.0 objects (D.medium disk.new))) }
+    // Refusals.
+    ensures damaged { (sector : ℕ) → IsErrOf result (OpenError.Damaged sector) → IsHonest (D.medium disk.old)
+        → IsDeviceIn form superblock.limits (D.medium disk.old).contents
+        → superblock.sectors ≡ named_sectors (D.medium disk.old).contents
+        → ((epoch : ℕ) (base : State) → ¬ HasBaseIn form superblock.limits epoch base (D.medium disk.old).contents)
+        × IsFirstFaultIn form (D.medium disk.old).contents sector }
+    ensures faults { (found : ℕ) → IsErrOf result OpenError.NotFormatted
+        ⊎ IsErrOf result (OpenError.Version found) → ⊥ }
+    // It only reads.
+    ensures reads { OnlyReads D.size D.medium D.counts (IsErrOf result OpenError.Device) disk.old disk.new }
+{
+    let layout = layout_in(form, &superblock.limits, superblock.sectors);
+    load_objects(alloc, disk, form, superblock.limits, layout)
 }
 
 /// The journal of a device at the epoch of its objects. The machine that these stand for goes through its events. Each
-/// batch is read into `room`.
-fn load_journal<D: SectorDisk>(
+/// batch is read into `room`, and has at most so many bytes.
+pub(crate) fn load_journal<D: SectorDisk>(
     disk: &mut D,
     checkpoint: &Checkpoint,
     engine: &mut Engine,
     room: &mut [u8],
 ) -> Result<Journal, OpenError>
     requires within { IsWithin journal_range (D.size disk.old) }
-    requires room { length room.old ≡ most_bytes }
+    requires room { length room.old ≤ most_bytes }
     ensures range { IfOk result (λ journal. range_of journal ≡ journal_range) }
     ensures epoch { IfOk result (λ journal. epoch_of journal ≡ saved_epoch checkpoint.now) }
     ensures limits { engine.new.limits ≡ engine.old.limits }
@@ -118,16 +170,17 @@ fn load_journal<D: SectorDisk>(
         → IsTracked engine.new.changed base engine.new.state }
     ensures leads { IfOk result (λ journal. IsHonest (D.medium disk.old) → IsDurable (D.medium disk.old)
         → (batches : List (List PlainEvent)) × JournalMatches journal (map batch_bytes batches) (D.medium disk.new)
-        × LeadTo engine.old.limits engine.old.state batches engine.new.state) }
+        × LeadToBy (length room.old) engine.old.limits engine.old.state batches engine.new.state) }
     ensures used { IfOk result (λ journal. IsHonest (D.medium disk.old) → 0 < used_of journal
         → used_of journal ≡ header_used journal_range (D.medium disk.old).contents) }
     ensures current { IfOk result (λ journal. IsHonest (D.medium disk.old) → 0 < used_of journal
         → header_epoch journal_range (D.medium disk.old).contents ≡ epoch_of journal) }
-    ensures room { length room.new ≡ most_bytes }
+    ensures room { length room.new ≡ length room.old }
     // Refusals.
-    ensures damaged { (sector : ℕ) → IsErrOf result (OpenError.Damaged sector) → IsHonest (D.medium disk.old)
-        → HasBase engine.old.limits (saved_epoch checkpoint.now) engine.old.state (D.medium disk.old).contents
-        → IsDamaged (D.medium disk.old).contents × IsFirstFault (D.medium disk.old).contents sector }
+    ensures damaged { (form : AnyForm) (sector : ℕ) → IsFormat form → form.batch ≡ length room.old
+        → IsErrOf result (OpenError.Damaged sector) → IsHonest (D.medium disk.old)
+        → HasBaseIn form engine.old.limits (saved_epoch checkpoint.now) engine.old.state (D.medium disk.old).contents
+        → IsDamagedIn form (D.medium disk.old).contents × IsFirstFaultIn form (D.medium disk.old).contents sector }
     ensures faults { (found : ℕ) → IsErrOf result OpenError.NotFormatted
         ⊎ IsErrOf result (OpenError.Version found) → ⊥ }
     // It only reads.
@@ -169,8 +222,8 @@ pub(crate) fn load<D: SectorDisk>(
     ensures no_write { (D.counts disk.new).writes ≡ (D.counts disk.old).writes }
 {
     disk.sync()?;
-    let superblock = load_superblock(disk)?;
-    let (checkpoint, mut engine) = load_base(alloc, disk, superblock)?;
+    let superblock = load_superblock(FORMAT, disk)?;
+    let (checkpoint, mut engine) = load_base(alloc, disk, FORMAT, superblock)?;
     let journal = load_journal(disk, &checkpoint, &mut engine, room)?;
     Ok((checkpoint, journal, engine))
 }

@@ -12,7 +12,6 @@ ghost use Rattle.ipc_journal.specs.Journal.{header_epoch, header_used};
 ghost use Rattle.ipc_journal.specs.View.{range_of, epoch_of, used_of};
 ghost use Rattle.ipc_state.specs.State.{State, restart};
 ghost use Rattle.ipc_image.specs.Format.{format};
-ghost use Rattle.ipc_store.specs.Batch.{most_bytes};
 ghost use Rattle.ipc_store.specs.Image.{
   journal_range,
   StandsFor,
@@ -164,7 +163,7 @@ fn read_device<D: SectorDisk>(
     ensures counts { CountsFaultIf D.counts (result ≡ Err OpenError.Device) disk.old disk.new }
     ensures no_write { (D.counts disk.new).writes ≡ (D.counts disk.old).writes }
 {
-    let mut room = match room_for_a_batch(alloc) {
+    let mut room = match room_for(alloc, MOST_BYTES) {
         Ok(room) => room,
         Err(AllocError) => return Err(OpenError::NoMemory),
     };
@@ -174,11 +173,11 @@ fn read_device<D: SectorDisk>(
     }
 }
 
-// The memory of a batch.
-fn room_for_a_batch(alloc: Global) -> Result<Vec<u8>, AllocError>
-    ensures { IfOk result (λ room. length room.items ≡ most_bytes) }
+/// The memory of a batch of at most so many bytes.
+pub(crate) fn room_for(alloc: Global, bytes: usize) -> Result<Vec<u8>, AllocError>
+    ensures { IfOk result (λ room. length room.items ≡ bytes) }
 {
     let mut room = Vec::new(alloc);
-    room.resize(MOST_BYTES, 0)?;
+    room.resize(bytes, 0)?;
     Ok(room)
 }

@@ -2,13 +2,13 @@
 
 ghost use Rattle.std.specs.Prelude.{◌≡◌, ◌≤◌};
 ghost use Rattle.ipc_base.specs.Limits.{ArePassed};
-ghost use Rattle.ipc_image.specs.Format.{objects_first};
-ghost use Rattle.ipc_store.specs.Image.{layout_of};
+ghost use Rattle.ipc_image.specs.Format.{objects_first, IsFormat};
+ghost use Rattle.ipc_store.specs.Image.{layout_in};
 
 use ipc_base::Limits;
 use ipc_checkpoint::Layout;
 use ipc_disk::Range;
-use ipc_image::{FORMAT, JOURNAL, JOURNAL_COUNT, OBJECTS, area};
+use ipc_image::{Format, JOURNAL, JOURNAL_COUNT, OBJECTS, area};
 
 /// The sectors of the journal.
 pub(crate) const JOURNAL_RANGE: Range = Range {
@@ -20,10 +20,11 @@ pub(crate) const JOURNAL_RANGE: Range = Range {
 pub(crate) const FIRST_EPOCH: u64 = 1;
 
 /// Where the objects of a device of so many sectors lie.
-pub(crate) fn layout_of(limits: &Limits, sectors: u32) -> Layout
+pub(crate) fn layout_in(form: Format, limits: &Limits, sectors: u32) -> Layout
+    requires known { IsFormat form }
     requires passed { ArePassed limits.now }
     requires least { objects_first ≤ sectors }
-    ensures exact { result ≡ layout_of limits.now sectors }
+    ensures exact { result ≡ layout_in form limits.now sectors }
     ensures bounded { result.area ≤ 126090 }
 {
     Layout {
@@ -31,7 +32,7 @@ pub(crate) fn layout_of(limits: &Limits, sectors: u32) -> Layout
             first: OBJECTS,
             count: sectors - OBJECTS,
         },
-        root: FORMAT.root,
-        area: area(limits),
+        root: form.root,
+        area: area(form, limits),
     }
 }

@@ -1,6 +1,6 @@
 //! The replay of a journal: a machine goes through the events of its batches.
 
-ghost use Rattle.std.specs.Prelude.{◌≡◌, ◌⊎◌, ℕ, true, List, length, OnOk};
+ghost use Rattle.std.specs.Prelude.{◌≡◌, ◌⊎◌, ◌≤◌, ℕ, true, List, length, OnOk};
 ghost use Rattle.std.specs.Prelude.{IfOk, IsErrOf, Err};
 ghost use Rattle.ipc_disk.specs.Calls.{OnlyReads};
 ghost use Rattle.ipc_disk.specs.Medium.{IsHonest};
@@ -19,7 +19,8 @@ use ipc_image::read_event;
 use ipc_journal::{Journal, Place};
 use std::alloc::AllocError;
 
-/// Leads a machine through the events of a journal. Each of its batches is read into `room`.
+/// Leads a machine through the events of a journal. Each of its batches is read into `room`, and has at most so many
+/// bytes.
 pub(crate) fn replay<D: SectorDisk>(
     disk: &mut D,
     journal: &Journal,
@@ -27,26 +28,28 @@ pub(crate) fn replay<D: SectorDisk>(
     room: &mut [u8],
 ) -> Result<(), OpenError>
     requires within { IsWithin (range_of journal.now) (D.size disk.old) }
-    requires room { length room.old ≡ most_bytes }
+    requires room { length room.old ≤ most_bytes }
     // The batches lead to the state of the machine.
     ensures limits { engine.new.limits ≡ engine.old.limits }
     ensures tracked { (base : State) → IsTracked engine.old.changed base engine.old.state
         → IsTracked engine.new.changed base engine.new.state }
     ensures replays { OnOk result (IsHonest (D.medium disk.old) → (batches : List (List PlainEvent))
-        × Replays engine.old.limits engine.old.state journal.now (D.medium disk.old).contents batches
-        engine.new.state) }
+        × Replays (length room.old) engine.old.limits engine.old.state journal.now (D.medium disk.old).contents
+        batches engine.new.state) }
     // Some bytes are no such batches; the fault is in the first batch that goes wrong.
     ensures damaged { (sector : ℕ) (batches : List (List PlainEvent)) (s : State)
         → IsErrOf result (OpenError.Damaged sector) → IsHonest (D.medium disk.old)
-        → ¬ Replays engine.old.limits engine.old.state journal.now (D.medium disk.old).contents batches s }
+        → ¬ Replays (length room.old) engine.old.limits engine.old.state journal.now (D.medium disk.old).contents
+        batches s }
     ensures named { (sector : ℕ) → IsErrOf result (OpenError.Damaged sector)
         → IsHonest (D.medium disk.old)
-        → IsGoodUpTo engine.old.limits engine.old.state journal.now (D.medium disk.old).contents sector }
+        → IsGoodUpTo (length room.old) engine.old.limits engine.old.state journal.now (D.medium disk.old).contents
+        sector }
     ensures faults { (sector : ℕ)
         → IsErrOf result OpenError.NotFormatted ⊎ IsErrOf result (OpenError.Version sector) → ⊥ }
     // It only reads.
     ensures reads { OnlyReads D.size D.medium D.counts (IsErrOf result OpenError.Device) disk.old disk.new }
-    ensures room { length room.new ≡ most_bytes }
+    ensures room { length room.new ≡ length room.old }
 {
     let mut place = Place { sector: 0 };
     loop {

@@ -5,6 +5,8 @@ use Rattle.ipc_store.specs.declared.fault.FormatError.{FormatError}
 use Rattle.ipc_store.specs.declared.fault.FormatError.TheVariants as format
 use Rattle.ipc_store.specs.declared.fault.OpenError.{OpenError}
 use Rattle.ipc_store.specs.declared.fault.OpenError.TheVariants as opening
+use Rattle.ipc_store.specs.declared.fault.UpgradeError.{UpgradeError}
+use Rattle.ipc_store.specs.declared.fault.UpgradeError.TheVariants as upgrade
 use Rattle.ipc_script.specs.declared.fault.ScriptFault.TheVariants.{NoMemory, Input, Output, Device}
 use Rattle.ipc_script.specs.declared.fault.ScriptFault.TheVariants.{NotFormatted, Version, Damaged}
 use Rattle.ipc_script.specs.declared.fault.ScriptFault.TheVariants.{TooLong, BadLine, InUse, Unknown}
@@ -16,13 +18,14 @@ use Rattle.ipc_server.specs.declared.fault.ServerError.TheVariants as server
 use Rattle.ipc_server.specs.declared.fault.ServeFault.{ServeFault}
 use Rattle.ipc_server.specs.declared.fault.ServeFault.TheVariants as serving
 use Rattle.ipcd.specs.declared.ending.Fault.{Fault}
-use Rattle.ipcd.specs.declared.ending.Fault.TheVariants.{Run, TooSmall, Socket}
+use Rattle.ipcd.specs.declared.ending.Fault.TheVariants.{Run, TooSmall, BadLimits, Socket}
 
 -- ---- the status and the text
 
--- 1 if the world failed or a device is too small, 2 if the script is wrong
+-- 1 if the world failed or a device is not fit for the command, 2 if the script is wrong
 abbrev pub fault_status : Fault → ℕ
 fault_status (TooSmall need) = 1
+fault_status (BadLimits field) = 1
 fault_status Socket = 1
 fault_status (Run NoMemory) = 1
 fault_status (Run Input) = 1
@@ -45,6 +48,7 @@ exit_status (Err fault) = fault_status fault
 abbrev pub text_of : Fault → List ℕ
 text_of (Run fault) = fault_text fault
 text_of Socket = codes "socket fault"
+text_of (BadLimits field) = codes "bad limits " ++ decimal field
 text_of (TooSmall need) = codes "too small, " ++ decimal need ++ codes " sectors needed"
 
 -- the program's name, and the text
@@ -69,6 +73,16 @@ abbrev pub of_format_error : FormatError → Fault
 of_format_error (format.TooSmall need) = TooSmall need
 of_format_error (format.BadLimits limit) = device_fault
 of_format_error format.Device = device_fault
+
+-- of one that was not upgraded
+abbrev pub of_upgrade_error : UpgradeError → Fault
+of_upgrade_error (upgrade.BadLimits limit) = BadLimits limit.field
+of_upgrade_error upgrade.NotFormatted = Run NotFormatted
+of_upgrade_error (upgrade.Version found) = Run (Version found)
+of_upgrade_error (upgrade.Damaged sector) = Run (Damaged sector)
+of_upgrade_error (upgrade.TooSmall need) = TooSmall need
+of_upgrade_error upgrade.Device = device_fault
+of_upgrade_error upgrade.NoMemory = Run NoMemory
 
 -- of a listing that broke off
 abbrev pub of_dump_error : DumpError → Fault

@@ -1,29 +1,35 @@
 //! The device of a run, in memory or in a file.
 
-ghost use Rattle.std.specs.Prelude.{◌≡◌, ◌⊎◌, ℕ, Ok, Err, IfOk, IfErr};
+ghost use Rattle.std.specs.Prelude.{◌≡◌, ◌⊎◌, ◌<◌, ◌≤◌, ℕ, not, Ok, Err, IfOk, IfErr, Some, IfSome, position};
 ghost use Rattle.ipc_base.specs.declared.limits.Limits.{Limits};
 ghost use Rattle.ipc_base.specs.Limits.{ArePassed};
+ghost use Rattle.ipc_disk.specs.File.{file_size};
+ghost use Rattle.ipc_disk.specs.Joined.{disk_under};
 ghost use Rattle.ipc_disk.specs.Medium.{IsHonest};
 ghost use Rattle.ipc_disk.specs.Memory.{memory_medium};
-ghost use Rattle.ipc_image.specs.Format.{format};
+ghost use Rattle.ipc_image.specs.Format.{format, format_one};
+ghost use Rattle.ipc_image.specs.Greater.{at_least};
 ghost use Rattle.ipc_image.specs.Sizes.{need_of};
 ghost use Rattle.ipc_state.specs.State.{start};
 ghost use Rattle.ipc_store.specs.Histories.{Keeps, OpensOn, Past, new_past, reopened};
 ghost use Rattle.ipc_store.specs.Image.{IsNotFormatted, HasVersion, IsDamaged};
 ghost use Rattle.ipc_store.specs.Image.{IsFirstFault, IsAtEnd};
+ghost use Rattle.ipc_store.specs.Image.{HasVersionBut, IsDamagedIn, IsDeviceIn, IsFirstFaultIn};
 ghost use Rattle.ipc_store.specs.Lives.{StandsAfter};
+ghost use Rattle.ipc_store.specs.Upgrade.{HasNoNextEpoch, IsUpgraded};
 ghost use Rattle.ipc_script.specs.declared.fault.ScriptFault.TheVariants.{NotFormatted};
 ghost use Rattle.ipc_script.specs.declared.fault.ScriptFault.TheVariants.{Version, Damaged};
 ghost use Rattle.ipc_store.specs.declared.fault.OpenError.{OpenError};
-ghost use Rattle.ipcd.specs.Ending.{device_fault, of_open_error};
-ghost use Rattle.ipcd.specs.declared.ending.Fault.TheVariants.{Run};
+ghost use Rattle.ipc_store.specs.declared.fault.UpgradeError.{UpgradeError};
+ghost use Rattle.ipcd.specs.Ending.{device_fault, of_open_error, of_upgrade_error};
+ghost use Rattle.ipcd.specs.declared.ending.Fault.TheVariants.{Run, TooSmall, BadLimits};
 ghost use Rattle.ipcd.specs.Device.{sectors_given};
 
 use crate::ending::Fault;
 use crate::meter::Meter;
 use ipc_base::Limits;
-use ipc_disk::{FileDisk, MemoryDisk, SectorDisk};
-use ipc_image::need;
+use ipc_disk::{DiskFault, FileDisk, MemoryDisk, SectorDisk};
+use ipc_image::{FORMAT, need};
 use ipc_script::ScriptFault;
 use ipc_store::{Store, an_open_finds_what_stands_there};
 use std::alloc::Global;
@@ -43,7 +49,7 @@ pub fn new_store(alloc: Global, limits: &Limits) -> Result<Store<MemoryDisk>, Fa
         (reopened (new_past limits.now))) }
     ensures named { IfErr result (λ fault. (error : OpenError) × (fault ≡ of_open_error error)) }
 {
-    let Ok(mut memory) = MemoryDisk::new(alloc, need(limits)) else {
+    let Ok(mut memory) = MemoryDisk::new(alloc, need(FORMAT, limits)) else {
         return Err(Fault::Run(ScriptFault::NoMemory));
     };
     Store::format(&mut memory, limits)?;
@@ -104,12 +110,80 @@ fn sectors_for(limits: &Limits, asked: Option<u32>) -> Result<u32, Fault>
     requires { ArePassed limits.now }
     ensures { result ≡ sectors_given (need_of limits.now) asked }
 {
-    let need = need(limits);
+    let need = need(FORMAT, limits);
     match asked {
         None => Ok(need),
         Some(sectors) if sectors < need => Err(Fault::TooSmall { need }),
         Some(sectors) => Ok(sectors),
     }
+}
+
+/// Brings the device in a file from version 1 to the version of today, under these limits, and answers how
+/// many sectors the file has. If it has fewer than are asked for it grows first, whatever stands there; how
+/// far it is then, is said on `errors` if that is a terminal.
+pub fn upgrade_file<R: Files<File = File> + AllocGlobal, E: Eprint + IsTerminal>(
+    rt: &R,
+    errors: &E,
+    path: &str,
+    limits: &Limits,
+    asked: Option<u32>,
+) -> Result<u32, Fault>
+    requires { ArePassed limits.now }
+    ensures ok { IfOk result (λ sectors. IfSome asked (λ least. least ≤ sectors)) }
+    ensures named { IfErr result (λ fault. (error : UpgradeError) × (fault ≡ of_upgrade_error error)) }
+{
+    let opened = match asked {
+        Some(sectors) => grow_file(rt, errors, path, sectors),
+        None => FileDisk::open(rt, path),
+    };
+    let disk = opened?;
+    let sectors = disk.sectors();
+    upgrade_disk(rt.alloc(), disk, limits)?;
+    Ok(sectors)
+}
+
+/// Brings the device of a disk from version 1 to the version of today, under these limits.
+fn upgrade_disk<D: SectorDisk + Drop>(alloc: Global, disk: D, limits: &Limits) -> Result<D, Fault>
+    requires { ArePassed limits.now }
+    // It stands for the state for which the disk stood, after a restart.
+    ensures ok { IfOk result (λ made. IsHonest (D.medium disk)
+        → IsUpgraded limits.now (D.medium disk) (D.medium made)) }
+    ensures size { IfOk result (λ made. D.size made ≡ D.size disk) }
+    ensures named { IfErr result (λ fault. (error : UpgradeError) × (fault ≡ of_upgrade_error error)) }
+    ensures not_formatted { IfErr result (λ fault. fault ≡ Run NotFormatted → IsHonest (D.medium disk)
+        → IsNotFormatted (D.medium disk).contents) }
+    ensures version { IfErr result (λ fault. (found : ℕ) → fault ≡ Run (Version found)
+        → IsHonest (D.medium disk) → HasVersionBut format_one found (D.medium disk).contents) }
+    ensures below { IfErr result (λ fault. (field : ℕ) → fault ≡ BadLimits field → IsHonest (D.medium disk)
+        → (own : Limits) × IsDeviceIn format_one own (D.medium disk).contents
+        × (position not (at_least limits.now own) ≡ Some field)) }
+    ensures small { IfErr result (λ fault. (need : ℕ) → fault ≡ TooSmall need
+        → (need ≡ need_of limits.now) × (D.size disk < need)) }
+    ensures damaged { IfErr result (λ fault. (sector : ℕ) → fault ≡ Run (Damaged sector)
+        → IsHonest (D.medium disk)
+        → (IsDamagedIn format_one (D.medium disk).contents
+        × IsFirstFaultIn format_one (D.medium disk).contents sector)
+        ⊎ (HasNoNextEpoch (D.medium disk).contents × (sector ≡ format_one.root))) }
+{
+    match Store::upgrade(alloc, disk, limits) {
+        Ok(made) => Ok(made),
+        Err(unupgraded) => Err(Fault::from(unupgraded.error)),
+    }
+}
+
+/// The disk in a file, which grows if it has fewer sectors.
+fn grow_file<R: Files<File = File> + AllocGlobal, E: Eprint + IsTerminal>(
+    rt: &R,
+    errors: &E,
+    path: &str,
+    sectors: u32,
+) -> Result<FileDisk, DiskFault>
+    ensures { IfOk result (λ disk. sectors ≤ file_size (disk_under disk)) }
+{
+    let mut meter = Meter::new(errors, sectors);
+    let grown = FileDisk::grow_with(rt, path, sectors, &mut meter);
+    meter.end();
+    grown
 }
 
 /// The store of the device in a file.

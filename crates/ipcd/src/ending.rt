@@ -2,13 +2,15 @@
 
 ghost use Rattle.std.specs.Prelude.{◌≡◌, Some};
 ghost use Rattle.ipcd.specs.Ending.{exit_status, complaint_text, of_open_error, of_format_error};
+ghost use Rattle.ipcd.specs.Ending.{of_upgrade_error};
 ghost use Rattle.ipcd.specs.Ending.{of_dump_error, of_server_error, of_serve_fault, device_fault};
 ghost use Rattle.ipcd.specs.declared.ending.Fault.TheVariants.{Run};
 
+use ipc_base::BadLimits;
 use ipc_disk::DiskFault;
 use ipc_script::{DumpError, ScriptFault};
 use ipc_server::{ServeFault, ServerError};
-use ipc_store::{FormatError, OpenError};
+use ipc_store::{FormatError, OpenError, UpgradeError};
 use std::fmt;
 
 /// Why a command did not do all that it was asked for. Its `Display` is what standard error says: the
@@ -19,12 +21,14 @@ pub enum Fault {
     Run(ScriptFault),
     /// A device is to have at least so many sectors.
     TooSmall { need: u32 },
+    /// The limits fail at a field, counted from 0, or a device has more there already.
+    BadLimits { field: u32 },
     /// The socket cannot be made, or cannot be waited for.
     Socket,
 }
 
-/// The exit status: 0 without a fault, 1 if the world failed or the device is too small, 2 if the
-/// script is wrong.
+/// The exit status: 0 without a fault, 1 if the world failed or the device is not fit for the command, 2
+/// if the script is wrong.
 pub fn exit_of(outcome: &Result<(), Fault>) -> u8
     ensures { result ≡ exit_status outcome.now }
 {
@@ -32,6 +36,7 @@ pub fn exit_of(outcome: &Result<(), Fault>) -> u8
         Ok(()) => 0,
         Err(
             Fault::TooSmall { .. }
+            | Fault::BadLimits { .. }
             | Fault::Socket
             | Fault::Run(
                 ScriptFault::NoMemory
@@ -61,6 +66,7 @@ impl fmt::Display for Fault {
         match self {
             Fault::Run(fault) => write!(f, "ipcd: {fault}"),
             Fault::TooSmall { need } => write!(f, "ipcd: too small, {need} sectors needed"),
+            Fault::BadLimits { field } => write!(f, "ipcd: bad limits {field}"),
             Fault::Socket => write!(f, "ipcd: socket fault"),
         }
     }
@@ -125,6 +131,22 @@ impl From<FormatError> for Fault {
         match error {
             FormatError::TooSmall { need } => Fault::TooSmall { need },
             FormatError::Device | FormatError::BadLimits(_) => Fault::Run(ScriptFault::Device),
+        }
+    }
+}
+
+impl From<UpgradeError> for Fault {
+    ghost from_gives = { λ error e. e ≡ of_upgrade_error error };
+
+    fn from(error: UpgradeError) -> Self {
+        match error {
+            UpgradeError::BadLimits(BadLimits { field }) => Fault::BadLimits { field },
+            UpgradeError::NotFormatted => Fault::Run(ScriptFault::NotFormatted),
+            UpgradeError::Version { found } => Fault::Run(ScriptFault::Version(found)),
+            UpgradeError::Damaged { sector } => Fault::Run(ScriptFault::Damaged(sector)),
+            UpgradeError::TooSmall { need } => Fault::TooSmall { need },
+            UpgradeError::Device => Fault::Run(ScriptFault::Device),
+            UpgradeError::NoMemory => Fault::Run(ScriptFault::NoMemory),
         }
     }
 }

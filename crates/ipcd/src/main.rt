@@ -1,5 +1,5 @@
 //! `ipcd`, the program: it runs scripts of connections on a server whose device is in memory or in a
-//! file, it makes and lists such files, and it serves them to the clients of a socket.
+//! file, it makes, upgrades and lists such files, and it serves them to the clients of a socket.
 #![tactic(auto)]
 
 mod device;
@@ -7,7 +7,7 @@ mod ending;
 mod meter;
 mod serve;
 
-use device::{format_file, new_store, open_file};
+use device::{format_file, new_store, open_file, upgrade_file};
 use ending::{Fault, exit_of};
 use ipc_command::{Refusal, Request, limits_of, request_of};
 use ipc_disk::SectorDisk;
@@ -72,6 +72,11 @@ fn answer(
             small,
             sectors,
         } => format(rt, errors, device, *small, *sectors),
+        Request::Upgrade {
+            device,
+            small,
+            sectors,
+        } => upgrade(rt, errors, device, *small, *sectors),
         Request::Serve {
             device,
             socket,
@@ -125,7 +130,24 @@ fn format(
     sectors: Option<u32>,
 ) -> Result<(), Fault> {
     let made = format_file(rt, errors, device, &limits_of(small), sectors)?;
-    if println!(rt; "formatted {made} sectors").is_err() {
+    say_made(rt, "formatted", made)
+}
+
+/// Brings a device in a file to the version of today, and says of how many sectors it is.
+fn upgrade(
+    rt: &(impl Print + AllocGlobal + Files<File = File>),
+    errors: &(impl Eprint + IsTerminal),
+    device: &str,
+    small: bool,
+    sectors: Option<u32>,
+) -> Result<(), Fault> {
+    let made = upgrade_file(rt, errors, device, &limits_of(small), sectors)?;
+    say_made(rt, "upgraded", made)
+}
+
+/// Says what was done with a device of so many sectors.
+fn say_made(rt: &impl Print, what: &str, sectors: u32) -> Result<(), Fault> {
+    if println!(rt; "{what} {sectors} sectors").is_err() {
         return Err(Fault::Run(ScriptFault::Output));
     }
     Ok(())

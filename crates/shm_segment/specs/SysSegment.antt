@@ -1,6 +1,6 @@
 -- System V shared memory segments, after shmop(2) and shmctl(2). A segment is a list of bytes, as long as it was made.
--- It has three moments, 0 for never: who attached it last and who detached it last, when, and when it was made or changed
--- by shmctl(2). One that is marked is destroyed when nobody has it attached.
+-- It has three moments, 0 for never: when it was attached last, when it was detached last, and when it was made or
+-- changed by shmctl(2). One that is marked is destroyed when nobody has it attached.
 use Rattle.std.specs.Prelude.{ℕ, Bool, true, false, List, length, replicate}
 use Rattle.ipc_base.specs.declared.identity.Pid.{Pid}
 use Rattle.shm_segment.specs.Segment.{Segment, is_within, part as part_of, written as written_to}

@@ -3,7 +3,7 @@
 use crate::fault::Fault;
 use ipc_base::Limits;
 use ipc_disk::{MemoryDisk, SectorDisk};
-use ipc_image::need;
+use ipc_image::{FORMAT, need};
 use ipc_script::run_script;
 use ipc_store::Store;
 use std::alloc::Global;
@@ -47,7 +47,7 @@ pub(crate) fn new_device(alloc: Global, limits: &Limits) -> Result<MemoryDisk, F
     if limits.check().is_err() {
         return Err(Fault::Unready);
     }
-    let mut disk = MemoryDisk::new(alloc, need(limits))?;
+    let mut disk = MemoryDisk::new(alloc, need(FORMAT, limits))?;
     Store::format(&mut disk, limits)?;
     Ok(disk)
 }

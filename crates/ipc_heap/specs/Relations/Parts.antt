@@ -11,7 +11,7 @@ use Rattle.ipc_heap.specs.Relations.Opening.{AreNoted}
 pub record HaveRoom (range : Range) (len : ℕ) (parts : Parts) : Type 0 where
   pub no_words : parts.words.items ≡ []
   pub no_table : parts.table.items ≡ []
-  pub none_noted : AreNoted range [] [] parts.uses.items
+  pub none_noted : AreNoted range [] [] parts.uses
   pub words : 5 * range.count + 5 ≤ vec_capacity parts.words
   pub words_there : len / 4 ≤ vec_capacity parts.words
   pub table : table_sectors_for (5 * range.count + 5) ≤ vec_capacity parts.table

@@ -2,11 +2,16 @@
 use Rattle.std.specs.Prelude.{◌≡◌, ◌⊎◌, ◌↔◌, ℕ, ◌+◌, ◌-◌, ◌<◌, ◌≤◌, Bool, true, false, List, Some, length, map}
 use Rattle.std.specs.Prelude.{slice_get, slice_set, slice_index_or}
 use Rattle.std.specs.Prelude.{All, Contains, count_by, nat_eq}
-use Rattle.std.specs.List.{IsDistinct}
+use Rattle.std.specs.List.{AllWithin, IsDistinct}
 use Rattle.ipc_disk.specs.declared.range.Range.{Range}
 use Rattle.ipc_disk.specs.Range.{IsOutside}
 use Rattle.ipc_heap.specs.declared.uses.Use.{Use}
 use Rattle.ipc_heap.specs.View.{is_free}
+
+-- from a place on nothing uses a sector
+pub record HasTop (uses : List Use) (top : ℕ) : Type 0 where
+  pub within : top ≤ length uses
+  pub unused : AllWithin (λ u. is_free u ≡ true) uses top (length uses)
 
 -- a sector that was free is taken for what will be saved next
 pub record IsTaken (old : List Use) (i : ℕ) (new : List Use) : Type 0 where

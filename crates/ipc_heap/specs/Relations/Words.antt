@@ -69,15 +69,15 @@ pub record IsPutIn (table : List ℕ) (number : ℕ) (object : List ℕ) (first 
 
 -- What holds of every heap: its words are the table of objects, which can be told apart and read, their sectors and no
 -- others are noted as those of the map, and there is room for all words of any objects in the range.
-pub record IsHeap (range : Range) (words table : Vec ℕ) (uses : Vec Use) : Type 0 where
+pub record IsHeap (range : Range) (words table : Vec ℕ) (uses : List Use) : Type 0 where
   pub is_table : words.items ≡ table_words (placed_in words.items)
   pub numbers : IsRising 0 (map (λ p. p.number) (placed_in words.items)) (2 ^ 64)
   pub sizes : All (λ p. (0 < p.len) × (p.len < 2 ^ 64) × (length p.sectors ≡ sectors_for p.len)) (placed_in words.items)
   pub inside : All (IsInside range) (object_sectors (placed_in words.items))
   pub once : IsDistinct nat_eq (object_sectors (placed_in words.items))
   pub table_within : All (IsInside range) table.items
-  pub all_uses : length uses.items ≡ range.count
-  pub next_uses : (i : ℕ) (u : Use) → slice_get uses.items i ≡ Some u
+  pub all_uses : length uses ≡ range.count
+  pub next_uses : (i : ℕ) (u : Use) → slice_get uses i ≡ Some u
       → IsTrue u.next ↔ Contains (object_sectors (placed_in words.items)) (range.first + i)
   pub room : 5 * range.count + 5 ≤ vec_capacity words
   pub table_room : table_sectors_for (5 * range.count + 5) ≤ vec_capacity table

@@ -10,7 +10,7 @@ use Rattle.ipc_engine.specs.Event.{PlainEvent}
 use Rattle.ipc_engine.specs.Step.{run}
 use Rattle.ipc_image.specs.Records.{HasRecord}
 use Rattle.ipc_store.specs.Batch.{records_of, batch_bytes}
-use Rattle.ipc_store.specs.Image.{AreFor, LeadTo, HasNoBatchAt}
+use Rattle.ipc_store.specs.Image.{AreFor, LeadToBy, HasNoBatchOfAt}
 
 -- the bytes are the records of these events, which lead from one state to another
 pub record AreRecords (limits : Limits) (from : State) (bytes : List ℕ) (events : List PlainEvent)
@@ -20,11 +20,11 @@ pub record AreRecords (limits : Limits) (from : State) (bytes : List ℕ) (event
   pub named : AreFor limits from events
   pub state : to ≡ (run limits from events).state
 
--- the batches that the journal uses are these, and they lead from one state to another
-pub record Replays (limits : Limits) (from : State) (journal : Journal) (image : Image)
+-- the batches that the journal uses are these, each of at most so many bytes, and they lead from one state to another
+pub record Replays (most : ℕ) (limits : Limits) (from : State) (journal : Journal) (image : Image)
     (batches : List (List PlainEvent)) (s : State) : Type 0 where
   pub filled : Fill (range_of journal) 0 (used_of journal) (map batch_bytes batches) image
-  pub leads : LeadTo limits from batches s
+  pub leads : LeadToBy most limits from batches s
 
 -- the journal is the one whose header stands in the image
 pub record IsOpened (journal : Journal) (image : Image) : Type 0 where
@@ -34,11 +34,13 @@ pub record IsOpened (journal : Journal) (image : Image) : Type 0 where
   pub not_newer : header_epoch (range_of journal) image ≤ epoch_of journal
 
 -- the batches before this sector are good ones, and none follows there
-pub record IsGoodUpTo (limits : Limits) (from : State) (journal : Journal) (image : Image) (sector : ℕ) : Type 0 where
+pub record IsGoodUpTo (most : ℕ) (limits : Limits) (from : State) (journal : Journal) (image : Image) (sector : ℕ)
+    : Type 0 where
   pub batches : List (List PlainEvent)
   pub state : State
-  pub leads : LeadTo limits from batches state
+  pub leads : LeadToBy most limits from batches state
   pub filled : Fill (range_of journal) 0 (sectors_of (map batch_bytes batches)) (map batch_bytes batches) image
   pub sector_is : sector ≡ (range_of journal).first + 1 + sectors_of (map batch_bytes batches)
   pub used : sectors_of (map batch_bytes batches) < used_of journal
-  pub none : HasNoBatchAt limits state (range_of journal) (sectors_of (map batch_bytes batches)) (used_of journal) image
+  pub none : HasNoBatchOfAt most limits state (range_of journal) (sectors_of (map batch_bytes batches))
+      (used_of journal) image

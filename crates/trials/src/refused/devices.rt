@@ -105,7 +105,7 @@ fn open_heap(alloc: Global, disk: &mut MemoryDisk) -> Result<(), Fault> {
 }
 
 fn make_engine(alloc: Global, objects: &ObjectMap) -> Result<(), Fault> {
-    match engine_of(alloc, objects, Limits::small()) {
+    match engine_of(alloc, objects, Limits::small(), FORMAT) {
         Ok(_) => Ok(()),
         Err(StateFault::NoMemory) => Err(Fault::NoMemory),
         Err(StateFault::Unsound) => Err(Fault::Unready),

@@ -44,9 +44,9 @@ module _ (g : Over) (c : In-loop-i g) where
 pub put-requires-clause-laid_out : goal.put-requires-clause-laid_out
 put-requires-clause-laid_out g c =
     let so_far = c.loop-i.invariant in
-    subst (λ (n : ℕ). IsLaidOut c.loop-i.heap.range c.loop-i.heap.root n) (sym so_far.same.sectors)
-    (subst (λ (r : ℕ). IsLaidOut c.loop-i.heap.range r (g.D.SectorDisk.size c.args.disk.now)) (sym so_far.stays.root)
-    (subst (λ (r : Range). IsLaidOut r c.args.heap.now.root (g.D.SectorDisk.size c.args.disk.now)) (sym so_far.stays.range) c.requires.laid_out))
+    subst (λ (n : ℕ). IsLaidOut c.loop-i.heap.range c.loop-i.heap.aim n) (sym so_far.same.sectors)
+    (subst (λ (r : ℕ). IsLaidOut c.loop-i.heap.range r (g.D.SectorDisk.size c.args.disk.now)) (sym so_far.stays.aim)
+    (subst (λ (r : Range). IsLaidOut r c.args.heap.now.aim (g.D.SectorDisk.size c.args.disk.now)) (sym so_far.stays.range) c.requires.laid_out))
 
 pub loop-i-preserved : goal.loop-i-preserved
 loop-i-preserved g c =

@@ -13,8 +13,9 @@ returns c =
     c.new.ensures.app) in
     let one = c.in_ok-subcommand.ensures.shape c.in_ok-replay.ensures.local ∙ below _ _ _ _ ipcd c.in_ok-replay.ensures.app in
     let two = c.in_ok-subcommand-2.ensures.shape c.in_ok-format.ensures.local ∙ below _ _ _ _ one c.in_ok-format.ensures.app in
-    let three = c.in_ok-subcommand-3.ensures.shape c.in_ok-run.ensures.local ∙ below _ _ _ _ two c.in_ok-run.ensures.app in
-    let four = c.in_ok-subcommand-4.ensures.shape c.in_ok-dump.ensures.local ∙ below _ _ _ _ three c.in_ok-dump.ensures.app in
-    IfOk-weaker c.subcommand-5.result _ _
-    (λ command added. added.shape c.in_ok-serve.ensures.local ∙ below _ _ _ _ four c.in_ok-serve.ensures.app)
-    c.subcommand-5.ensures
+    let three = c.in_ok-subcommand-3.ensures.shape c.in_ok-upgrade.ensures.local ∙ below _ _ _ _ two c.in_ok-upgrade.ensures.app in
+    let four = c.in_ok-subcommand-4.ensures.shape c.in_ok-run.ensures.local ∙ below _ _ _ _ three c.in_ok-run.ensures.app in
+    let five = c.in_ok-subcommand-5.ensures.shape c.in_ok-dump.ensures.local ∙ below _ _ _ _ four c.in_ok-dump.ensures.app in
+    IfOk-weaker c.subcommand-6.result _ _
+    (λ command added. added.shape c.in_ok-serve.ensures.local ∙ below _ _ _ _ five c.in_ok-serve.ensures.app)
+    c.subcommand-6.ensures

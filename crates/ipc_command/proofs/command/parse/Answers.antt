@@ -1,4 +1,4 @@
-use Rattle.std.proofs.Common.{◌≡◌, ◌∙◌, ap, ap₂, refl, subst, ℕ, Bool, true, false, List}
+use Rattle.std.proofs.Common.{◌≡◌, ◌∙◌, ap, ap₂, refl, subst, sym, ℕ, Bool, true, false, List}
 use Rattle.std.proofs.Common.{[], ◌∷◌, ◌++◌, codes, Option, Some, None, Result, Ok, Err, arith}
 use Rattle.std.specs.Prelude.{◌==◌, ◌&&◌, ◌<◌, ◌^◌, pos, IfSome, IsSome, option_and_then}
 use Rattle.std.specs.Result.{IsErrAnd}
@@ -13,6 +13,7 @@ use Rattle.clap.proofs.ValueTestLemmas.{accepts-Accepts}
 use Rattle.clap.proofs.WalkLemmas.{both}
 use Rattle.clap.specs.Values.{kind_of}
 use Rattle.clap.specs.Faults.{fault_of, is_simple_and_free}
+use Rattle.clap.specs.Kinds.{FailsBy, HasKind}
 use Rattle.clap.specs.declared.error.Error.{Error}
 use Rattle.clap.specs.declared.error.kind.ErrorKind.TheVariants.{OutOfMemory}
 use Rattle.ipc_command.specs.declared.command.Request.{Request}
@@ -24,7 +25,7 @@ use Rattle.clap.specs.Simple.{HasMatchesOf}
 use Rattle.clap.proofs.OnLiterals.{clap_on_literals}
 use Rattle.ipc_command.specs.Command.{PlainRequest, plain_request, asked, declared, is_no_flag, parsed_number}
 use Rattle.ipc_command.specs.Command.{small_words, sectors_words, turns_words, AsksFor, IsTakenAs}
-use Rattle.ipc_command.specs.Command.PlainRequest.{Replay, Format, Run, Dump, Serve}
+use Rattle.ipc_command.specs.Command.PlainRequest.{Replay, Format, Upgrade, Run, Dump, Serve}
 use Rattle.ipc_command.proofs.command.parse.Goals as goal
 
 abbrev standard_words : List ℕ → List Text
@@ -131,11 +132,11 @@ numbers-of : (number : Option Text) → IfSome number (λ word. IsSome (parsed_n
 numbers-of None some = tt
 numbers-of (Some word) some = number-at word some
 
-abbrev format_line : List ℕ → List ℕ → Bool → Option Text → List Text
-format_line name device small number = name ∷ codes "format" ∷ device ∷ small_words small ++ sectors_words number
+abbrev sized_line : List ℕ → Text → List ℕ → Bool → Option Text → List Text
+sized_line name command device small number = name ∷ command ∷ device ∷ small_words small ++ sectors_words number
 
 format-read : (name device : List ℕ) (small : Bool) (number : Option Text) → IsValue device → IfSome number IsNumber
-    → asked (subcommand_of declared (format_line name device small number)) ≡ Format device small (option_and_then parsed_number number)
+    → asked (subcommand_of declared (sized_line name (codes "format") device small number)) ≡ Format device small (option_and_then parsed_number number)
 unfolding clap_on_literals
 format-read name device false None v n = rw (v.dashes, v.long, v.short) refl
 format-read name device true None v n = rw (v.dashes, v.long, v.short) refl
@@ -144,18 +145,38 @@ format-read name device false (Some word) v n =
 format-read name device true (Some word) v n =
     rw (v.dashes, v.long, v.short, n.value.dashes, n.value.long, n.value.short) (ap (λ (t : Text). Format device true (parsed_number t)) n.same)
 
+upgrade-read : (name device : List ℕ) (small : Bool) (number : Option Text) → IsValue device → IfSome number IsNumber
+    → asked (subcommand_of declared (sized_line name (codes "upgrade") device small number)) ≡ Upgrade device small (option_and_then parsed_number number)
+unfolding clap_on_literals
+upgrade-read name device false None v n = rw (v.dashes, v.long, v.short) refl
+upgrade-read name device true None v n = rw (v.dashes, v.long, v.short) refl
+upgrade-read name device false (Some word) v n =
+    rw (v.dashes, v.long, v.short, n.value.dashes, n.value.long, n.value.short) (ap (λ (t : Text). Upgrade device false (parsed_number t)) n.same)
+upgrade-read name device true (Some word) v n =
+    rw (v.dashes, v.long, v.short, n.value.dashes, n.value.long, n.value.short) (ap (λ (t : Text). Upgrade device true (parsed_number t)) n.same)
+
 -- the number is the one value that is tested
 abbrev passes_all : Bool → Bool
 passes_all b = ((b && true) && true) && true
 
 format-taken : (name device : List ℕ) (small : Bool) (number : Option Text) → IsValue device → IfSome number IsNumber
-    → takes declared (format_line name device small number) ≡ true
+    → takes declared (sized_line name (codes "format") device small number) ≡ true
 unfolding clap_on_literals
 format-taken name device false None v n = rw (v.dashes, v.long, v.short) refl
 format-taken name device true None v n = rw (v.dashes, v.long, v.short) refl
 format-taken name device false (Some word) v n =
     rw (v.dashes, v.long, v.short, n.value.dashes, n.value.long, n.value.short) (ap passes_all n.passes)
 format-taken name device true (Some word) v n =
+    rw (v.dashes, v.long, v.short, n.value.dashes, n.value.long, n.value.short) (ap passes_all n.passes)
+
+upgrade-taken : (name device : List ℕ) (small : Bool) (number : Option Text) → IsValue device → IfSome number IsNumber
+    → takes declared (sized_line name (codes "upgrade") device small number) ≡ true
+unfolding clap_on_literals
+upgrade-taken name device false None v n = rw (v.dashes, v.long, v.short) refl
+upgrade-taken name device true None v n = rw (v.dashes, v.long, v.short) refl
+upgrade-taken name device false (Some word) v n =
+    rw (v.dashes, v.long, v.short, n.value.dashes, n.value.long, n.value.short) (ap passes_all n.passes)
+upgrade-taken name device true (Some word) v n =
     rw (v.dashes, v.long, v.short, n.value.dashes, n.value.long, n.value.short) (ap passes_all n.passes)
 
 abbrev serve_line : List ℕ → List ℕ → List ℕ → Option Text → List Text
@@ -205,16 +226,29 @@ no-fault : (app : App) (words : List Text) → app ≡ declared → (is_simple_a
 no-fault app words same none =
     subst (λ (a : App). fault_of a words ≡ []) same (none (ap is_simple_and_free same))
 
+-- an error of the kinds of the command line's faults
+fails : (app : App) (words : List Text) (result : Result Request Error) (error : Error) → app ≡ declared → IsErrAnd result (λ e. e ≡ error)
+    → (is_simple_and_free app ≡ true → HasKind (fault_of app words) error) → FailsBy (fault_of declared words) result
+fails app words (Ok asked) error same is kinds = absurd is
+fails app words (Err e) error same is kinds =
+    subst (λ (x : Error). HasKind (fault_of declared words) x) (sym is)
+    (subst (λ (a : App). HasKind (fault_of a words) error) same (kinds (ap is_simple_and_free same)))
+
 -- the one request for a replay
 replay-only : (r : Request) (small : Bool) → plain_request r ≡ Replay small → r ≡ request.Replay small
 replay-only (request.Replay b) small is = let same : b ≡ small = cc in ap (λ (s : Bool). request.Replay s) same
 replay-only (request.Format device b sectors) small is = cc
+replay-only (request.Upgrade device b sectors) small is = cc
 replay-only (request.Run device) small is = cc
 replay-only (request.Dump device) small is = cc
 replay-only (request.Serve device socket turns) small is = cc
 
 pub returns-clause-refused : goal.returns-clause-refused
 returns-clause-refused g c = no-fault _ _ c.in_ok-command_line.ensures c.in_ok-matches.ensures.kinds
+
+pub returns-in_err-matches-clause-refused : goal.returns-in_err-matches-clause-refused
+returns-in_err-matches-clause-refused g c =
+    fails _ _ _ _ c.in_ok-command_line.ensures c.from_residual-in_err-matches.ensures.1 c.in_err-matches.ensures.kinds
 
 pub returns-clause-asked : goal.returns-clause-asked
 returns-clause-asked g c =
@@ -235,6 +269,12 @@ returns-in_err-matches-clause-format g c = λ name device small number no_flag s
     memory-only _ _ _ c.from_residual-in_err-matches.ensures.1
     (c.in_err-matches.ensures.passes (ap₂ takes c.in_ok-command_line.ensures words
     ∙ format-taken name device small number (value-of device no_flag) (numbers-of number some)))
+
+pub returns-in_err-matches-clause-upgrade : goal.returns-in_err-matches-clause-upgrade
+returns-in_err-matches-clause-upgrade g c = λ name device small number no_flag some words.
+    memory-only _ _ _ c.from_residual-in_err-matches.ensures.1
+    (c.in_err-matches.ensures.passes (ap₂ takes c.in_ok-command_line.ensures words
+    ∙ upgrade-taken name device small number (value-of device no_flag) (numbers-of number some)))
 
 pub returns-in_err-matches-clause-run : goal.returns-in_err-matches-clause-run
 returns-in_err-matches-clause-run g c = λ name device no_flag words.
@@ -270,6 +310,13 @@ pub returns-clause-format : goal.returns-clause-format
 returns-clause-format g c = λ name device small number no_flag some words. record {
   ok = asks _ _ _ _ _ _ c.in_ok-command_line.ensures c.in_ok-matches.ensures.matches
       c.in_ok-request_in.ensures words (format-read name device small number (value-of device no_flag) (numbers-of number some));
+  err = tt;
+}
+
+pub returns-clause-upgrade : goal.returns-clause-upgrade
+returns-clause-upgrade g c = λ name device small number no_flag some words. record {
+  ok = asks _ _ _ _ _ _ c.in_ok-command_line.ensures c.in_ok-matches.ensures.matches
+      c.in_ok-request_in.ensures words (upgrade-read name device small number (value-of device no_flag) (numbers-of number some));
   err = tt;
 }
 

@@ -34,7 +34,7 @@ returns-clause-put c =
     record {
       place = c.place_of-place.result;
       found = found;
-      given = subst (λ (l : List ℕ). AreGiven c.args.first c.args.uses.now l c.give_back.new.uses) sectors c.give_back.ensures;
+      given = subst (λ (l : List ℕ). AreGiven c.args.first c.args.uses.now l c.give_back.new.self) sectors c.give_back.ensures;
       now = c.bring_in.ensures.items
           ∙ ap (λ (n : ℕ). replaced table c.place_of-place.result (drop c.args.end c.args.words.now.items) (n + (1 - c.place_of-place.result.len)))
           (sym (get_or-take c.args.end c.args.words.now.items 0 0 c.requires.some));

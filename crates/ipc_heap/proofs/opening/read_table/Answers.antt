@@ -1,6 +1,6 @@
 -- A sector more of the table, or the damage that is seen in it.
-use Rattle.std.proofs.Common.{◌≡◌, ◌<◌, false, true, ℕ, ◌+◌, ◌-◌, ◌/◌, ◌++◌, ◌∷◌, [], List, ⊎_elim}
-use Rattle.std.proofs.Common.{length, take, drop, set, get_or, Some, sym, ap, ◌∙◌, subst, eq-eqb, arith}
+use Rattle.std.proofs.Common.{◌≡◌, ◌<◌, false, ℕ, ◌+◌, ◌-◌, ◌/◌, ◌++◌, ◌∷◌, [], List, ⊎_elim}
+use Rattle.std.proofs.Common.{length, take, drop, get_or, Some, sym, ap, ◌∙◌, subst, eq-eqb, arith}
 use Rattle.std.specs.Prelude.{Contains, slice_get}
 use Rattle.std.proofs.lemmas.Bool.{cases_eq, ne_eqb}
 use Rattle.std.proofs.lemmas.List.{length_push}
@@ -36,7 +36,7 @@ module _ (g : Over) (c : After-can_follow g) where
   place = c.loop-j.at - c.args.range.first
 
   abbrev more-uses : List Use
-  more-uses = set c.loop-j.uses place (record (get_or c.loop-j.uses place none) { saved = true })
+  more-uses = c.note.new.self
 
   chain : c.div_ceil-count.result ≡ chain_for c.args.root.len
   chain = omega (arith, c.div_ceil-count.ensures)
@@ -58,8 +58,9 @@ module _ (g : Over) (c : After-can_follow g) where
   noted : AreNoted c.args.range [] more-table more-uses
   noted =
       let so_far = c.loop-j.invariant.read in
-      noted-more c.args.range c.args.root c.loop-j.table.items c.loop-j.words.items c.loop-j.at c.read_u32-next.result c.read.new.into c.loop-j.uses c.loop-j.j
-      (get_or c.loop-j.uses place none) so_far less (slice_get-get_or c.loop-j.uses place none (omega (arith, (so_far.next less).0, so_far.noted.all)))
+      subst (AreNoted c.args.range [] more-table) (sym c.note.ensures)
+      (noted-more c.args.range c.args.root c.loop-j.table.items c.loop-j.words.items c.loop-j.at c.read_u32-next.result c.read.new.into c.loop-j.uses c.loop-j.j
+      (get_or c.loop-j.uses place none) so_far less (slice_get-get_or c.loop-j.uses place none (omega (arith, (so_far.next less).0, so_far.noted.all))))
 
   read : (c.loop-j.j + 1 ≡ chain_for c.args.root.len → c.read_u32-next.result ≡ 0)
       → (c.loop-j.j + 1 < chain_for c.args.root.len → IsInside c.args.range c.read_u32-next.result × (Contains more-table c.read_u32-next.result → ⊥))

@@ -7,7 +7,7 @@ pub returns : goal.returns
 returns c = record {
   no_words = c.in_ok-words.ensures.items;
   no_table = c.in_ok-table.ensures.items;
-  none_noted = unused-noted c.args.range c.in_ok-uses.uses.items (c.in_ok-uses.ensures.items_if_clones_equal (λ y is. is));
+  none_noted = unused-noted c.args.range c.in_ok-uses.uses c.in_ok-uses.ensures;
   words = omega (arith, c.in_ok-words.ensures.exact, c.max-2.ensures);
   words_there = omega (arith, c.in_ok-words.ensures.exact, c.max-2.ensures);
   table = omega (arith, c.in_ok-table.ensures.exact, c.max.ensures, c.div_ceil.ensures);

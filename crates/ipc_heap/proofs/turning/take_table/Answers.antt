@@ -30,8 +30,8 @@ overflow_add-first c =
 
 pub loop-preserved : goal.loop-preserved
 loop-preserved c = record {
-  taken = subst (λ (l : List ℕ). AreTaken c.args.first c.args.uses.now l c.take_sector.new.uses) (sym c.push_reserved.ensures.items)
-      (taken-push c.args.first c.args.uses.now c.loop.uses c.take_sector.new.uses c.loop.table.items c.loop.invariant.taken
+  taken = subst (λ (l : List ℕ). AreTaken c.args.first c.args.uses.now l c.take.new.self) (sym c.push_reserved.ensures.items)
+      (taken-push c.args.first c.args.uses.now c.loop.uses c.take.new.self c.loop.table.items c.loop.invariant.taken
       c.in-Some.i c.in-Some.ensures.taken);
   long = ap length c.push_reserved.ensures.items ∙ length_push c.loop.table.items (c.args.first + c.in-Some.i) ∙ omega (arith, c.loop.invariant.long);
   capacity = c.push_reserved.ensures.capacity ∙ c.loop.invariant.capacity;

@@ -1,6 +1,7 @@
 -- One call after another.
 use Rattle.std.proofs.lemmas.Result.{on_ok_weaker}
 use Rattle.ipc_disk.proofs.CallerLemmas.{IsSameDisk-then}
+use Rattle.ipc_state.specs.State.{start}
 use Rattle.ipc_store.proofs.Formatting.{way-erase, way-prepare, way-superblock}
 use Rattle.ipc_store.proofs.format.make.Goals as goal
 
@@ -17,8 +18,8 @@ pub returns-clause-ok : goal.returns-clause-ok
 returns-clause-ok g c =
     on_ok_weaker c.put_superblock.result (λ ok honest.
     let erased = c.erase.ensures.same.honest.0 honest in
-    ok (c.prepare.ensures.same.honest.0 erased)
-    (c.in_ok-prepare.ensures.prepared erased (c.in_ok-erase.ensures.erased honest)))
+    ok start (c.prepare.ensures.same.honest.0 erased)
+    (λ image now. (c.in_ok-prepare.ensures.prepared erased (c.in_ok-erase.ensures.erased honest) image now).1))
     c.put_superblock.ensures.ok
 
 pub returns-clause-any_moment : goal.returns-clause-any_moment
@@ -28,8 +29,9 @@ returns-clause-any_moment g c = λ honest.
     way-superblock c.args.limits.now _ _ _
     (way-prepare c.args.limits.now _ _ _ (way-erase c.args.limits.now _ _ (c.erase.ensures.any_moment honest))
     (c.prepare.ensures.any_moment erased none))
-    (c.put_superblock.ensures.any_moment (c.prepare.ensures.same.honest.0 erased)
-    (c.in_ok-prepare.ensures.prepared erased none))
+    (λ image now. (c.in_ok-prepare.ensures.prepared erased none image now).0)
+    (c.put_superblock.ensures.any_moment start (c.prepare.ensures.same.honest.0 erased)
+    (λ image now. (c.in_ok-prepare.ensures.prepared erased none image now).1))
 
 pub returns-in_err-prepare-clause-same : goal.returns-in_err-prepare-clause-same
 returns-in_err-prepare-clause-same g c = IsSameDisk-then c.erase.ensures.same c.prepare.ensures.same

@@ -1,11 +1,13 @@
 -- The header of the journal, and the objects: the first sector stays as it is.
-use Rattle.std.proofs.Common.{◌≡◌, ◌∙◌, length, ap, sym, subst, arith}
+use Rattle.std.proofs.Common.{◌≡◌, ◌∙◌, inr, refl, length, ap, sym, subst, arith}
 use Rattle.ipc_disk.proofs.CallerLemmas.{EachImageSince-now, IsSameDisk-then}
+use Rattle.ipc_disk.specs.Medium.{Image}
 use Rattle.ipc_disk.specs.Since.{SameAt}
 use Rattle.ipc_checkpoint.specs.declared.layout.Layout.{Layout}
 use Rattle.ipc_checkpoint.specs.Checkpoint.{IsLaidOut, IsElsewhere, Holds}
 use Rattle.ipc_base.specs.Objects.{PlainObjects}
 use Rattle.ipc_state.specs.State.{start}
+use Rattle.ipc_image.specs.Format.{format}
 use Rattle.ipc_image.specs.Saved.{saved}
 use Rattle.ipc_store.specs.Image.{layout_of}
 use Rattle.ipc_store.specs.Relations.Format.{IsErased, IsPrepared}
@@ -15,11 +17,11 @@ use Rattle.ipc_store.proofs.format.prepare.Goals as goal
 pub create-requires-clause-laid_out : goal.create-requires-clause-laid_out
 create-requires-clause-laid_out g c =
     let size = g.D.SectorDisk.size c.args.disk.now in
-    let there : c.layout_of-layout.result ≡ layout_of c.args.limits.now size =
-    c.layout_of-layout.ensures.exact ∙ ap (layout_of c.args.limits.now) c.sectors.ensures in
+    let there : c.layout_in-layout.result ≡ layout_of c.args.limits.now size =
+    c.layout_in-layout.ensures.exact ∙ ap (layout_of c.args.limits.now) c.sectors.ensures in
     subst (λ (l : Layout). IsLaidOut l (g.D.SectorDisk.size c.put_header.new.disk)) (sym there)
     (subst (IsLaidOut (layout_of c.args.limits.now size)) (sym c.put_header.ensures.same.sectors)
-    (laid-out c.args.limits.now size size c.requires.passed c.requires.room (omega arith)))
+    (laid-out format (inr refl) c.args.limits.now size size c.requires.passed c.requires.room (omega arith)))
 
 pub returns-in_err-put_header-clause-any_moment : goal.returns-in_err-put_header-clause-any_moment
 returns-in_err-put_header-clause-any_moment g c = λ honest erased.
@@ -28,13 +30,13 @@ returns-in_err-put_header-clause-any_moment g c = λ honest erased.
 pub returns-in_err-create-clause-any_moment : goal.returns-in_err-create-clause-any_moment
 returns-in_err-create-clause-any_moment g c = λ honest erased.
     let kept = c.put_header.ensures.same.honest.0 honest in
-    stays-erased c.args.limits.now c.sectors.result _ _ _ _ c.layout_of-layout.ensures.exact erased (c.put_header.ensures.header_or_not honest) kept
+    stays-erased c.args.limits.now c.sectors.result _ _ _ _ c.layout_in-layout.ensures.exact erased (c.put_header.ensures.header_or_not honest) kept
     (c.create.ensures.others kept)
 
 pub returns-clause-any_moment : goal.returns-clause-any_moment
 returns-clause-any_moment g c = λ honest erased.
     let kept = c.put_header.ensures.same.honest.0 honest in
-    stays-erased c.args.limits.now c.sectors.result _ _ _ _ c.layout_of-layout.ensures.exact erased (c.put_header.ensures.header_or_not honest) kept
+    stays-erased c.args.limits.now c.sectors.result _ _ _ _ c.layout_in-layout.ensures.exact erased (c.put_header.ensures.header_or_not honest) kept
     (c.create.ensures.others kept)
 
 -- a crash leaves what is read then, which has both
@@ -46,15 +48,16 @@ returns-clause-prepared g c = λ honest erased image now.
     let run = c.create.ensures.others kept in
     let was = (g.met.D.SectorDisk.shaped c.args.disk.now old honest.reads).count in
     let long = (g.met.D.SectorDisk.shaped c.create.new.disk new run.honest.reads).count in
-    let there : c.layout_of-layout.result ≡ layout_of c.args.limits.now (length new) =
-    c.layout_of-layout.ensures.exact
+    let there : c.layout_in-layout.result ≡ layout_of c.args.limits.now (length new) =
+    c.layout_in-layout.ensures.exact
     ∙ ap (layout_of c.args.limits.now) (c.sectors.ensures ∙ sym (long ∙ c.create.ensures.same.sectors ∙ c.put_header.ensures.same.sectors)) in
-    subst (IsPrepared c.args.limits.now) (sym (c.in_ok-create.ensures.durable image now))
-    (is-prepared c.args.limits.now old _ new (omega (arith, was, c.requires.room)) (c.in_ok-put_header.ensures.header honest)
-    (subst (λ (l : Layout). SameAt (IsElsewhere l) (g.D.SectorDisk.medium c.put_header.new.disk).contents new) there run.contents)
-    (EachImageSince-now _ _ IsErased (returns-clause-any_moment g c honest erased) run.honest new run.honest.reads)
-    (subst (λ (l : Layout). Holds l 1 (saved start) new) there
-    (subst (λ (o : PlainObjects). Holds c.layout_of-layout.result 1 o new) c.start_objects.ensures.objects (c.in_ok-create.ensures.holds kept))))
+    subst (λ (i : Image). IsErased i × IsPrepared c.args.limits.now start i) (sym (c.in_ok-create.ensures.durable image now)) (
+      EachImageSince-now _ _ IsErased (returns-clause-any_moment g c honest erased) run.honest new run.honest.reads,
+      is-prepared c.args.limits.now old _ new (omega (arith, was, c.requires.room)) (c.in_ok-put_header.ensures.header honest)
+          (subst (λ (l : Layout). SameAt (IsElsewhere l) (g.D.SectorDisk.medium c.put_header.new.disk).contents new) there run.contents)
+          (subst (λ (l : Layout). Holds l 1 (saved start) new) there
+          (subst (λ (o : PlainObjects). Holds c.layout_in-layout.result 1 o new) c.start_objects.ensures.objects (c.in_ok-create.ensures.holds kept))),
+    )
 
 pub returns-in_err-create-clause-same : goal.returns-in_err-create-clause-same
 returns-in_err-create-clause-same g c = IsSameDisk-then c.put_header.ensures.same c.create.ensures.same

@@ -3,10 +3,8 @@ use Rattle.std.proofs.Common.{ℕ, ◌⊎◌, ◌<◌, ◌^◌, ◌∙◌, inl, 
 use Rattle.std.proofs.lemmas.Result.{on_ok_weaker}
 use Rattle.ipc_disk.specs.Medium.{Image}
 use Rattle.ipc_disk.proofs.CallerLemmas.{EachImageSince-set}
-use Rattle.ipc_state.specs.State.{start}
 use Rattle.ipc_image.specs.Superblock.{IsSuperblock}
 use Rattle.ipc_store.specs.Image.{StandsFor}
-use Rattle.ipc_store.specs.Relations.Format.{IsErased}
 use Rattle.ipc_store.proofs.Formatting.{becomes-device}
 use Rattle.ipc_store.proofs.format.put_superblock.Given.{Over}
 use Rattle.ipc_store.proofs.format.put_superblock.Goals as goal
@@ -27,17 +25,17 @@ fits g c image now =
 pub returns-clause-ok : goal.returns-clause-ok
 returns-clause-ok g c =
     let old = g.D.SectorDisk.medium c.args.disk.now in
-    on_ok_weaker c.put_durably.result (λ written honest prepared image now.
-    subst (StandsFor c.args.limits.now start) (sym (written honest image now))
-    (becomes-device c.args.limits.now c.superblock_of-sector.result old.contents (fits g c old.contents honest.reads)
+    on_ok_weaker c.put_durably.result (λ written s honest prepared image now.
+    subst (StandsFor c.args.limits.now s) (sym (written honest image now))
+    (becomes-device c.args.limits.now s c.superblock_of-sector.result old.contents (fits g c old.contents honest.reads)
     (the_superblock g c old.contents honest.reads)
     (prepared old.contents honest.reads)))
     c.put_durably.ensures.written
 
 pub returns-clause-any_moment : goal.returns-clause-any_moment
-returns-clause-any_moment g c = λ honest prepared.
+returns-clause-any_moment g c = λ s honest prepared.
     let old = g.D.SectorDisk.medium c.args.disk.now in
-    EachImageSince-set old _ 0 c.superblock_of-sector.result (λ image. IsErased image ⊎ StandsFor c.args.limits.now start image)
-    (c.put_durably.ensures.any_moment honest) (λ image now. inl (prepared image now).erased)
-    (λ image now. inr (becomes-device c.args.limits.now c.superblock_of-sector.result image (fits g c image now) (the_superblock g c image now)
+    EachImageSince-set old _ 0 c.superblock_of-sector.result (λ image. old.images_now image ⊎ StandsFor c.args.limits.now s image)
+    (c.put_durably.ensures.any_moment honest) (λ image now. inl now)
+    (λ image now. inr (becomes-device c.args.limits.now s c.superblock_of-sector.result image (fits g c image now) (the_superblock g c image now)
     (prepared image now)))

@@ -1,6 +1,7 @@
 -- Each exit: what was read is what stood there before.
-use Rattle.std.proofs.Common.{◌≡◌, inl, inr, ⊎_elim, ◌<◌, ◌^◌, Err, List, length, sym, ap, subst, ◌∙◌, arith}
+use Rattle.std.proofs.Common.{◌≡◌, inl, inr, ⊎_elim, ℕ, ◌<◌, ◌^◌, Err, List, length, refl, sym, ap, subst, ◌∙◌, arith}
 use Rattle.ipc_base.specs.declared.limits.Limits.{Limits}
+use Rattle.ipc_base.specs.Objects.{PlainObjects, Fit}
 use Rattle.ipc_checkpoint.specs.View.{epoch_of as saved_epoch}
 use Rattle.ipc_checkpoint.proofs.CallerLemmas.{CheckpointMatches-stays}
 use Rattle.ipc_disk.proofs.CallerLemmas.{IsSameDisk-then, IsSameDisk-call}
@@ -11,8 +12,13 @@ use Rattle.ipc_journal.specs.View.{epoch_of, used_of}
 use Rattle.ipc_state.specs.declared.parked.Object.{Object}
 use Rattle.ipc_engine.specs.Changes.{IsTracked}
 use Rattle.ipc_store.specs.declared.fault.OpenError.TheVariants as errors
+use Rattle.ipc_image.specs.Format.{format}
+use Rattle.ipc_image.specs.Saved.{StandForState}
+use Rattle.ipc_image.specs.Sizes.{area_of}
 use Rattle.ipc_image.specs.declared.superblock.Superblock.{Superblock}
-use Rattle.ipc_store.specs.Image.{journal_range, named_sectors, IsDevice, HasBase, IsDamaged, IsFirstFault}
+use Rattle.ipc_image.proofs.CallerLemmas.{saved-fits}
+use Rattle.ipc_store.specs.Image.{journal_range, layout_of, named_sectors, IsDevice, HasBase, IsDamaged, IsFirstFault, LeadToBy}
+use Rattle.ipc_store.proofs.Devices.{has-spare}
 use Rattle.ipc_store.proofs.Faults.{passed_on, passed-device}
 use Rattle.ipc_store.proofs.Loaded.{OnlyReads-counts, chain, stays-durable, Kept, Led, has-base, loaded, on-disk}
 use Rattle.ipc_store.proofs.Opened.{base-damaged}
@@ -70,10 +76,11 @@ durable-base g c honest =
 
 -- the objects
 kept : (g : Over) (c : In_ok-checkpoint g) → IsHonest (g.D.SectorDisk.medium c.args.disk.now)
-    → Kept c.in_ok-superblock.superblock.limits c.in_ok-checkpoint.engine.state c.in_ok-checkpoint.checkpoint (g.D.SectorDisk.medium c.load_base.new.disk)
+    → Kept format c.in_ok-superblock.superblock.limits c.in_ok-checkpoint.engine.state c.in_ok-checkpoint.checkpoint (g.D.SectorDisk.medium c.load_base.new.disk)
 kept g c honest =
     let h2 = (chain _ _ _ honest c.sync.ensures.medium c.load_superblock.ensures.reads.stays).time.honest.0 honest in
-    c.in_ok-checkpoint.ensures.base h2 (durable-base g c honest).0
+    let base = c.in_ok-checkpoint.ensures.base in
+    (base.0, base.1, base.3 h2 (durable-base g c honest).0)
 
 -- the same disk until then
 same-base : (g : Over) (c : In_ok-checkpoint g)
@@ -116,7 +123,7 @@ returns-in_err-checkpoint-clause-damaged g c = λ sector is honest.
     c.from_residual-in_err-checkpoint.ensures.1 is) in
     let both = c.in_err-checkpoint.ensures.damaged sector e h2 names.0 names.1 in
     subst (λ (i : Image). IsDamaged i × IsFirstFault i sector) (s02.contents honest)
-    (base-damaged c.in_ok-superblock.superblock.limits image few names.0 both.0, both.1)
+    (base-damaged format (inr refl) c.in_ok-superblock.superblock.limits image few names.0 both.0, both.1)
 
 pub returns-in_err-checkpoint-clause-reads : goal.returns-in_err-checkpoint-clause-reads
 returns-in_err-checkpoint-clause-reads g c = λ honest.
@@ -151,12 +158,12 @@ returns-in_err-journal-clause-damaged g c = λ sector is honest.
     let checkpoint = c.in_ok-checkpoint.checkpoint in
     let from = c.in_ok-checkpoint.engine.state in
     let has : HasBase limits (saved_epoch checkpoint) from m3.contents =
-    has-base limits c.in_ok-superblock.superblock.sectors checkpoint c.in_ok-checkpoint.ensures.layout m3 from h3
+    has-base format limits c.in_ok-superblock.superblock.sectors checkpoint c.in_ok-checkpoint.ensures.layout m3 from h3
     (device-base g here honest).0 (device-base g here honest).1 (kept g here honest) in
     let e = ap Err (passed_on c.from_residual-in_err-journal.result c.in_err-journal.field-0.0 (errors.Damaged sector)
     c.from_residual-in_err-journal.ensures.1 is) in
     subst (λ (i : Image). IsDamaged i × IsFirstFault i sector) (s03.contents honest)
-    (c.in_err-journal.ensures.damaged sector e h3
+    (c.in_err-journal.ensures.damaged format sector (inr refl) (sym c.requires) e h3
     (subst (λ (l : Limits). HasBase l (saved_epoch checkpoint) from m3.contents) (sym c.in_ok-checkpoint.ensures.limits) has))
 
 pub returns-in_err-journal-clause-reads : goal.returns-in_err-journal-clause-reads
@@ -191,7 +198,7 @@ returns-clause-on_disk g c =
       c.load_base.ensures.reads.same.sectors,
       c.load_journal.ensures.reads.same.sectors,
     ))
-    c.in_ok-superblock.ensures.passed c.in_ok-superblock.ensures.room
+    c.in_ok-superblock.ensures.limits.passed c.in_ok-superblock.ensures.room
 
 pub returns-clause-matches : goal.returns-clause-matches
 returns-clause-matches g c = λ honest.
@@ -209,14 +216,26 @@ returns-clause-matches g c = λ honest.
     let tracked : IsTracked c.load_journal.new.engine.changed from c.load_journal.new.engine.state =
     c.load_journal.ensures.tracked from
     (subst (λ (marks : List Object). IsTracked marks from from) (sym c.in_ok-checkpoint.ensures.changed) (λ o off e is. is)) in
+    let engine = c.in_ok-checkpoint.engine in
+    let read = c.in_ok-journal.ensures.leads h3 d3 in
     let led : Led limits from c.load_journal.new.engine.state c.in_ok-journal.journal m4 =
     subst (λ (l : Limits). Led l from c.load_journal.new.engine.state c.in_ok-journal.journal m4) c.in_ok-checkpoint.ensures.limits
-    (c.in_ok-journal.ensures.leads h3 d3) in
+    (read.0, read.1, subst (λ (n : ℕ). LeadToBy n engine.limits engine.state read.0 c.load_journal.new.engine.state) c.requires read.2) in
     loaded limits c.in_ok-superblock.superblock.sectors c.in_ok-checkpoint.checkpoint c.in_ok-checkpoint.ensures.layout
     c.in_ok-journal.journal c.in_ok-journal.ensures.range c.in_ok-journal.ensures.epoch c.load_journal.new.engine
     (c.load_journal.ensures.limits ∙ c.in_ok-checkpoint.ensures.limits) m4 from h4
     (stays-durable m3 m4 h3 s34 d3) names.0 names.1
     (was.0, was.1, CheckpointMatches-stays c.in_ok-checkpoint.checkpoint was.0 m3 m4 s34 was.2) led tracked
+
+-- all is free but an area
+pub returns-clause-spare : goal.returns-clause-spare
+returns-clause-spare g c =
+    let limits : Limits = c.in_ok-superblock.superblock.limits in
+    let base = c.in_ok-checkpoint.ensures.base in
+    let stand : StandForState limits c.in_ok-checkpoint.engine.state base.0 = base.1 in
+    let fit = subst (λ (o : PlainObjects). Fit (area_of limits) o) (sym stand.are)
+    (saved-fits limits c.in_ok-checkpoint.engine.state c.in_ok-superblock.ensures.limits.passed stand.sound) in
+    has-spare (layout_of limits c.in_ok-superblock.superblock.sectors) c.in_ok-checkpoint.checkpoint base.0 c.in_ok-checkpoint.ensures.layout fit base.2
 
 -- ---- counts
 

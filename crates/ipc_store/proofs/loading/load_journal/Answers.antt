@@ -33,13 +33,13 @@ fits g c honest =
     omega (arith, (g.met.D.SectorDisk.shaped c.args.disk.now _ honest.reads).count, g.met.D.SectorDisk.fits c.args.disk.now)
 
 pub returns-in_err-journal-clause-damaged : goal.returns-in_err-journal-clause-damaged
-returns-in_err-journal-clause-damaged g c = λ sector is honest has.
+returns-in_err-journal-clause-damaged g c = λ form sector known most is honest has.
     let image : Image = (g.D.SectorDisk.medium c.args.disk.now).contents in
     let few : length image < 2 ^ 32 =
     omega (arith, (g.met.D.SectorDisk.shaped c.args.disk.now image honest.reads).count, g.met.D.SectorDisk.fits c.args.disk.now) in
     let e = ap Err (journal-fault c.in_err-journal.field-0.0 sector
     (passed_on c.from_residual.result (of_journal_error c.in_err-journal.field-0.0) (errors.Damaged sector) c.from_residual.ensures.1 is)) in
-    header-damaged c.args.engine.now.limits (saved_epoch c.args.checkpoint.now) c.args.engine.now.state image few has sector
+    header-damaged form known c.args.engine.now.limits (saved_epoch c.args.checkpoint.now) c.args.engine.now.state image few has sector
     (c.in_err-journal.ensures.named sector e)
     (subst (λ (n : ℕ). HasNoHeader n image) c.epoch.ensures (c.in_err-journal.ensures.damaged sector e honest))
 
@@ -49,7 +49,7 @@ returns-in_err-journal-clause-reads g c =
     OnlyReads-as device.0 device.1 c.open.ensures.reads
 
 pub returns-in_err-replay-clause-damaged : goal.returns-in_err-replay-clause-damaged
-returns-in_err-replay-clause-damaged g c = λ sector is honest has.
+returns-in_err-replay-clause-damaged g c = λ form sector known most is honest has.
     let here = (goal.at.returns-in_err-replay-clause-damaged g c).In_ok-journal in
     let image : Image = (g.D.SectorDisk.medium c.args.disk.now).contents in
     let limits = c.args.engine.now.limits in
@@ -59,11 +59,14 @@ returns-in_err-replay-clause-damaged g c = λ sector is honest has.
     let still = c.open.ensures.stays.time.honest.0 honest in
     let e = ap Err (passed_on c.from_residual-in_err-replay.result c.in_err-replay.field-0.0 (errors.Damaged sector)
     c.from_residual-in_err-replay.ensures.1 is) in
-    batch-damaged limits (saved_epoch c.args.checkpoint.now) s image (fits g here honest) has journal c.in_ok-journal.ensures.range
+    batch-damaged form known limits (saved_epoch c.args.checkpoint.now) s image (fits g here honest) has journal c.in_ok-journal.ensures.range
     (c.in_ok-journal.ensures.epoch ∙ c.epoch.ensures) (opened_on g here honest)
     (λ batches t found. c.in_err-replay.ensures.damaged sector batches t e still
-    (subst (λ (x : Image). Replays limits s journal x batches t) (sym same) found))
-    sector (subst (λ (x : Image). IsGoodUpTo limits s journal x sector) same (c.in_err-replay.ensures.named sector e still))
+    (subst (λ (x : Image). Replays (length c.args.room.now) limits s journal x batches t) (sym same)
+    (subst (λ (n : ℕ). Replays n limits s journal image batches t) most found)))
+    sector
+    (subst (λ (n : ℕ). IsGoodUpTo n limits s journal image sector) (sym most)
+    (subst (λ (x : Image). IsGoodUpTo (length c.args.room.now) limits s journal x sector) same (c.in_err-replay.ensures.named sector e still)))
 
 pub returns-in_err-replay-clause-faults : goal.returns-in_err-replay-clause-faults
 returns-in_err-replay-clause-faults g c = λ found which.
@@ -80,7 +83,7 @@ returns-clause-leads g c = λ honest durable.
     let journal = c.in_ok-journal.journal in
     let still = c.open.ensures.stays.time.honest.0 honest in
     let found = c.in_ok-replay.ensures.replays still in
-    let filled = subst (λ (x : Image). Replays c.args.engine.now.limits c.args.engine.now.state journal x found.0 c.replay.new.engine.state)
+    let filled = subst (λ (x : Image). Replays (length c.args.room.now) c.args.engine.now.limits c.args.engine.now.state journal x found.0 c.replay.new.engine.state)
     (c.open.ensures.stays.contents honest) found.1 in
     let batches : List (List ℕ) = map batch_bytes found.0 in
     let stands : Holds journal_range c.epoch.result batches image =

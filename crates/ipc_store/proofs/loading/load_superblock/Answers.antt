@@ -2,7 +2,7 @@ use Rattle.std.proofs.Common.{◌≡◌, inr, ℕ, ◌≤◌, sym, ap, subst, �
 use Rattle.ipc_disk.specs.Medium.{Image}
 use Rattle.ipc_store.proofs.Loaded.{OnlyReads-call, OnlyReads-never}
 use Rattle.ipc_image.specs.Superblock.{IsFormatted}
-use Rattle.ipc_store.specs.Image.{HasVersion, IsDamaged, IsFirstFault}
+use Rattle.ipc_store.specs.Image.{HasVersionBut, IsDamagedIn, IsFirstFaultIn}
 use Rattle.ipc_store.proofs.Faults.{ok-device, format-device}
 use Rattle.ipc_store.proofs.Superblocks.{sector-read, is_device, has_version, is_damaged}
 use Rattle.ipc_store.proofs.loading.load_superblock.Goals as goal
@@ -11,7 +11,7 @@ pub returns-in-Ok-clause-device : goal.returns-in-Ok-clause-device
 returns-in-Ok-clause-device g c = λ honest.
     let size = g.D.SectorDisk.size c.args.disk.now in
     let image : Image = (g.D.SectorDisk.medium c.args.disk.now).contents in
-    is_device image size c.read.new.into (g.met.D.SectorDisk.shaped c.args.disk.now image honest.reads).count
+    is_device c.args.form c.requires.known image size c.read.new.into (g.met.D.SectorDisk.shaped c.args.disk.now image honest.reads).count
     (sector-read image 0 c.read.new.into (c.in_ok-read.ensures.bytes honest)) (g.met.D.SectorDisk.fits c.args.disk.now)
     c.in-Ok.superblock (omega (arith, c.in-Ok.ensures.room, c.sectors-sectors.ensures)) c.in-Ok.ensures.ok
 
@@ -29,8 +29,8 @@ returns-in-Err-Version-clause-version g c = λ found is honest.
     let read = sector-read image 0 c.read.new.into (c.in_ok-read.ensures.bytes honest) in
     let large : 3 ≤ g.D.SectorDisk.size c.args.disk.now = omega (arith, c.sectors-sectors.ensures, c.if-sectors-lt-LEAST_SECTORS.false) in
     let same : c.in-Err-Version.found ≡ found = cc in
-    subst (λ (n : ℕ). HasVersion n image) same
-    (has_version image (g.D.SectorDisk.size c.args.disk.now) c.read.new.into whole read large c.in-Err-Version.found
+    subst (λ (n : ℕ). HasVersionBut c.args.form n image) same
+    (has_version c.args.form image (g.D.SectorDisk.size c.args.disk.now) c.read.new.into whole read large c.in-Err-Version.found
     ((c.read_superblock.ensures.version c.in-Err-Version.found).0 (c.in-Err-Version.is ∙ ap Err c.in-Err-Version.field-0-is)))
 
 pub returns-in-Err-Damaged-clause-damaged : goal.returns-in-Err-Damaged-clause-damaged
@@ -40,8 +40,8 @@ returns-in-Err-Damaged-clause-damaged g c = λ sector is honest.
     let read = sector-read image 0 c.read.new.into (c.in_ok-read.ensures.bytes honest) in
     let large : 3 ≤ g.D.SectorDisk.size c.args.disk.now = omega (arith, c.sectors-sectors.ensures, c.if-sectors-lt-LEAST_SECTORS.false) in
     let same : 0 ≡ sector = cc in
-    subst (λ (n : ℕ). IsDamaged image × IsFirstFault image n) same
-    (is_damaged image (g.D.SectorDisk.size c.args.disk.now) c.read.new.into whole read large
+    subst (λ (n : ℕ). IsDamagedIn c.args.form image × IsFirstFaultIn c.args.form image n) same
+    (is_damaged c.args.form image (g.D.SectorDisk.size c.args.disk.now) c.read.new.into whole read large
     (rw (sym c.sectors-sectors.ensures) (c.read_superblock.ensures.damaged.0 (c.in-Err-Damaged.is ∙ ap Err c.in-Err-Damaged.field-0-is))))
 
 pub returns-in-Ok-clause-reads : goal.returns-in-Ok-clause-reads

@@ -71,16 +71,16 @@ reads_well g c found was = OnlyReads-ok (read-device c.next_batch.result found w
 
 -- it is the batch that stands there
 found_there : (g : Over) (c : In_ok-go_through g) → IsHonest (g.D.SectorDisk.medium c.args.disk.now)
-    → Found c.args.journal.now (g.D.SectorDisk.medium c.args.disk.now).contents c.loop-len.place.sector (take c.in-Some.len c.next_batch.new.into)
+    → Found (length c.args.room.now) c.args.journal.now (g.D.SectorDisk.medium c.args.disk.now).contents c.loop-len.place.sector (take c.in-Some.len c.next_batch.new.into)
 found_there g c honest =
     let inv = c.loop-len.invariant in
     let e = c.in_ok-len.ensures in
     let len = c.in-Some.len in
     let is = c.in-Some.is in
-    found_batch c.args.journal.now (g.D.SectorDisk.medium c.args.disk.now) (g.D.SectorDisk.medium c.loop-len.disk) c.loop-len.place.sector
+    found_batch (length c.args.room.now) c.args.journal.now (g.D.SectorDisk.medium c.args.disk.now) (g.D.SectorDisk.medium c.loop-len.disk) c.loop-len.place.sector
     c.next_batch.new.place.sector len (g.D.SectorDisk.size c.loop-len.disk) c.next_batch.new.into honest (inv.reads.stays honest)
-    (g.met.D.SectorDisk.shaped c.loop-len.disk) (omega (arith, c.next_batch.auto.into, inv.room, c.requires.room)) (e.least len is)
-    (omega (arith, e.fits len is, inv.room, c.requires.room)) (e.stands len is) (e.batch len is) (e.passes len is) (e.inside len is)
+    (g.met.D.SectorDisk.shaped c.loop-len.disk) (omega (arith, c.next_batch.auto.into, inv.room)) (e.least len is)
+    (omega (arith, e.fits len is, inv.room)) (e.stands len is) (e.batch len is) (e.passes len is) (e.inside len is)
 
 -- whatever events its records are of, the machine has gone through them
 only_there : (g : Over) (c : In_ok-go_through g) (events : List PlainEvent) (to : State)
@@ -97,7 +97,7 @@ loop-len-init g c = record {
   within = omega arith;
   limits = refl;
   tracked = λ base is. is;
-  replayed = λ honest. replayed_none c.args.engine.now.limits c.args.engine.now.state c.args.journal.now (g.D.SectorDisk.medium c.args.disk.now).contents;
+  replayed = λ honest. replayed_none (length c.args.room.now) c.args.engine.now.limits c.args.engine.now.state c.args.journal.now (g.D.SectorDisk.medium c.args.disk.now).contents;
   reads = OnlyReads-start c.args.disk.now;
 }
 
@@ -117,9 +117,9 @@ returns-in_err-len-clause-damaged g c = λ sector batches s is honest good.
       | inl lt ↦ lt
       | inr le ↦ absurd (not_none c.in_err-len.field-0.0 (c.in_err-len.ensures.end le))
     ] in
-    replayed_damaged c.args.engine.now.limits c.args.engine.now.state journal image place c.loop-len.engine.state (inv.replayed honest)
+    replayed_damaged (length c.args.room.now) c.requires.room c.args.engine.now.limits c.args.engine.now.state journal image place c.loop-len.engine.state (inv.replayed honest)
     (length c.loop-len.room) _
-    (omega (arith, inv.room, c.requires.room)) said more bad batches s good
+    inv.room said more bad batches s good
 
 pub returns-in_err-len-clause-named : goal.returns-in_err-len-clause-named
 returns-in_err-len-clause-named g c = λ sector is honest.
@@ -137,8 +137,8 @@ returns-in_err-len-clause-named g c = λ sector is honest.
       | inr le ↦ absurd (not_none c.in_err-len.field-0.0 (c.in_err-len.ensures.end le))
     ] in
     let replayed = inv.replayed honest in
-    replayed_good _ _ _ _ _ _ replayed sector at more
-    (none_damaged _ _ _ _ _ _ replayed (length c.loop-len.room) _ (omega (arith, inv.room, c.requires.room)) said
+    replayed_good _ c.requires.room _ _ _ _ _ _ replayed sector at more
+    (none_damaged _ c.requires.room _ _ _ _ _ _ replayed (length c.loop-len.room) _ inv.room said
     (c.in_err-len.ensures.damaged sector was (stays.time.honest.0 honest)))
 
 pub returns-in_err-len-clause-reads : goal.returns-in_err-len-clause-reads
@@ -149,7 +149,7 @@ returns-in_err-len-clause-reads g c =
 pub returns-in_default-clause-replays : goal.returns-in_default-clause-replays
 returns-in_default-clause-replays g c = λ honest.
     let inv = c.loop-len.invariant in
-    replayed_all _ _ _ _ _ _ (inv.replayed honest) (at_end _ _ c.in_ok-len.field-0 inv.within c.in_default.is c.in_ok-len.ensures.more)
+    replayed_all _ c.requires.room _ _ _ _ _ _ (inv.replayed honest) (at_end _ _ c.in_ok-len.field-0 inv.within c.in_default.is c.in_ok-len.ensures.more)
 
 pub returns-in_default-clause-reads : goal.returns-in_default-clause-reads
 returns-in_default-clause-reads g c =
@@ -163,7 +163,7 @@ returns-in_err-go_through-clause-reads g c =
 pub returns-then-not-branch-clause-damaged : goal.returns-then-not-branch-clause-damaged
 returns-then-not-branch-clause-damaged g c = λ sector batches to is honest good.
     let here = (goal.at.returns-then-not-branch-clause-damaged g c).In_ok-go_through in
-    replayed_refused _ _ _ _ _ _ _ (c.loop-len.invariant.replayed honest) (found_there g here honest)
+    replayed_refused _ c.requires.room _ _ _ _ _ _ _ (c.loop-len.invariant.replayed honest) (found_there g here honest)
     (λ es t are. false≢true (sym c.if-not-branch.true ∙ (only_there g here es t are).0)) batches to good
 
 pub returns-then-not-branch-clause-named : goal.returns-then-not-branch-clause-named
@@ -171,10 +171,10 @@ returns-then-not-branch-clause-named g c = λ sector is honest.
     let here = (goal.at.returns-then-not-branch-clause-named g c).In_ok-go_through in
     let replayed = c.loop-len.invariant.replayed honest in
     let found = found_there g here honest in
-    replayed_good _ _ _ _ _ _ replayed sector
+    replayed_good _ c.requires.room _ _ _ _ _ _ replayed sector
     (sym (named_sector _ sector is) ∙ ap (λ (range : Range). range.first + 1 + c.loop-len.place.sector) c.range.ensures)
     (omega (arith, found.inside, found.is.field))
-    (none_refused _ _ _ _ _ _ _ replayed found (λ es t are. false≢true (sym c.if-not-branch.true ∙ (only_there g here es t are).0)))
+    (none_refused _ c.requires.room _ _ _ _ _ _ _ replayed found (λ es t are. false≢true (sym c.if-not-branch.true ∙ (only_there g here es t are).0)))
 
 pub returns-then-not-branch-clause-reads : goal.returns-then-not-branch-clause-reads
 returns-then-not-branch-clause-reads g c =
@@ -209,9 +209,9 @@ loop-len-preserved g c =
       tracked = λ base is. c.go_through.ensures.tracked base (inv.tracked base is);
       replayed = λ honest.
           subst
-          (λ (n : ℕ). Replayed c.args.engine.now.limits c.args.engine.now.state c.args.journal.now (g.D.SectorDisk.medium c.args.disk.now).contents n t)
+          (λ (n : ℕ). Replayed (length c.args.room.now) c.args.engine.now.limits c.args.engine.now.state c.args.journal.now (g.D.SectorDisk.medium c.args.disk.now).contents n t)
           next
-          (replayed_more _ _ _ _ _ s _ (inv.replayed honest) (found_there g here honest) events.0 t are (λ es to good. (only_there g here es to good).1));
+          (replayed_more _ c.requires.room _ _ _ _ _ s _ (inv.replayed honest) (found_there g here honest) events.0 t are (λ es to good. (only_there g here es to good).1));
       reads = reads_well g (goal.at.loop-len-preserved g c).After-next_batch c.in_ok-len.field-0 c.in_ok-len.was;
     }
 

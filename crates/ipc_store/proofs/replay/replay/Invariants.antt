@@ -17,7 +17,7 @@ invariant-loop-len g l =
       limits : l.engine.limits ≡ l.fn.engine.limits;
       tracked : (base : State) → IsTracked l.fn.engine.changed base l.fn.engine.state → IsTracked l.engine.changed base l.engine.state;
       replayed : IsHonest (medium l.fn.disk)
-          → Replayed l.fn.engine.limits l.fn.engine.state l.journal (medium l.fn.disk).contents l.place.sector l.engine.state;
+          → Replayed (length l.fn.room) l.fn.engine.limits l.fn.engine.state l.journal (medium l.fn.disk).contents l.place.sector l.engine.state;
       reads : OnlyReads g.D.SectorDisk.size medium g.D.SectorDisk.counts ⊥ l.fn.disk l.disk;
     }
 

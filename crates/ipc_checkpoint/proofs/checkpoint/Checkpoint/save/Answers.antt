@@ -1,15 +1,18 @@
 -- What the objects lack is taken out, what has changed is put in, and the heap is turned over.
 use Rattle.std.proofs.Common.{◌≡◌, ℕ, ◌≤◌, refl, ap, subst, ◌∙◌}
 use Rattle.std.specs.Prelude.{Err, IsErrOf, is_some, nat_eq}
-use Rattle.ipc_base.specs.Objects.{PlainObjects}
+use Rattle.std.proofs.lemmas.Result.{on_ok_weaker}
+use Rattle.ipc_base.specs.Objects.{OthersAreThere, PlainObjects}
 use Rattle.ipc_base.specs.Table.{value_at}
 use Rattle.ipc_disk.specs.Counts.{Counts, counted}
 use Rattle.ipc_heap.specs.declared.error.HeapError.{HeapError}
 use Rattle.ipc_heap.specs.declared.error.HeapError.TheVariants.{Device, Full}
 use Rattle.ipc_heap.specs.Matches.{Keeps}
 use Rattle.ipc_heap.specs.View.{HeapView, free}
-use Rattle.ipc_checkpoint.specs.View.{CheckpointView}
-use Rattle.ipc_checkpoint.proofs.Saves.{counted-two, free-new, laid-one, matches-new, moment-mid, moment-new, not-full, only-one, others-mid, others-new}
+use Rattle.ipc_checkpoint.specs.Matches.{CheckpointMatches, IsSavedUnder}
+use Rattle.ipc_checkpoint.specs.View.{CheckpointView, layout_of}
+use Rattle.ipc_checkpoint.proofs.Saves.{counted-two, free-new, kept-new, laid-one, matches-new, moment-mid, moment-new, moment-saved, not-full}
+use Rattle.ipc_checkpoint.proofs.Saves.{only-one, others-mid, others-new}
 use Rattle.ipc_checkpoint.proofs.Saves.{room-one, writes-new}
 use Rattle.ipc_checkpoint.proofs.checkpoint.Checkpoint.save.Given.{Over}
 use Rattle.ipc_checkpoint.proofs.checkpoint.Checkpoint.save.Goals as goal
@@ -79,22 +82,34 @@ device : (e : HeapError) → (IsErrOf {T = Unit {0}} (Err e) Full → ⊥) → I
 device Device some = refl
 device Full some = absurd (some refl)
 
-pub returns-clause-matches : goal.returns-clause-matches
-returns-clause-matches g c =
-    let m = (goal.at.returns-clause-matches g c).After-keep_those_of in
+pub returns-clause-aimed : goal.returns-clause-aimed
+returns-clause-aimed g c =
+    let m = (goal.at.returns-clause-aimed g c).After-keep_those_of in
     elim c.match-flip.branch [
       | in-Ok w ↦ rw w.result-is
-          (matches-new (size g m) c.args.self.now (os g m) (g.O.Objects.differs c.args.objects.now) c.count-count.ensures.objects c.requires.laid_out
+          (λ root saved at there.
+          matches-new (size g m) c.args.self.now (os g m) (g.O.Objects.differs c.args.objects.now) c.count-count.ensures.objects c.requires.laid_out
           c.requires.fits c.requires.old_fits (one g m) (keeps g m) (more g m)
           (g.D.SectorDisk.medium c.args.disk.now) (g.D.SectorDisk.medium c.put_changed.new.disk)
           c.put_changed.ensures.any_moment c.put_changed.ensures.others c.put_changed.new.heap c.put_changed.ensures.stays
           c.in_ok-put_changed.ensures.placed c.in_ok-put_changed.ensures.sizes c.in_ok-put_changed.ensures.spends
           (g.D.SectorDisk.medium c.flip.new.disk) c.args.epoch c.flip.new.self
           c.in_ok-put_changed.ensures.matches c.in_ok-put_changed.ensures.map c.requires.unchanged
-          c.flip.ensures.placed c.flip.ensures.range w.in-Ok.ensures.table w.in-Ok.ensures.free w.in-Ok.ensures.matches w.in-Ok.ensures.map
-          c.self.inside.area)
+          c.flip.ensures.placed c.flip.ensures.range w.in-Ok.ensures.table w.in-Ok.ensures.free w.in-Ok.ensures.root c.flip.ensures.aim
+          w.in-Ok.ensures.matches w.in-Ok.ensures.map c.self.inside.area saved at there)
       | in-Err w ↦ rw w.result-is tt
     ]
+
+pub returns-clause-matches : goal.returns-clause-matches
+returns-clause-matches g c =
+    let old = g.D.SectorDisk.medium c.args.disk.now in
+    let os = g.O.Objects.objects c.args.objects.now in
+    let Then : Type 0 = CheckpointMatches (record { area = c.self.inside.area; heap = c.flip.new.self }) os (g.D.SectorDisk.medium c.flip.new.disk) in
+    let own : ((root : ℕ) (saved : PlainObjects) → IsSavedUnder root c.args.self.now saved old
+    → OthersAreThere (g.O.Objects.differs c.args.objects.now) os saved → Then)
+    → (saved : PlainObjects) → CheckpointMatches c.args.self.now saved old → Then =
+    λ all saved at. all (layout_of c.args.self.now).root saved at (c.requires.unchanged saved at) in
+    on_ok_weaker _ own (returns-clause-aimed g c)
 
 pub returns-clause-free : goal.returns-clause-free
 returns-clause-free g c =
@@ -122,6 +137,24 @@ returns-clause-any_moment g c =
     c.in_ok-put_changed.ensures.placed c.in_ok-put_changed.ensures.sizes c.in_ok-put_changed.ensures.spends
     (g.D.SectorDisk.medium c.flip.new.disk) c.args.epoch c.flip.new.self
     c.in_ok-put_changed.ensures.matches c.in_ok-put_changed.ensures.map c.requires.unchanged c.flip.ensures.any_moment
+
+pub returns-in_err-put_changed-clause-kept : goal.returns-in_err-put_changed-clause-kept
+returns-in_err-put_changed-clause-kept g c = λ root saved at other part within now.
+    let m = (goal.at.returns-in_err-put_changed-clause-kept g c).After-keep_those_of in
+    moment-saved (size g m) c.args.self.now (os g m) (g.O.Objects.differs c.args.objects.now) c.count-count.ensures.objects c.requires.laid_out c.requires.fits
+    c.requires.old_fits (one g m) (keeps g m) (more g m) (g.D.SectorDisk.medium c.args.disk.now) (g.D.SectorDisk.medium c.put_changed.new.disk)
+    c.put_changed.ensures.any_moment c.put_changed.ensures.others saved at part within now
+
+pub returns-clause-kept : goal.returns-clause-kept
+returns-clause-kept g c = λ root saved at other.
+    let m = (goal.at.returns-clause-kept g c).After-keep_those_of in
+    kept-new (size g m) c.args.self.now (os g m) (g.O.Objects.differs c.args.objects.now) c.count-count.ensures.objects c.requires.laid_out
+    c.requires.fits c.requires.old_fits (one g m) (keeps g m) (more g m)
+    (g.D.SectorDisk.medium c.args.disk.now) (g.D.SectorDisk.medium c.put_changed.new.disk)
+    c.put_changed.ensures.any_moment c.put_changed.ensures.others c.put_changed.new.heap c.put_changed.ensures.stays
+    c.in_ok-put_changed.ensures.placed c.in_ok-put_changed.ensures.sizes c.in_ok-put_changed.ensures.spends
+    (g.D.SectorDisk.medium c.flip.new.disk) c.args.epoch c.flip.new.self
+    c.in_ok-put_changed.ensures.matches c.in_ok-put_changed.ensures.map c.requires.unchanged c.flip.ensures.kept saved at other
 
 pub returns-clause-others : goal.returns-clause-others
 returns-clause-others g c =

@@ -1,11 +1,9 @@
 -- A heap is turned over: what is saved is the map, in sectors that were free.
 use Rattle.std.proofs.Common.{◌≡◌, ◌≢◌, ℕ, ◌+◌, ◌*◌, ◌^◌, ◌<◌, ◌≤◌, true, List, ◌++◌, length, map, refl, sym, ap, subst, ◌∙◌, inl, ⊎_elim, arith}
-use Rattle.std.specs.Prelude.{All, Contains, nat_eq, count_by}
-use Rattle.std.specs.Global.{Vec}
+use Rattle.std.specs.Prelude.{All, Contains, nat_eq}
 use Rattle.std.specs.List.{IsDistinct}
-use Rattle.std.specs.Vec.{with_items}
 use Rattle.std.proofs.lemmas.Option.{slice_get_within}
-use Rattle.std.proofs.lemmas.List.{length-map, with_items_is}
+use Rattle.std.proofs.lemmas.List.{length-map}
 use Rattle.std.proofs.lemmas.List.Elements.{All-contains, All-weaker}
 use Rattle.ipc_base.specs.Objects.{PlainObjects}
 use Rattle.ipc_disk.specs.Counts.{with_calls}
@@ -14,37 +12,32 @@ use Rattle.ipc_disk.specs.Range.{IsInside}
 use Rattle.ipc_disk.specs.Since.{EachImageSince, LeavesAlone}
 use Rattle.ipc_disk.proofs.CallerLemmas.{EachImageSince-start, LeavesAlone-start}
 use Rattle.ipc_heap.specs.declared.uses.Use.{Use}
-use Rattle.ipc_heap.specs.Heap.{HoldsEither, IsLaidOut, object_sectors, table_sectors_for, table_words}
-use Rattle.ipc_heap.specs.Matches.{HeapMatches, IsKept}
-use Rattle.ipc_heap.specs.View.{HeapView, free, is_free, map_of, turned}
+use Rattle.ipc_heap.specs.Heap.{Holds, HoldsEither, IsLaidOut, object_sectors, table_sectors_for, table_words}
+use Rattle.ipc_heap.specs.Matches.{HeapMatches, IsKept, StaysSaved}
+use Rattle.ipc_heap.specs.View.{HeapView, free, map_of, turned}
 use Rattle.ipc_heap.specs.Relations.Flip.{IsEither, IsTurned}
 use Rattle.ipc_heap.specs.Relations.Uses.{AreGiven, AreTaken}
 use Rattle.ipc_heap.specs.Relations.Words.{IsHeap, placed_in}
 use Rattle.ipc_heap.proofs.Changes.{both-inside, both-once, flipped-free, flipped-heap, free-inside, saved-noted, seen, turned-next, words-room}
-use Rattle.ipc_heap.proofs.Flips.{flip-map, flip-matches, flip-moment, flip-others}
+use Rattle.ipc_heap.proofs.Flips.{flip-kept, flip-map, flip-matches, flip-moment, flip-others}
 use Rattle.ipc_heap.proofs.heap.Heap.flip.Given.{Over}
 use Rattle.ipc_heap.proofs.heap.Heap.flip.Goals as goal
-use Rattle.ipc_heap.proofs.heap.Heap.flip.Goals.{After-self-in-Ok-4-1, After-take_table}
+use Rattle.ipc_heap.proofs.heap.Heap.flip.Goals.{After-self-in-Ok-1, After-take_table}
 
 -- ---- the sectors of the table are taken
 
 module _ (g : Over) (c : After-take_table g) where
-  laid : IsLaidOut c.self.inside.range c.self.inside.root (g.D.SectorDisk.size c.args.disk.now)
-  laid = subst (λ (v : HeapView). IsLaidOut v.range v.root (g.D.SectorDisk.size c.args.disk.now)) (sym c.self.view_is) c.requires.laid_out
+  laid : IsLaidOut c.self.inside.range c.self.inside.aim (g.D.SectorDisk.size c.args.disk.now)
+  laid = subst (λ (v : HeapView). IsLaidOut v.range v.aim (g.D.SectorDisk.size c.args.disk.now)) (sym c.self.view_is) c.requires.laid_out
 
   abbrev view : HeapView
-  view = seen c.self.inside.range c.self.inside.root c.self.inside.epoch c.self.inside.words c.self.inside.table c.self.inside.uses
+  view = seen c.self.inside.range c.self.inside.root c.self.inside.aim c.self.inside.epoch c.self.inside.words c.self.inside.table c.self.inside.uses
 
-  taken : AreTaken c.self.inside.range.first c.self.inside.uses.items c.take_table.new.table.items c.take_table.new.uses
-  taken =
-      subst (λ (l : List Use). AreTaken c.self.inside.range.first l c.take_table.new.table.items c.take_table.new.uses) c.deref_mut.ensures.value
-      c.take_table.ensures.taken
+  taken : AreTaken c.self.inside.range.first c.self.inside.uses c.take_table.new.table.items c.take_table.new.uses
+  taken = c.take_table.ensures.taken
 
   table-inside : All (IsInside c.self.inside.range) c.take_table.new.table.items
-  table-inside = free-inside c.self.inside.range c.self.inside.uses.items c.take_table.new.table.items c.self.invariant.all_uses taken.were_free
-
-  mid : (with_items c.self.inside.uses c.take_table.new.uses).items ≡ c.take_table.new.uses
-  mid = with_items_is c.self.inside.uses c.take_table.new.uses (c.take_table.ensures.taken.long ∙ c.deref_mut.ensures.len)
+  table-inside = free-inside c.self.inside.range c.self.inside.uses c.take_table.new.table.items c.self.invariant.all_uses taken.were_free
 
   -- they are given back to uses that are as long as these
   inside-of : (uses : List Use) (table : List ℕ) → length uses ≡ length c.take_table.new.uses → table ≡ c.take_table.new.table.items
@@ -52,33 +45,15 @@ module _ (g : Over) (c : After-take_table g) where
   inside-of uses table long is =
       subst (All (λ s. (c.self.inside.range.first ≤ s) × (s < c.self.inside.range.first + length uses))) (sym is)
       (λ k d less. let free = taken.were_free k d less in
-      (free.0, omega (arith, free.0, slice_get_within c.self.inside.uses.items _ free.1 free.2, taken.long, long)))
-
-  -- the uses after that
-  module _ (kept near new : List Use) (vec : Vec Use) (table : List ℕ) (same : vec.items ≡ near) (all : vec.len ≡ length near) (was : kept ≡ near)
-      (is : table ≡ c.take_table.new.table.items) (back : AreGiven c.self.inside.range.first kept table new) where
-    given-to : AreGiven c.self.inside.range.first near c.take_table.new.table.items (with_items vec new).items
-    given-to =
-        let here : AreGiven c.self.inside.range.first near c.take_table.new.table.items new =
-        subst (λ (l : List ℕ). AreGiven c.self.inside.range.first near l new) is
-        (subst (λ (l : List Use). AreGiven c.self.inside.range.first l table new) was back) in
-        subst (λ (l : List Use). AreGiven c.self.inside.range.first near c.take_table.new.table.items l)
-        (sym (with_items_is vec new (here.long ∙ sym all))) here
+      (free.0, omega (arith, free.0, slice_get_within c.self.inside.uses _ free.1 free.2, taken.long, long)))
 
   -- a heap whose table's sectors were taken and given back
-  back-to : (new_uses : Vec Use) → AreGiven c.self.inside.range.first c.take_table.new.uses c.take_table.new.table.items new_uses.items
+  back-to : (table : List ℕ) (new_uses : List Use) → table ≡ c.take_table.new.table.items
+      → AreGiven c.self.inside.range.first c.take_table.new.uses table new_uses
       → IsHeap c.self.inside.range c.self.inside.words c.take_table.new.table new_uses
-  back-to new_uses given =
-      flipped-heap c.take_table.new.table new_uses c.self.invariant taken refl refl given c.take_table.ensures.capacity
-
-  uses_long : c.self.inside.uses.len ≡ length c.take_table.new.uses
-  uses_long = sym (c.take_table.ensures.taken.long ∙ c.deref_mut.ensures.len)
-
-  turned-uses : (kept new : List Use) → kept ≡ (with_items c.self.inside.uses c.take_table.new.uses).items → new ≡ map turned kept
-      → (with_items (with_items c.self.inside.uses c.take_table.new.uses) new).items ≡ map turned c.take_table.new.uses
-  turned-uses kept new was is =
-      let now : new ≡ map turned c.take_table.new.uses = is ∙ ap (λ (l : List Use). map turned l) (was ∙ mid) in
-      with_items_is (with_items c.self.inside.uses c.take_table.new.uses) new (ap length now ∙ length-map c.take_table.new.uses turned ∙ sym uses_long) ∙ now
+  back-to table new_uses is given =
+      flipped-heap c.take_table.new.table new_uses c.self.invariant taken refl refl
+      (subst (λ (l : List ℕ). AreGiven c.self.inside.range.first c.take_table.new.uses l new_uses) is given) c.take_table.ensures.capacity
 
   -- ---- there were enough of them
 
@@ -97,53 +72,72 @@ module _ (g : Over) (c : After-take_table g) where
   -- a crash at any moment, and the sectors that stay
   module _ (new : Medium) (on : c.take_table.result ≡ true) (words table : List ℕ) (words-are : words ≡ c.self.inside.words.items)
       (table-is : table ≡ c.take_table.new.table.items) where
+    either : (IsHonest (g.D.SectorDisk.medium c.args.disk.now) → EachImageSince (g.D.SectorDisk.medium c.args.disk.now) new
+        (IsEither words table c.self.inside.aim c.args.epoch (g.D.SectorDisk.medium c.args.disk.now)))
+        → IsHonest (g.D.SectorDisk.medium c.args.disk.now) → EachImageSince (g.D.SectorDisk.medium c.args.disk.now) new
+        (IsEither c.self.inside.words.items c.take_table.new.table.items c.self.inside.aim c.args.epoch (g.D.SectorDisk.medium c.args.disk.now))
+    either since honest =
+        subst (λ (l : List ℕ). EachImageSince (g.D.SectorDisk.medium c.args.disk.now) new
+        (IsEither l c.take_table.new.table.items c.self.inside.aim c.args.epoch (g.D.SectorDisk.medium c.args.disk.now))) words-are
+        (subst (λ (l : List ℕ). EachImageSince (g.D.SectorDisk.medium c.args.disk.now) new
+        (IsEither words l c.self.inside.aim c.args.epoch (g.D.SectorDisk.medium c.args.disk.now))) table-is (since honest))
+
     moment : (IsHonest (g.D.SectorDisk.medium c.args.disk.now) → EachImageSince (g.D.SectorDisk.medium c.args.disk.now) new
-        (IsEither words table c.self.inside.root c.args.epoch (g.D.SectorDisk.medium c.args.disk.now)))
+        (IsEither words table c.self.inside.aim c.args.epoch (g.D.SectorDisk.medium c.args.disk.now)))
         → (saved : PlainObjects) → HeapMatches c.args.self.now saved (g.D.SectorDisk.medium c.args.disk.now)
         → EachImageSince (g.D.SectorDisk.medium c.args.disk.now) new
-        (HoldsEither c.args.self.now.range c.args.self.now.root c.args.self.now.epoch saved c.args.epoch
+        (HoldsEither c.args.self.now.range c.args.self.now.root c.args.self.now.epoch saved c.args.self.now.aim c.args.epoch
         (map_of c.args.self.now (g.D.SectorDisk.medium c.args.disk.now)))
     moment since =
         subst (λ (v : HeapView). (saved : PlainObjects) → HeapMatches v saved (g.D.SectorDisk.medium c.args.disk.now)
         → EachImageSince (g.D.SectorDisk.medium c.args.disk.now) new
-        (HoldsEither v.range v.root v.epoch saved c.args.epoch (map_of v (g.D.SectorDisk.medium c.args.disk.now)))) c.self.view_is
+        (HoldsEither v.range v.root v.epoch saved v.aim c.args.epoch (map_of v (g.D.SectorDisk.medium c.args.disk.now)))) c.self.view_is
         (λ saved matches. flip-moment view saved (g.D.SectorDisk.medium c.args.disk.now)
         (g.D.SectorDisk.size c.args.disk.now) laid matches c.self.inside.words.items c.take_table.new.table.items
         c.args.epoch c.self.invariant.is_table (omega (arith, later)) c.self.invariant.numbers c.self.invariant.sizes
-        (long on) inside once taken.were_free new
-        (subst (λ (l : List ℕ). EachImageSince (g.D.SectorDisk.medium c.args.disk.now) new
-        (IsEither l c.take_table.new.table.items c.self.inside.root c.args.epoch (g.D.SectorDisk.medium c.args.disk.now))) words-are
-        (subst (λ (l : List ℕ). EachImageSince (g.D.SectorDisk.medium c.args.disk.now) new
-        (IsEither words l c.self.inside.root c.args.epoch (g.D.SectorDisk.medium c.args.disk.now))) table-is (since matches.honest))))
+        (long on) inside once taken.were_free new (either since matches.honest))
+
+    kept : (IsHonest (g.D.SectorDisk.medium c.args.disk.now) → EachImageSince (g.D.SectorDisk.medium c.args.disk.now) new
+        (IsEither words table c.self.inside.aim c.args.epoch (g.D.SectorDisk.medium c.args.disk.now)))
+        → c.args.self.now.aim ≢ c.args.self.now.root
+        → (saved : PlainObjects) → HeapMatches c.args.self.now saved (g.D.SectorDisk.medium c.args.disk.now)
+        → StaysSaved c.args.self.now.range c.args.self.now.root c.args.self.now.epoch saved (g.D.SectorDisk.medium c.args.disk.now) new
+    kept since =
+        subst (λ (v : HeapView). v.aim ≢ v.root → (saved : PlainObjects) → HeapMatches v saved (g.D.SectorDisk.medium c.args.disk.now)
+        → StaysSaved v.range v.root v.epoch saved (g.D.SectorDisk.medium c.args.disk.now) new) c.self.view_is
+        (λ other saved matches. flip-kept view saved (g.D.SectorDisk.medium c.args.disk.now)
+        (g.D.SectorDisk.size c.args.disk.now) laid matches c.self.inside.words.items c.take_table.new.table.items
+        c.args.epoch c.self.invariant.is_table (omega (arith, later)) c.self.invariant.numbers c.self.invariant.sizes
+        (long on) inside once taken.were_free other new (either since matches.honest))
 
     others : (IsHonest (g.D.SectorDisk.medium c.args.disk.now)
-        → LeavesAlone (λ i. (Contains table i → ⊥) × (i ≢ c.self.inside.root)) (g.D.SectorDisk.medium c.args.disk.now) new)
+        → LeavesAlone (λ i. (Contains table i → ⊥) × (i ≢ c.self.inside.aim)) (g.D.SectorDisk.medium c.args.disk.now) new)
         → IsHonest (g.D.SectorDisk.medium c.args.disk.now)
-        → LeavesAlone (λ i. IsKept c.args.self.now i × (i ≢ c.args.self.now.root)) (g.D.SectorDisk.medium c.args.disk.now) new
+        → LeavesAlone (λ i. IsKept c.args.self.now i × (i ≢ c.args.self.now.aim)) (g.D.SectorDisk.medium c.args.disk.now) new
     others run =
         subst (λ (v : HeapView). IsHonest (g.D.SectorDisk.medium c.args.disk.now)
-        → LeavesAlone (λ i. IsKept v i × (i ≢ v.root)) (g.D.SectorDisk.medium c.args.disk.now) new) c.self.view_is
-        (λ honest. flip-others c.self.inside.range c.self.inside.uses.items c.take_table.new.table.items c.self.inside.root
+        → LeavesAlone (λ i. IsKept v i × (i ≢ v.aim)) (g.D.SectorDisk.medium c.args.disk.now) new) c.self.view_is
+        (λ honest. flip-others c.self.inside.range c.self.inside.uses c.take_table.new.table.items c.self.inside.aim
         (g.D.SectorDisk.medium c.args.disk.now) new
         c.self.invariant.all_uses taken.were_free
-        (subst (λ (l : List ℕ). LeavesAlone (λ i. (Contains l i → ⊥) × (i ≢ c.self.inside.root)) (g.D.SectorDisk.medium c.args.disk.now) new) table-is
+        (subst (λ (l : List ℕ). LeavesAlone (λ i. (Contains l i → ⊥) × (i ≢ c.self.inside.aim)) (g.D.SectorDisk.medium c.args.disk.now) new) table-is
         (run honest)))
 
     module _ (turns : IsHonest (g.D.SectorDisk.medium c.args.disk.now)
-        → IsTurned words table c.self.inside.root c.args.epoch (g.D.SectorDisk.medium c.args.disk.now).contents new.contents)
-        (new_uses : Vec Use) (given : AreGiven c.self.inside.range.first (map turned c.take_table.new.uses) c.take_table.new.table.items new_uses.items) where
+        → IsTurned words table c.self.inside.aim c.args.epoch (g.D.SectorDisk.medium c.args.disk.now).contents new.contents)
+        (new_uses : List Use) (given : AreGiven c.self.inside.range.first (map turned c.take_table.new.uses) c.take_table.new.table.items new_uses) where
       abbrev next : HeapView
-      next = seen c.self.inside.range c.self.inside.root c.args.epoch c.self.inside.words c.take_table.new.table new_uses
+      next = seen c.self.inside.range c.self.inside.aim c.self.inside.aim c.args.epoch c.self.inside.words c.take_table.new.table new_uses
 
       turned-is : IsHonest (g.D.SectorDisk.medium c.args.disk.now)
-          → IsTurned c.self.inside.words.items c.take_table.new.table.items c.self.inside.root c.args.epoch
+          → IsTurned c.self.inside.words.items c.take_table.new.table.items c.self.inside.aim c.args.epoch
           (g.D.SectorDisk.medium c.args.disk.now).contents new.contents
       turned-is honest =
           subst (λ (l : List ℕ).
-          IsTurned l c.take_table.new.table.items c.self.inside.root c.args.epoch (g.D.SectorDisk.medium c.args.disk.now).contents new.contents)
+          IsTurned l c.take_table.new.table.items c.self.inside.aim c.args.epoch (g.D.SectorDisk.medium c.args.disk.now).contents new.contents)
           words-are
           (subst (λ (l : List ℕ).
-          IsTurned words l c.self.inside.root c.args.epoch (g.D.SectorDisk.medium c.args.disk.now).contents new.contents) table-is (turns honest))
+          IsTurned words l c.self.inside.aim c.args.epoch (g.D.SectorDisk.medium c.args.disk.now).contents new.contents) table-is (turns honest))
 
       heap : IsHeap c.self.inside.range c.self.inside.words c.take_table.new.table new_uses
       heap =
@@ -160,9 +154,9 @@ module _ (g : Over) (c : After-take_table g) where
           (g.D.SectorDisk.size c.args.disk.now) laid matches c.self.inside.words.items c.take_table.new.table.items
           c.args.epoch c.self.invariant.is_table (omega (arith, later)) c.self.invariant.numbers c.self.invariant.sizes
           (long on) inside once taken.were_free new
-          honest durable (turned-is matches.honest) new_uses.items heap.all_uses
+          honest durable (turned-is matches.honest) new_uses heap.all_uses
           (saved-noted c.self.invariant taken
-          new_uses.items given) heap.next_uses)
+          new_uses given) heap.next_uses)
 
       map-then : (saved : PlainObjects) → HeapMatches c.args.self.now saved (g.D.SectorDisk.medium c.args.disk.now)
           → map_of next new ≡ map_of c.args.self.now (g.D.SectorDisk.medium c.args.disk.now)
@@ -178,7 +172,7 @@ pub take_table-requires-clause-fits : goal.take_table-requires-clause-fits
 take_table-requires-clause-fits g c =
     let within = subst (λ (v : HeapView). v.range.first + v.range.count ≤ g.D.SectorDisk.size c.args.disk.now)
     (sym c.self.view_is) c.requires.laid_out.within in
-    omega (arith, within, ap length c.deref_mut.ensures.value, c.self.invariant.all_uses, g.met.D.SectorDisk.fits c.args.disk.now)
+    omega (arith, within, c.self.invariant.all_uses, g.met.D.SectorDisk.fits c.args.disk.now)
 
 pub take_table-requires-clause-room : goal.take_table-requires-clause-room
 take_table-requires-clause-room g c =
@@ -197,26 +191,29 @@ take_table-requires-clause-room g c =
 pub give_back-requires : goal.give_back-requires
 give_back-requires g c =
     let m = (goal.at.give_back-requires g c).After-take_table in
-    inside-of g m _ _ (ap length (c.deref_mut-then-not-take_table.ensures.value ∙ mid g m)) c.deref.ensures.value
+    inside-of g m _ _ refl c.deref.ensures.value
 
 pub invariant_of-self : goal.invariant_of-self
 invariant_of-self g c =
     let m = (goal.at.invariant_of-self g c).After-take_table in
-    back-to g m (with_items (with_items c.self.inside.uses c.take_table.new.uses) c.give_back.new.uses)
-    (given-to g m c.deref_mut-then-not-take_table.result.now c.take_table.new.uses c.give_back.new.uses (with_items c.self.inside.uses c.take_table.new.uses)
-    c.deref.result.now (mid g m) (uses_long g m) (c.deref_mut-then-not-take_table.ensures.value ∙ mid g m) c.deref.ensures.value c.give_back.ensures)
+    back-to g m c.deref.result.now c.give_back.new.self c.deref.ensures.value c.give_back.ensures
 
 pub returns-then-not-take_table-clause-any_moment : goal.returns-then-not-take_table-clause-any_moment
 returns-then-not-take_table-clause-any_moment g c = λ saved matches.
     EachImageSince-start (g.D.SectorDisk.medium c.args.disk.now)
-    (HoldsEither c.args.self.now.range c.args.self.now.root c.args.self.now.epoch saved c.args.epoch
+    (HoldsEither c.args.self.now.range c.args.self.now.root c.args.self.now.epoch saved c.args.self.now.aim c.args.epoch
     (map_of c.args.self.now (g.D.SectorDisk.medium c.args.disk.now)))
     (λ image left. g.met.D.SectorDisk.only_now c.args.disk.now image left)
     (λ image now. inl (record { allocation = matches.there; there = matches.images image now }))
 
+pub returns-then-not-take_table-clause-kept : goal.returns-then-not-take_table-clause-kept
+returns-then-not-take_table-clause-kept g c = λ other saved matches part within now.
+    EachImageSince-start (g.D.SectorDisk.medium c.args.disk.now) (Holds part c.args.self.now.root c.args.self.now.epoch saved)
+    (λ image left. g.met.D.SectorDisk.only_now c.args.disk.now image left) now
+
 pub returns-then-not-take_table-clause-others : goal.returns-then-not-take_table-clause-others
 returns-then-not-take_table-clause-others g c = λ honest.
-    LeavesAlone-start (λ i. IsKept c.args.self.now i × (i ≢ c.args.self.now.root)) (g.D.SectorDisk.medium c.args.disk.now) honest
+    LeavesAlone-start (λ i. IsKept c.args.self.now i × (i ≢ c.args.self.now.aim)) (g.D.SectorDisk.medium c.args.disk.now) honest
     (λ image left. g.met.D.SectorDisk.only_now c.args.disk.now image left)
 
 pub returns-then-not-take_table-clause-full : goal.returns-then-not-take_table-clause-full
@@ -229,7 +226,6 @@ returns-then-not-take_table-clause-full g c = λ full.
       c.len.ensures,
       c.self.inside.words.ok.0,
       ap length c.self.invariant.is_table,
-      ap (count_by is_free) c.deref_mut.ensures.value,
     ))
 
 -- ---- the table and the root are written
@@ -264,13 +260,18 @@ turn-requires-clause-root_there g c = (laid g (goal.at.turn-requires-clause-root
 pub turn-requires-clause-root_apart : goal.turn-requires-clause-root_apart
 turn-requires-clause-root_apart g c = λ there.
     let m = (goal.at.turn-requires-clause-root_apart g c).After-take_table in
-    let here = All-contains (IsInside c.self.inside.range) c.take_table.new.table.items c.self.inside.root (table-inside g m)
-    (subst (λ (l : List ℕ). Contains l c.self.inside.root) c.deref-3.ensures.value there) in
+    let here = All-contains (IsInside c.self.inside.range) c.take_table.new.table.items c.self.inside.aim (table-inside g m)
+    (subst (λ (l : List ℕ). Contains l c.self.inside.aim) c.deref-3.ensures.value there) in
     ⊎_elim (λ low. omega (arith, low, here)) (λ high. omega (arith, high, here)) (laid g m).apart
 
 pub returns-in-Err-clause-any_moment : goal.returns-in-Err-clause-any_moment
 returns-in-Err-clause-any_moment g c =
     moment g (goal.at.returns-in-Err-clause-any_moment g c).After-take_table (g.D.SectorDisk.medium c.turn.new.disk) c.if-not-take_table.false _ _
+    c.deref-2.ensures.value c.deref-3.ensures.value c.turn.ensures.any_moment
+
+pub returns-in-Err-clause-kept : goal.returns-in-Err-clause-kept
+returns-in-Err-clause-kept g c =
+    kept g (goal.at.returns-in-Err-clause-kept g c).After-take_table (g.D.SectorDisk.medium c.turn.new.disk) c.if-not-take_table.false _ _
     c.deref-2.ensures.value c.deref-3.ensures.value c.turn.ensures.any_moment
 
 pub returns-in-Err-clause-others : goal.returns-in-Err-clause-others
@@ -283,6 +284,11 @@ returns-in-Ok-clause-any_moment g c =
     moment g (goal.at.returns-in-Ok-clause-any_moment g c).After-take_table (g.D.SectorDisk.medium c.turn.new.disk) c.if-not-take_table.false _ _
     c.deref-2.ensures.value c.deref-3.ensures.value c.turn.ensures.any_moment
 
+pub returns-in-Ok-clause-kept : goal.returns-in-Ok-clause-kept
+returns-in-Ok-clause-kept g c =
+    kept g (goal.at.returns-in-Ok-clause-kept g c).After-take_table (g.D.SectorDisk.medium c.turn.new.disk) c.if-not-take_table.false _ _
+    c.deref-2.ensures.value c.deref-3.ensures.value c.turn.ensures.any_moment
+
 pub returns-in-Ok-clause-others : goal.returns-in-Ok-clause-others
 returns-in-Ok-clause-others g c =
     others g (goal.at.returns-in-Ok-clause-others g c).After-take_table (g.D.SectorDisk.medium c.turn.new.disk) c.if-not-take_table.false _ _
@@ -291,37 +297,31 @@ returns-in-Ok-clause-others g c =
 pub give_back-requires-in-Err : goal.give_back-requires-in-Err
 give_back-requires-in-Err g c =
     let m = (goal.at.give_back-requires-in-Err g c).After-take_table in
-    inside-of g m _ _ (ap length (c.deref_mut-in-Err.ensures.value ∙ mid g m)) c.deref-in-Err.ensures.value
+    inside-of g m _ _ refl c.deref-in-Err.ensures.value
 
 pub invariant_of-self-in-Err : goal.invariant_of-self-in-Err
 invariant_of-self-in-Err g c =
     let m = (goal.at.invariant_of-self-in-Err g c).After-take_table in
-    back-to g m (with_items (with_items c.self.inside.uses c.take_table.new.uses) c.give_back-in-Err.new.uses)
-    (given-to g m c.deref_mut-in-Err.result.now c.take_table.new.uses c.give_back-in-Err.new.uses (with_items c.self.inside.uses c.take_table.new.uses)
-    c.deref-in-Err.result.now (mid g m) (uses_long g m) (c.deref_mut-in-Err.ensures.value ∙ mid g m) c.deref-in-Err.ensures.value c.give_back-in-Err.ensures)
+    back-to g m c.deref-in-Err.result.now c.give_back-in-Err.new.self c.deref-in-Err.ensures.value c.give_back-in-Err.ensures
 
 -- ---- the uses are turned over
 
-module _ (g : Over) (c : After-self-in-Ok-4-1 g) where
+module _ (g : Over) (c : After-self-in-Ok-1 g) where
   abbrev m : After-take_table g
   m = (goal.at.invariant_of-self-in-Ok g c).After-take_table
 
-  abbrev new_uses : Vec Use
-  new_uses = with_items (with_items (with_items c.self.inside.uses c.take_table.new.uses) c.turn_over.new.uses) c.give_back-in-Ok.new.uses
+  abbrev new_uses : List Use
+  new_uses = c.give_back-in-Ok.new.self
 
-  given : AreGiven c.self.inside.range.first (map turned c.take_table.new.uses) c.take_table.new.table.items new_uses.items
+  given : AreGiven c.self.inside.range.first (map turned c.take_table.new.uses) c.take_table.new.table.items new_uses
   given =
-      let near = turned-uses g m c.deref_mut-in-Ok.result.now c.turn_over.new.uses c.deref_mut-in-Ok.ensures.value c.turn_over.ensures in
-      given-to g m c.deref_mut-in-Ok-2.result.now (map turned c.take_table.new.uses) c.give_back-in-Ok.new.uses
-      (with_items (with_items c.self.inside.uses c.take_table.new.uses) c.turn_over.new.uses) c.deref-in-Ok.result.now near
-      (uses_long g m ∙ sym (length-map c.take_table.new.uses turned))
-      (c.deref_mut-in-Ok-2.ensures.value ∙ near) c.deref-in-Ok.ensures.value c.give_back-in-Ok.ensures
+      subst (λ (l : List Use). AreGiven c.self.inside.range.first l c.take_table.new.table.items new_uses) c.turn_over.ensures
+      (subst (λ (l : List ℕ). AreGiven c.self.inside.range.first c.turn_over.new.self l new_uses) c.deref-in-Ok.ensures.value c.give_back-in-Ok.ensures)
 
 pub give_back-requires-in-Ok : goal.give_back-requires-in-Ok
 give_back-requires-in-Ok g c =
     let m = (goal.at.give_back-requires-in-Ok g c).After-take_table in
-    let near = turned-uses g m c.deref_mut-in-Ok.result.now c.turn_over.new.uses c.deref_mut-in-Ok.ensures.value c.turn_over.ensures in
-    inside-of g m _ _ (ap length (c.deref_mut-in-Ok-2.ensures.value ∙ near) ∙ length-map c.take_table.new.uses turned) c.deref-in-Ok.ensures.value
+    inside-of g m _ _ (ap length c.turn_over.ensures ∙ length-map c.take_table.new.uses turned) c.deref-in-Ok.ensures.value
 
 pub invariant_of-self-in-Ok : goal.invariant_of-self-in-Ok
 invariant_of-self-in-Ok g c =
@@ -347,7 +347,7 @@ returns-in-Ok-clause-table g c =
 pub returns-in-Ok-clause-free : goal.returns-in-Ok-clause-free
 returns-in-Ok-clause-free g c =
     flipped-free c.self.invariant
-    (taken g (m g c)) (new_uses g c).items (given g c)
+    (taken g (m g c)) (new_uses g c) (given g c)
 
 pub returns-in-Ok-clause-counts : goal.returns-in-Ok-clause-counts
 returns-in-Ok-clause-counts g c =

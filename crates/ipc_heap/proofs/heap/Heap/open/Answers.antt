@@ -87,7 +87,7 @@ returns-clause-matches g c honest durable =
     kept-matches c.args.range c.args.root c.in_ok-found.found old.contents c.read_parts.new.parts done.noted done.all c.in_ok-found.ensures.sound
     (read g c honest here) (there g c honest here) (g.D.SectorDisk.size c.args.disk.now) (shaped g c honest here) c.requires.laid_out.within
     (fits g c honest here)
-    new (stays.contents honest) (stays.time.honest.0 honest)
+    new (stays.contents honest) c.requires.laid_out.apart (stays.time.honest.0 honest)
     (λ i now. durable i (stays.images i now) ∙ sym (stays.contents honest))
 
 pub returns-clause-free : goal.returns-clause-free

@@ -1,43 +1,39 @@
 -- An object is put in: it stands in sectors that were free, and takes the place of the one of its number.
 use Rattle.std.proofs.Common.{◌≡◌, ℕ, ◌+◌, ◌/◌, ◌%◌, ◌^◌, ◌<◌, ◌≤◌, List, [], ◌∷◌, ◌++◌, length, take, drop, map, sym, ap, subst, ◌∙◌, arith, vec_capacity}
 use Rattle.std.specs.Prelude.{All, Option, IfSome, slice_get, slice_index, flat_map, count_by}
-use Rattle.std.specs.Global.{Vec}
-use Rattle.std.specs.Vec.{with_items}
 use Rattle.std.proofs.lemmas.Option.{slice_get-get_or, slice_get_within}
-use Rattle.std.proofs.lemmas.List.{take_at, drop_at, with_items_is, drop-drop, length-append, get_or-take}
+use Rattle.std.proofs.lemmas.List.{take_at, drop_at, drop-drop, length-append, get_or-take}
 use Rattle.ipc_base.specs.Objects.{PlainObjects, AreObjects}
 use Rattle.ipc_disk.specs.Counts.{with_calls}
 use Rattle.ipc_disk.specs.Medium.{IsHonest}
-use Rattle.ipc_disk.specs.Since.{EachImageSince, LeavesAlone}
+use Rattle.ipc_disk.specs.Since.{LeavesAlone}
 use Rattle.ipc_disk.specs.Standing.{sector_at, sectors_for}
 use Rattle.ipc_heap.specs.declared.uses.Use.{Use}
-use Rattle.ipc_heap.specs.Heap.{Holds, IsLaidOut, Placed, object_on, object_sectors, object_words}
-use Rattle.ipc_heap.specs.Matches.{HeapMatches, IsKept}
+use Rattle.ipc_heap.specs.Heap.{IsLaidOut, Placed, object_on, object_sectors, object_words}
+use Rattle.ipc_heap.specs.Matches.{HeapMatches, IsKept, StaysSaved}
 use Rattle.ipc_heap.specs.View.{HeapView, free, is_free, map_of, sizes_of, with_object}
 use Rattle.ipc_heap.specs.Relations.Table.{object_at}
 use Rattle.ipc_heap.specs.Relations.Uses.{AreGiven, AreTaken, IsNotFree}
 use Rattle.ipc_heap.specs.Relations.Words.{AreWords, IsHeap, IsPutIn, placed_in}
 use Rattle.ipc_heap.proofs.Changes.{AreObjectsOf, HasSize, back-heap, heap-few, heap-fits, objects-few, pushed-four, pushed-object, seen, with-heap}
 use Rattle.ipc_heap.proofs.Changes.{with-objects, with-placed, words-of}
-use Rattle.ipc_heap.proofs.Images.{kept-matches, kept-moment, kept-objects, put-are, put-map, put-seen}
+use Rattle.ipc_heap.proofs.Images.{kept-images, kept-matches, kept-objects, put-are, put-map, put-seen}
 use Rattle.ipc_heap.proofs.Placed.{mapped-at}
+use Rattle.ipc_heap.proofs.Saved.{stays-saved}
 use Rattle.ipc_heap.proofs.heap.Heap.put.Given.{Over}
 use Rattle.ipc_heap.proofs.heap.Heap.put.Goals as goal
-use Rattle.ipc_heap.proofs.heap.Heap.put.Goals.{After-write_object, After-self-in-Ok-1}
+use Rattle.ipc_heap.proofs.heap.Heap.put.Goals.{After-write_object, After-put_in}
 
 -- ---- the object, and what is known once its sectors are written
 
 module _ (g : Over) (c : After-write_object g) where
-  laid : IsLaidOut c.self.inside.range c.self.inside.root (g.D.SectorDisk.size c.args.disk.now)
-  laid = subst (λ (v : HeapView). IsLaidOut v.range v.root (g.D.SectorDisk.size c.args.disk.now)) (sym c.self.view_is) c.requires.laid_out
+  laid : IsLaidOut c.self.inside.range c.self.inside.aim (g.D.SectorDisk.size c.args.disk.now)
+  laid = subst (λ (v : HeapView). IsLaidOut v.range v.aim (g.D.SectorDisk.size c.args.disk.now)) (sym c.self.view_is) c.requires.laid_out
 
   run : IsHonest (g.D.SectorDisk.medium c.args.disk.now)
-      → LeavesAlone (IsNotFree c.self.inside.range c.self.inside.uses.items) (g.D.SectorDisk.medium c.args.disk.now)
+      → LeavesAlone (IsNotFree c.self.inside.range c.self.inside.uses) (g.D.SectorDisk.medium c.args.disk.now)
       (g.D.SectorDisk.medium c.write_object.new.disk)
-  run =
-      subst (λ (l : List Use). IsHonest (g.D.SectorDisk.medium c.args.disk.now)
-      → LeavesAlone (IsNotFree c.self.inside.range l) (g.D.SectorDisk.medium c.args.disk.now) (g.D.SectorDisk.medium c.write_object.new.disk))
-      c.deref_mut.ensures.value c.write_object.ensures.others
+  run = c.write_object.ensures.others
 
   abbrev object : ℕ × List ℕ
   object = object_at (g.O.Objects.objects c.args.objects.now) c.args.i
@@ -62,9 +58,8 @@ module _ (g : Over) (c : After-write_object g) where
   abbrev placed : Placed
   placed = record { number = c.number-number.result; len = c.len.result; sectors = sectors }
 
-  taken : AreTaken c.self.inside.range.first c.self.inside.uses.items sectors c.write_object.new.uses
-  taken =
-      subst (λ (l : List Use). AreTaken c.self.inside.range.first l sectors c.write_object.new.uses) c.deref_mut.ensures.value c.write_object.ensures.taken
+  taken : AreTaken c.self.inside.range.first c.self.inside.uses sectors c.write_object.new.uses
+  taken = c.write_object.ensures.taken
 
   pushed : c.write_object.new.words.items ≡ c.self.inside.words.items ++ object_words placed
   pushed =
@@ -86,28 +81,19 @@ module _ (g : Over) (c : After-write_object g) where
   its_sectors : drop (c.len-end.result + 4) c.write_object.new.words.items ≡ sectors
   its_sectors = sym (drop-drop 4 c.len-end.result c.write_object.new.words.items) ∙ ap (drop 4) back
 
-  -- the uses as they are then, and once they are written again
-  mid : (with_items c.self.inside.uses c.write_object.new.uses).items ≡ c.write_object.new.uses
-  mid = with_items_is c.self.inside.uses c.write_object.new.uses (c.write_object.ensures.taken.long ∙ c.deref_mut.ensures.len)
-
-  last : (new : List Use) → length new ≡ length c.write_object.new.uses
-      → (with_items (with_items c.self.inside.uses c.write_object.new.uses) new).items ≡ new
-  last new same =
-      with_items_is (with_items c.self.inside.uses c.write_object.new.uses) new (same ∙ c.write_object.ensures.taken.long ∙ c.deref_mut.ensures.len)
-
   abbrev view : HeapView
-  view = seen c.self.inside.range c.self.inside.root c.self.inside.epoch c.self.inside.words c.self.inside.table c.self.inside.uses
+  view = seen c.self.inside.range c.self.inside.root c.self.inside.aim c.self.inside.epoch c.self.inside.words c.self.inside.table c.self.inside.uses
 
   -- a crash at any moment, and the sectors that stay
   moment : (saved : PlainObjects) → HeapMatches c.args.self.now saved (g.D.SectorDisk.medium c.args.disk.now)
-      → EachImageSince (g.D.SectorDisk.medium c.args.disk.now) (g.D.SectorDisk.medium c.write_object.new.disk)
-      (Holds c.args.self.now.range c.args.self.now.root c.args.self.now.epoch saved)
+      → StaysSaved c.args.self.now.range c.args.self.now.root c.args.self.now.epoch saved (g.D.SectorDisk.medium c.args.disk.now)
+      (g.D.SectorDisk.medium c.write_object.new.disk)
   moment =
       subst (λ (v : HeapView). (saved : PlainObjects) → HeapMatches v saved (g.D.SectorDisk.medium c.args.disk.now)
-      → EachImageSince (g.D.SectorDisk.medium c.args.disk.now) (g.D.SectorDisk.medium c.write_object.new.disk) (Holds v.range v.root v.epoch saved))
+      → StaysSaved v.range v.root v.epoch saved (g.D.SectorDisk.medium c.args.disk.now) (g.D.SectorDisk.medium c.write_object.new.disk))
       c.self.view_is
-      (λ saved matches. kept-moment view saved (g.D.SectorDisk.medium c.args.disk.now) (g.D.SectorDisk.size c.args.disk.now) laid matches
-      (g.D.SectorDisk.medium c.write_object.new.disk) (run matches.honest))
+      (λ saved matches. stays-saved view saved (g.D.SectorDisk.medium c.args.disk.now) (g.D.SectorDisk.medium c.write_object.new.disk) matches
+      (kept-images view saved (g.D.SectorDisk.medium c.args.disk.now) matches (g.D.SectorDisk.medium c.write_object.new.disk) (run matches.honest)))
 
   others : IsHonest (g.D.SectorDisk.medium c.args.disk.now)
       → LeavesAlone (IsKept c.args.self.now) (g.D.SectorDisk.medium c.args.disk.now) (g.D.SectorDisk.medium c.write_object.new.disk)
@@ -117,12 +103,12 @@ module _ (g : Over) (c : After-write_object g) where
 
 -- ---- what is known once it is put in
 
-module _ (g : Over) (c : After-self-in-Ok-1 g) where
+module _ (g : Over) (c : After-put_in g) where
   abbrev m : After-write_object g
   m = (goal.at.invariant_of-self g c).After-write_object
 
-  abbrev new_uses : Vec Use
-  new_uses = with_items (with_items c.self.inside.uses c.write_object.new.uses) c.put_in.new.uses
+  abbrev new_uses : List Use
+  new_uses = c.put_in.new.uses
 
   put : IsPutIn c.self.inside.words.items c.number-number.result (object_words (placed g m)) c.self.inside.range.first c.write_object.new.uses c.put_in.new.uses
       c.put_in.new.words.items
@@ -131,14 +117,10 @@ module _ (g : Over) (c : After-self-in-Ok-1 g) where
       λ table words uses. IsPutIn table c.number-number.result words c.self.inside.range.first uses c.put_in.new.uses c.put_in.new.words.items in
       subst (λ (l : List ℕ). Put l (object_words (placed g m)) c.write_object.new.uses) (front g m)
       (subst (λ (l : List ℕ). Put (take c.len-end.result c.write_object.new.words.items) l c.write_object.new.uses) (back g m)
-      (subst (Put (take c.len-end.result c.write_object.new.words.items) (drop c.len-end.result c.write_object.new.words.items))
-      (c.deref_mut-in-Ok.ensures.value ∙ mid g m) c.put_in.ensures.put))
+      c.put_in.ensures.put)
 
-  given : AreGiven c.self.inside.range.first c.write_object.new.uses (object_sectors put.found.here) new_uses.items
-  given =
-      subst (λ (l : List Use). AreGiven c.self.inside.range.first c.write_object.new.uses (object_sectors put.found.here) l)
-      (sym (last g m c.put_in.new.uses put.given.long))
-      put.given
+  given : AreGiven c.self.inside.range.first c.write_object.new.uses (object_sectors put.found.here) new_uses
+  given = put.given
 
   some : 0 < length (object g m).1
   some = c.count-count.ensures.objects.some c.args.i (0, []) c.requires.object
@@ -154,7 +136,7 @@ module _ (g : Over) (c : After-self-in-Ok-1 g) where
       with-heap c.put_in.new.words new_uses (placed g m) c.self.invariant put.found (taken g m) given size
       (omega (arith, c.number-number.type_inv)) put.now room
 
-  new_objects : AreObjectsOf c.self.inside.range (put.found.before ++ placed g m ∷ put.found.after) new_uses.items
+  new_objects : AreObjectsOf c.self.inside.range (put.found.before ++ placed g m ∷ put.found.after) new_uses
   new_objects =
       with-objects c.put_in.new.words new_uses (placed g m) c.self.invariant put.found (taken g m) given size
       (omega (arith, c.number-number.type_inv)) put.now room
@@ -165,13 +147,13 @@ module _ (g : Over) (c : After-self-in-Ok-1 g) where
       (omega (arith, c.number-number.type_inv)) put.now room
 
   abbrev next : HeapView
-  next = seen c.self.inside.range c.self.inside.root c.self.inside.epoch c.put_in.new.words c.self.inside.table new_uses
+  next = seen c.self.inside.range c.self.inside.root c.self.inside.aim c.self.inside.epoch c.put_in.new.words c.self.inside.table new_uses
 
   module _ (saved : PlainObjects) (matches : HeapMatches (view g m) saved (g.D.SectorDisk.medium c.args.disk.now)) where
     kept : map (object_on (g.D.SectorDisk.medium c.args.disk.now).contents) (placed_in c.self.inside.words.items)
         ≡ map (object_on (g.D.SectorDisk.medium c.write_object.new.disk).contents) (placed_in c.self.inside.words.items)
     kept =
-        kept-objects (view g m) saved (g.D.SectorDisk.medium c.args.disk.now) (g.D.SectorDisk.size c.args.disk.now) (laid g m) matches
+        kept-objects (view g m) saved (g.D.SectorDisk.medium c.args.disk.now) matches
         (g.D.SectorDisk.medium c.write_object.new.disk) (run g m matches.honest) c.self.invariant.inside
 
     stands : take c.len.result (flat_map (sector_at (g.D.SectorDisk.medium c.write_object.new.disk).contents) (sectors g m)) ≡ (object g m).1
@@ -193,14 +175,14 @@ module _ (g : Over) (c : After-self-in-Ok-1 g) where
     put_matches : HeapMatches next saved (g.D.SectorDisk.medium c.write_object.new.disk)
     put_matches =
         let new = g.D.SectorDisk.medium c.write_object.new.disk in
-        let few = objects-few c.self.inside.range (put.found.before ++ placed g m ∷ put.found.after) new_uses.items new_objects heap.all_uses in
+        let few = objects-few c.self.inside.range (put.found.before ++ placed g m ∷ put.found.after) new_uses new_objects heap.all_uses in
         let are : AreObjects (map (object_on new.contents) (put.found.before ++ placed g m ∷ put.found.after)) =
         put-are new.contents put.found.before put.found.here put.found.after (placed g m) (object g m).1 put.found.lower put.found.same put.found.one
         put.found.higher stands (subst AreObjects (kept ∙ ap (λ (l : List Placed). map (object_on new.contents) l) put.found.are) matches.are)
         new_objects.numbers some (omega (arith, its_length g m, c.len.type_inv))
         (omega (arith, few, (laid g m).within, g.met.D.SectorDisk.fits c.args.disk.now)) in
-        kept-matches (view g m) saved (g.D.SectorDisk.medium c.args.disk.now) new (g.D.SectorDisk.size c.args.disk.now) (laid g m) matches
-        (run g m matches.honest) (placed_in c.put_in.new.words.items) new_uses.items heap.all_uses (given.saved ∙ (taken g m).saved) heap.next_uses
+        kept-matches (view g m) saved (g.D.SectorDisk.medium c.args.disk.now) new matches
+        (run g m matches.honest) (placed_in c.put_in.new.words.items) new_uses heap.all_uses (given.saved ∙ (taken g m).saved) heap.next_uses
         (subst (λ (l : List Placed). AreObjects (map (object_on new.contents) l)) (sym new_placed) are)
 
 -- ---- before the sectors are written
@@ -234,7 +216,6 @@ write_object-requires-clause-room g c =
     omega (
       arith,
       heap-fits c.self.invariant,
-      ap (count_by is_free) c.deref_mut.ensures.value,
       pushed-four h.words.items c.push_wide.new.words.items c.push_wide-2.new.words.items [] p c.push_wide.ensures.items c.push_wide-2.ensures.items,
       c.push_wide.ensures.capacity,
       c.push_wide-2.ensures.capacity,
@@ -249,9 +230,9 @@ pub take_back-requires-clause-inside : goal.take_back-requires-clause-inside
 take_back-requires-clause-inside g c =
     let h = c.self.inside in
     let m = (goal.at.take_back-requires-clause-inside g c).After-write_object in
-    subst (All (λ s. (h.range.first ≤ s) × (s < h.range.first + length c.deref_mut-in-Err.result.now))) (sym (its_sectors g m))
+    subst (All (λ s. (h.range.first ≤ s) × (s < h.range.first + length c.write_object.new.uses))) (sym (its_sectors g m))
     (λ k d less. let free = (taken g m).were_free k d less in
-    (free.0, omega (arith, free.0, slice_get_within h.uses.items _ free.1 free.2, (taken g m).long, ap length (c.deref_mut-in-Err.ensures.value ∙ mid g m))))
+    (free.0, omega (arith, free.0, slice_get_within h.uses _ free.1 free.2, (taken g m).long)))
 
 pub invariant_of-self-in-Err : goal.invariant_of-self-in-Err
 invariant_of-self-in-Err g c =
@@ -259,10 +240,8 @@ invariant_of-self-in-Err g c =
     let m = (goal.at.invariant_of-self-in-Err g c).After-write_object in
     let is : AreGiven h.range.first c.write_object.new.uses (sectors g m) c.take_back.new.uses =
     subst (λ (l : List ℕ). AreGiven h.range.first c.write_object.new.uses l c.take_back.new.uses) (its_sectors g m)
-    (subst (λ (l : List Use). AreGiven h.range.first l (drop (c.len-end.result + 4) c.write_object.new.words.items) c.take_back.new.uses)
-    (c.deref_mut-in-Err.ensures.value ∙ mid g m) c.take_back.ensures.given) in
-    back-heap c.take_back.new.words (with_items (with_items h.uses c.write_object.new.uses) c.take_back.new.uses) c.self.invariant (taken g m)
-    (subst (λ (l : List Use). AreGiven h.range.first c.write_object.new.uses (sectors g m) l) (sym (last g m c.take_back.new.uses is.long)) is)
+    c.take_back.ensures.given in
+    back-heap c.take_back.new.words c.take_back.new.uses c.self.invariant (taken g m) is
     (c.take_back.ensures.words ∙ front g m)
     (c.take_back.ensures.capacity ∙ c.write_object.ensures.capacity ∙ c.push_wide-2.ensures.capacity ∙ c.push_wide.ensures.capacity)
 
@@ -276,7 +255,7 @@ pub returns-in-Err-clause-full : goal.returns-in-Err-clause-full
 returns-in-Err-clause-full g c = λ full.
     let m = (goal.at.returns-in-Err-clause-full g c).After-write_object in
     of_object g m (λ o. free c.args.self.now < sectors_for (length o.1))
-    (omega (arith, c.in-Err.ensures.full full, ap (count_by is_free) c.deref_mut.ensures.value, ap free c.self.view_is))
+    (omega (arith, c.in-Err.ensures.full full, ap free c.self.view_is))
 
 -- ---- they were
 
@@ -296,10 +275,10 @@ pub put_in-requires-clause-inside : goal.put_in-requires-clause-inside
 put_in-requires-clause-inside g c =
     let h = c.self.inside in
     let m = (goal.at.put_in-requires-clause-inside g c).After-write_object in
-    subst (λ (l : List ℕ). All (λ s. (h.range.first ≤ s) × (s < h.range.first + length c.deref_mut-in-Ok.result.now)) (object_sectors (placed_in l)))
+    subst (λ (l : List ℕ). All (λ s. (h.range.first ≤ s) × (s < h.range.first + length c.write_object.new.uses)) (object_sectors (placed_in l)))
     (sym (front g m))
     (λ k d less. let here = c.self.invariant.inside k d less in
-    (here.0, omega (arith, here.1, c.self.invariant.all_uses, (taken g m).long, ap length (c.deref_mut-in-Ok.ensures.value ∙ mid g m))))
+    (here.0, omega (arith, here.1, c.self.invariant.all_uses, (taken g m).long)))
 
 pub put_in-requires-clause-counted : goal.put_in-requires-clause-counted
 put_in-requires-clause-counted g c =
@@ -352,7 +331,7 @@ returns-in-Ok-clause-others g c = others g (goal.at.returns-in-Ok-clause-others 
 
 pub returns-in-Ok-clause-spends : goal.returns-in-Ok-clause-spends
 returns-in-Ok-clause-spends g c =
-    of_object g (m g c) (λ o. free c.args.self.now ≤ count_by is_free (new_uses g c).items + sectors_for (length o.1))
+    of_object g (m g c) (λ o. free c.args.self.now ≤ count_by is_free (new_uses g c) + sectors_for (length o.1))
     (omega (arith, (taken g (m g c)).left, (given g c).more, c.in-Ok.ensures.all, ap free c.self.view_is))
 
 pub returns-in-Ok-clause-counts : goal.returns-in-Ok-clause-counts

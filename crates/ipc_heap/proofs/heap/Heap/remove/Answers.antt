@@ -1,10 +1,7 @@
 -- The object is away, and its sectors are not those of the map any more.
 use Rattle.std.proofs.Common.{◌≡◌, ℕ, List, take, drop, refl, sym, ap, subst, ◌∙◌, arith}
 use Rattle.std.specs.Prelude.{All}
-use Rattle.std.specs.Vec.{with_items}
-use Rattle.std.proofs.lemmas.List.{with_items_is}
 use Rattle.ipc_disk.specs.Range.{IsInside}
-use Rattle.ipc_heap.specs.declared.uses.Use.{Use}
 use Rattle.ipc_heap.specs.Heap.{object_sectors}
 use Rattle.ipc_heap.specs.View.{HeapView}
 use Rattle.ipc_heap.specs.Matches.{Removes}
@@ -25,15 +22,13 @@ sectors c =
 
 -- they are given back
 given : (c : After-take_out)
-    → AreGiven c.self.inside.range.first c.self.inside.uses.items (object_sectors (found (goal.at.invariant_of-self c).After-sectors_in).here)
-    (with_items c.self.inside.uses c.give_back.new.uses).items
+    → AreGiven c.self.inside.range.first c.self.inside.uses (object_sectors (found (goal.at.invariant_of-self c).After-sectors_in).here)
+    c.give_back.new.self
 given c =
     let h = c.self.inside in
     let first = found (goal.at.invariant_of-self c).After-sectors_in in
-    subst (λ (l : List Use). AreGiven h.range.first h.uses.items (object_sectors first.here) l)
-    (sym (with_items_is h.uses c.give_back.new.uses (c.give_back.ensures.long ∙ c.deref_mut.ensures.len)))
-    (subst (λ (l : List ℕ). AreGiven h.range.first h.uses.items l c.give_back.new.uses) (sectors (goal.at.invariant_of-self c).After-sectors_in)
-    (subst (λ (l : List Use). AreGiven h.range.first l c.sectors_in.result.now c.give_back.new.uses) c.deref_mut.ensures.value c.give_back.ensures))
+    subst (λ (l : List ℕ). AreGiven h.range.first h.uses l c.give_back.new.self) (sectors (goal.at.invariant_of-self c).After-sectors_in)
+    c.give_back.ensures
 
 pub place_of-place-requires : goal.place_of-place-requires
 place_of-place-requires c =
@@ -46,22 +41,22 @@ give_back-requires c =
     let inside : All (IsInside h.range) c.sectors_in.result.now =
     subst (All (IsInside h.range)) (sym (sectors c))
     (here-inside h.range (placed_in h.words.items) c.args.object c.place_of-place.result (found c) c.self.invariant.inside) in
-    λ k d less. let here = inside k d less in (here.0, omega (arith, here.1, c.deref_mut.ensures.len, h.uses.ok.0, c.self.invariant.all_uses))
+    λ k d less. let here = inside k d less in (here.0, omega (arith, here.1, c.self.invariant.all_uses))
 
 pub invariant_of-self : goal.invariant_of-self
 invariant_of-self c =
     let h = c.self.inside in
-    removed-heap c.take_out.new.words (with_items h.uses c.give_back.new.uses) c.self.invariant
+    removed-heap c.take_out.new.words c.give_back.new.self c.self.invariant
     (found (goal.at.invariant_of-self c).After-sectors_in) (given c) c.take_out.ensures.items c.take_out.ensures.capacity
 
 pub returns-clause-removes : goal.returns-clause-removes
 returns-clause-removes c =
     let h = c.self.inside in
-    subst (λ (v : HeapView). Removes c.args.object v (seen h.range h.root h.epoch c.take_out.new.words h.table (with_items h.uses c.give_back.new.uses)))
+    subst (λ (v : HeapView). Removes c.args.object v (seen h.range h.root h.aim h.epoch c.take_out.new.words h.table c.give_back.new.self))
     c.self.view_is
     (record {
-      stays = record { range = refl; root = refl; epoch = refl; table = refl };
-      placed = removed-placed c.take_out.new.words (with_items h.uses c.give_back.new.uses) c.self.invariant
+      stays = record { range = refl; root = refl; aim = refl; epoch = refl; table = refl };
+      placed = removed-placed c.take_out.new.words c.give_back.new.self c.self.invariant
           (found (goal.at.invariant_of-self c).After-sectors_in) (given c) c.take_out.ensures.items c.take_out.ensures.capacity;
       saved = (given c).saved;
       next = λ before. (invariant_of-self c).next_uses;

@@ -1,17 +1,17 @@
-use Rattle.std.proofs.Common.{◌≡◌, ◌∙◌, ap₂, codes, false, refl}
+use Rattle.std.proofs.Common.{◌≡◌, ◌∙◌, ap₂, false, refl}
 use Rattle.std.proofs.lemmas.Result.{IfOk-weaker}
 use Rattle.clap.specs.Words.{app_of, new_app, with_rule}
 use Rattle.clap.specs.declared.builder.command.Command.TheViews.{out-Command}
 use Rattle.ipc_command.specs.Command.{device_rule, small_rule}
 use Rattle.ipc_command.proofs.Commands.{no_globals}
-use Rattle.ipc_command.proofs.command.format.Goals as goal
+use Rattle.ipc_command.proofs.command.sized_command.Goals as goal
 
 pub returns : goal.returns
 returns c =
     let about : app_of c.about.result ≡ app_of c.new.result = rw c.about.ensures refl in
-    let one : app_of c.in_ok-arg.field-0 ≡ with_rule (new_app (codes "format")) device_rule =
+    let one : app_of c.in_ok-arg.field-0 ≡ with_rule (new_app c.args.name.now) device_rule =
     c.in_ok-arg.ensures.shape c.device_word.ensures.local ∙ ap₂ with_rule (about ∙ c.new.ensures.app) c.device_word.ensures.rule in
-    let two : app_of c.in_ok-arg-2.field-0 ≡ with_rule (with_rule (new_app (codes "format")) device_rule) small_rule =
+    let two : app_of c.in_ok-arg-2.field-0 ≡ with_rule (with_rule (new_app c.args.name.now) device_rule) small_rule =
     c.in_ok-arg-2.ensures.shape c.small_flag.ensures.local ∙ ap₂ with_rule one c.small_flag.ensures.rule in
     let local : (out-Command c.about.result).has_globals ≡ false = rw c.about.ensures c.new.ensures.local in
     let one_local : (out-Command c.in_ok-arg.field-0).has_globals ≡ false =

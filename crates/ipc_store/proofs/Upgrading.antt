@@ -1,0 +1,91 @@
+-- What an upgrade leaves: the old objects under the old root and the new ones under the new, beside each other.
+use Rattle.std.proofs.Common.{◌≡◌, inl, ℕ, ◌+◌, List, length, refl, sym, ap, subst, ◌∙◌, arith}
+use Rattle.std.specs.Prelude.{map}
+use Rattle.ipc_base.specs.declared.limits.Limits.{Limits}
+use Rattle.ipc_base.specs.Objects.{PlainObjects}
+use Rattle.ipc_checkpoint.specs.declared.layout.Layout.{Layout}
+use Rattle.ipc_checkpoint.specs.Checkpoint.{IsElsewhere, Holds as HoldsObjects}
+use Rattle.ipc_disk.specs.declared.range.Range.{Range}
+use Rattle.ipc_disk.specs.Medium.{Image, Medium, IsDurable}
+use Rattle.ipc_disk.specs.Range.{IsInside}
+use Rattle.ipc_disk.specs.Since.{EachImageSince, SameAt, LeavesAlone}
+use Rattle.ipc_disk.proofs.CallerLemmas.{EachImageSince-both, EachImageSince-weaken, LeavesAlone-keeps, sector_at-same}
+use Rattle.ipc_heap.specs.Heap.{Holds as HeapHolds}
+use Rattle.ipc_heap.specs.Matches.{StaysSaved}
+use Rattle.ipc_journal.proofs.CallerLemmas.{Holds-turned}
+use Rattle.ipc_state.specs.State.{State}
+use Rattle.ipc_engine.specs.Event.{PlainEvent}
+use Rattle.ipc_image.specs.Format.{format_one}
+use Rattle.ipc_image.specs.Saved.{StandForState, StandForStateIn}
+use Rattle.ipc_image.specs.Superblock.{sectors_in}
+use Rattle.ipc_store.specs.Batch.{batch_bytes}
+use Rattle.ipc_store.specs.Image.{journal_range, layout_of, objects_range, named_sectors, HasBatches, IsDeviceIn, LeadToBy, StandsForIn}
+use Rattle.ipc_store.specs.Relations.Format.{IsPrepared}
+use Rattle.ipc_store.specs.Relations.Upgrade.{HasOld}
+use Rattle.ipc_store.proofs.Devices.{IsDeviceIn-same, journal-same}
+
+-- an image that has the pieces stands for the state
+pub old-stands : (own : Limits) (epoch : ℕ) (objects : PlainObjects) (batches : List (List PlainEvent)) (base s : State) (image : Image)
+    → HasOld own epoch objects batches image → StandForStateIn format_one own base objects
+    → LeadToBy format_one.batch own base batches s → StandsForIn format_one own s image
+old-stands own epoch objects batches base s image old stand leads = record {
+  epoch = epoch;
+  base = base;
+  kept = record { device = old.device; objects = objects; there = old.there; stand = stand };
+  batches = batches;
+  journal = old.journal;
+  leads = leads;
+}
+
+module _ (own : Limits) (epoch : ℕ) (objects : PlainObjects) (batches : List (List PlainEvent)) (layout : Layout)
+    (first : layout.range.first ≡ 260) (root : layout.root ≡ 2) where
+  -- the superblock and the journal are none of the checkpoint's sectors
+  superblock-elsewhere : IsElsewhere layout 0
+  superblock-elsewhere = (λ is. absurd (omega (arith, is, root)), inl (omega (arith, first)))
+
+  journal-elsewhere : (i : ℕ) → IsInside journal_range i → IsElsewhere layout i
+  journal-elsewhere i inside = (λ is. absurd (omega (arith, is, root, inside.0)), inl (omega (arith, first, inside.1)))
+
+  -- a device with these batches, of so many sectors
+  abbrev HasOthers : ℕ → Image → Type 0
+  HasOthers sectors image = IsDeviceIn format_one own image × HasBatches epoch batches image × (named_sectors image ≡ sectors)
+
+  others-same : (sectors : ℕ) (a b : Image) → SameAt (IsElsewhere layout) a b → HasOthers sectors a → HasOthers sectors b
+  others-same sectors a b same has = (
+    IsDeviceIn-same format_one (IsElsewhere layout) own a b superblock-elsewhere same has.0,
+    journal-same (IsElsewhere layout) epoch batches a b journal-elsewhere same has.1,
+    ap sectors_in (sym (sector_at-same (IsElsewhere layout) a b 0 same superblock-elsewhere)) ∙ has.2,
+  )
+
+  -- at every moment of a save under the new root the old objects are there, and the rest as it was
+  pub old-stays : (old new : Medium) → IsDurable old → HasOld own epoch objects batches old.contents
+      → ((i : ℕ) → IsInside (objects_range (named_sectors old.contents)) i → IsInside layout.range i)
+      → LeavesAlone (IsElsewhere layout) old new → StaysSaved layout.range 1 epoch objects old new
+      → EachImageSince old new (HasOld own epoch objects batches)
+  old-stays old new durable has within alone saved =
+      let n : ℕ = named_sectors old.contents in
+      let narrow : Range = objects_range n in
+      let others : EachImageSince old new (HasOthers n) =
+      LeavesAlone-keeps (IsElsewhere layout) old new (HasOthers n) alone
+      (λ image now. subst (HasOthers n) (sym (durable image now)) (has.device, has.journal, refl)) (others-same n) in
+      let there : EachImageSince old new (HeapHolds narrow 1 epoch objects) =
+      saved narrow within (λ image now. subst (HeapHolds narrow 1 epoch objects) (sym (durable image now)) has.there) in
+      EachImageSince-weaken old new (λ image. HasOthers n image × HeapHolds narrow 1 epoch objects image) (HasOld own epoch objects batches)
+      (EachImageSince-both old new (HasOthers n) (HeapHolds narrow 1 epoch objects) others there)
+      (λ image both. record {
+        device = both.0.0;
+        there = subst (λ (k : ℕ). HeapHolds (objects_range k) 1 epoch objects image) (sym both.0.2) both.1;
+        journal = both.0.1;
+      })
+
+-- a device of the old version that has the new objects as well is all but the superblock of one of the version of today
+pub old-prepared : (own limits : Limits) (epoch : ℕ) (objects new : PlainObjects) (batches : List (List PlainEvent)) (s : State) (image : Image)
+    → HasOld own epoch objects batches image → HoldsObjects (layout_of limits (length image)) (epoch + 1) new image
+    → StandForState limits s new → IsPrepared limits s image
+old-prepared own limits epoch objects new batches s image old there stand = record {
+  epoch = epoch + 1;
+  objects = new;
+  there = there;
+  stand = stand;
+  journal = Holds-turned journal_range epoch (epoch + 1) (map batch_bytes batches) image (omega arith) old.journal;
+}

@@ -1,0 +1,79 @@
+-- The journal leads from the objects to a state, and there is a next epoch or none.
+use Rattle.std.proofs.Common.{◌≡◌, inl, inr, ⊎_elim, ℕ, List, Err, length, refl, sym, ap, subst, ◌∙◌}
+use Rattle.std.specs.Prelude.{map}
+use Rattle.ipc_checkpoint.specs.View.{epoch_of as saved_epoch}
+use Rattle.ipc_disk.specs.declared.range.Range.{Range}
+use Rattle.ipc_disk.specs.Medium.{Image, IsHonest, IsDurable}
+use Rattle.ipc_journal.specs.Journal.{Holds}
+use Rattle.ipc_journal.specs.View.{range_of, epoch_of}
+use Rattle.ipc_engine.specs.Event.{PlainEvent}
+use Rattle.ipc_image.specs.Format.{format_one}
+use Rattle.ipc_store.specs.Batch.{batch_bytes}
+use Rattle.ipc_store.specs.Image.{journal_range, HasBatches, LeadToBy}
+use Rattle.ipc_store.specs.declared.fault.OpenError.TheVariants as errors
+use Rattle.ipc_store.proofs.Faults.{passed_on}
+use Rattle.ipc_store.proofs.upgrade.go_through_journal.Given.{Over}
+use Rattle.ipc_store.proofs.upgrade.go_through_journal.Goals as goal
+use Rattle.ipc_store.proofs.upgrade.go_through_journal.Goals.{In_ok-load_journal}
+
+-- the room has the bytes of a batch of the old version
+long : (g : Over) (c : In_ok-load_journal g) → length c.deref_mut.result.now ≡ format_one.batch
+long g c = ap length c.deref_mut.ensures.value ∙ c.in_ok-room.ensures
+
+-- the batches of the image, which lead from the machine's state
+led : (g : Over) (c : In_ok-load_journal g) → IsHonest (g.D.SectorDisk.medium c.args.disk.now) → IsDurable (g.D.SectorDisk.medium c.args.disk.now)
+    → (batches : List (List PlainEvent)) × HasBatches (saved_epoch c.args.checkpoint.now) batches (g.D.SectorDisk.medium c.args.disk.now).contents
+    × LeadToBy format_one.batch c.args.engine.now.limits c.args.engine.now.state batches c.load_journal.new.engine.state
+led g c honest durable =
+    let found = c.in_ok-load_journal.ensures.leads honest durable in
+    let batches : List (List ℕ) = map batch_bytes found.0 in
+    let journal = c.in_ok-load_journal.field-0 in
+    let reads = c.load_journal.ensures.reads.stays honest in
+    let after : Image = (g.D.SectorDisk.medium c.load_journal.new.disk).contents in
+    let there : Holds (range_of journal) (epoch_of journal) batches after = found.1.images after (reads.time.honest.0 honest).reads in (
+      found.0,
+      subst (λ (image : Image). Holds journal_range (saved_epoch c.args.checkpoint.now) batches image) (reads.contents honest)
+          (subst (λ (n : ℕ). Holds journal_range n batches after) c.in_ok-load_journal.ensures.epoch
+          (subst (λ (r : Range). Holds r (epoch_of journal) batches after) c.in_ok-load_journal.ensures.range there)),
+      subst (λ (n : ℕ). LeadToBy n c.args.engine.now.limits c.args.engine.now.state found.0 c.load_journal.new.engine.state) (long g c) found.2,
+    )
+
+pub returns-in_err-load_journal-clause-damaged : goal.returns-in_err-load_journal-clause-damaged
+returns-in_err-load_journal-clause-damaged g c = λ sector is honest durable has.
+    let e = passed_on c.from_residual-in_err-load_journal.result c.in_err-load_journal.field-0.0 (errors.Damaged sector)
+    c.from_residual-in_err-load_journal.ensures.1 is in
+    inl (c.in_err-load_journal.ensures.damaged format_one sector (inl refl) (sym (ap length c.deref_mut.ensures.value ∙ c.in_ok-room.ensures)) (ap Err e) honest has)
+
+pub returns-in_err-load_journal-clause-faults : goal.returns-in_err-load_journal-clause-faults
+returns-in_err-load_journal-clause-faults g c = λ found which.
+    let went = passed_on c.from_residual-in_err-load_journal.result c.in_err-load_journal.field-0.0 in
+    c.in_err-load_journal.ensures.faults found (⊎_elim
+    (λ is. inl (ap Err (went errors.NotFormatted c.from_residual-in_err-load_journal.ensures.1 is)))
+    (λ is. inr (ap Err (went (errors.Version found) c.from_residual-in_err-load_journal.ensures.1 is))) which)
+
+pub returns-then-epoch-eq18446744073709551615-clause-damaged : goal.returns-then-epoch-eq18446744073709551615-clause-damaged
+returns-then-epoch-eq18446744073709551615-clause-damaged g c = λ sector is honest durable has.
+    let all = led g (goal.at.returns-then-epoch-eq18446744073709551615-clause-damaged g c).In_ok-load_journal honest durable in
+    inr (
+      record {
+        limits = c.args.engine.now.limits;
+        state = c.load_journal.new.engine.state;
+        stands = record {
+          epoch = saved_epoch c.args.checkpoint.now;
+          base = c.args.engine.now.state;
+          kept = has;
+          batches = all.0;
+          journal = all.1;
+          leads = all.2;
+        };
+        epoch = has.there.there.current ∙ sym c.epoch.ensures ∙ c.if-epoch-eq18446744073709551615.true;
+      },
+      cc,
+    )
+
+pub returns-clause-restarted : goal.returns-clause-restarted
+returns-clause-restarted g c =
+    (c.load_journal.new.engine.state, c.in_ok-step.ensures.state, led g (goal.at.returns-clause-restarted g c).In_ok-load_journal)
+
+pub returns-clause-tracked : goal.returns-clause-tracked
+returns-clause-tracked g c = λ base is. c.step.ensures.tracked base (c.load_journal.ensures.tracked base is)

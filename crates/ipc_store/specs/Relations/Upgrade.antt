@@ -1,0 +1,48 @@
+-- What an upgrade has read, and how it goes on.
+use Rattle.std.specs.Prelude.{◌≡◌, ◌<◌, ℕ, [], List}
+use Rattle.ipc_base.specs.declared.limits.Limits.{Limits}
+use Rattle.ipc_base.specs.Objects.{PlainObjects}
+use Rattle.ipc_checkpoint.specs.declared.layout.Layout.{Layout}
+use Rattle.ipc_checkpoint.specs.Matches.{CheckpointMatches}
+use Rattle.ipc_checkpoint.specs.View.{CheckpointView, epoch_of}
+use Rattle.ipc_disk.specs.Medium.{Image, Medium, IsDurable}
+use Rattle.ipc_state.specs.State.{State, restart}
+use Rattle.ipc_engine.specs.Changes.{IsTracked}
+use Rattle.ipc_engine.specs.Engine.{Machine}
+use Rattle.ipc_engine.specs.Event.{PlainEvent}
+use Rattle.ipc_image.specs.Format.{format_one}
+use Rattle.ipc_image.specs.Saved.{StandForStateIn}
+use Rattle.ipc_image.specs.declared.superblock.Superblock.{Superblock}
+use Rattle.ipc_store.specs.Image.{layout_of, named_sectors, HasBatches, HasObjectsIn, IsDeviceIn, LeadToBy}
+
+-- where the objects of the version before are read once more, and where those of today are written: on all of the disk,
+-- with the old root
+abbrev pub wide_layout : Limits → ℕ → Layout
+wide_layout limits sectors = record (layout_of limits sectors) { root = format_one.root }
+
+-- the superblock is that of the image, which is a device of the old version
+abbrev pub IsNamed : Superblock → Image → Type 0
+IsNamed superblock image =
+    IsDeviceIn format_one superblock.limits image × (superblock.sectors ≡ named_sectors image)
+
+-- An image stands for this state in the old version, piece by piece: it is a device, and has these objects and batches.
+pub record HasOld (own : Limits) (epoch : ℕ) (objects : PlainObjects) (batches : List (List PlainEvent)) (image : Image)
+    : Type 0 where
+  pub device : IsDeviceIn format_one own image
+  pub there : HasObjectsIn format_one own epoch objects image
+  pub journal : HasBatches epoch batches image
+
+-- A crash now leaves what is read, which stands for a state in the old version. The machine is in the state after a
+-- restart, and knows what is otherwise there than in the objects that are saved.
+pub record IsReadOld (medium : Medium) (checkpoint : CheckpointView) (machine : Machine) : Type 0 where
+  pub durable : IsDurable medium
+  pub state : State
+  pub base : State
+  pub objects : PlainObjects
+  pub batches : List (List PlainEvent)
+  pub old : HasOld machine.limits (epoch_of checkpoint) objects batches medium.contents
+  pub stand : StandForStateIn format_one machine.limits base objects
+  pub leads : LeadToBy format_one.batch machine.limits base batches state
+  pub saved : CheckpointMatches checkpoint objects medium
+  pub restarted : machine.state ≡ restart state
+  pub tracked : IsTracked machine.changed base machine.state

@@ -1,0 +1,404 @@
+//! The upgrade of a device of the version before.
+
+ghost use Rattle.std.specs.Prelude.{◌≡◌, ◌≢◌, ◌⊎◌, ◌<◌, ◌≤◌, ◌+◌, ℕ, List, [], Some, position, not};
+ghost use Rattle.std.specs.Prelude.{Ok, Err, IfOk, IfErr, OnOk, IsErrOf};
+ghost use Rattle.ipc_base.specs.Limits.{ArePassed, tests};
+ghost use Rattle.ipc_base.specs.Objects.{Fit, PlainObjects};
+ghost use Rattle.ipc_base.specs.declared.limits.Limits.{Limits as AnyLimits};
+ghost use Rattle.ipc_checkpoint.specs.Checkpoint.{IsLaidOut, Holds as HoldsObjects};
+ghost use Rattle.ipc_checkpoint.specs.Matches.{CheckpointMatches, sectors_of};
+ghost use Rattle.ipc_checkpoint.specs.View.{epoch_of, free_of, layout_of as saved_layout, layout_under, saved_root};
+ghost use Rattle.ipc_checkpoint.specs.View.{HasSpare};
+ghost use Rattle.ipc_disk.specs.Calls.{IsSameDisk, CountsFault, CountsFaultIf, OnlyReads};
+ghost use Rattle.ipc_disk.specs.Counts.{counted};
+ghost use Rattle.ipc_disk.specs.Medium.{Image, IsHonest, IsDurable, Stays};
+ghost use Rattle.ipc_disk.specs.Range.{IsWithin};
+ghost use Rattle.ipc_disk.specs.Since.{EachImageSince};
+ghost use Rattle.ipc_state.specs.State.{State, restart};
+ghost use Rattle.ipc_engine.specs.Changes.{IsTracked};
+ghost use Rattle.ipc_engine.specs.Event.{PlainEvent};
+ghost use Rattle.ipc_engine.specs.Sound.{IsSound};
+ghost use Rattle.ipc_image.specs.Format.{format, format_one};
+ghost use Rattle.ipc_image.specs.Greater.{AreAtLeast, at_least};
+ghost use Rattle.ipc_image.specs.Saved.{saved, StandForState, StandForStateIn};
+ghost use Rattle.ipc_image.specs.Sizes.{need_in, need_of};
+ghost use Rattle.ipc_image.specs.Superblock.{AreOf};
+ghost use Rattle.ipc_store.specs.Image.{journal_range, last_epoch, objects_range};
+ghost use Rattle.ipc_store.specs.Image.{HasBaseIn, HasBatches, IsDeviceIn, LeadToBy};
+ghost use Rattle.ipc_store.specs.Image.{IsNotFormatted, HasVersionBut, IsDamagedIn, IsFirstFaultIn};
+ghost use Rattle.ipc_store.specs.Image.{StandsFor, StandsForIn};
+ghost use Rattle.ipc_store.specs.Relations.Format.{EachNow};
+ghost use Rattle.ipc_store.specs.Relations.Upgrade.{wide_layout, HasOld, IsNamed, IsReadOld};
+ghost use Rattle.ipc_store.specs.Upgrade.{HasNoNextEpoch, IsUpgraded, UpgradesTo};
+ghost use Rattle.ipc_store.specs.declared.fault.UpgradeError.TheVariants as errors;
+
+use crate::fault::{OpenError, UpgradeError};
+use crate::format::put_superblock;
+use crate::loading::{load_base, load_journal, load_objects, load_superblock};
+use crate::opening::room_for;
+use crate::places::layout_in;
+use crate::store::Store;
+use ipc_base::{BadLimits, Limits};
+use ipc_checkpoint::{Checkpoint, Layout};
+use ipc_disk::{DiskFault, SectorDisk};
+use ipc_engine::{Engine, Event};
+use ipc_image::{FORMAT, FORMAT_ONE, Superblock, first_below, need, objects_of};
+use std::alloc::Global;
+
+/// A device that was not upgraded: why, and its disk.
+#[derive(Drop)]
+pub struct Unupgraded<D> {
+    pub error: UpgradeError,
+    pub disk: D,
+}
+
+impl<D: SectorDisk> Store<D> {
+    /// Makes a device of version 1 one of version 2, where it lies, under these limits: it stands for what a restart
+    /// makes of the state for which it stood. It has all sectors of the disk then.
+    ///
+    /// Refused, in this order, for limits that `check` refuses, for a disk that is not formatted or of another version,
+    /// for a superblock that is damaged, for limits below the device's, for a disk with fewer sectors than `need`, for
+    /// a device that is damaged; and where the disk fails or memory is refused. A crash leaves the device as it was, or
+    /// upgraded.
+    pub fn upgrade(alloc: Global, disk: D, limits: &Limits) -> Result<D, Unupgraded<D>>
+        // Each image that a crash may leave from then on stands for that.
+        ensures ok { IfOk result (λ new. IsHonest (D.medium disk)
+            → IsUpgraded limits.now (D.medium disk) (D.medium new)) }
+        ensures accepted { IfOk result (λ new. ArePassed limits.now × (need_of limits.now ≤ D.size disk)) }
+        ensures durable { IfOk result (λ new. IsDurable (D.medium new)) }
+        // A crash at any moment of the call, also of one that fails.
+        ensures any_moment { IsHonest (D.medium disk)
+            → (IfOk result (λ new. EachImageSince (D.medium disk) (D.medium new)
+            (UpgradesTo limits.now (D.medium disk))))
+            × (IfErr result (λ fault. EachImageSince (D.medium disk) (D.medium fault.disk)
+            (UpgradesTo limits.now (D.medium disk)))) }
+        // Refusals. Where limits and room are right, a disk that stands for a state is refused by the disk, for want of
+        // memory, or because there is no next epoch.
+        ensures refusals { IfErr result (λ fault. (own : AnyLimits) (s : State) → IsHonest (D.medium disk)
+            → StandsForIn format_one own s (D.medium disk).contents → ArePassed limits.now → AreAtLeast limits.now own
+            → need_of limits.now ≤ D.size disk
+            → (fault.error ≡ errors.Device) ⊎ (fault.error ≡ errors.NoMemory)
+            ⊎ HasNoNextEpoch (D.medium disk).contents) }
+        ensures checked { (field : ℕ) → position not (tests limits.now) ≡ Some field
+            → IfErr result (λ fault. (fault.error ≡ errors.BadLimits (record { field = field }))
+            × (fault.disk ≡ disk)) }
+        ensures not_formatted { IfErr result (λ fault. fault.error ≡ errors.NotFormatted → IsHonest (D.medium disk)
+            → IsNotFormatted (D.medium disk).contents) }
+        ensures version { IfErr result (λ fault. (found : ℕ) → fault.error ≡ errors.Version found
+            → IsHonest (D.medium disk) → HasVersionBut format_one found (D.medium disk).contents) }
+        ensures below { IfErr result (λ fault. (field : ℕ) → fault.error ≡ errors.BadLimits (record { field = field })
+            → ArePassed limits.now → IsHonest (D.medium disk) → (own : AnyLimits)
+            × IsDeviceIn format_one own (D.medium disk).contents
+            × (position not (at_least limits.now own) ≡ Some field)) }
+        ensures small { IfErr result (λ fault. (need : ℕ) → fault.error ≡ errors.TooSmall need
+            → (need ≡ need_of limits.now) × (D.size disk < need) × (IsHonest (D.medium disk) → (own : AnyLimits)
+            × IsDeviceIn format_one own (D.medium disk).contents × AreAtLeast limits.now own)) }
+        ensures damaged { IfErr result (λ fault. (sector : ℕ) → fault.error ≡ errors.Damaged sector
+            → IsHonest (D.medium disk)
+            → (IsDamagedIn format_one (D.medium disk).contents
+            × IsFirstFaultIn format_one (D.medium disk).contents sector)
+            ⊎ (HasNoNextEpoch (D.medium disk).contents × (sector ≡ format_one.root))) }
+        ensures unwritten { IfErr result (λ fault. (fault.error ≡ errors.Device)
+            ⊎ ((D.counts fault.disk).writes ≡ (D.counts disk).writes)) }
+        // Failures and counts.
+        ensures size { (IfOk result (λ new. D.size new ≡ D.size disk))
+            × (IfErr result (λ fault. D.size fault.disk ≡ D.size disk)) }
+        ensures failure { IfErr result (λ fault. fault.error ≡ errors.Device
+            → (D.counts fault.disk).failures ≡ counted (D.counts disk).failures 1) }
+        ensures no_failure { (IfOk result (λ new. (D.counts new).failures ≡ (D.counts disk).failures))
+            × (IfErr result (λ fault. (fault.error ≡ errors.Device)
+            ⊎ ((D.counts fault.disk).failures ≡ (D.counts disk).failures))) }
+    {
+        let mut disk = disk;
+        let (checkpoint, engine) = match read_old(alloc, &mut disk, limits) {
+            Ok(found) => found,
+            Err(error) => return Err(Unupgraded { error, disk }),
+        };
+        match write_new(&mut disk, checkpoint, &engine, limits) {
+            Ok(()) => Ok(disk),
+            Err(DiskFault) => Err(Unupgraded {
+                error: UpgradeError::Device,
+                disk,
+            }),
+        }
+    }
+}
+
+// Makes what stands on the device last, and reads it: where its objects lie, seen from the whole disk, and the machine
+// in the state after a restart.
+fn read_old<D: SectorDisk>(
+    alloc: Global,
+    disk: &mut D,
+    limits: &Limits,
+) -> Result<(Checkpoint, Engine), UpgradeError>
+    // The objects lie where the new ones will, with room for these beside them.
+    ensures passed { IfOk result (λ found. ArePassed limits.now) }
+    ensures room { IfOk result (λ found. need_of limits.now ≤ D.size disk.old) }
+    ensures layout { IfOk result (λ found. saved_layout found.0 ≡ wide_layout limits.now (D.size disk.old)) }
+    ensures root { IfOk result (λ found. saved_root found.0 ≡ format_one.root) }
+    ensures spare { IfOk result (λ found. HasSpare found.0) }
+    ensures later { IfOk result (λ found. epoch_of found.0 < last_epoch) }
+    ensures greater { IfOk result (λ found. AreAtLeast limits.now found.1.limits) }
+    ensures sound { IfOk result (λ found. IsSound limits.now found.1.state) }
+    ensures read { IfOk result (λ found. IsHonest (D.medium disk.old)
+        → IsReadOld (D.medium disk.new) found.0 found.1) }
+    // Refusals, in their order.
+    ensures checked { (field : ℕ) → position not (tests limits.now) ≡ Some field
+        → IsErrOf result (UpgradeError.BadLimits (record { field = field })) × (disk.new ≡ disk.old) }
+    ensures not_formatted { IsErrOf result UpgradeError.NotFormatted → IsHonest (D.medium disk.old)
+        → IsNotFormatted (D.medium disk.old).contents }
+    ensures version { (found : ℕ) → IsErrOf result (UpgradeError.Version found) → IsHonest (D.medium disk.old)
+        → HasVersionBut format_one found (D.medium disk.old).contents }
+    ensures below { (field : ℕ) → IsErrOf result (UpgradeError.BadLimits (record { field = field }))
+        → ArePassed limits.now → IsHonest (D.medium disk.old) → (own : AnyLimits)
+        × IsDeviceIn format_one own (D.medium disk.old).contents
+        × (position not (at_least limits.now own) ≡ Some field) }
+    ensures small { (need : ℕ) → IsErrOf result (UpgradeError.TooSmall need)
+        → (need ≡ need_of limits.now) × (D.size disk.old < need) × (IsHonest (D.medium disk.old) → (own : AnyLimits)
+        × IsDeviceIn format_one own (D.medium disk.old).contents × AreAtLeast limits.now own) }
+    ensures damaged { (sector : ℕ) → IsErrOf result (UpgradeError.Damaged sector) → IsHonest (D.medium disk.old)
+        → (IsDamagedIn format_one (D.medium disk.old).contents
+        × IsFirstFaultIn format_one (D.medium disk.old).contents sector)
+        ⊎ (HasNoNextEpoch (D.medium disk.old).contents × (sector ≡ format_one.root)) }
+    // It only reads.
+    ensures reads { IsHonest (D.medium disk.old) → Stays (D.medium disk.old) (D.medium disk.new) }
+    ensures same { IsSameDisk D.size D.medium disk.old disk.new }
+    ensures counts { CountsFaultIf D.counts (IsErrOf result UpgradeError.Device) disk.old disk.new }
+    ensures no_write { (D.counts disk.new).writes ≡ (D.counts disk.old).writes }
+{
+    limits.check()?;
+    let superblock = read_limits(disk, limits)?;
+    let found = read_state(alloc, disk, limits, superblock)?;
+    Ok(found)
+}
+
+// Makes what stands on the device last, and reads its superblock. The limits are none below its own, and the disk has
+// room for them.
+fn read_limits<D: SectorDisk>(disk: &mut D, limits: &Limits) -> Result<Superblock, UpgradeError>
+    requires { ArePassed limits.now }
+    ensures device { IfOk result (λ found. IsHonest (D.medium disk.old)
+        → IsNamed found (D.medium disk.old).contents) }
+    ensures limits { IfOk result (λ found. AreOf format_one found.limits) }
+    ensures own_room { IfOk result (λ found. need_in format_one found.limits ≤ found.sectors) }
+    ensures there { IfOk result (λ found. found.sectors ≤ D.size disk.old) }
+    ensures greater { IfOk result (λ found. AreAtLeast limits.now found.limits) }
+    ensures room { IfOk result (λ found. need_of limits.now ≤ D.size disk.old) }
+    ensures durable { IfOk result (λ found. IsHonest (D.medium disk.old) → IsDurable (D.medium disk.new)) }
+    // Refusals, in their order.
+    ensures not_formatted { IsErrOf result UpgradeError.NotFormatted → IsHonest (D.medium disk.old)
+        → IsNotFormatted (D.medium disk.old).contents }
+    ensures version { (found : ℕ) → IsErrOf result (UpgradeError.Version found) → IsHonest (D.medium disk.old)
+        → HasVersionBut format_one found (D.medium disk.old).contents }
+    ensures damaged { (sector : ℕ) → IsErrOf result (UpgradeError.Damaged sector) → IsHonest (D.medium disk.old)
+        → IsDamagedIn format_one (D.medium disk.old).contents
+        × IsFirstFaultIn format_one (D.medium disk.old).contents sector }
+    ensures below { (field : ℕ) → IsErrOf result (UpgradeError.BadLimits (record { field = field }))
+        → IsHonest (D.medium disk.old) → (own : AnyLimits)
+        × IsDeviceIn format_one own (D.medium disk.old).contents
+        × (position not (at_least limits.now own) ≡ Some field) }
+    ensures small { (need : ℕ) → IsErrOf result (UpgradeError.TooSmall need)
+        → (need ≡ need_of limits.now) × (D.size disk.old < need) × (IsHonest (D.medium disk.old) → (own : AnyLimits)
+        × IsDeviceIn format_one own (D.medium disk.old).contents × AreAtLeast limits.now own) }
+    // It only reads.
+    ensures reads { IsHonest (D.medium disk.old) → Stays (D.medium disk.old) (D.medium disk.new) }
+    ensures same { IsSameDisk D.size D.medium disk.old disk.new }
+    ensures counts { CountsFaultIf D.counts (IsErrOf result UpgradeError.Device) disk.old disk.new }
+    ensures no_write { (D.counts disk.new).writes ≡ (D.counts disk.old).writes }
+{
+    disk.sync()?;
+    let superblock = load_superblock(FORMAT_ONE, disk)?;
+    test_room(limits, &superblock.limits, disk.sectors())?;
+    Ok(superblock)
+}
+
+// The state that stands there, after a restart. The objects are read as an open of the old version reads them, so that
+// a damage is seen, and then from the whole disk.
+fn read_state<D: SectorDisk>(
+    alloc: Global,
+    disk: &mut D,
+    limits: &Limits,
+    superblock: Superblock,
+) -> Result<(Checkpoint, Engine), OpenError>
+    requires passed { ArePassed limits.now }
+    requires own { AreOf format_one superblock.limits }
+    requires own_room { need_in format_one superblock.limits ≤ superblock.sectors }
+    requires there { superblock.sectors ≤ D.size disk.old }
+    requires greater { AreAtLeast limits.now superblock.limits }
+    requires room { need_of limits.now ≤ D.size disk.old }
+    ensures layout { IfOk result (λ found. saved_layout found.0 ≡ wide_layout limits.now (D.size disk.old)) }
+    ensures root { IfOk result (λ found. saved_root found.0 ≡ format_one.root) }
+    ensures spare { IfOk result (λ found. HasSpare found.0) }
+    ensures later { IfOk result (λ found. epoch_of found.0 < last_epoch) }
+    ensures limits { IfOk result (λ found. found.1.limits ≡ superblock.limits) }
+    ensures sound { IfOk result (λ found. IsSound limits.now found.1.state) }
+    ensures read { IfOk result (λ found. IsHonest (D.medium disk.old) → IsDurable (D.medium disk.old)
+        → IsNamed superblock (D.medium disk.old).contents → IsReadOld (D.medium disk.new) found.0 found.1) }
+    // Refusals.
+    ensures damaged { (sector : ℕ) → IsErrOf result (OpenError.Damaged sector) → IsHonest (D.medium disk.old)
+        → IsDurable (D.medium disk.old) → IsNamed superblock (D.medium disk.old).contents
+        → (IsDamagedIn format_one (D.medium disk.old).contents
+        × IsFirstFaultIn format_one (D.medium disk.old).contents sector)
+        ⊎ (HasNoNextEpoch (D.medium disk.old).contents × (sector ≡ format_one.root)) }
+    ensures faults { (found : ℕ) → IsErrOf result OpenError.NotFormatted
+        ⊎ IsErrOf result (OpenError.Version found) → ⊥ }
+    // It only reads.
+    ensures reads { OnlyReads D.size D.medium D.counts (IsErrOf result OpenError.Device) disk.old disk.new }
+{
+    load_base(alloc, disk, FORMAT_ONE, superblock)?;
+    let (checkpoint, mut engine) = load_wide(alloc, disk, limits, superblock.limits)?;
+    go_through_journal(alloc, disk, &checkpoint, &mut engine)?;
+    Ok((checkpoint, engine))
+}
+
+// Whether these limits are none below the device's own, and the disk has room for them.
+fn test_room(limits: &Limits, own: &Limits, sectors: u32) -> Result<(), UpgradeError>
+    requires { ArePassed limits.now }
+    ensures ok { OnOk result (AreAtLeast limits.now own.now × (need_of limits.now ≤ sectors)) }
+    ensures below { (field : ℕ) → IsErrOf result (UpgradeError.BadLimits (record { field = field }))
+        → position not (at_least limits.now own.now) ≡ Some field }
+    ensures small { (need : ℕ) → IsErrOf result (UpgradeError.TooSmall need)
+        → (need ≡ need_of limits.now) × (sectors < need) × AreAtLeast limits.now own.now }
+    ensures faults { (n : ℕ) → IsErrOf result UpgradeError.NotFormatted ⊎ IsErrOf result (UpgradeError.Version n)
+        ⊎ IsErrOf result (UpgradeError.Damaged n) ⊎ IsErrOf result UpgradeError.Device → ⊥ }
+{
+    if let Some(field) = first_below(limits, own) {
+        return Err(UpgradeError::BadLimits(BadLimits { field }));
+    }
+    let need = need(FORMAT, limits);
+    if sectors < need {
+        return Err(UpgradeError::TooSmall { need });
+    }
+    Ok(())
+}
+
+// The old objects, as they lie on the whole disk, on which there is room for those of the new limits beside them.
+fn load_wide<D: SectorDisk>(
+    alloc: Global,
+    disk: &mut D,
+    limits: &Limits,
+    own: Limits,
+) -> Result<(Checkpoint, Engine), OpenError>
+    requires passed { ArePassed limits.now }
+    requires own { ArePassed own }
+    requires room { need_of limits.now ≤ D.size disk.old }
+    ensures layout { IfOk result (λ found. saved_layout found.0 ≡ wide_layout limits.now (D.size disk.old)) }
+    ensures root { IfOk result (λ found. saved_root found.0 ≡ format_one.root) }
+    ensures limits { IfOk result (λ found. found.1.limits ≡ own) }
+    ensures changed { IfOk result (λ found. found.1.changed ≡ []) }
+    ensures base { IfOk result (λ found. (objects : PlainObjects)
+        × StandForStateIn format_one own found.1.state objects
+        × (free_of found.0 + sectors_of objects ≡ (saved_layout found.0).range.count)
+        × (IsHonest (D.medium disk.old) → IsDurable (D.medium disk.old)
+        → CheckpointMatches found.0 objects (D.medium disk.new))) }
+    ensures damaged { (sector : ℕ) → IsErrOf result (OpenError.Damaged sector) → IsHonest (D.medium disk.old)
+        → (epoch : ℕ) (objects : PlainObjects) (s : State)
+        → HoldsObjects (wide_layout limits.now (D.size disk.old)) epoch objects (D.medium disk.old).contents
+        → ¬ StandForStateIn format_one own s objects }
+    ensures faults { (found : ℕ) → IsErrOf result OpenError.NotFormatted
+        ⊎ IsErrOf result (OpenError.Version found) → ⊥ }
+    ensures reads { OnlyReads D.size D.medium D.counts (IsErrOf result OpenError.Device) disk.old disk.new }
+{
+    let layout = Layout {
+        root: FORMAT_ONE.root,
+        ..layout_in(FORMAT, limits, disk.sectors())
+    };
+    load_objects(alloc, disk, FORMAT_ONE, own, layout)
+}
+
+// The machine goes through the journal, and through a restart.
+fn go_through_journal<D: SectorDisk>(
+    alloc: Global,
+    disk: &mut D,
+    checkpoint: &Checkpoint,
+    engine: &mut Engine,
+) -> Result<(), OpenError>
+    requires within { IsWithin journal_range (D.size disk.old) }
+    ensures limits { engine.new.limits ≡ engine.old.limits }
+    ensures tracked { OnOk result ((base : State) → IsTracked engine.old.changed base engine.old.state
+        → IsTracked engine.new.changed base engine.new.state) }
+    ensures sound { OnOk result (IsSound engine.new.limits engine.new.state) }
+    ensures later { OnOk result (epoch_of checkpoint.now < last_epoch) }
+    ensures restarted { OnOk result ((s : State) × (engine.new.state ≡ restart s)
+        × (IsHonest (D.medium disk.old) → IsDurable (D.medium disk.old) → (batches : List (List PlainEvent))
+        × HasBatches (epoch_of checkpoint.now) batches (D.medium disk.old).contents
+        × LeadToBy format_one.batch engine.old.limits engine.old.state batches s)) }
+    ensures damaged { (sector : ℕ) → IsErrOf result (OpenError.Damaged sector) → IsHonest (D.medium disk.old)
+        → IsDurable (D.medium disk.old)
+        → HasBaseIn format_one engine.old.limits (epoch_of checkpoint.now) engine.old.state (D.medium disk.old).contents
+        → (IsDamagedIn format_one (D.medium disk.old).contents
+        × IsFirstFaultIn format_one (D.medium disk.old).contents sector)
+        ⊎ (HasNoNextEpoch (D.medium disk.old).contents × (sector ≡ format_one.root)) }
+    ensures faults { (found : ℕ) → IsErrOf result OpenError.NotFormatted
+        ⊎ IsErrOf result (OpenError.Version found) → ⊥ }
+    ensures reads { OnlyReads D.size D.medium D.counts (IsErrOf result OpenError.Device) disk.old disk.new }
+{
+    let mut room = room_for(alloc, FORMAT_ONE.batch as usize)?;
+    load_journal(disk, checkpoint, engine, &mut room)?;
+    // There has to be an epoch for the new objects.
+    if checkpoint.epoch() == u64::MAX {
+        return Err(OpenError::Damaged {
+            sector: FORMAT_ONE.root,
+        });
+    }
+    engine.step(Event::Restart)?;
+    Ok(())
+}
+
+// Writes the new objects beside the old ones, under the new root, and then the superblock that tells of them.
+fn write_new<D: SectorDisk>(
+    disk: &mut D,
+    checkpoint: Checkpoint,
+    engine: &Engine,
+    limits: &Limits,
+) -> Result<(), DiskFault>
+    requires passed { ArePassed limits.now }
+    requires room { need_of limits.now ≤ D.size disk.old }
+    requires layout { saved_layout checkpoint ≡ wide_layout limits.now (D.size disk.old) }
+    requires root { saved_root checkpoint ≡ format_one.root }
+    requires spare { HasSpare checkpoint }
+    requires later { epoch_of checkpoint < last_epoch }
+    requires sound { IsSound limits.now engine.now.state }
+    ensures ok { OnOk result (IsReadOld (D.medium disk.old) checkpoint engine.now
+        → EachNow (D.medium disk.new) (StandsFor limits.now engine.now.state)) }
+    ensures durable { OnOk result (IsDurable (D.medium disk.new)) }
+    ensures any_moment { (old : IsReadOld (D.medium disk.old) checkpoint engine.now)
+        → EachImageSince (D.medium disk.old) (D.medium disk.new)
+        (λ image. StandsForIn format_one engine.now.limits old.state image
+        ⊎ StandsFor limits.now engine.now.state image) }
+    ensures same { IsSameDisk D.size D.medium disk.old disk.new }
+    ensures counts { CountsFault D.counts result disk.old disk.new }
+{
+    save_beside(disk, checkpoint, engine)?;
+    put_superblock(disk, limits)
+}
+
+// Saves the state of the machine under the new root. What has changed is written into sectors that the old objects and
+// their table do not use, so these stay under theirs.
+fn save_beside<D: SectorDisk>(
+    disk: &mut D,
+    checkpoint: Checkpoint,
+    engine: &Engine,
+) -> Result<(), DiskFault>
+    requires range { (saved_layout checkpoint).range ≡ objects_range (D.size disk.old) }
+    requires laid_out { IsLaidOut (layout_under format.root checkpoint) (D.size disk.old) }
+    requires root { saved_root checkpoint ≡ format_one.root }
+    requires fits { Fit (saved_layout checkpoint).area (saved engine.now.state) }
+    requires spare { HasSpare checkpoint }
+    requires later { epoch_of checkpoint < last_epoch }
+    ensures ok { OnOk result (IsReadOld (D.medium disk.old) checkpoint engine.now
+        → EachNow (D.medium disk.new) (HoldsObjects (layout_under format.root checkpoint) (epoch_of checkpoint + 1)
+        (saved engine.now.state))) }
+    // The old ones stay, at every moment.
+    ensures any_moment { (old : IsReadOld (D.medium disk.old) checkpoint engine.now)
+        → EachImageSince (D.medium disk.old) (D.medium disk.new)
+        (HasOld engine.now.limits (epoch_of checkpoint) old.objects old.batches) }
+    ensures stand { StandForState engine.now.limits engine.now.state (saved engine.now.state) }
+    ensures same { IsSameDisk D.size D.medium disk.old disk.new }
+    ensures counts { CountsFault D.counts result disk.old disk.new }
+{
+    let mut checkpoint = checkpoint;
+    checkpoint.aim(FORMAT.root);
+    let epoch = checkpoint.epoch() + 1;
+    checkpoint.save(disk, &objects_of(engine), epoch)?;
+    Ok(())
+}
