@@ -41,8 +41,9 @@ help:
 	@echo "            and what one release of requests of one moment writes"
 	@echo "make bench  processor time of runs, lines, saves and ticks, peak memory, what a commit and a save write, and"
 	@echo "            commits a second on a file beside the same writes and syncs done bare; and of messages of deep queues,"
-	@echo "            as ratios. It ends with an error while calls that wait on other queues add more to a request than they"
-	@echo "            may, or a message of a deep queue costs more beside one of a short queue than it may"
+	@echo "            as ratios; and of an upgrade of a full device. It ends with an error while calls that wait on other"
+	@echo "            queues add more to a request than they may, a message of a deep queue costs more beside one of a short"
+	@echo "            queue than it may, or an upgrade takes more than 3 seconds of a processor"
 	@echo "make bench-clients  what a call through the library costs beside frames by hand, and the kernel's queues"
 	@echo "make bench-serve  sends and receives, locks, writes and reads of segments, and hand-overs by named semaphores"
 	@echo "            a second over the socket, beside the same, and their processor time; how many requests a sync puts on"
@@ -150,7 +151,8 @@ edits:
 # compiler. A bar that is missed ends it only when all is measured.
 bench: program
 	@sh bench/commits.sh $(BUILT)
-	@status=0; sh bench/replay.sh $(BUILT) || status=1; echo; python3 bench/queues.py $(BUILT) || status=1; exit $$status
+	@status=0; sh bench/replay.sh $(BUILT) || status=1; echo; python3 bench/queues.py $(BUILT) || status=1; \
+		echo; python3 bench/upgrade.py $(BUILT) || status=1; exit $$status
 
 # Nine turns of thirteen loads on a server, two loads of which the syncs are counted, and calls beside others that wait.
 # It needs Python and a C compiler.

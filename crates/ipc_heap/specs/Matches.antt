@@ -18,8 +18,8 @@ AreNext heap =
     → IsTrue u.next ↔ Contains (object_sectors heap.placed) (heap.range.first + i)
 
 -- The disk is honest. Each image that a crash now may leave has the saved objects, all in the same sectors, and under a
--- root that is none of the range. A sector is used by what is saved if it has a part of these objects or of their table,
--- and by what will be saved next if it has a part of an object of the map.
+-- root that is none of the range. A sector is used by what is saved if it has a part of these objects or of their
+-- table, and by what will be saved next if it has a part of an object of the map.
 pub record HeapMatches (heap : HeapView) (saved : PlainObjects) (medium : Medium) : Type 0 where
   pub honest : IsHonest medium
   pub apart : IsOutside heap.range heap.root

@@ -163,8 +163,8 @@ module _ (limits : Limits) where
   pub start-sound : HasSoundParts limits start
   start-sound =
       let none : (kind : ObjectKind) → AreSound limits [] kind (objects_of start kind) =
-      mqs.on-kinds (AreSound limits []) (objects_in start) (mqs.none-sound limits kinds.MsgQueue) (mqs.none-sound limits kinds.Semset) (mqs.none-sound limits kinds.Shm)
-      (mqs.none-sound limits (kinds.Named names.Mq)) (mqs.none-sound limits (kinds.Named names.Psem)) (mqs.none-sound limits (kinds.Named names.Pshm)) in
+      mqs.on-kinds (AreSound limits []) (objects_in start) (mqs.none-sound limits kinds.MsgQueue) (mqs.none-sound limits kinds.Semset)
+      (mqs.none-sound limits kinds.Shm) (mqs.none-sound limits (kinds.Named names.Mq)) (mqs.none-sound limits (kinds.Named names.Psem)) (mqs.none-sound limits (kinds.Named names.Pshm)) in
       record {
         processes = record { numbered = none_yet-numbered limits.processes; descriptors = All-nil _ };
         wait = none-waits;

@@ -3,8 +3,9 @@ use Rattle.std.proofs.Common.{◌≡◌, ◌∙◌, ℕ, ◌+◌, Bool, true, fa
 use Rattle.std.specs.Prelude.{max, nat_le}
 use Rattle.std.specs.List.{fold, list_all, list_any}
 use Rattle.ipc_wire.specs.declared.sixes.SemBuf.{SemBuf}
+use Rattle.sysv_sem.specs.Operation.{is_patient}
 use Rattle.ipc_state.specs.declared.operations.Demands.{Demands}
-use Rattle.ipc_state.specs.Demands.{demanding, demands_of, is_read}
+use Rattle.ipc_state.specs.Demands.{demanding, demands_of, is_read, no_demands, operation_of}
 
 one-more : (a num nsems : ℕ) → nat_le (max a (num + 1)) nsems ≡ (nat_le a nsems && nat_lt num nsems)
 one-more a num nsems = grind arith
@@ -35,7 +36,7 @@ within-from nsems d (o ∷ os) =
 -- as many semaphores as are demanded have all that are named
 pub all-within : (nsems : ℕ) (os : List SemBuf) → nat_le (demands_of os).semaphores nsems ≡ list_all (λ o. nat_lt o.num nsems) os
 all-within nsems os =
-    within-from nsems (record { semaphores = 0; reads = false; alters = false }) os
+    within-from nsems no_demands os
     ∙ ap (λ (b : Bool). b && list_all (λ (o : SemBuf). nat_lt o.num nsems) os) (none nsems)
 
 or-none : (b : Bool) → b ≡ (b || false)
@@ -51,3 +52,9 @@ pub some-alter : (d : Demands) (os : List SemBuf) → (fold demanding d os).alte
 some-alter d [] = or-none d.alters
 some-alter d (o ∷ os) =
     some-alter (demanding d o) os ∙ or-either d.alters (not (is_read o)) (list_any (λ (p : SemBuf). not (is_read p)) os)
+
+-- one that is not patient
+pub all-patient : (d : Demands) (os : List SemBuf) → (fold demanding d os).patient ≡ (d.patient && list_all (λ o. is_patient (operation_of o)) os)
+all-patient d [] = and-all d.patient
+all-patient d (o ∷ os) =
+    all-patient (demanding d o) os ∙ and-both d.patient (is_patient (operation_of o)) (list_all (λ (p : SemBuf). is_patient (operation_of p)) os)

@@ -35,7 +35,7 @@ pub use holding::is_on;
 pub use keys::IPC_PRIVATE;
 pub use numbered::{Item, LAST_NUMBER};
 pub use objects::{Entry, Keyed, KeyedEntry, Named, NamedEntry, ObjectTable};
-pub use operations::{Operations, bits_of};
+pub use operations::{Operations, bits_of, operation_of};
 pub use parked::{Awaited, Object, ObjectKind, Parked, ParkedKind, ParkedPosix, ParkedSysv};
 pub use processes::Process;
 pub use state::{Numbers, State};

@@ -1,14 +1,26 @@
-//! The operations of a semop that waits: the semaphores that they name, as bits of a word, and what they demand of
-//! their set.
+//! The operations of a semop that waits: the semaphores that they name, as bits of a word, what they demand of their
+//! set, and whether they are patient.
 
 ghost use Rattle.std.specs.Prelude.{◌≡◌, ◌%◌, length};
 ghost use Rattle.ipc_wire.specs.Sixes.{bytes_of, operations_in};
 ghost use Rattle.ipc_state.specs.Bits as defined;
 ghost use Rattle.ipc_state.specs.Demands as demanded;
 
+use ipc_base::SemFlags;
 use ipc_wire::{SemBuf, Sixes};
 use std::alloc::{AllocError, Global};
-use sysv_sem::bit_of;
+use sysv_sem::{Operation, bit_of};
+
+/// An operation as it stands in a request.
+pub fn operation_of(operation: SemBuf) -> Operation
+    ensures { result ≡ demanded.operation_of operation }
+{
+    Operation {
+        num: operation.num,
+        sem_op: operation.op,
+        flags: SemFlags(operation.flags),
+    }
+}
 
 /// The semaphores that operations name, as bits of a word.
 pub fn bits_of(operations: &Sixes<'_>) -> u64
@@ -21,13 +33,14 @@ pub fn bits_of(operations: &Sixes<'_>) -> u64
     word
 }
 
-/// What a list of operations demands of its set: how many semaphores, and whether an operation reads its semaphore, and
-/// whether one alters it.
+/// What a list of operations demands of its set: how many semaphores, whether an operation reads its semaphore, and
+/// whether one alters it. And whether each is patient.
 #[derive(Clone, Copy)]
 struct Demands {
     semaphores: u32,
     reads: bool,
     alters: bool,
+    patient: bool,
 }
 
 impl Demands {
@@ -40,6 +53,7 @@ impl Demands {
             semaphores: self.semaphores.max(u32::from(operation.num) + 1),
             reads: self.reads || is_read,
             alters: self.alters || !is_read,
+            patient: self.patient && operation_of(operation).is_patient(),
         }
     }
 }
@@ -52,6 +66,7 @@ fn demands_of(operations: &Sixes<'_>) -> Demands
         semaphores: 0,
         reads: false,
         alters: false,
+        patient: true,
     };
     for place in 0..operations.len() {
         demands = demands.with(operations.at(place));
@@ -77,6 +92,8 @@ impl Operations {
     ghost use Rattle.std.specs.Ordering.{int_eq};
     ghost use Rattle.ipc_wire.specs.Sixes.{bytes_of, operations_in};
     ghost use Rattle.ipc_state.specs.Bits as defined;
+    ghost use Rattle.ipc_state.specs.Demands.{operation_of};
+    ghost use Rattle.sysv_sem.specs.Operation.{is_patient};
 
     /// The same operations as these. Refused for want of memory.
     pub fn new(alloc: Global, operations: &Sixes<'_>) -> Result<Operations, AllocError>
@@ -115,6 +132,14 @@ impl Operations {
         ensures { result ≡ list_any (λ o. int_eq o.op (pos 0)) (operations_in self.now.bytes.items) }
     {
         self.demands.reads
+    }
+
+    /// Whether each of them gives nothing, is not undone when its process exits, and waits if it cannot proceed. This
+    /// takes no longer with more operations.
+    pub fn are_patient(&self) -> bool
+        ensures { result ≡ list_all (λ o. is_patient (operation_of o)) (operations_in self.now.bytes.items) }
+    {
+        self.demands.patient
     }
 
     /// Whether one of them alters its semaphore. This takes no longer with more operations.

@@ -6,7 +6,8 @@ use Rattle.ipc_base.specs.declared.identity.Cred.{Cred}
 use Rattle.ipc_base.specs.declared.identity.Id.{Id}
 use Rattle.ipc_base.specs.declared.limits.Limits.{Limits}
 use Rattle.ipc_state.specs.Finish.{Attempt, Fails}
-use Rattle.ipc_state.specs.Steps.{seen}
+use Rattle.ipc_state.specs.declared.answers.Halt.{Halt as Stops}
+use Rattle.ipc_state.specs.Steps.{plain_halt, seen}
 use Rattle.ipc_state.specs.State.{State}
 use Rattle.ipc_state.specs.declared.parked.ParkedSysv.{ParkedSysv}
 use Rattle.ipc_state.specs.declared.parked.ParkedSysv.TheVariants as parked
@@ -17,6 +18,10 @@ use Rattle.sysv_calls.specs.Semop.{operations_of, performable}
 abbrev pub attempt_of : {X : Type 0} → Result (Bor X) Errno → Attempt X
 attempt_of (Ok x) = Ok x.now
 attempt_of (Err e) = Err (Fails e)
+
+abbrev pub shown : {X : Type 0} → Result (Bor X) Stops → Attempt X
+shown (Ok x) = Ok x.now
+shown (Err h) = Err (plain_halt h)
 
 -- what a get found
 abbrev pub sought_of : Result (Option Id) Errno → Attempt (Option ℕ)

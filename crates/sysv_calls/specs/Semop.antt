@@ -10,7 +10,6 @@ use Rattle.ipc_base.specs.declared.identity.Cred.{Cred}
 use Rattle.ipc_base.specs.declared.limits.Limits.{Limits}
 use Rattle.ipc_perm.specs.Perm.{may}
 use Rattle.ipc_wire.specs.declared.reply.Body.TheVariants.{Empty, Number}
-use Rattle.ipc_wire.specs.declared.sixes.SemBuf.{SemBuf}
 use Rattle.ipc_wire.specs.Request.{PlainKind, Sysv}
 use Rattle.ipc_wire.specs.Request as requests
 use Rattle.ipc_wire.specs.Sixes.{operations_in}
@@ -19,6 +18,7 @@ use Rattle.sysv_sem.specs.declared.operation.Operation.{Operation}
 use Rattle.sysv_sem.specs.Operation.{Outcome, Done as IsDone, Blocks as Stops, Fails as IsRefused, has_undo, outcome}
 use Rattle.sysv_sem.specs.Set.{Set, values_of, carried}
 use Rattle.ipc_state.specs.Bound.{holding}
+pub use Rattle.ipc_state.specs.Demands.{operation_of}
 use Rattle.ipc_state.specs.Keyed.{KeyedEntry}
 use Rattle.ipc_state.specs.State.{State, cred_of, semset_of, undo_of, with_semset, with_undo}
 use Rattle.ipc_state.specs.Waiting.{PlainWaiting}
@@ -28,10 +28,6 @@ use Rattle.sysv_calls.specs.Msg.{waits_or}
 use Rattle.sysv_calls.specs.Sem.{semaphore}
 
 -- ---- operations
-
--- an operation as it stands in a request
-abbrev pub operation_of : SemBuf → Operation
-operation_of b = record { num = b.num; sem_op = b.op; flags = record { 0 = b.flags } }
 
 -- those that the bytes of a request spell
 abbrev pub operations_of : List ℕ → List Operation

@@ -1,21 +1,23 @@
 //! semop(2), and how many lists of operations wait for a semaphore. None takes memory.
 
-ghost use Rattle.std.specs.Prelude.{◌≡◌, ◌^◌, ◌<◌, ◌≤◌, ℕ, List, Some, OnOk, length, nat_eq, slice_get, take, true};
+ghost use Rattle.std.specs.Prelude.{◌≡◌, ◌^◌, ◌<◌, ◌≤◌, ℕ, ℤ, All, List, Some, Err, IfOk, IsTrue, OnOk, length, nat_eq};
+ghost use Rattle.std.specs.Prelude.{slice_get, take, true};
 ghost use Rattle.std.specs.List.{fold, list_all};
 ghost use Rattle.ipc_base.specs.Limits.{ArePassed};
 ghost use Rattle.ipc_base.specs.Table.{value_at};
 ghost use Rattle.ipc_perm.specs.Perm.{may as may_use};
 ghost use Rattle.ipc_wire.specs.Sixes.{bytes_of};
-ghost use Rattle.sysv_sem.specs.Operation.{has_undo, trial_of};
-ghost use Rattle.sysv_sem.specs.Set.{Set};
+ghost use Rattle.sysv_sem.specs.Operation.{has_undo, outcome, trial_of};
+ghost use Rattle.sysv_sem.specs.Set.{Set, values_of};
 ghost use Rattle.ipc_state.specs.Keyed.{KeyedEntry};
-ghost use Rattle.ipc_state.specs.Finish.{Finishes, ended, finish_of};
+ghost use Rattle.ipc_state.specs.Finish.{Blocks, Finishes, ended, finish_of};
 ghost use Rattle.ipc_state.specs.Sound.{HasSoundParts};
 ghost use Rattle.ipc_state.specs.State.{cred_of, undo_of, with_undo};
 ghost use Rattle.ipc_state.specs.Waiting.{parked_kind};
 ghost use Rattle.ipc_state.specs.Steps.{attempted, plain_halt, seen};
 ghost use Rattle.sysv_calls.specs.Semop as defined;
 ghost use Rattle.sysv_calls.specs.Semop.{operation_of, operations_of, held_by, noted};
+ghost use Rattle.sysv_calls.specs.Seen.{shown};
 ghost use Rattle.sysv_calls.specs.Relations.{CanBeNoted, CanNote, IsReady, Passes};
 
 use crate::access::gone;
@@ -23,9 +25,9 @@ use crate::sem::semaphore;
 use bitflags::Flags;
 use ipc_base::{Cred, Errno, Id, Pid, SemFlags};
 use ipc_perm::{Access, Perm, may};
-use ipc_state::{Answer, Halt, Operations, ParkedKind, ParkedSysv, State};
-use ipc_wire::{Body, SemBuf, Sixes};
-use sysv_sem::{Operation, OperationList, Trial};
+use ipc_state::{Answer, Halt, Operations, ParkedKind, ParkedSysv, State, operation_of};
+use ipc_wire::{Body, Sixes};
+use sysv_sem::{Operation, OperationList, SemSet, Trial};
 
 /// The most operations of a list, under any limits.
 const MOST_OPERATIONS: usize = 32;
@@ -42,17 +44,6 @@ const NOBODY: Cred = Cred {
     uid: 65534,
     gid: 65534,
 };
-
-/// An operation as it stands in a request.
-fn operation_of(operation: SemBuf) -> Operation
-    ensures { result ≡ operation_of operation }
-{
-    Operation {
-        num: operation.num,
-        sem_op: operation.op,
-        flags: SemFlags(operation.flags),
-    }
-}
 
 /// The operation at this place of a request; the first is at 0.
 fn operation_at(operations: &Sixes<'_>, place: usize) -> Operation
@@ -108,27 +99,22 @@ fn are_allowed(cred: Cred, perm: &Perm, operations: &Operations) -> bool
     (may_read | !operations.reads()) & (may_write | !operations.alters())
 }
 
-/// What the operations of a request meet, if they may be tried: the tests of semop, as semop(2) has it. Each operation
-/// is looked at only if those before it pass.
-fn try_operations(
-    state: &State,
+/// The set on which the operations of a request may be tried, by the tests of semop that need no look at each, as
+/// semop(2) has them.
+fn operable<'a>(
+    state: &'a State,
     cred: Cred,
-    pid: Pid,
     again: bool,
     id: Id,
     operations: &Operations,
-) -> Result<Trial, Halt>
-    ensures tests { attempted result ≡ seen (λ found. trial_of found.1) (defined.tried_list state.now.limits
-        state.now.state cred pid.0 again id.0 (operations_of operations.now.bytes.items)) }
+) -> Result<&'a SemSet, Halt>
+    ensures tests { shown result ≡ seen (λ e. e.object) (defined.operable state.now.limits state.now.state cred again
+        id.0 (operations_of operations.now.bytes.items)) }
+    ensures within { IfOk result (λ set. All (λ o. o.num < length set.now.semaphores)
+        (operations_of operations.now.bytes.items)) }
     ensures passed { OnOk result (ArePassed state.now.limits) }
 {
-    let list = Asked {
-        state,
-        pid,
-        id,
-        operations: operations.lend(),
-    };
-    let count = list.len();
+    let count = operations.lend().len();
     if count == 0 {
         return Err(Halt::Fails(Errno::EINVAL));
     }
@@ -144,7 +130,52 @@ fn try_operations(
     if !are_allowed(cred, &entry.perm, operations) {
         return Err(Halt::Fails(Errno::EACCES));
     }
-    Ok(entry.object.try_list(&list))
+    Ok(&entry.object)
+}
+
+/// What the operations of a request of a process meet at their set. Each is looked at only if those before it pass.
+fn try_on(set: &SemSet, state: &State, pid: Pid, id: Id, operations: &Operations) -> Trial
+    requires { All (λ o. o.num < length set.now.semaphores) (operations_of operations.now.bytes.items) }
+    ensures { result ≡ trial_of (outcome (values_of set.now) (held_by state.now.state pid.0 id.0)
+        (operations_of operations.now.bytes.items)) }
+{
+    set.try_list(&Asked {
+        state,
+        pid,
+        id,
+        operations: operations.lend(),
+    })
+}
+
+/// What the operations of a request meet, if they may be tried.
+fn try_operations(
+    state: &State,
+    cred: Cred,
+    pid: Pid,
+    again: bool,
+    id: Id,
+    operations: &Operations,
+) -> Result<Trial, Halt>
+    ensures tests { attempted result ≡ seen (λ found. trial_of found.1) (defined.tried_list state.now.limits
+        state.now.state cred pid.0 again id.0 (operations_of operations.now.bytes.items)) }
+{
+    let set = operable(state, cred, again, id, operations)?;
+    Ok(try_on(set, state, pid, id, operations))
+}
+
+/// Whether the last operation shows that the list has to wait: each is patient, and this one takes more than there is.
+/// So a list that lacks its last semaphore alone is not walked through each time that another one changes.
+fn lacks_its_last(set: &SemSet, operations: &Operations) -> bool
+    requires { All (λ o. o.num < length set.now.semaphores) (operations_of operations.now.bytes.items) }
+    ensures { IsTrue result → (held : ℕ → ℤ) → defined.decided (operations_of operations.now.bytes.items)
+        (outcome (values_of set.now) held (operations_of operations.now.bytes.items)) ≡ Err Blocks }
+{
+    if !operations.are_patient() {
+        return false;
+    }
+    let list = operations.lend();
+    let count = list.len();
+    count > 0 && set.lacks(operation_at(&list, count - 1))
 }
 
 /// What becomes of a list that this operation stops.
@@ -171,7 +202,11 @@ pub(crate) fn ready_to_operate(
         pid.0 again id.0 (operations_of operations.now.bytes.items)) }
     ensures passed { OnOk result (ArePassed state.now.limits) }
 {
-    match try_operations(state, cred, pid, again, id, operations)? {
+    let set = operable(state, cred, again, id, operations)?;
+    if lacks_its_last(set, operations) {
+        return Err(Halt::Blocks);
+    }
+    match try_on(set, state, pid, id, operations) {
         Trial::Done => Ok(()),
         Trial::Blocks(at) => Err(stopped_by(&operation_at(&operations.lend(), at))),
         Trial::Fails(errno) => Err(Halt::Fails(errno)),

@@ -1,3 +1,4 @@
 pub mod CallerLemmas
 pub mod Trials
+mod Lacking
 mod Named

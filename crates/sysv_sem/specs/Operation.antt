@@ -2,7 +2,8 @@
 -- is judged at the set as it is, and each other as if those before it were performed: it may have to wait, and then so
 -- does the list; it may take a value or an adjustment out of range, and then the list is refused; or it passes.
 use Rattle.std.specs.Prelude.{ℕ, zero, suc, ◌+◌, ◌-◌, ◌==◌, nat_lt, ℤ, pos, negsuc, ◌-ℤ◌}
-use Rattle.std.specs.Prelude.{Bool, false, not, ◌&&◌, if◌then◌else◌, List, [], ◌∷◌, slice_index, slice_set, bit_and}
+use Rattle.std.specs.Prelude.{Bool, true, false, not, ◌&&◌, if◌then◌else◌, List, [], ◌∷◌, bit_and}
+use Rattle.std.specs.Prelude.{slice_index, slice_set}
 pub use Rattle.ipc_base.specs.Adjustment.{is_adjustment}
 use Rattle.ipc_base.specs.declared.errno.Errno.{Errno}
 use Rattle.ipc_base.specs.declared.errno.Errno.TheVariants.{ERANGE}
@@ -40,6 +41,25 @@ judged value adjustment o =
     else if nat_lt most_value (value_after value o.sem_op) then OutOfRange
     else if has_undo o && not (is_adjustment (adjustment -ℤ o.sem_op)) then OutOfRange
     else Passes
+
+-- whether it takes more than this value
+abbrev pub takes_more : ℕ → ℤ → Bool
+takes_more value (pos n) = false
+takes_more value (negsuc n) = nat_lt value (suc n)
+
+-- whether it gives some
+abbrev pub gives_some : ℤ → Bool
+gives_some (pos zero) = false
+gives_some (pos (suc n)) = true
+gives_some (negsuc n) = false
+
+-- whether it gives nothing and is not undone: at any value it passes or has to wait
+abbrev pub gives_nothing : Operation → Bool
+gives_nothing o = not (gives_some o.sem_op) && not (has_undo o)
+
+-- whether it is patient: it also waits then, since it has no IPC_NOWAIT
+abbrev pub is_patient : Operation → Bool
+is_patient o = gives_nothing o && not (bit_and o.flags.0 2048 == 2048)
 
 -- the values after an operation that passes
 abbrev pub performed : List ℕ → Operation → List ℕ

@@ -3,6 +3,7 @@
 ghost use Rattle.std.specs.Prelude.{◌≡◌, ◌≤◌, FitsSigned};
 ghost use Rattle.std.specs.Int.{w16};
 ghost use Rattle.sysv_sem.specs.Operation.{must_wait, value_after, has_undo, is_adjustment, judged, most_value};
+ghost use Rattle.sysv_sem.specs.Operation.{is_patient, takes_more};
 ghost use Rattle.sysv_sem.specs.Trial.{adjustment_of, value_of};
 
 use bitflags::Flags;
@@ -85,6 +86,20 @@ impl Operation {
         }
     }
 
+    /// Whether it takes more than this value.
+    pub(crate) fn takes_more_than(self, value: u16) -> bool
+        ensures { result ≡ takes_more value self.sem_op }
+    {
+        takes_more(value, self.sem_op)
+    }
+
+    /// Whether it gives nothing, is not undone when its process exits, and waits if it cannot proceed.
+    pub fn is_patient(self) -> bool
+        ensures { result ≡ is_patient self }
+    {
+        self.sem_op <= 0 && !self.has_undo() && !self.flags.contains(SemFlags::IPC_NOWAIT)
+    }
+
     /// Whether it is undone when its process exits.
     pub(crate) fn has_undo(self) -> bool
         ensures { result ≡ has_undo self }
@@ -100,8 +115,15 @@ fn must_wait(value: u16, sem_op: i16) -> bool
     if sem_op == 0 {
         value != 0
     } else {
-        sem_op < 0 && value < sem_op.unsigned_abs()
+        takes_more(value, sem_op)
     }
+}
+
+/// Whether an operation takes more than this value.
+fn takes_more(value: u16, sem_op: i16) -> bool
+    ensures { result ≡ takes_more value sem_op }
+{
+    sem_op < 0 && value < sem_op.unsigned_abs()
 }
 
 /// The value with a number added to it, or 0 if that is below 0.

@@ -1,8 +1,8 @@
 //! A semaphore set.
 
 ghost use Rattle.std.specs.Prelude.{◌≡◌, ◌<◌, ◌≤◌, ℕ, ℤ, List, Some, length, map, replicate};
-ghost use Rattle.std.specs.Prelude.{IfOk, OnOk, OnErr, All, slice_index, slice_get};
-ghost use Rattle.sysv_sem.specs.Operation.{most_value, outcome, trial_of, Done};
+ghost use Rattle.std.specs.Prelude.{IfOk, IsTrue, OnOk, OnErr, All, slice_index, slice_get, true};
+ghost use Rattle.sysv_sem.specs.Operation.{most_value, gives_nothing, outcome, takes_more, trial_of, Blocks, Done};
 ghost use Rattle.sysv_sem.specs.Trial.{CanBeDone};
 
 use crate::list::OperationList;
@@ -113,6 +113,18 @@ impl SemSet {
         ensures { result ≡ trial_of (outcome (values_of self.now) (L.adjustments list.now) (L.operations list.now)) }
     {
         trial::try_list(&self.semaphores, list)
+    }
+
+    /// Whether an operation takes more than its semaphore has. A list whose operations give nothing, of which one takes
+    /// more than there is, has to wait, whatever its other operations are.
+    pub fn lacks(&self, operation: Operation) -> bool
+        requires { operation.num < length self.now.semaphores }
+        ensures exact { result ≡ takes_more (slice_index (values_of self.now) operation.num) operation.sem_op }
+        ensures waits { IsTrue result → (held : ℕ → ℤ) (operations : List Operation) (at : ℕ)
+            → slice_get operations at ≡ Some operation → All (λ o. gives_nothing o ≡ true) operations
+            → (stop : ℕ) × (outcome (values_of self.now) held operations ≡ Blocks stop) }
+    {
+        operation.takes_more_than(self.semaphores[operation.num as usize].value)
     }
 
     /// Performs a list of operations, each of which passes, and notes who did and when.

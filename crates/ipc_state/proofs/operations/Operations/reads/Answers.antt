@@ -1,10 +1,11 @@
-use Rattle.std.proofs.Common.{◌∙◌, false, ap}
+use Rattle.std.proofs.Common.{◌∙◌, ap}
 use Rattle.ipc_wire.specs.Sixes.{operations_in}
 use Rattle.ipc_state.specs.declared.operations.Demands.{Demands}
+use Rattle.ipc_state.specs.Demands.{no_demands}
 use Rattle.ipc_state.proofs.Demands.{some-read}
 use Rattle.ipc_state.proofs.operations.Operations.reads.Goals as goal
 
 pub returns : goal.returns
 returns c =
     ap (λ (d : Demands). d.reads) c.args.self.now.demanded
-    ∙ some-read (record { semaphores = 0; reads = false; alters = false }) (operations_in c.args.self.now.bytes.items)
+    ∙ some-read no_demands (operations_in c.args.self.now.bytes.items)
