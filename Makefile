@@ -36,7 +36,8 @@ help:
 	@echo "make memory the programs, with each allocation of a script refused in turn, of a listing and an opening of what it"
 	@echo "            leaves, and of each public call that may need memory, by itself"
 	@echo "make trials scripts that are stopped at each call on their disk, with each choice of what a crash keeps, or of which"
-	@echo "            one call fails, openings and formats too: what opens is what was answered, or one line more; devices"
+	@echo "            one call fails, openings and formats too: what opens is what was answered, or one line more; an upgrade"
+	@echo "            that is stopped or fails so: what it leaves is of version 1 or 2, and has all that was there; devices"
 	@echo "            with each byte wrong; frames that are cut off or changed; as much of everything as the limits allow;"
 	@echo "            and what one release of requests of one moment writes"
 	@echo "make bench  processor time of runs, lines, saves and ticks, peak memory, what a commit and a save write, and"
@@ -81,11 +82,12 @@ memory: program
 	@$(REFUSE_EACH)
 
 # Each opening of each device that a stop leaves is stopped too, and each byte of a device is wrong once; of those the
-# gate has each tenth. Requests of one moment, fed to a hub by hand, are one batch: two writes and two syncs for three
-# replies.
+# gate has each tenth. What comes after a stop of an upgrade is stopped too, of each tenth stop, in the gate of each
+# hundredth. Requests of one moment, fed to a hub by hand, are one batch: two writes and two syncs for three replies.
 TRIAL = crates/trials/out/trials
 EACH = 1
 TRIALS = $(TRIAL) stopped 1 < crates/trials/stdin && $(TRIAL) faulted 1 < crates/trials/stdin && \
+	python3 tests/upgraded.py $(TRIAL) $(EACH)0 && \
 	python3 tests/damaged.py $(BUILT) $(EACH) < tests/damaged.script && \
 	$(TRIAL) frames 1 && $(TRIAL) limits && $(TRIAL) limits small && \
 	test "$$($(TRIAL) batch)" = "a batch of 163 bytes, 2 writes, 2 syncs, 3 replies"

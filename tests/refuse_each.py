@@ -8,8 +8,8 @@ Of that only the moment is left, as a tick. What a run is compared with is print
 refused. `IPCD dump`, and `IPCD run` of no line, on the device that the script leaves: they do all, or say that there is
 no memory, or that the device failed, where memory of the device itself was refused; and then the device still opens.
 `IPCD upgrade` of a device of version 1: it is done, or refused, and then the file is as before. Each call of `TRIALS
-refused`: it is refused, what it was made on is as before, and it is done when it is made again; those that take no
-memory are never refused.
+refused`, `Store::upgrade` of that device among them: it is refused, what it was made on is as before, and it is done
+when it is made again; those that take no memory are never refused.
 
 An exit, a tick, a reply, a commit or a save that met the refusal would end the script's run with another text than
 `no memory`, or with EIO frames, or would leave out a frame. None may.
@@ -88,7 +88,7 @@ def run(call: int, script: str, *command: str) -> Ran:
     mark.unlink(missing_ok=True)
     wanted = {"LD_PRELOAD": "./refuse_malloc.so", "REFUSE_CALL": str(call), "REFUSE_MARK": str(mark)}
     ended = subprocess.run(
-        command, input=script, env=os.environ | wanted, capture_output=True, text=True, timeout=TIMEOUT
+        command, input=script, env=os.environ | wanted, capture_output=True, encoding="latin-1", timeout=TIMEOUT
     )
     ran = Ran(call, mark.exists(), ended.returncode, ended.stdout, ended.stderr)
     ran.check(ran.status >= 0, f"{command} crashes, signal {-ran.status}")
@@ -243,7 +243,8 @@ def try_calls() -> str:
         name, met = line.removesuffix(": takes no memory"), 0
         # A listing that is refused the room for all its rows at once takes it as they come.
         ends = {f"{name}: refused, then done\n"} | ({f"{name}: done\n"} if name == "Engine::list" else set())
-        for ran in refused("", TRIALS, "refused", name):
+        given = old_device().decode("latin-1") if name == "Store::upgrade" else ""
+        for ran in refused(given, TRIALS, "refused", name):
             runs += 1
             if ran.is_well():
                 met += 1

@@ -4,7 +4,7 @@ use crate::told::{filled, write_told};
 use ipc_disk::DiskFault;
 use ipc_hub::{ConnectError, ServeError};
 use ipc_script::ScriptFault;
-use ipc_store::{CommitError, FormatError, OpenError};
+use ipc_store::{CommitError, FormatError, OpenError, UpgradeError};
 use std::alloc::{AllocError, AllocFailed};
 use std::fmt;
 
@@ -12,16 +12,18 @@ use std::fmt;
 #[derive(Clone, Copy)]
 pub(crate) enum Fault {
     Usage,
-    /// The script cannot be read, or has no line `-`.
+    /// The input cannot be read, or has no line `-`.
     Input,
     Output,
     NoMemory,
     /// The disk has failed.
     Device,
     NotFormatted,
+    /// A device of another version than one that is opened, or upgraded.
+    Version(u32),
     /// A run that nothing stops fails.
     Script(ScriptFault),
-    /// A device that is no longer one, or one of another version.
+    /// A device that is no longer one, or has another state than it must have.
     Unopened,
     /// A call of a hub that nothing stops.
     Unserved,
@@ -47,12 +49,14 @@ impl Fault {
     fn name(&self) -> &'static str {
         match self {
             Fault::Usage =>
-                "usage: trials WORD, one of stopped N, faulted N, frames N, limits, batch, script and refused",
-            Fault::Input => "the script cannot be read, or has no line `-`",
+                "usage: trials WORD, one of stopped N, faulted N, upgraded N, frames N, limits, batch, script \
+                and refused",
+            Fault::Input => "the input cannot be read, or has no line `-`",
             Fault::Output => "output fault",
             Fault::NoMemory => "no memory",
             Fault::Device => "device fault",
             Fault::NotFormatted => "not formatted",
+            Fault::Version(_) => "a device of another version",
             Fault::Script(_) => "a run that nothing stops fails",
             Fault::Unopened => "a device that cannot be opened",
             Fault::Unserved => "a hub serves its clients no more",
@@ -135,6 +139,7 @@ impl From<OpenError> for Fault {
             OpenError::NoMemory => Fault::NoMemory,
             OpenError::Device => Fault::Device,
             OpenError::NotFormatted => Fault::NotFormatted,
+            OpenError::Version { found } => Fault::Version(found),
             _ => Fault::Unopened,
         }
     }
@@ -144,6 +149,18 @@ impl From<FormatError> for Fault {
     fn from(error: FormatError) -> Self {
         match error {
             FormatError::Device => Fault::Device,
+            _ => Fault::Unopened,
+        }
+    }
+}
+
+impl From<UpgradeError> for Fault {
+    fn from(error: UpgradeError) -> Self {
+        match error {
+            UpgradeError::NoMemory => Fault::NoMemory,
+            UpgradeError::Device => Fault::Device,
+            UpgradeError::NotFormatted => Fault::NotFormatted,
+            UpgradeError::Version { found } => Fault::Version(found),
             _ => Fault::Unopened,
         }
     }

@@ -3,13 +3,17 @@
 //!
 //!     trials stopped N < SCRIPT    stops the script at each call on its disk, its formats, and each N-th opening
 //!     trials faulted N < SCRIPT    lets each call on its disk fail once, and each of the openings after each N-th line
+//!     trials upgraded N < TEXT     upgrades and opens a device of version 1, stopped at each call on its disk, as is
+//!                                  what comes after each N-th stop, and with each call failing once
 //!     trials frames N              cuts frames of each opcode off at each byte, and changes each N-th byte of them
 //!     trials limits [small]        makes, uses, saves and finds as much as the limits allow, standard ones or small
 //!     trials batch                 feeds a hub requests of one moment, and counts what one release writes of them
 //!     trials script < SCRIPT       runs the script in memory, under small limits but 16 processes
 //!     trials refused [NAME]        makes one call, and again if it is refused for memory; without NAME, all names
 //!
-//! In the first two a script is followed by a line `-` and by a probe: lines whose answers tell what a device holds.
+//! In the first two a script is followed by a line `-` and by a probe: lines whose answers tell what a device holds. In
+//! `upgraded` a probe comes first, a line `-`, what it has to answer, another line `-`, and the bytes of the device.
+//! `refused Store::upgrade` reads such bytes alone.
 #![tactic(auto)]
 
 ghost use Rattle.std.specs.Prelude.{◌<◌, IfOk};
@@ -35,7 +39,9 @@ mod runs;
 mod script;
 mod stages;
 mod stopped;
+mod stops;
 mod told;
+mod upgraded;
 
 use batch::batch_of_three;
 use fault::Fault;
@@ -54,6 +60,7 @@ use std::process::ExitCode;
 use std::rt::{Env, Files};
 use stopped::stopped;
 use told::Told;
+use upgraded::upgraded;
 
 fn main(rt: HostRuntime) -> io::Result<ExitCode> {
     match answer(&rt) {
@@ -107,6 +114,7 @@ fn with_number(rt: &(impl Input + Print + AllocGlobal), word: &str, every: u64) 
     match word {
         "stopped" => print(rt, stopped(alloc, text.as_slice(), every)),
         "faulted" => print(rt, faulted(alloc, text.as_slice(), every as usize)),
+        "upgraded" => print(rt, upgraded(alloc, text.as_slice(), every)),
         _ => Err(Fault::Usage),
     }
 }
@@ -144,10 +152,11 @@ fn words_of(rt: &(impl Env + AllocGlobal)) -> Result<Vec<String>, Fault> {
 }
 
 /// All that a reader gives.
-fn input<R: Read>(alloc: Global, reader: &mut R) -> Result<Vec<u8>, Fault> {
+pub(crate) fn input<R: Read>(alloc: Global, reader: &mut R) -> Result<Vec<u8>, Fault> {
     let mut text = Vec::new(alloc);
     match reader.read_to_end(&mut text) {
         Ok(_) => Ok(text),
+        Err(error) if error.kind() == ErrorKind::OutOfMemory => Err(Fault::NoMemory),
         Err(_) => Err(Fault::Input),
     }
 }

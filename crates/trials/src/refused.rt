@@ -9,6 +9,7 @@ mod objects;
 mod states;
 
 use crate::fault::Fault;
+use crate::input;
 use std::alloc::{AllocError, Global};
 use std::fs::File;
 use std::net::Net;
@@ -76,11 +77,14 @@ fn print_each(rt: &impl Print, names: &[&str], what: &str) -> Result<(), Fault> 
 
 /// Makes the call of this name, and prints what became of it.
 pub(crate) fn refused(
-    rt: &(impl Print + AllocGlobal + Files<File = File> + Net),
+    rt: &(impl Input + Print + AllocGlobal + Files<File = File> + Net),
     name: &str,
 ) -> Result<(), Fault> {
     let refused = if name == hubs::SERVER {
         hubs::server_refused(rt)?
+    } else if name == devices::UPGRADE {
+        let image = input(rt.alloc(), &mut rt.reader())?;
+        is_refused(devices::old_device(rt.alloc(), &image), name)?
     } else {
         call(rt.alloc(), name)?
     };

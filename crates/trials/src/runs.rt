@@ -69,21 +69,5 @@ pub(crate) fn found_on(alloc: Global, disk: MemoryDisk, probe: &[u8]) -> Result<
     Ok(ran.output)
 }
 
-/// The choice of a crash after `before` other ones: each combination of up to six unsynced sectors, and of more none,
-/// all and each alone.
-pub(crate) fn choice(before: u32, unsynced: u32) -> Option<u64> {
-    if let Some(combinations) = [1, 2, 4, 8, 16, 32, 64].get(unsynced as usize) {
-        return (before < *combinations).then_some(u64::from(before));
-    }
-    match before.checked_sub(2) {
-        Some(place) if place < unsynced => 1_u64.checked_shl(place),
-        Some(_) => None,
-        None if before == 0 => Some(0),
-        None => Some(u64::MAX),
-    }
-}
-
-/// More choices than a crash has, and more calls than a run makes.
-pub(crate) const MOST_CHOICES: u32 = 70;
-
+/// More calls than a run makes.
 pub(crate) const MOST_CALLS: u64 = 10000;

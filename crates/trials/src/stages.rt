@@ -23,18 +23,21 @@ pub(crate) struct Trial<'a> {
 
 /// The trial of a text: a script, a line `-`, and a probe.
 pub(crate) fn trial_of(alloc: Global, text: &[u8]) -> Result<Trial<'_>, Fault> {
-    let ends = ends_of(alloc, text)?;
-    let mut stages = Vec::new(alloc);
-    for end in &ends {
-        let (script, rest) = text.split_at((*end).min(text.len()));
-        if let Some(probe) = rest.strip_prefix(b"-\n") {
-            add_stages(alloc, &mut stages, &ends, script, probe)?;
-            return Ok(Trial {
-                alloc,
-                script,
-                probe,
-                stages,
-            });
+    let (script, probe) = parts_of(alloc, text)?;
+    Ok(Trial {
+        alloc,
+        script,
+        probe,
+        stages: stages_of(alloc, script, probe)?,
+    })
+}
+
+/// What stands before the first line `-` of a text, and after it.
+pub(crate) fn parts_of(alloc: Global, text: &[u8]) -> Result<(&[u8], &[u8]), Fault> {
+    for end in &ends_of(alloc, text)? {
+        let (first, rest) = text.split_at((*end).min(text.len()));
+        if let Some(second) = rest.strip_prefix(b"-\n") {
+            return Ok((first, second));
         }
     }
     Err(Fault::Input)
@@ -52,18 +55,11 @@ fn ends_of(alloc: Global, text: &[u8]) -> Result<Vec<usize>, Fault> {
     Ok(ends)
 }
 
-/// Adds the stage after each line of a script.
-fn add_stages(
-    alloc: Global,
-    stages: &mut Vec<Stage>,
-    ends: &[usize],
-    script: &[u8],
-    probe: &[u8],
-) -> Result<(), Fault> {
-    for end in ends {
-        let Some(lines) = script.get(..*end) else {
-            break;
-        };
+/// The stage before the first line of a script, and after each.
+fn stages_of(alloc: Global, script: &[u8], probe: &[u8]) -> Result<Vec<Stage>, Fault> {
+    let mut stages = Vec::new(alloc);
+    for end in &ends_of(alloc, script)? {
+        let lines = script.get(..*end).unwrap_or(script);
         let ran = run(alloc, device(alloc)?, lines);
         ran.outcome?;
         stages.push(Stage {
@@ -72,7 +68,7 @@ fn add_stages(
             found: found_on(alloc, ran.disk, probe)?,
         })?;
     }
-    Ok(())
+    Ok(stages)
 }
 
 /// Where what was found stands beside what was answered.

@@ -5,18 +5,23 @@ ghost use Rattle.std.specs.Prelude.{◌<◌};
 use crate::fault::Fault;
 use crate::formats::stop_formats;
 use crate::openings::stop_openings;
-use crate::runs::{MOST_CALLS, MOST_CHOICES, choice, device, found_on, run};
+use crate::runs::{device, found_on, run};
 use crate::stages::{Place, Trial, trial_of};
+use crate::stops::{Stops, stop_each};
 use crate::told::Told;
 use ipc_disk::{FuseDisk, MemoryDisk};
 use std::alloc::Global;
 
-/// How many devices the stops left, those that were ahead of what was answered, and the stops of openings.
+/// Stops of a script: of which of them the openings are stopped too, each N-th; how many devices they left, those that
+/// were ahead of what was answered, and the stops of openings.
 #[derive(Clone, Copy)]
-struct Count {
+struct Runs<'a> {
+    trial: &'a Trial<'a>,
+    every: u64,
     devices: u64,
     ahead: u64,
     openings: u64,
+    ghost some: { 0 < every },
 }
 
 /// Stops the script of a text, its formats, and the opening of each device that the N-th stops left.
@@ -25,53 +30,40 @@ pub(crate) fn stopped(alloc: Global, text: &[u8], every: u64) -> Result<Told, Fa
 {
     let trial = trial_of(alloc, text)?;
     let [formats, old, none, new] = stop_formats(&trial)?;
-    let mut count = Count {
+    let mut runs = Runs {
+        trial: &trial,
+        every,
         devices: 0,
         ahead: 0,
         openings: 0,
     };
-    for calls in 0..MOST_CALLS {
-        if !stop_at(&trial, calls, calls % every == 0, &mut count)? {
-            let words = "# stops left # devices, # of them ahead of what was answered\n\
-                # stops of openings left the same\n\
-                # stops of a format: # left the old device, # none, and # the new one";
-            let Count {
-                devices,
-                ahead,
-                openings,
-            } = count;
-            let numbers = [calls, devices, ahead, openings, formats, old, none, new];
-            return Ok(Told::new(words, &numbers));
-        }
-    }
-    Err(Fault::NoEnd)
+    let calls = stop_each(&mut runs)?;
+    let words = "# stops left # devices, # of them ahead of what was answered\n\
+        # stops of openings left the same\n\
+        # stops of a format: # left the old device, # none, and # the new one";
+    let Runs {
+        devices,
+        ahead,
+        openings,
+        ..
+    } = runs;
+    let numbers = [calls, devices, ahead, openings, formats, old, none, new];
+    Ok(Told::new(words, &numbers))
 }
 
-/// Stops the script after so many calls, with each choice of a crash, and the openings too if that is asked for.
-/// Whether it was stopped.
-fn stop_at(
-    trial: &Trial<'_>,
-    calls: u64,
-    openings: bool,
-    count: &mut Count,
-) -> Result<bool, Fault> {
-    let mut unsynced = 0;
-    for before in 0..MOST_CHOICES {
-        let Some(keep) = choice(before, unsynced) else {
-            return Ok(true);
+impl Stops for Runs<'_> {
+    fn stop(&mut self, calls: u64, keep: u64) -> Result<Option<u32>, Fault> {
+        let Some((unsynced, is_ahead)) = stop(self.trial, calls, keep)? else {
+            return Ok(None);
         };
-        let Some((left, is_ahead)) = stop(trial, calls, keep)? else {
-            return Ok(false);
-        };
-        unsynced = left;
-        count.devices = count.devices.saturating_add(1);
-        count.ahead = count.ahead.saturating_add(u64::from(is_ahead));
-        if openings {
-            let more = stop_openings(trial, (calls, keep))?;
-            count.openings = count.openings.saturating_add(more);
+        self.devices = self.devices.saturating_add(1);
+        self.ahead = self.ahead.saturating_add(u64::from(is_ahead));
+        if calls % self.every == 0 {
+            let more = stop_openings(self.trial, (calls, keep))?;
+            self.openings = self.openings.saturating_add(more);
         }
+        Ok(Some(unsynced))
     }
-    Err(Fault::NoEnd)
 }
 
 /// How many sectors are not synced at such a stop, and whether what is found after the crash is ahead of what was

@@ -1,9 +1,10 @@
-//! Openings of a device, and of its parts.
+//! Openings of a device, and of its parts; the upgrade of one; and a disk that grows.
 
 use crate::fault::Fault;
 use crate::refused::hubs::used_disk;
 use crate::refused::{Seen, Subject};
 use crate::told::filled;
+use crate::upgraded::{old_disk, upgrade};
 use ipc_base::{Limits, ObjectMap};
 use ipc_checkpoint::{Checkpoint, Layout, LoadError};
 use ipc_disk::{MemoryDisk, Range, SectorDisk};
@@ -13,8 +14,18 @@ use ipc_image::{FORMAT, OBJECTS, engine_of};
 use ipc_store::Store;
 use std::alloc::Global;
 
+/// The name of the call that is made on a device of version 1.
+pub(crate) const UPGRADE: &str = "Store::upgrade";
+
 /// Their names.
-pub(crate) const NAMES: [&str; 4] = ["Heap::open", "Checkpoint::load", "engine_of", "Store::open"];
+pub(crate) const NAMES: [&str; 6] = [
+    "Heap::open",
+    "Checkpoint::load",
+    "engine_of",
+    "Store::open",
+    UPGRADE,
+    "MemoryDisk::grow",
+];
 
 /// How many sectors a state takes under small limits, and where the objects lie.
 const AREA: u32 = 553;
@@ -52,15 +63,25 @@ pub(crate) fn device_for(alloc: Global, name: &str) -> Result<Device, Fault> {
     })
 }
 
+/// A device of version 1, of which these are the bytes.
+pub(crate) fn old_device(alloc: Global, image: &[u8]) -> Result<Device, Fault> {
+    Ok(Device {
+        alloc,
+        disk: Some(old_disk(alloc, image)?),
+        objects: None,
+    })
+}
+
 impl Subject for Device {
     fn call(&mut self, name: &str) -> Result<(), Fault> {
         let alloc = self.alloc;
-        if name == "Store::open" {
-            return self.open();
+        if name == "Store::open" || name == UPGRADE {
+            return self.hand_over(name);
         }
         match (&mut self.disk, &self.objects) {
             (_, Some(objects)) => make_engine(alloc, objects),
             (Some(disk), None) if name == "Heap::open" => open_heap(alloc, disk),
+            (Some(disk), None) if name == "MemoryDisk::grow" => Ok(disk.grow(2 * SECTORS)?),
             (Some(disk), None) => load(alloc, disk).map(|_| ()),
             (None, None) => Err(Fault::Unready),
         }
@@ -75,21 +96,26 @@ impl Subject for Device {
 }
 
 impl Device {
-    /// Opens a store on the disk, which comes back if it is refused.
-    fn open(&mut self) -> Result<(), Fault> {
+    /// Opens a store on the disk, or upgrades it. The disk comes back.
+    fn hand_over(&mut self, name: &str) -> Result<(), Fault> {
         let Some(disk) = self.disk.take() else {
             return Err(Fault::Unready);
         };
-        match Store::open(self.alloc, disk) {
-            Ok(store) => {
-                self.disk = Some(store.close());
-                Ok(())
-            }
-            Err(unopened) => {
-                self.disk = Some(unopened.disk);
-                Err(Fault::from(unopened.error))
-            }
-        }
+        let (outcome, disk) = if name == UPGRADE {
+            upgrade(self.alloc, disk)
+        } else {
+            open(self.alloc, disk)
+        };
+        self.disk = Some(disk);
+        outcome
+    }
+}
+
+/// Opens a store on a disk, which comes back.
+fn open(alloc: Global, disk: MemoryDisk) -> (Result<(), Fault>, MemoryDisk) {
+    match Store::open(alloc, disk) {
+        Ok(store) => (Ok(()), store.close()),
+        Err(unopened) => (Err(Fault::from(unopened.error)), unopened.disk),
     }
 }
 
