@@ -22,6 +22,7 @@ import threading
 import time
 from collections import Counter, defaultdict
 from pathlib import Path
+from statistics import median
 
 sys.dont_write_bytecode = True
 
@@ -343,7 +344,11 @@ def more_clients_than_descriptors() -> None:
 
 
 def many_connections() -> None:
-    """Neither 10,000 short connections nor 1,000 silent ones leave four megabytes in the server."""
+    """What 10,000 short connections and 1,000 silent ones take of memory, the next ones take again.
+
+    How much that is depends on how many of them are there at a time, and it stays. So of some rounds the median
+    one leaves no 600 kB more: a hundredth of the short ones would take twice that. All together leave no eight
+    megabytes."""
     with serving() as server, process() as other:
         queue = other.msgget(1, IPC_CREAT | 0o600)
         quiet = server.descriptors()
@@ -360,17 +365,25 @@ def many_connections() -> None:
             until(lambda: server.descriptors() == quiet, "connections stay open")
             return took
 
-        first = come_and_go()
-        before = server.memory()
-        for number in range(10000):
-            with socket.socket(socket.AF_UNIX) as short:
-                short.connect("socket")
-                if number % 2:
-                    short.sendall(frame(1, HELLO))
+        def short_and_silent() -> float:
+            for number in range(10000):
+                with socket.socket(socket.AF_UNIX) as short:
+                    short.connect("socket")
+                    if number % 2:
+                        short.sendall(frame(1, HELLO))
+            return come_and_go()
+
+        took = [come_and_go()]
+        memory = [server.memory()]
+        for _ in range(6):
+            took.append(short_and_silent())
+            memory.append(server.memory())
         # A turn takes 64 of them. Were there a wait of 100 ms after each, this would take 1.5 seconds.
-        check(min(first, come_and_go()) < 1.4, "the server waits while clients do")
-        more = server.memory() - before
-        check(more < 4096, f"{more} kB more are in memory")
+        check(min(took) < 1.4, "the server waits while clients do")
+        # The first round may have more at a time than the silent ones before it.
+        more = [after - before for before, after in zip(memory[1:], memory[2:])]
+        check(median(more) < 600, f"{more} kB more are in memory after each round")
+        check(memory[-1] - memory[0] < 8192, f"{memory} kB are in memory")
 
 
 # ---- messages under load

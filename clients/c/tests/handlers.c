@@ -10,7 +10,7 @@
 
 #include "check.h"
 
-enum { RACES = 1000, FEW_RACES = 100 };
+enum { RACES = 1000, FEW_RACES = 100, SLOW_RACES = 4 };
 
 struct message {
     long type;
@@ -20,7 +20,11 @@ struct message {
 
 static struct message message = {.type = 1};
 static int races = RACES;
+// After so many microseconds a call waits.
+static int while_it_waits = 150000;
 static volatile sig_atomic_t handled;
+// A pipe: there is a byte for each handler that has told that it runs.
+static int told[2];
 static int queue, set;
 static mqd_t full, empty;
 static sem_t *sem;
@@ -32,9 +36,15 @@ static void handle(int number)
     handled = handled + 1;
 }
 
-static void handle_with(int flags)
+static void tell(int number)
 {
-    struct sigaction action = {.sa_handler = handle, .sa_flags = flags};
+    handle(number);
+    CHECK(write(told[1], "t", 1) == 1);
+}
+
+static void handle_with(void (*handler)(int), int flags)
+{
+    struct sigaction action = {.sa_handler = handler, .sa_flags = flags};
     CHECK(sigaction(SIGALRM, &action, NULL) == 0);
 }
 
@@ -47,13 +57,13 @@ static void ring_after(int microseconds)
 static void ring(void)
 {
     handled = 0;
-    ring_after(150000);
+    ring_after(while_it_waits);
 }
 
 // They are never begun again.
 static void system_v(int flags)
 {
-    handle_with(flags);
+    handle_with(handle, flags);
     ring();
     REFUSED(msgrcv(queue, &message, 8, 7, 0), EINTR);
     CHECK(handled == 1);
@@ -80,7 +90,7 @@ static void system_v(int flags)
 static void posix_without_restart(void)
 {
     struct timespec later = moment(CLOCK_REALTIME, 20);
-    handle_with(0);
+    handle_with(handle, 0);
     ring();
     REFUSED(mq_receive(empty, buffer, sizeof buffer, NULL), EINTR);
     ring();
@@ -95,26 +105,34 @@ static void posix_without_restart(void)
     CHECK(sem_getvalue(sem, &value) == 0 && value == 0);
 }
 
+static void after_a_handler(void)
+{
+    char byte;
+    CHECK(read(told[0], &byte, 1) == 1);
+    pause_for(0.2);
+}
+
 static void let_go_on(void *unused)
 {
     (void) unused;
-    pause_for(0.4);
+    after_a_handler();
     CHECK(mq_send(empty, "came", 4, 1) == 0);
-    pause_for(0.4);
+    after_a_handler();
     CHECK(mq_receive(full, buffer, sizeof buffer, NULL) == 1);
     for (int i = 0; i < 3; i++) {
-        pause_for(0.4);
+        after_a_handler();
         CHECK(sem_post(sem) == 0);
     }
-    pause_for(0.4);
+    after_a_handler();
     CHECK(mq_send(empty, "in time", 7, 1) == 0);
-    pause_for(0.4);
+    after_a_handler();
     CHECK(mq_receive(full, buffer, sizeof buffer, NULL) == 1);
 }
 
 static void posix_with_restart(void)
 {
-    handle_with(SA_RESTART);
+    CHECK(pipe(told) == 0);
+    handle_with(tell, SA_RESTART);
     pid_t child = start(let_go_on, NULL);
     ring();
     CHECK(mq_receive(empty, buffer, sizeof buffer, NULL) == 4 && handled == 1);
@@ -136,6 +154,7 @@ static void posix_with_restart(void)
     ring();
     CHECK(mq_timedsend(full, "y", 1, 0, &later) == 0 && handled == 1);
     ends_well(child);
+    CHECK(close(told[0]) == 0 && close(told[1]) == 0);
 }
 
 static void call(int number)
@@ -148,8 +167,7 @@ static void call(int number)
 // A handler calls while the call that it ends waits still.
 static void calls_in_a_handler(void)
 {
-    struct sigaction action = {.sa_handler = call};
-    CHECK(sigaction(SIGALRM, &action, NULL) == 0);
+    handle_with(call, 0);
     ring();
     REFUSED(msgrcv(queue, &message, 8, 7, 0), EINTR);
     CHECK(msgrcv(queue, &message, 8, 3, IPC_NOWAIT) == 4 && sem_trywait(sem) == 0);
@@ -158,10 +176,22 @@ static void calls_in_a_handler(void)
     CHECK(sem_trywait(sem) == 0);
 }
 
+// In a few races the handler runs for certain before the message comes, and while a call waits for it.
+static bool is_slow(int race)
+{
+    return race % (races / SLOW_RACES) == 0;
+}
+
 static void send_all(void *unused)
 {
+    struct msqid_ds record = {.msg_qnum = 1};
     (void) unused;
     for (message.number = 0; message.number < races; message.number++) {
+        if (is_slow(message.number)) {
+            while (msgctl(queue, IPC_STAT, &record) == 0 && record.msg_qnum > 0)
+                pause_for(0.001);
+            pause_for(2 * while_it_waits / 1e6);
+        }
         pause_for(rand() % 400 / 1e6);
         CHECK(msgsnd(queue, &message, sizeof message.number, 0) == 0);
     }
@@ -171,11 +201,11 @@ static void send_all(void *unused)
 static void drops_no_message(void)
 {
     int ended = 0;
-    handle_with(0);
+    handle_with(handle, 0);
     message.type = 1;
     pid_t child = start(send_all, NULL);
     for (int i = 0; i < races;) {
-        ring_after(20 + rand() % 400);
+        ring_after(is_slow(i) ? while_it_waits : 20 + rand() % 400);
         ssize_t size = msgrcv(queue, &message, sizeof message.number, 0, 0);
         if (size < 0) {
             CHECK(errno == EINTR);
@@ -195,8 +225,10 @@ int main(void)
 {
     struct mq_attr one = {.mq_maxmsg = 1, .mq_msgsize = 8};
     // Memcheck is slow.
-    if (!tries_bad_addresses())
+    if (!tries_bad_addresses()) {
         races = FEW_RACES;
+        while_it_waits = 600000;
+    }
     // What a run before this has left.
     mq_unlink("/ipcd_full"), mq_unlink("/ipcd_empty"), sem_unlink("/ipcd_h");
     queue = msgget(IPC_PRIVATE, 0600);
