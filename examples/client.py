@@ -19,6 +19,8 @@ file, makes an object of each kind, and finds them after the server was killed:
     ...     table = connection.shm_open("/table", O_CREAT | O_RDWR, 0o600)
     ...     connection.ftruncate(table, 4096)
     ...     connection.shm_write(table, 8, b"row")
+    ...     shared = connection.shmat(connection.shmget(1234, 4096, IPC_CREAT | 0o600))
+    ...     connection.attached_write(shared, 8, b"old")
     ...
     1
     >>> exit()
@@ -29,6 +31,7 @@ file, makes an object of each kind, and finds them after the server was killed:
     pmq 0600       1000        100          1         10       8192 /jobs
     psm 0600       1000        100          2 /ready
     shm 0600       1000        100       4096 /table
+    seg          1        1234 0600       1000        100       4096          0
     $ ipcd serve device socket &
     serving device, 252440 sectors, on socket, standard limits
     $ python3
@@ -40,6 +43,7 @@ file, makes an object of each kind, and finds them after the server was killed:
     ...     connection.mq_receive(connection.mq_open("/jobs", O_RDONLY), 8192)
     ...     connection.sem_getvalue(connection.sem_open("/ready", 0))
     ...     connection.shm_read(connection.shm_open("/table", O_RDONLY), 8, 3)
+    ...     connection.attached_read(connection.shmat(connection.shmget(1234, 0, 0)), 8, 3)
     ...
     2
     (5, b'hi')
@@ -47,6 +51,7 @@ file, makes an object of each kind, and finds them after the server was killed:
     (7, b'sweep')
     2
     b'row'
+    b'old'
     >>> exit()
     $ kill $!; wait $!; rm device socket
 

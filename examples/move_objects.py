@@ -57,6 +57,12 @@ def name_of(shown: str) -> bytes:
     return re.sub(rb"\\x(..)", lambda found: bytes.fromhex(found[1].decode()), shown.encode())
 
 
+def pieces(length: int) -> Iterator[tuple[int, int]]:
+    """What one call takes of a segment: of one of so few bytes the limits may be small."""
+    piece = 8192 if length > 2048 else 64
+    return ((at, min(piece, length - at)) for at in range(0, length, piece))
+
+
 class Move:
     def __init__(self, old: str, new: str) -> None:
         self.new_socket = new
@@ -99,11 +105,20 @@ class Move:
         with self.of(uid, gid) as owner:
             written = owner.shm_open(name, O_CREAT | O_EXCL | O_RDWR, mode)
             owner.ftruncate(written, length)
-            # What one call takes: of a segment of so few bytes the limits may be small.
-            piece = 8192 if length > 2048 else 64
-            for at in range(0, length, piece):
-                owner.shm_write(written, at, self.old.shm_read(read, at, min(piece, length - at)))
+            for at, size in pieces(length):
+                owner.shm_write(written, at, self.old.shm_read(read, at, size))
         self.old.shm_close(read)
+
+    def seg(self, number: int, key: int, mode: int, uid: int, gid: int, length: int, _: int) -> None:
+        stat = self.old.shmctl_stat(number)
+        with self.of(stat.cuid, stat.cgid) as maker:
+            shmid = maker.shmget(key, length, IPC_CREAT | IPC_EXCL | mode)
+        read, written = self.old.shmat(number, SHM_RDONLY), self.new.shmat(shmid)
+        for at, size in pieces(length):
+            self.new.attached_write(written, at, self.old.attached_read(read, at, size))
+        self.old.shmdt(read)
+        self.new.shmdt(written)
+        self.new.shmctl_set(shmid, uid, gid, mode)
 
 
 def main(old: str, new: str) -> None:
@@ -111,7 +126,7 @@ def main(old: str, new: str) -> None:
     count = 0
     for count, line in enumerate(sys.stdin, 1):
         kind, *fields = line.split()
-        at = 2 if kind in ("msg", "sem") else 0  # the mode has octal digits, a name is the last
+        at = 2 if kind in ("msg", "sem", "seg") else 0  # the mode has octal digits, a name is the last
         numbers: list[object] = [int(it, 8 if place == at else 10) for place, it in enumerate(fields[:-1])]
         last = int(fields[-1]) if at else name_of(fields[-1])
         getattr(move, kind)(*numbers, last)

@@ -27,6 +27,8 @@ sys.dont_write_bytecode = True
 from device_layout import (  # noqa: E402
     BODY,
     JOURNAL,
+    LAST_NUMBER,
+    MARKED,
     NAMED_KIND,
     OBJECTS,
     POSIX_KIND,
@@ -34,6 +36,8 @@ from device_layout import (  # noqa: E402
     SECTOR,
     SET_KIND,
     SMALL,
+    STANDARD,
+    SYSTEM_V_SEGMENT_KIND,
     TABLE_BYTES,
     Connected,
     Content,
@@ -46,6 +50,7 @@ from device_layout import (  # noqa: E402
     processes,
     read,
     read_clock,
+    read_processes,
     state,
 )
 from device_runs import Check, check, ipcd, is_image, refuses, restarted, sector  # noqa: E402
@@ -141,9 +146,15 @@ def parts_of(image: bytes) -> Iterator[Part]:
 
 
 def restart(objects: Objects) -> Objects:
-    """What a restart leaves of a state in which each object has a name: the adjustments are added, and the processes,
-    their calls that wait and their registrations go."""
+    """What a restart leaves of a state in which each object has a name or a key, but System V segments that were
+    removed: the adjustments are added, attachments given up, and the processes, their calls that wait and their
+    registrations go, and those segments."""
     them = {number: bytearray(data) for number, data in objects}
+    for pid, process in read_processes(bytes(them[1]), STANDARD, LAST_NUMBER + 1).items():
+        for one in process.opened.values():
+            if one.kind == 6:
+                segment = them[SYSTEM_V_SEGMENT_KIND + one.number]
+                segment[32:40], segment[52:56] = them[0][:8], struct.pack(">I", pid)
     for pid, semid, number, amount in struct.iter_unpack(">IIHh", them[3][4:]):
         one, at = them[SET_KIND + semid], 44 + 6 * number
         (value,) = struct.unpack(">H", one[at : at + 2])
@@ -153,7 +164,8 @@ def restart(objects: Objects) -> Objects:
     for number, data in them.items():
         if POSIX_KIND <= number < NAMED_KIND:
             data[20:36] = bytes(16)
-    return [(number, bytes(data)) for number, data in them.items()]
+    gone = [number for number, data in them.items() if number >= SYSTEM_V_SEGMENT_KIND and data[22] & MARKED >> 8]
+    return [(number, bytes(data)) for number, data in them.items() if number not in gone]
 
 
 def script_of(content: Content) -> Iterator[str]:

@@ -32,6 +32,8 @@ from device_layout import (
     Segment,
     Set,
     Waiting,
+    attached_read,
+    attached_write,
     batch,
     clock,
     connect,
@@ -56,6 +58,12 @@ from device_layout import (
     semctl_setval,
     semget,
     semop,
+    shmat,
+    shmctl_rmid,
+    shmctl_set,
+    shmctl_stat,
+    shmdt,
+    shmget,
     state,
     superblock,
     table,
@@ -704,15 +712,25 @@ def requests() -> Iterator[Check]:
         "SETALL of no value": semctl_setall(9, 1),
         "IPC_SET of a set": semctl_set(9, 1, 0, 0, 0),
         "IPC_RMID of a set": semctl_rmid(9, 1),
+        "shmget": shmget(9, 1000, 8, 0o600),
+        "shmat": shmat(9, 1),
+        "shmdt": shmdt(9, 0),
+        "IPC_STAT of a System V segment": shmctl_stat(9, 1),
+        "IPC_SET of a System V segment": shmctl_set(9, 1, 0, 0, 0),
+        "IPC_RMID of a System V segment": shmctl_rmid(9, 1),
+        "a read of what is attached": attached_read(9, 0, 0, 1),
+        "a write of no bytes": attached_write(9, 0, 0, b""),
     }
     for name, frame in frames.items():
         count = 1 if name == "a send of no bytes" else 0
         listed = row(1, Queue(1234, count * ((1, b""),)))
         yield partial(opens, with_record(request(7, 2, frame)), listed, f"{name}, a request")
         yield no_record(request(7, 2, bytes(4) + frame[4:]), f"{name} with serial 0")
-        yield no_record(request(7, 2, frame[:4] + b"\x20" + frame[5:]), f"{name}, opcode 0x20")
+        for opcode in (0x20, 0x4E):
+            wrong = frame[:4] + bytes([opcode]) + frame[5:]
+            yield no_record(request(7, 2, wrong), f"{name}, opcode {opcode:#x}")
         yield no_record(request(7, 2, frame[:-1]), f"{name}, a byte too short")
-        if not count:
+        if "of no bytes" not in name:
             yield no_record(request(7, 2, frame + b"\0"), f"{name}, a byte too long")
     yield no_record(request(7, 2, b""), "a pid alone")
 

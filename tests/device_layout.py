@@ -32,6 +32,7 @@ IPC_NOWAIT, MSG_NOERROR, MSG_EXCEPT = 0x800, 0x1000, 0x2000
 O_NONBLOCK = 0x800
 SEM_VALUE_MAX = 2147483647
 SEM_UNDO = 0x1000
+SHM_RDONLY = 0x1000
 # The bit of a System V segment's mode that tells that it was removed while somebody had it attached.
 MARKED = 0o1000
 # A user and a group.
@@ -261,6 +262,38 @@ def semctl_rmid(serial: int, semid: int) -> bytes:
     return struct.pack(">IBI", serial, 0x1F, semid)
 
 
+def shmget(serial: int, key: int, size: int, flags: int = 0x380) -> bytes:
+    return struct.pack(">IBiQI", serial, 0x46, key, size, flags)
+
+
+def shmat(serial: int, shmid: int, flags: int = 0) -> bytes:
+    return struct.pack(">IBII", serial, 0x47, shmid, flags)
+
+
+def shmdt(serial: int, attachment: int) -> bytes:
+    return struct.pack(">IBI", serial, 0x48, attachment)
+
+
+def shmctl_stat(serial: int, shmid: int) -> bytes:
+    return struct.pack(">IBI", serial, 0x49, shmid)
+
+
+def shmctl_set(serial: int, shmid: int, uid: int, gid: int, mode: int) -> bytes:
+    return struct.pack(">IBIIII", serial, 0x4A, shmid, uid, gid, mode)
+
+
+def shmctl_rmid(serial: int, shmid: int) -> bytes:
+    return struct.pack(">IBI", serial, 0x4B, shmid)
+
+
+def attached_read(serial: int, attachment: int, offset: int, length: int) -> bytes:
+    return struct.pack(">IBIQI", serial, 0x4C, attachment, offset, length)
+
+
+def attached_write(serial: int, attachment: int, offset: int, data: bytes) -> bytes:
+    return struct.pack(">IBIQ", serial, 0x4D, attachment, offset) + data
+
+
 # ---- objects of a state
 
 
@@ -273,7 +306,7 @@ def clock(moment: int, next_pid: int, next_queue: int, *others: int, version: Ve
 
 class Open(NamedTuple):
     """A descriptor: its number, the object on which it is open, its flags, and the object's kind: 3 for a POSIX queue,
-    4 for a named semaphore, 5 for a segment."""
+    4 for a named semaphore, 5 for a segment, 6 for a System V segment, of which it is an attachment."""
 
     fd: int
     number: int
@@ -415,7 +448,8 @@ class Segment(NamedTuple):
 
 
 class SystemVSegment(NamedTuple):
-    """A System V shared memory segment: its times are atime, dtime and ctime, its pids cpid and lpid."""
+    """A System V shared memory segment: its times are atime, dtime and ctime, its pids cpid and lpid. If it was removed
+    the mode has MARKED."""
 
     key: int
     content: bytes
@@ -425,13 +459,16 @@ class SystemVSegment(NamedTuple):
     times: tuple[int, int, int] = (0, 0, 0)
     pids: tuple[int, int] = (0, 0)
 
-    def data(self) -> bytes:
+    def record(self) -> bytes:
+        """What its object begins with, and its record too."""
         return (
             struct.pack(">iIIIII", self.key, *self.owner, *self.creator, self.mode)
             + struct.pack(">QQQ", *self.times)
-            + struct.pack(">IIQ", *self.pids, len(self.content))
-            + self.content
+            + struct.pack(">II", *self.pids)
         )
+
+    def data(self) -> bytes:
+        return self.record() + struct.pack(">Q", len(self.content)) + self.content
 
 
 def shown(name: bytes) -> str:
@@ -439,7 +476,7 @@ def shown(name: bytes) -> str:
     return "".join(chr(byte) if 0x21 <= byte <= 0x7E and byte != 0x5C else f"\\x{byte:02x}" for byte in name)
 
 
-def gives(one: Queue | Set, cred: Cred, bits: int) -> bool:
+def gives(one: Queue | Set | SystemVSegment, cred: Cred, bits: int) -> bool:
     """Whether it gives this permission: 4 to read, 2 to write."""
     uid, gid = cred
     if uid in (one.owner[0], one.creator[0]):
@@ -717,8 +754,8 @@ def read_processes(data: bytes, limits: Limits, next_pid: int) -> dict[int, Proc
         at, before, last = at + 16, pid, -1
         opened = {}
         for fd, kind, number, flags in struct.iter_unpack(">IIII", data[at : at + 16 * descriptors]):
-            # A queue is open to read, to write or both, a segment to read or both.
-            accesses = {3: (0, 1, 2), 4: (0, 1, 2, 3), 5: (0, 2)}.get(kind, ())
+            # A queue is open to read, to write or both, a segment with a name to read or both.
+            accesses = {3: (0, 1, 2), 4: (0, 1, 2, 3), 5: (0, 2), 6: (0, 1, 2, 3)}.get(kind, ())
             demand_sound(last < fd < limits.descriptors and flags & 3 in accesses)
             opened[fd] = Open(fd, number, flags, kind)
             last = fd
@@ -820,22 +857,29 @@ def read_system_v(data: bytes, limits: Limits) -> SystemVSegment:
     *pids, length = struct.unpack(">IIQ", data[48:64])
     content = data[64:]
     demand_sound(mode < 2 * MARKED and 0 < length <= limits.shmmax and len(content) == length)
+    demand_sound(mode < MARKED or key == 0)
     return SystemVSegment(key, content, (uid, gid), (cuid, cgid), mode, tuple(times), tuple(pids))
 
 
 # What may be open, by its kind and number.
-Opened = dict[tuple[int, int], Posix | NamedSem | Segment]
+Opened = dict[tuple[int, int], Posix | NamedSem | Segment | SystemVSegment]
 
 
 def are_opened(them: dict[int, Process], objects: Opened) -> bool:
-    """What is open is there, what has no name is open, and who is registered has it open by that descriptor."""
+    """What is open is there, what has no name, or was removed, is open, and who is registered has it open by that
+    descriptor."""
     opened = {(one.kind, one.number) for process in them.values() for one in process.opened.values()}
     for place, one in objects.items():
         kind, pid, fd, _ = one.registration if isinstance(one, Posix) else (0, 0, 0, 0)
         mine = them[pid].opened.get(fd) if kind and pid in them else None
         if kind and (mine is None or (mine.kind, mine.number) != place):
             return False
-    return opened <= set(objects) and all(one.name or place in opened for place, one in objects.items())
+    return opened <= set(objects) and all(stays(one) or place in opened for place, one in objects.items())
+
+
+def stays(one: Posix | NamedSem | Segment | SystemVSegment) -> bool:
+    """Whether it stays if nobody has it open."""
+    return one.mode < MARKED if isinstance(one, SystemVSegment) else one.name != b""
 
 
 def read_adjustments(data: bytes, pids: set[int], sets: dict[int, Set]) -> dict[tuple[int, int, int], int]:
@@ -946,11 +990,13 @@ def read_state(objects: list[tuple[int, bytes]], limits: Limits, version: Versio
     opened |= {(4, number): read_named(data) for number, data in kinds[3].items()}
     opened |= {(5, number): read_segment(data) for number, data in kinds[4].items()}
     names = [(kind, one.name) for (kind, _), one in opened.items() if one.name]
-    demand_sound(len(names) == len(set(names)) and are_opened(them, opened))
+    demand_sound(len(names) == len(set(names)))
     total = sum(len(one.content) for one in opened.values() if isinstance(one, Segment))
     demand_sound(total <= limits.segment_bytes)
     system_v = {number: read_system_v(data, limits) for number, data in kinds[5].items()}
     demand_sound(sum(len(one.content) for one in system_v.values()) <= limits.shmall)
+    opened |= {(6, number): one for number, one in system_v.items()}
+    demand_sound(are_opened(them, opened))
     for kind in (queues, sets, system_v):
         keys = [one.key for one in kind.values() if one.key]
         demand_sound(len(keys) == len(set(keys)))
@@ -974,6 +1020,8 @@ def is_request(frame: bytes, version: Version) -> bool:
     sizes |= {0x2C: (12, 12), 0x2D: (4, 4), 0x2E: (8, 8)}
     sizes |= {0x32: (12, longest), 0x33: (0, longest), 0x34: (4, 4), 0x35: (12, 12), 0x36: (4, 4), 0x37: (4, 4)}
     sizes |= {0x3C: (8, longest), 0x3D: (0, longest), 0x3E: (12, 12), 0x3F: (16, 16), 0x40: (12, longest), 0x41: (4, 4)}
+    sizes |= {0x46: (16, 16), 0x47: (8, 8), 0x48: (4, 4), 0x49: (4, 4), 0x4A: (16, 16), 0x4B: (4, 4)}
+    sizes |= {0x4C: (16, 16), 0x4D: (12, longest)}
     least, most = sizes.get(frame[4], (1, 0))
     # A SETALL has whole values, and a semop whole operations.
     unit = {0x15: 6, 0x1C: 2}.get(frame[4], 1)

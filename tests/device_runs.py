@@ -23,6 +23,7 @@ from device_layout import (
     Queue,
     Segment,
     Set,
+    SystemVSegment,
     Version,
     batch,
     header,
@@ -155,6 +156,12 @@ def row_of_named(one: NamedSem | Segment) -> str:
     """The line of a named semaphore or of a segment in a listing."""
     kind, number = ("psm", one.value) if isinstance(one, NamedSem) else ("shm", len(one.content))
     return f"{kind} {one.mode:04o} {one.owner[0]:10} {one.owner[1]:10} {number:10} {shown(one.name)}\n"
+
+
+def row_of_system_v(number: int, one: SystemVSegment) -> str:
+    """The line of a System V segment in a listing. Nobody has it attached after an open."""
+    owner = f"{one.mode:04o} {one.owner[0]:10} {one.owner[1]:10}"
+    return f"seg {number:10} {one.key:11} {owner} {len(one.content):10} {0:10}\n"
 
 
 def sends(moment: int, connection: int, *frames: bytes) -> str:

@@ -56,6 +56,7 @@ from client import (  # noqa: E402
     O_CREAT,
     O_RDONLY,
     O_RDWR,
+    SHM_RDONLY,
     MqAttr,
     hello_request,
 )
@@ -173,6 +174,9 @@ def make_one_of_each() -> None:
         segment = client.shm_open("/m", O_CREAT | O_RDWR, 0o600)
         client.ftruncate(segment, 1000)
         client.shm_write(segment, 936, bytes(range(64)))
+        shmid = client.shmget(9, 1000, IPC_CREAT | 0o600)
+        client.attached_write(client.shmat(shmid), 936, bytes(range(64)))
+        client.shmctl_set(shmid, 3000, 300, 0o604)
 
 
 def has_one_of_each() -> None:
@@ -190,6 +194,11 @@ def has_one_of_each() -> None:
         segment = client.shm_open("/m", O_RDONLY)
         check(client.shm_read(segment, 936, 64) == bytes(range(64)), "the segment has other bytes")
         check(not any(client.shm_read(segment, 64 * at, 64)[0] for at in range(14)), "the segment has other bytes")
+        segment = client.shmctl_stat(client.shmget(9, 1000, 0))
+        check(segment[:6] == (9, 3000, 300, 1000, 100, 0o604) and segment.segsz == 1000, f"the segment is {segment}")
+        attachment = client.shmat(1, SHM_RDONLY)
+        check(client.attached_read(attachment, 936, 64) == bytes(range(64)), "the segment has other bytes")
+        check(not any(client.attached_read(attachment, 0, 64)), "the segment has other bytes")
 
 
 def objects_that_move() -> None:
@@ -199,7 +208,7 @@ def objects_that_move() -> None:
         make_one_of_each()
     shutil.copy("device", "copy")
     listed = printed("dump", "copy")
-    check(len(listed.splitlines()) == 5, f"{listed} is listed")
+    check(len(listed.splitlines()) == 6, f"{listed} is listed")
     os.mkdir("new")
     with serving(limits="small"):
         os.chdir("new")
@@ -207,7 +216,7 @@ def objects_that_move() -> None:
         with serving(limits="small"):
             words = [sys.executable, str(MOVE), "../socket", "socket"]
             ended = subprocess.run(words, input=listed, capture_output=True, text=True, timeout=TIMEOUT)
-            check((ended.returncode, ended.stdout, ended.stderr) == (0, "5 objects\n", ""), f"{ended}")
+            check((ended.returncode, ended.stdout, ended.stderr) == (0, "6 objects\n", ""), f"{ended}")
         check(printed("dump", "device") == listed, "something else is listed")
         with serving(limits="small"):
             has_one_of_each()

@@ -45,9 +45,9 @@ TIMEOUT = 20
 # The limits of `TRIALS script`.
 LIMITS = SMALL._replace(processes=16)
 
-# The requests that may be answered ENOMEM: HELLO, msgget, msgsnd, semget, semop, mq_open, mq_send, sem_open, shm_open
-# and ftruncate.
-MAY_NEED = {0x01, 0x0A, 0x0B, 0x14, 0x15, 0x28, 0x2A, 0x32, 0x3C, 0x3E}
+# The requests that may be answered ENOMEM: HELLO, msgget, msgsnd, semget, semop, mq_open, mq_send, sem_open, shm_open,
+# ftruncate, shmget and shmat.
+MAY_NEED = {0x01, 0x0A, 0x0B, 0x14, 0x15, 0x28, 0x2A, 0x32, 0x3C, 0x3E, 0x46, 0x47}
 ENOMEM = re.compile("([0-9]+) 00000006([0-9a-f]{8})000c")
 
 # What the script leaves.
@@ -58,6 +58,7 @@ sem          2           8 0600       1000        100          1
 pmq 0600       1000        100          1          1         64 /q
 psm 0600       1000        100 2147483647 /t
 shm 0600       1000        100         10 /m
+seg          2           6 0600       1000        100          3          0
 """
 
 

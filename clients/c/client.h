@@ -13,11 +13,11 @@
 
 #define HIDDEN __attribute__((visibility("hidden")))
 
-// Handles from 0 are descriptors of POSIX queues and segments, from DESCRIPTORS on named semaphores. The first
-// descriptor is the first number that no file has: fs.nr_open ends below it.
+// Handles from 0 are descriptors of POSIX queues and segments, and attachments; from DESCRIPTORS on named semaphores.
+// The first descriptor is the first number that no file has: fs.nr_open ends below it.
 enum { DESCRIPTORS = 64, SEMAPHORES = HANDLES - DESCRIPTORS, FIRST_DESCRIPTOR = 0x7fffffc0 };
 
-enum kind { POSIX_QUEUE, SEGMENT, NAMED_SEMAPHORE };
+enum kind { POSIX_QUEUE, SEGMENT, NAMED_SEMAPHORE, ATTACHMENT };
 
 struct handle {
     uint32_t generation;      // is another after each close
@@ -25,6 +25,7 @@ struct handle {
     bool is_unlinked;         // by this process: its name is of nothing, or of something else
     enum kind kind;
     uint32_t access;
+    uint32_t shmid;           // of an attachment
     bool nonblocking;
     unsigned opens;           // how many times sem_open answered it
     size_t length;
@@ -46,6 +47,12 @@ struct ipcd {
     struct registration *registrations;
     char path[256];
 };
+
+// The handle of a descriptor, which is none if that is no number of this library.
+static inline size_t handle_of(int descriptor)
+{
+    return descriptor < FIRST_DESCRIPTOR ? HANDLES : (size_t) (descriptor - FIRST_DESCRIPTOR);
+}
 
 HIDDEN struct ipcd *current_client(void);
 

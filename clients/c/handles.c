@@ -5,6 +5,7 @@
 #include <errno.h>
 #include <fcntl.h>
 #include <string.h>
+#include <sys/shm.h>
 
 #include "memory.h"
 
@@ -12,10 +13,13 @@
 static long open_on_link(struct link *link, const char *name, size_t length, const struct wanted *wanted)
 {
     static const enum opcode opcodes[] = {
-        [POSIX_QUEUE] = MQ_OPEN, [SEGMENT] = SHM_OPEN, [NAMED_SEMAPHORE] = SEM_OPEN};
+        [POSIX_QUEUE] = MQ_OPEN, [SEGMENT] = SHM_OPEN, [NAMED_SEMAPHORE] = SEM_OPEN, [ATTACHMENT] = SHMAT};
     link_begin(link, opcodes[wanted->kind]);
+    if (wanted->kind == ATTACHMENT)
+        put_u32(link, wanted->shmid);
     put_u32(link, wanted->flags);
-    put_u32(link, wanted->mode);
+    if (wanted->kind != ATTACHMENT)
+        put_u32(link, wanted->mode);
     if (wanted->kind == NAMED_SEMAPHORE)
         put_u32(link, wanted->value);
     if (wanted->kind == POSIX_QUEUE) {
@@ -29,11 +33,17 @@ static long open_on_link(struct link *link, const char *name, size_t length, con
     return (long) read_u32(link->body);
 }
 
-static int close_on_link(struct link *link, uint32_t descriptor)
+static int close_on_link(struct link *link, const struct opened *opened)
 {
-    link_begin(link, CLOSE);
-    put_u32(link, descriptor);
+    link_begin(link, opened->is_attachment ? SHMDT : CLOSE);
+    put_u32(link, opened->descriptor);
     return (int) link_exchange(link, ANSWERED_AT_ONCE, 0, 0);
+}
+
+static struct opened opened_by(const struct handle *handle, long descriptor)
+{
+    return (struct opened){
+        handle->generation, (uint32_t) descriptor, handle->nonblocking, handle->kind == ATTACHMENT};
 }
 
 int close_stale(struct ipcd *client, struct link *link)
@@ -47,7 +57,7 @@ int close_stale(struct ipcd *client, struct link *link)
         if (opened->generation == 0 || opened->generation == client->handles[i].generation)
             continue;
         opened->generation = 0;
-        if (close_on_link(link, opened->descriptor) < 0 && link->socket < 0)
+        if (close_on_link(link, opened) < 0 && link->socket < 0)
             return -1;
     }
     link->closings = closings;
@@ -79,11 +89,15 @@ int open_again(struct ipcd *client, struct link *link, size_t number)
         return -1;
     }
     uint32_t flags = handle->access | (handle->nonblocking ? O_NONBLOCK : 0);
-    struct wanted wanted = {.kind = handle->kind, .flags = flags};
+    struct wanted wanted = {.kind = handle->kind, .flags = flags, .shmid = handle->shmid};
     long descriptor = open_on_link(link, handle->name, handle->length, &wanted);
-    if (descriptor < 0)
+    if (descriptor < 0) {
+        // No segment has the identifier any more.
+        if (handle->kind == ATTACHMENT && errno == EINVAL)
+            errno = ENOENT;
         return -1;
-    *opened = (struct opened){handle->generation, (uint32_t) descriptor, handle->nonblocking};
+    }
+    *opened = opened_by(handle, descriptor);
     return 0;
 }
 
@@ -126,19 +140,20 @@ static int find_handle(const struct ipcd *client, enum kind kind, const char *na
 }
 
 // Notes that an object was opened on a link. One that had its handle already is closed there once.
-static int note(struct ipcd *client, struct link *link, int number, struct handle named, uint32_t descriptor)
+static int note(struct ipcd *client, struct link *link, int number, struct handle named, long descriptor)
 {
     struct handle *handle = &client->handles[number];
     struct opened *opened = &link->opened[number];
     if (handle->is_open) {
         handle->opens++;
+        struct opened twice = opened_by(handle, descriptor);
         if (opened->generation == handle->generation)
-            return close_on_link(link, descriptor);
+            return close_on_link(link, &twice);
     } else {
         named.generation = handle->generation + (handle->generation == 0);
         *handle = named;
     }
-    *opened = (struct opened){handle->generation, descriptor, handle->nonblocking};
+    *opened = opened_by(handle, descriptor);
     return 0;
 }
 
@@ -158,32 +173,50 @@ static ssize_t read_name(const char *name, enum kind kind, char *copy)
     return length - slashes + (kind != POSIX_QUEUE);
 }
 
+// What stays of the flags of an open: the bits that an open on another link needs.
+static uint32_t access_of(const struct wanted *wanted)
+{
+    static const uint32_t bits[] = {
+        [POSIX_QUEUE] = O_ACCMODE, [SEGMENT] = O_ACCMODE, [NAMED_SEMAPHORE] = 0, [ATTACHMENT] = SHM_RDONLY};
+    return wanted->flags & bits[wanted->kind];
+}
+
+static int open_new(struct ipcd *client, const char *name, size_t length, const struct wanted *wanted)
+{
+    struct link *link = begin(CLOSE);
+    if (link == NULL)
+        return -1;
+    long descriptor = open_on_link(link, name, length, wanted);
+    if (descriptor < 0)
+        return (int) end(link, -1);
+    struct handle named = {.is_open = true, .kind = wanted->kind, .opens = 1, .length = length};
+    named.access = access_of(wanted);
+    named.shmid = wanted->shmid;
+    named.nonblocking = wanted->kind == POSIX_QUEUE && (wanted->flags & O_NONBLOCK);
+    memcpy(named.name, name, length <= NAME_MOST ? length : 0);
+    sigset_t mask;
+    lock_handles(client, &mask);
+    int number = find_handle(client, wanted->kind, named.name, named.length);
+    int noted = number < 0 ? -1 : note(client, link, number, named, descriptor);
+    unlock_handles(client, &mask);
+    if (number < 0) {
+        struct opened none = opened_by(&named, descriptor);
+        close_on_link(link, &none);
+        errno = EMFILE;
+    }
+    return (int) end(link, noted < 0 ? -1 : number);
+}
+
 int open_handle(struct ipcd *client, const char *given, const struct wanted *wanted)
 {
     char name[PIECE_MOST + 1];
     ssize_t length = read_name(given, wanted->kind, name);
-    if (length < 0)
-        return -1;
-    struct link *link = begin(CLOSE);
-    if (link == NULL)
-        return -1;
-    long descriptor = open_on_link(link, name, (size_t) length, wanted);
-    if (descriptor < 0)
-        return (int) end(link, -1);
-    struct handle named = {.is_open = true, .kind = wanted->kind, .opens = 1, .length = (size_t) length};
-    named.access = wanted->kind == NAMED_SEMAPHORE ? 0 : wanted->flags & O_ACCMODE;
-    named.nonblocking = wanted->kind == POSIX_QUEUE && (wanted->flags & O_NONBLOCK);
-    memcpy(named.name, name, length <= NAME_MOST ? (size_t) length : 0);
-    sigset_t mask;
-    lock_handles(client, &mask);
-    int number = find_handle(client, wanted->kind, named.name, named.length);
-    int noted = number < 0 ? -1 : note(client, link, number, named, (uint32_t) descriptor);
-    unlock_handles(client, &mask);
-    if (number < 0) {
-        close_on_link(link, (uint32_t) descriptor);
-        errno = EMFILE;
-    }
-    return (int) end(link, noted < 0 ? -1 : number);
+    return length < 0 ? -1 : open_new(client, name, (size_t) length, wanted);
+}
+
+int attach_handle(struct ipcd *client, const struct wanted *wanted)
+{
+    return open_new(client, "", 0, wanted);
 }
 
 int close_handle(struct ipcd *client, size_t number, enum kind kind, int wrong)

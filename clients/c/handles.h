@@ -1,4 +1,5 @@
-// Handles: descriptors of POSIX queues and segments, and named semaphores, which each link opens by name.
+// Handles: descriptors of POSIX queues and segments, and named semaphores, which each link opens by name; and
+// attachments of System V segments, which each link makes by identifier.
 #ifndef IPCD_HANDLES_H
 #define IPCD_HANDLES_H
 
@@ -13,10 +14,14 @@ struct wanted {
     bool has_attributes;
     int32_t maxmsg;
     int32_t msgsize;
+    uint32_t shmid;           // of an attachment
 };
 
 // Opens an object by its name: the number of its handle, or -1. A semaphore that is open has its handle again.
 HIDDEN int open_handle(struct ipcd *client, const char *name, const struct wanted *wanted);
+
+// Attaches a segment: the number of the handle, or -1.
+HIDDEN int attach_handle(struct ipcd *client, const struct wanted *wanted);
 
 // Closes a handle: 0, or -1 with `wrong` if it is not open as this, or ECONNRESET; then it is closed too.
 HIDDEN int close_handle(struct ipcd *client, size_t number, enum kind kind, int wrong);

@@ -32,6 +32,7 @@ extern "C" {
 struct ipcd;
 struct msqid_ds;
 struct sembuf;
+struct shmid_ds;
 
 // A connection of its own to a socket, at most 107 bytes long; with NULL to that of the process. NULL if it fails.
 IPCD_PUBLIC struct ipcd *ipcd_connect(const char *socket);
@@ -83,9 +84,9 @@ IPCD_PUBLIC int ipcd_sem_clockwait(sem_t *sem, clockid_t clock, const struct tim
 IPCD_PUBLIC int ipcd_sem_post(sem_t *sem);
 IPCD_PUBLIC int ipcd_sem_getvalue(sem_t *sem, int *sval);
 
-// Segments, see shm_overview(7); there is no mapping. Names are as those of semaphores, descriptors like those of
-// queues. One call reads or writes at most 8192 bytes, and fewer are read at the end. A write that would pass the end is
-// EINVAL and writes nothing.
+// Segments with a name, see shm_overview(7); there is no mapping. Names are as those of semaphores, descriptors like
+// those of queues. One call reads or writes at most 8192 bytes, and fewer are read at the end. A write that would pass
+// the end is EINVAL and writes nothing.
 IPCD_PUBLIC int ipcd_shm_open(const char *name, int oflag, mode_t mode);
 IPCD_PUBLIC int ipcd_shm_unlink(const char *name);
 IPCD_PUBLIC int ipcd_ftruncate(int fd, off_t length);
@@ -93,6 +94,19 @@ IPCD_PUBLIC ssize_t ipcd_pread(int fd, void *buf, size_t count, off_t offset);
 IPCD_PUBLIC ssize_t ipcd_pwrite(int fd, const void *buf, size_t count, off_t offset);
 IPCD_PUBLIC int ipcd_fstat(int fd, struct stat *statbuf);
 IPCD_PUBLIC int ipcd_close(int fd);
+
+// Segments of System V, see shmget(2), shmctl(2). Commands are IPC_STAT, IPC_SET and IPC_RMID. There is no mapping:
+// ipcd_shmat and ipcd_shmdt are ENOSYS. In their place ipcd_shmattach answers a number like the descriptors above, by
+// which one call reads or writes at most 8192 bytes, all within the segment (else EINVAL); with SHM_RDONLY a write is
+// EBADF. ipcd_shmdetach gives it up.
+IPCD_PUBLIC int ipcd_shmget(key_t key, size_t size, int shmflg);
+IPCD_PUBLIC int ipcd_shmctl(int shmid, int cmd, struct shmid_ds *buf);
+IPCD_PUBLIC int ipcd_shmattach(int shmid, int shmflg);
+IPCD_PUBLIC int ipcd_shmdetach(int attachment);
+IPCD_PUBLIC ssize_t ipcd_shmread(int attachment, void *buf, size_t count, off_t offset);
+IPCD_PUBLIC ssize_t ipcd_shmwrite(int attachment, const void *buf, size_t count, off_t offset);
+IPCD_PUBLIC void *ipcd_shmat(int shmid, const void *shmaddr, int shmflg);
+IPCD_PUBLIC int ipcd_shmdt(const void *shmaddr);
 
 #ifdef __cplusplus
 }

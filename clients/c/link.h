@@ -25,6 +25,7 @@ struct opened {
     uint32_t generation;
     uint32_t descriptor;
     bool nonblocking;
+    bool is_attachment;
 };
 
 struct link {

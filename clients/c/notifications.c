@@ -242,7 +242,7 @@ static int refusal_of(const struct sigevent *event)
 static int make_or_end(mqd_t mqdes, const struct sigevent *sevp)
 {
     struct ipcd *client = current_client();
-    size_t number = mqdes < FIRST_DESCRIPTOR ? HANDLES : (size_t) (mqdes - FIRST_DESCRIPTOR);
+    size_t number = handle_of(mqdes);
     struct handle *handle = number < HANDLES ? &client->handles[number] : NULL;
     bool is_open = handle != NULL && handle->is_open && handle->kind == POSIX_QUEUE;
     int refusal = is_open ? refusal_of(sevp) : EBADF;

@@ -10,11 +10,6 @@
 #include "handles.h"
 #include "memory.h"
 
-static size_t number_of(mqd_t mqdes)
-{
-    return mqdes < FIRST_DESCRIPTOR ? HANDLES : (size_t) (mqdes - FIRST_DESCRIPTOR);
-}
-
 // Attributes that are beyond any limit stay so.
 static int32_t bounded(long attribute)
 {
@@ -45,7 +40,7 @@ mqd_t ipcd_mq_open(const char *name, int oflag, ...)
 
 int ipcd_mq_close(mqd_t mqdes)
 {
-    return close_handle(current_client(), number_of(mqdes), POSIX_QUEUE, EBADF);
+    return close_handle(current_client(), handle_of(mqdes), POSIX_QUEUE, EBADF);
 }
 
 int ipcd_mq_unlink(const char *name)
@@ -55,7 +50,7 @@ int ipcd_mq_unlink(const char *name)
 
 static struct link *begin_on_queue(mqd_t mqdes, enum opcode opcode)
 {
-    return begin_on(current_client(), number_of(mqdes), POSIX_QUEUE, EBADF, opcode);
+    return begin_on(current_client(), handle_of(mqdes), POSIX_QUEUE, EBADF, opcode);
 }
 
 int ipcd_mq_timedsend(mqd_t mqdes, const char *msg_ptr, size_t msg_len, unsigned int msg_prio,
@@ -168,8 +163,8 @@ int ipcd_mq_setattr(mqd_t mqdes, const struct mq_attr *newattr, struct mq_attr *
     put_u32(link, (uint32_t) flags);
     int result = read_attributes(link, oldattr);
     if (result == 0) {
-        client->handles[number_of(mqdes)].nonblocking = flags != 0;
-        link->opened[number_of(mqdes)].nonblocking = flags != 0;
+        client->handles[handle_of(mqdes)].nonblocking = flags != 0;
+        link->opened[handle_of(mqdes)].nonblocking = flags != 0;
     }
     return (int) end(link, result);
 }

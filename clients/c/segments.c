@@ -1,4 +1,4 @@
-// Segments: shm_open(3), ftruncate(2), pread(2), pwrite(2), fstat(2), close(2).
+// Segments with a name: shm_open(3), ftruncate(2), pread(2), pwrite(2), fstat(2), close(2).
 #define _GNU_SOURCE
 #include <errno.h>
 #include <fcntl.h>
@@ -11,14 +11,9 @@
 
 enum { RECORD = 20, BLOCK = 4096 };
 
-static size_t number_of(int fd)
-{
-    return fd < FIRST_DESCRIPTOR ? HANDLES : (size_t) (fd - FIRST_DESCRIPTOR);
-}
-
 static struct link *begin_on_segment(int fd, enum opcode opcode)
 {
-    return begin_on(current_client(), number_of(fd), SEGMENT, EBADF, opcode);
+    return begin_on(current_client(), handle_of(fd), SEGMENT, EBADF, opcode);
 }
 
 int ipcd_shm_open(const char *name, int oflag, mode_t mode)
@@ -37,7 +32,7 @@ int ipcd_shm_unlink(const char *name)
 
 int ipcd_close(int fd)
 {
-    return close_handle(current_client(), number_of(fd), SEGMENT, EBADF);
+    return close_handle(current_client(), handle_of(fd), SEGMENT, EBADF);
 }
 
 int ipcd_ftruncate(int fd, off_t length)

@@ -37,6 +37,8 @@ from server import Connection, Server, check, in_a_folder, printed, run_tests, s
 SECONDS = 100
 RUN = str(OUT / "ipcd-run")
 CALLS = ["messages", "semaphore_sets", "posix_queues", "named_semaphores", "handlers"]
+# The tests of the library's own names, those that wait for the longest first.
+LIBRARY = ["handlers", *CALLS[:-1], "segments", "attachments"]
 PROCESSES = """
     forks outlives threads many_threads crowd many_files users are_killed closes differs
     one_too_many not_cancelled
@@ -50,7 +52,8 @@ EACH_CALL = """
     msgget msgctl_stat msgctl_set msgctl_rmid semget getval getpid getncnt getzcnt setval getall
     setall semctl_stat semctl_set semctl_rmid mq_open mq_unlink mq_getattr mq_setattr mq_notify
     mq_close sem_open sem_unlink sem_trywait sem_post sem_getvalue sem_close shm_open shm_unlink
-    ftruncate pread pwrite fstat close
+    ftruncate pread pwrite fstat close shmget shmctl_stat shmctl_set shmctl_rmid shmattach shmdetach
+    shmread shmwrite
 """.split() + EACH_THAT_WAITS
 
 
@@ -88,19 +91,16 @@ def all_end_well(lines: list[list[str]], **environment: str) -> None:
 
 def kernel_agrees() -> None:
     """What the tests want is what the kernel and the C library do."""
-    lines = [[str(OUT / "tests" / name)] for name in reversed(CALLS)]
+    all_end_well([[str(OUT / "tests" / name)] for name in [*reversed(CALLS), "attachments"]], ON_KERNEL="1")
     for name in PROCESSES:
         if name not in NOT_ON_KERNEL and (name != "users" or os.geteuid() == 0):
-            lines.append([str(OUT / "tests" / "processes"), name])
-    all_end_well(lines[: len(CALLS)], ON_KERNEL="1")
-    for words in lines[len(CALLS) :]:
-        ends_well(*words, ON_KERNEL="1")
+            ends_well(str(OUT / "tests" / "processes"), name, ON_KERNEL="1")
 
 
 def library_calls() -> None:
     device()
     with serving(prepare=by_anybody):
-        all_end_well([[str(OUT / "tests" / f"library_{name}")] for name in ["handlers", *CALLS[:-1], "segments"]])
+        all_end_well([[str(OUT / "tests" / f"library_{name}")] for name in LIBRARY])
 
 
 def memcheck() -> None:
@@ -111,7 +111,7 @@ def memcheck() -> None:
     device()
     words = ["valgrind", "-q", "--error-exitcode=9", "--leak-check=full", "--show-leak-kinds=definite",
              "--log-file=memcheck.%p", f"--suppressions={HERE / 'memcheck.supp'}"]  # fmt: skip
-    programs = [[*words, str(OUT / "tests" / f"library_{name}")] for name in ["handlers", *CALLS[:-1], "segments"]]
+    programs = [[*words, str(OUT / "tests" / f"library_{name}")] for name in LIBRARY]
     with serving(prepare=by_anybody):
         all_end_well([*programs, [*words, str(OUT / "tests" / "library_restart"), "killed"]], NO_BAD_ADDRESSES="1")
     program = [*words, str(OUT / "tests" / "each_call")]
@@ -121,7 +121,11 @@ def memcheck() -> None:
 def redirected_calls() -> None:
     device()
     with serving(prepare=by_anybody):
-        all_end_well([[RUN, str(OUT / "tests" / name)] for name in reversed(CALLS)])
+        # Segments of System V stay the kernel's.
+        all_end_well([[RUN, str(OUT / "tests" / name)] for name in [*reversed(CALLS), "attachments"]])
+        with Connection("socket") as connection:
+            connection.hello(0, 0)
+            check(connection.shmget(0, 1, 0o600) == 1, "segments of System V are not the kernel's")
 
 
 def processes() -> None:
@@ -148,7 +152,7 @@ def restarts() -> None:
     """The server is killed before each call and in each that waits: it is told once, and then the call is done."""
     program = str(OUT / "tests" / "restart")
     library = str(OUT / "tests" / "library_restart")
-    for words, count in (([RUN, program], 50), ([library, "segments"], 7)):
+    for words, count in (([RUN, program], 50), ([library, "segments"], 7), ([library, "attachments"], 9)):
         asked = around_restarts(words)
         check(asked == count, f"{words}: {asked} restarts were asked, and not {count}")
 
@@ -286,7 +290,7 @@ def names_of(library: Path) -> set[str]:
 
 
 # What the C library has of these calls, and the library that is preloaded leaves to it.
-LEFT = {"sem_init", "sem_destroy", "shm_open", "shm_unlink", "__shm_get_name"}
+LEFT = {"sem_init", "sem_destroy", "shm_open", "shm_unlink", "__shm_get_name", "shmget", "shmat", "shmdt", "shmctl"}
 
 
 def exports() -> None:
@@ -300,11 +304,13 @@ def exports() -> None:
     calls = names_of(preload) - set(heard)
     check(len(calls) == 28 and names_of(preload) >= set(heard), f"{names_of(preload)}")
     own = {name for it in c_library(preload) for name in names_of(it)}
-    wanted = {name for name in own if re.match(r"_*(msg(get|snd|rcv|ctl)|sem(get|op|timedop|ctl)|mq_|sem_|shm_)", name)}
+    kinds = r"_*(msg(get|snd|rcv|ctl)|sem(get|op|timedop|ctl)|shm(get|at|dt|ctl)|mq_|sem_|shm_)"
+    wanted = {name for name in own if re.match(kinds, name)}
     check(calls == wanted - LEFT, f"{calls ^ wanted ^ LEFT}")
     names = names_of(library)
     prefixed = {name for name in calls if name != "__mq_open_2"}
     others = "connect disconnect use shm_open shm_unlink ftruncate pread pwrite fstat close".split()
+    others += "shmget shmctl shmattach shmdetach shmread shmwrite shmat shmdt".split()
     check(names == {f"ipcd_{name}" for name in [*prefixed, *others]}, f"{names}")
     words = ["nm", "-D", "--undefined-only", OUT / "tests" / "posix_queues"]
     asked = subprocess.run(words, capture_output=True, text=True).stdout
@@ -496,7 +502,7 @@ def pieces() -> None:
     device()
     with serving(prepare=by_anybody):
         Dribble()
-        for name in ("messages", "semaphore_sets", "named_semaphores", "segments"):
+        for name in ("messages", "semaphore_sets", "named_semaphores", "segments", "attachments"):
             ends_well(str(OUT / "tests" / f"library_{name}"), IPCD_SOCKET=os.path.abspath("dribble"))
 
 

@@ -6,6 +6,7 @@
 #include <sys/ipc.h>
 #include <sys/msg.h>
 #include <sys/sem.h>
+#include <sys/shm.h>
 #include <sys/stat.h>
 #include <sys/time.h>
 
@@ -15,6 +16,7 @@
 static struct { long type; char text[8192]; } message = {.type = 1};
 static struct msqid_ds queue_record;
 static struct semid_ds set_record;
+static struct shmid_ds segment_record;
 static struct mq_attr attributes;
 static struct stat status;
 static struct sembuf operation = {0, -1, 0};
@@ -23,7 +25,7 @@ static unsigned short values[64];
 static struct sigevent silent = {.sigev_notify = SIGEV_NONE};
 static mqd_t letters;
 static sem_t *sem;
-static int segment;
+static int segment, attachment;
 
 static long open_queue(void) { return ipcd_mq_open("/other", O_RDWR); }
 static long open_sem(void) { return ipcd_sem_open("/other", 0) == SEM_FAILED ? -1 : 0; }
@@ -80,6 +82,14 @@ static long system_v(void)
     CALL("semctl_stat", ipcd_semctl(1, 0, IPC_STAT, &set_record))
     CALL("semctl_set", ipcd_semctl(1, 0, IPC_SET, &set_record))
     CALL("semctl_rmid", ipcd_semctl(1, 0, IPC_RMID))
+    CALL("shmget", ipcd_shmget(1, 1, 0))
+    CALL("shmctl_stat", ipcd_shmctl(1, IPC_STAT, &segment_record))
+    CALL("shmctl_set", ipcd_shmctl(1, IPC_SET, &segment_record))
+    CALL("shmctl_rmid", ipcd_shmctl(1, IPC_RMID, NULL))
+    CALL("shmattach", ipcd_shmattach(2, 0))
+    CALL("shmdetach", ipcd_shmdetach(attachment))
+    CALL("shmread", ipcd_shmread(attachment, message.text, 8, 0))
+    CALL("shmwrite", ipcd_shmwrite(attachment, "text", 4, 0))
     return -2;
 }
 
@@ -119,7 +129,8 @@ static void open_all(void)
     letters = ipcd_mq_open("/q", O_RDWR);
     sem = ipcd_sem_open("/s", 0);
     segment = ipcd_shm_open("/m", O_RDWR, 0);
-    CHECK(letters != -1 && sem != SEM_FAILED && segment != -1);
+    attachment = ipcd_shmattach(1, SHM_RDONLY);
+    CHECK(letters != -1 && sem != SEM_FAILED && segment != -1 && attachment != -1);
 }
 
 static void handle(int number)

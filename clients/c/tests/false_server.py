@@ -10,8 +10,9 @@ import threading
 from collections.abc import Callable
 from typing import NamedTuple
 
-HELLO, INTERRUPT, MSGGET, SEM_STAT, OPENS = 0x01, 0x02, 0x0A, 0x1D, (0x28, 0x32, 0x3C)
+HELLO, INTERRUPT, MSGGET, SEM_STAT, SHMAT, OPENS = 0x01, 0x02, 0x0A, 0x1D, 0x47, (0x28, 0x32, 0x3C)
 KNOWN = b"/q", b"/s", b"/m"
+KNOWN_SEGMENT = 1
 AFTER = 0x69706341
 
 
@@ -156,6 +157,8 @@ class FalseServer:
             return reply(serial, 0, struct.pack(">I", self._pid))
         if opcode in OPENS and fields[-2:] in KNOWN:
             return reply(serial, 0, struct.pack(">I", OPENS.index(opcode)))
+        if opcode == SHMAT and struct.unpack(">I", fields[:4])[0] == KNOWN_SEGMENT:
+            return reply(serial, 0, struct.pack(">I", len(OPENS)))
         if opcode == SEM_STAT and self._has_a_set:
             return reply(serial, 0, bytes(40) + struct.pack(">I", 3))
         if opcode == MSGGET and struct.unpack(">I", fields[:4])[0] == AFTER:

@@ -3,10 +3,12 @@
 #define IPCD_TESTS_PREFIXED_H
 
 #define _GNU_SOURCE
+#include <fcntl.h>
 #include <mqueue.h>
 #include <semaphore.h>
 #include <sys/msg.h>
 #include <sys/sem.h>
+#include <sys/shm.h>
 
 #include "../ipcd.h"
 
@@ -19,6 +21,8 @@
 #define semop ipcd_semop
 #define semtimedop ipcd_semtimedop
 #define semctl ipcd_semctl
+#define shmget ipcd_shmget
+#define shmctl ipcd_shmctl
 #define mq_open ipcd_mq_open
 #define mq_close ipcd_mq_close
 #define mq_unlink ipcd_mq_unlink

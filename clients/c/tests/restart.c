@@ -289,6 +289,47 @@ static void segments_restart(void)
     REFUSED(stat_segment(), EBADF);
     CHECK(ipcd_close(segment) == 0);
 }
+
+static int shmid, attachment;
+static struct shmid_ds of_system_v;
+
+static long find(void) { return shmget(0x69706351, 0, 0) == shmid ? 0 : -1; }
+static long stat_it(void) { return shmctl(shmid, IPC_STAT, &of_system_v); }
+static long set_it(void) { return shmctl(shmid, IPC_SET, &of_system_v); }
+static long remove_it(void) { return shmctl(shmid, IPC_RMID, NULL); }
+static long write_it(void) { return ipcd_shmwrite(attachment, "abc", 3, 1); }
+static long read_it(void) { return ipcd_shmread(attachment, text, 4, 0); }
+
+static long attach_it(void)
+{
+    int it = ipcd_shmattach(shmid, 0);
+    return it == -1 ? -1 : ipcd_shmdetach(it);
+}
+
+// It is attached again by its identifier, as long as it is there.
+static void attachments_restart(void)
+{
+    static call *const of_attachments[] = {find, stat_it, set_it, write_it, read_it, attach_it};
+    shmid = shmget(0x69706351, 10, IPC_CREAT | 0600);
+    attachment = ipcd_shmattach(shmid, 0);
+    CHECK(shmid != -1 && attachment != -1);
+    for (size_t i = 0; i < sizeof of_attachments / sizeof *of_attachments; i++) {
+        restart();
+        REFUSED(of_attachments[i](), ECONNRESET);
+        CHECK(of_attachments[i]() >= 0);
+    }
+    CHECK(read_it() == 4 && memcmp(text, "\0abc", 4) == 0 && stat_it() == 0 && of_system_v.shm_nattch == 1);
+    restart();
+    REFUSED(remove_it(), ECONNRESET);
+    CHECK(remove_it() == 0 && read_it() == 4);
+    restart();
+    REFUSED(read_it(), ECONNRESET);
+    REFUSED(read_it(), EBADF);
+    CHECK(ipcd_shmdetach(attachment) == 0);
+    restart();
+    REFUSED(find(), ECONNRESET);
+    REFUSED(find(), ENOENT);
+}
 #endif
 
 int main(int count, char **words)
@@ -301,6 +342,10 @@ int main(int count, char **words)
 #ifdef PREFIXED
     if (count == 2 && strcmp(words[1], "segments") == 0) {
         segments_restart();
+        return 0;
+    }
+    if (count == 2 && strcmp(words[1], "attachments") == 0) {
+        attachments_restart();
         return 0;
     }
 #endif

@@ -17,6 +17,8 @@ from .top import top
 from .wire import IPC_CREAT, IPC_NOWAIT, MSG_NOERROR, O_CREAT, O_RDONLY, O_WRONLY
 
 KINDS = ("mqueue", "semaphore", "shmem")
+SYSTEM_V = ("queue", "shmem", "semaphore")
+LETTERS = {"queue": "q", "shmem": "m", "semaphore": "s"}
 
 
 def number(text: str) -> int:
@@ -29,8 +31,9 @@ def parser() -> argparse.ArgumentParser:
     words.add_argument("--socket", default=os.environ.get("IPCD_SOCKET", session.SOCKET), help="default: %(default)s")
     commands = words.add_subparsers(dest="command", required=True)
 
-    ls = commands.add_parser("ls", help="lists queues and semaphore sets, and objects by their names")
+    ls = commands.add_parser("ls", help="lists queues, segments and semaphore sets, and objects by their names")
     ls.add_argument("-q", "--queues", action="store_true", help="message queues alone")
+    ls.add_argument("-m", "--shmems", action="store_true", help="System V segments alone")
     ls.add_argument("-s", "--semaphores", action="store_true", help="semaphore sets alone")
     named(ls, KINDS, many=True)
     ls.add_argument("--device", help="the objects of a device that no server has, by the program")
@@ -42,11 +45,11 @@ def parser() -> argparse.ArgumentParser:
         command.add_argument("--upto", type=int, default=1024, help="tries identifiers 1 to N, default: 1024")
 
     stat = commands.add_parser("stat", help="says all of one object")
-    objects(stat, KINDS, many=False)
+    objects(stat, KINDS, SYSTEM_V, many=False)
     send = commands.add_parser("send", help="sends a text to a queue")
     receive = commands.add_parser("receive", help="takes a message off a queue, and prints its text")
     for command in (send, receive):
-        objects(command, KINDS[:1], many=False, sets=False)
+        objects(command, KINDS[:1], SYSTEM_V[:1], many=False)
         command.add_argument("--nowait", action="store_true", help="is refused, and does not wait")
         command.add_argument("--timeout", type=float, help="waits so many seconds at most")
         command.add_argument("--type", type=int, default=int(command is send), help="of a System V message")
@@ -54,16 +57,19 @@ def parser() -> argparse.ArgumentParser:
     send.add_argument("-p", "--mode", type=lambda text: int(text, 8), default=0o644, help="of a new queue, octal")
     send.add_argument("--priority", type=int, default=0, help="of a POSIX message")
     send.add_argument("text", nargs="?", help="without it, standard input")
-    objects(commands.add_parser("rm", help="removes objects"), KINDS, many=True)
+    objects(commands.add_parser("rm", help="removes objects"), KINDS, SYSTEM_V, many=True)
     return words
 
 
-def objects(command: argparse.ArgumentParser, kinds: tuple[str, ...], many: bool, sets: bool = True) -> None:
+def objects(
+    command: argparse.ArgumentParser, kinds: tuple[str, ...], system_v: tuple[str, ...], many: bool
+) -> None:
     """The options that name objects, those of ipcrm(1)."""
     add = {"action": "append", "default": []} if many else {}
-    ids = [("-q", "--queue-id"), ("-Q", "--queue-key"), ("-s", "--semaphore-id"), ("-S", "--semaphore-key")]
-    for option, long in ids if sets else ids[:2]:
-        command.add_argument(option, long, type=number, **add)  # type: ignore[arg-type]
+    for kind in system_v:
+        letter = LETTERS[kind]
+        command.add_argument(f"-{letter}", f"--{kind}-id", type=number, **add)  # type: ignore[arg-type]
+        command.add_argument(f"-{letter.upper()}", f"--{kind}-key", type=number, **add)  # type: ignore[arg-type]
     named(command, kinds, many)
 
 
@@ -74,12 +80,15 @@ def named(command: argparse.ArgumentParser, kinds: tuple[str, ...], many: bool) 
 
 
 def ls(connection: Connection, given: argparse.Namespace) -> int:
-    both = given.queues == given.semaphores
+    every = not (given.queues or given.shmems or given.semaphores)
     tables = []
-    if given.queues or both:
+    if given.queues or every:
         rows = [listing.queue_row(*found) for found in listing.queues(connection, given.upto).items()]
         tables.append(listing.table("Message Queues", listing.QUEUES, rows))
-    if given.semaphores or both:
+    if given.shmems or every:
+        rows = [listing.segment_row(*found) for found in listing.segments(connection, given.upto).items()]
+        tables.append(listing.table("Shared Memory Segments", listing.SEGMENTS, rows))
+    if given.semaphores or every:
         rows = [listing.set_row(*found) for found in listing.sets(connection, given.upto).items()]
         tables.append(listing.table("Semaphore Arrays", listing.SETS, rows))
     missing = []
@@ -114,6 +123,8 @@ def stat(connection: Connection, given: argparse.Namespace) -> int:
         record: tuple[int, ...]
         if given.queue_id is not None or given.queue_key is not None:
             record = connection.msgctl_stat(queue_of(connection, given))
+        elif given.shmem_id is not None or given.shmem_key is not None:
+            record = connection.shmctl_stat(segment_of(connection, given))
         else:
             record = connection.semctl_stat(set_of(connection, given))
         fields = {name: shown(name, value) for name, value in record._asdict().items()}  # type: ignore[attr-defined]
@@ -133,6 +144,12 @@ def queue_of(connection: Connection, given: argparse.Namespace, flags: int = 0) 
     if given.queue_key is not None:
         return connection.msgget(given.queue_key, flags)
     return need(given.queue_id)
+
+
+def segment_of(connection: Connection, given: argparse.Namespace) -> int:
+    if given.shmem_key is not None:
+        return connection.shmget(given.shmem_key, 0, 0)
+    return need(given.shmem_id)
 
 
 def set_of(connection: Connection, given: argparse.Namespace) -> int:
@@ -182,6 +199,8 @@ def rm(connection: Connection, given: argparse.Namespace) -> int:
     removes: list[tuple[list[object], Callable[..., None]]] = [
         (given.queue_id, connection.msgctl_rmid),
         (given.queue_key, lambda key: connection.msgctl_rmid(connection.msgget(key, 0))),
+        (given.shmem_id, connection.shmctl_rmid),
+        (given.shmem_key, lambda key: connection.shmctl_rmid(connection.shmget(key, 0, 0))),
         (given.semaphore_id, connection.semctl_rmid),
         (given.semaphore_key, lambda key: connection.semctl_rmid(connection.semget(key, 0, 0))),
         (given.posix_mqueue, connection.mq_unlink),

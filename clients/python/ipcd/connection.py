@@ -58,6 +58,16 @@ Another client that has opened both waits, and reads what was written before the
     connection.sem_wait(ready, timeout=2.5)
     connection.shm_read(table, 8, 3)
 
+System V segments have shmget(2), a method for each command of shmctl(2), and shmat and shmdt of shmop(2).
+shmat answers a descriptor, the attachment, by which the bytes are read and written. A segment that is
+removed goes with its last attachment; all of a connection go with it.
+
+    segment = connection.shmget(1234, 4096, IPC_CREAT | 0o600)
+    attachment = connection.shmat(segment)
+    connection.attached_write(attachment, 8, b"row")
+    connection.attached_read(attachment, 8, 3)
+    connection.shmdt(attachment)
+
 A client that need not wait for each reply sends some requests ahead, and then receives the replies,
 which come in the same order if no call waits.
 
@@ -259,10 +269,7 @@ class Connection(Stream):
     def shm_read(self, fd: int, offset: int, length: int) -> bytes:
         """So many bytes of a segment from an offset on, all of them within it. It is to a segment as pread(2) to a
         file, but EINVAL past the end."""
-        body = self.call(shm_read_request(fd, offset, length))
-        if len(body) != length:
-            self.breaks("other bytes than were asked")
-        return body
+        return self._exactly(length, shm_read_request(fd, offset, length))
 
     def shm_write(self, fd: int, offset: int, data: bytes) -> None:
         """Puts these bytes into a segment at an offset, all of them within it, as pwrite(2) into a file. Past the end
@@ -272,6 +279,47 @@ class Connection(Stream):
     def shm_stat(self, fd: int) -> ShmStat:
         """How long a segment is, its owner and its mode, see fstat(2)."""
         return ShmStat(*self._fields(SEGMENT_FORM, self.call(shm_stat_request(fd))))
+
+    def shmget(self, key: int, size: int, shmflg: int) -> int:
+        """The identifier of the System V segment with this key, see shmget(2)."""
+        return self._number(shmget_request(key, size, shmflg))
+
+    def shmat(self, shmid: int, shmflg: int = 0) -> int:
+        """Attaches a System V segment, to be read alone with SHM_RDONLY: the descriptor that stands for the address
+        of shmop(2)."""
+        return self._number(shmat_request(shmid, shmflg))
+
+    def shmdt(self, attachment: int) -> None:
+        """Gives an attachment up, see shmop(2)."""
+        self._done(shmdt_request(attachment))
+
+    def shmctl_stat(self, shmid: int) -> ShmidStat:
+        """What there is to know of a System V segment, IPC_STAT of shmctl(2)."""
+        return ShmidStat(*self._fields(SYSTEM_V_SEGMENT_FORM, self.call(shmctl_stat_request(shmid))))
+
+    def shmctl_set(self, shmid: int, uid: int, gid: int, mode: int) -> None:
+        """Gives a System V segment another owner and mode, IPC_SET of shmctl(2)."""
+        self._done(shmctl_set_request(shmid, uid, gid, mode))
+
+    def shmctl_rmid(self, shmid: int) -> None:
+        """Removes a System V segment, which goes with its last attachment, IPC_RMID of shmctl(2)."""
+        self._done(shmctl_rmid_request(shmid))
+
+    def attached_read(self, attachment: int, offset: int, length: int) -> bytes:
+        """So many bytes of what is attached from an offset on, all of them within it, else EINVAL."""
+        return self._exactly(length, attached_read_request(attachment, offset, length))
+
+    def attached_write(self, attachment: int, offset: int, data: bytes) -> None:
+        """Puts these bytes into what is attached at an offset, all of them within it, else EINVAL, and nothing is
+        written."""
+        self._done(attached_write_request(attachment, offset, data))
+
+    def _exactly(self, length: int, request: bytes) -> bytes:
+        """Makes a call that is answered so many bytes."""
+        body = self.call(request)
+        if len(body) != length:
+            self.breaks("other bytes than were asked")
+        return body
 
     def _done(self, request: bytes, timeout: float | None = None) -> None:
         """Makes a call whose reply has no body."""

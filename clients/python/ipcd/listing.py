@@ -1,7 +1,7 @@
 """What `python3 -m ipcd` shows of a live server: a table of each kind of object, with the columns of ipcs(1).
 
-The server has no call that lists objects. So queues and sets are found by trying identifiers, and what has a name
-is looked for by the names that are given.
+The server has no call that lists objects. So queues, sets and System V segments are found by trying identifiers, and
+what has a name is looked for by the names that are given.
 """
 
 from __future__ import annotations
@@ -17,20 +17,25 @@ from .wire import (
     O_RDONLY,
     QUEUE_FORM,
     SET_FORM,
+    SHM_DEST,
+    SYSTEM_V_SEGMENT_FORM,
     QueueStat,
     SemStat,
+    ShmidStat,
     msgctl_stat_request,
     semctl_getncnt_request,
     semctl_getzcnt_request,
     semctl_stat_request,
+    shmctl_stat_request,
 )
 
 QUEUES = ["key", "msqid", "owner", "perms", "used-bytes", "messages"]
+SEGMENTS = ["key", "shmid", "owner", "perms", "bytes", "nattch", "status"]
 SETS = ["key", "semid", "owner", "perms", "nsems"]
-WIDTHS = {"used-bytes": 12, "messages": 12}
+WIDTHS = {"used-bytes": 12, "messages": 12, "status": 12}
 
 Row = list[str]
-T = TypeVar("T", QueueStat, SemStat)
+T = TypeVar("T", QueueStat, SemStat, ShmidStat)
 
 
 def ask(connection: Connection, requests: Iterable[bytes]) -> list[Optional[bytes]]:
@@ -56,6 +61,11 @@ def queues(connection: Connection, upto: int) -> dict[int, Optional[QueueStat]]:
 def sets(connection: Connection, upto: int) -> dict[int, Optional[SemStat]]:
     """The semaphore sets with identifiers from 1 on, and None for one that may not be read."""
     return _found(connection, upto, semctl_stat_request, SET_FORM, SemStat._make)
+
+
+def segments(connection: Connection, upto: int) -> dict[int, Optional[ShmidStat]]:
+    """The System V segments with identifiers from 1 on, and None for one that may not be read."""
+    return _found(connection, upto, shmctl_stat_request, SYSTEM_V_SEGMENT_FORM, ShmidStat._make)
 
 
 def _found(
@@ -108,6 +118,13 @@ def queue_row(number: int, stat: Optional[QueueStat]) -> Row:
     if stat is None:
         return ["-", str(number), "-", "-", "-", "-"]
     return [key(stat.key), str(number), owner(stat.uid), f"{stat.mode:o}", str(stat.cbytes), str(stat.qnum)]
+
+
+def segment_row(number: int, stat: Optional[ShmidStat]) -> Row:
+    if stat is None:
+        return ["-", str(number), "-", "-", "-", "-", "-"]
+    words = [key(stat.key), str(number), owner(stat.uid), f"{stat.mode & 0o777:o}", str(stat.segsz), str(stat.nattch)]
+    return [*words, "dest" if stat.mode & SHM_DEST else ""]
 
 
 def set_row(number: int, stat: Optional[SemStat]) -> Row:

@@ -7,7 +7,6 @@ The package's page says what differs. The connection is that of `ipcd.session`.
 from __future__ import annotations
 
 import errno
-import itertools
 import operator
 import os
 import random
@@ -58,11 +57,6 @@ USER_SIGNAL_MIN, USER_SIGNAL_MAX = int(signal.SIGRTMIN), int(signal.SIGRTMAX)
 
 # As many bytes as any message may have.
 _ANY_SIZE = 2**31 - 1
-# The bytes of a segment that one call reads or writes.
-_PIECE = 8192
-# Above every descriptor that the system gives: a system call on such a number is EBADF.
-_FIRST_DESCRIPTOR = 2**30
-_tokens = itertools.count(_FIRST_DESCRIPTOR)
 _notifier = Notifier()
 
 
@@ -176,7 +170,7 @@ class _Object:
             raise ValueError("Name can only be None if O_EXCL and O_CREAT are set")
         if name is not None and not isinstance(name, str):
             raise TypeError("Name must be a string or None")
-        self._token, self._closed = next(_tokens), False
+        self._token, self._closed = next(session.tokens), False
         while True:
             self._name = f"/posix_ipc_{random.randrange(2**40):010x}" if name is None else name
             try:
@@ -445,13 +439,10 @@ class SharedMemory(_Object):
     def pread(self, n: int, offset: int) -> bytes:
         """So many bytes from an offset on, fewer at the end, as os.pread of a file. Of more than 8192 each 8192 are
         as they were at one moment."""
-        pieces = []
         with _refusals(_SEGMENT), self._use() as lane:
             fd = self._descriptor(lane)
             end = min(offset + n, lane.connection.shm_stat(fd).length)
-            for at in range(offset, end, _PIECE):
-                pieces.append(lane.connection.shm_read(fd, at, min(_PIECE, end - at)))
-        return b"".join(pieces)
+            return b"".join(lane.connection.shm_read(fd, at, to - at) for at, to in session.pieces(offset, end))
 
     def pwrite(self, data: bytes, offset: int) -> int:
         """Writes bytes at an offset, all within the segment, and answers how many. Each 8192 are written at once."""
@@ -459,8 +450,8 @@ class SharedMemory(_Object):
             fd = self._descriptor(lane)
             if offset + len(data) > lane.connection.shm_stat(fd).length:
                 raise ValueError("The bytes do not all stand within the segment")
-            for at in range(0, len(data), _PIECE):
-                lane.connection.shm_write(fd, offset + at, data[at : at + _PIECE])
+            for at, to in session.pieces(0, len(data)):
+                lane.connection.shm_write(fd, offset + at, data[at:to])
         return len(data)
 
     def close_fd(self) -> None:

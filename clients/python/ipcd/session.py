@@ -10,6 +10,7 @@ connection, but for those on an object that is open.
 from __future__ import annotations
 
 import errno
+import itertools
 import os
 import signal
 import threading
@@ -30,6 +31,16 @@ HELLO_SECONDS = 1.0
 # What is done with the body of a reply that came although the call was broken off.
 Keep = Callable[[Connection, bytes], None]
 
+# How a descriptor is given up: by close(2), but by shmdt(2) if it is an attachment.
+GiveUp = Callable[[Connection, int], None]
+
+# Numbers of objects, which have a descriptor on each connection that they are used by. They are above every descriptor
+# that the system gives: a system call on such a number is EBADF.
+tokens = itertools.count(2**30)
+
+# The bytes of a segment that one call reads or writes.
+_PIECE = 8192
+
 
 class ServerLost(ConnectionError):
     """There is no server, or the connection to it has ended: maybe the call was done, and maybe not. What was
@@ -45,7 +56,7 @@ class Lane:
         self.thread = threading.get_ident()
         self.busy, self.waits = True, waits
         self.descriptors: dict[int, int] = {}
-        self.closing: list[int] = []
+        self.closing: list[tuple[GiveUp, int]] = []
         # The serial of a call that may wait, and what it was answered, until it has ended.
         self.serial = 0
         self.reply: Optional[Reply] = None
@@ -59,7 +70,8 @@ class Lane:
     def close_what_is_closed(self) -> None:
         """Closes the descriptors that their objects have given up."""
         while self.closing:
-            self.connection.mq_close(self.closing.pop())
+            give_up, descriptor = self.closing.pop()
+            give_up(self.connection, descriptor)
 
     def wait(self, request: bytes) -> bytes:
         """Makes a call that may wait, and answers the body of its reply. If the handler of a signal runs
@@ -116,12 +128,12 @@ def use(waits: bool = False, keep: Optional[Keep] = None, token: Optional[int] =
         _give_back(lane)
 
 
-def forget(token: int) -> None:
+def forget(token: int, give_up: GiveUp = Connection.mq_close) -> None:
     """Closes the descriptors of an object, on a connection whose call waits as soon as it has ended."""
     with _change:
         for lane in _lanes:
             if token in lane.descriptors:
-                lane.closing.append(lane.descriptors.pop(token))
+                lane.closing.append((give_up, lane.descriptors.pop(token)))
         idle = [lane for lane in _lanes if lane.closing and not lane.busy]
         for lane in idle:
             lane.busy, lane.waits, lane.thread = True, False, threading.get_ident()
@@ -129,6 +141,13 @@ def forget(token: int) -> None:
         with suppress(OSError):
             lane.close_what_is_closed()
         _give_back(lane)
+
+
+def pieces(first: int, end: int) -> Iterator[tuple[int, int]]:
+    """The bytes of a segment from the first up to the end, by what one call reads or writes: where it begins and where
+    it ends."""
+    for at in range(first, end, _PIECE):
+        yield at, min(at + _PIECE, end)
 
 
 def _take(waits: bool, token: Optional[int]) -> Lane:

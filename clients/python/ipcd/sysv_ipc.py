@@ -1,5 +1,5 @@
-"""The module `sysv_ipc`, on the objects of a server: message queues and semaphores with the same names, signatures,
-attributes and exceptions. A program moves by its import: `from ipcd import sysv_ipc`.
+"""The module `sysv_ipc`, on the objects of a server: message queues, semaphores and shared memory with the same names,
+signatures, attributes and exceptions. A program moves by its import: `from ipcd import sysv_ipc`.
 
 The package's page says what differs. The connection is that of `ipcd.session`.
 """
@@ -24,8 +24,10 @@ from .wire import (
     IPC_NOWAIT,
     IPC_PRIVATE,
     SEM_UNDO,
+    SHM_RDONLY,
     QueueStat,
     SemStat,
+    ShmidStat,
     msgrcv_request,
     msgsnd_request,
     semop_request,
@@ -47,7 +49,7 @@ KEY_MIN, KEY_MAX = -(2**31), 2**31 - 1
 PAGE_SIZE = os.sysconf("SC_PAGE_SIZE")
 SEMAPHORE_TIMEOUT_SUPPORTED = True
 SEMAPHORE_VALUE_MAX = 32767
-SHM_RDONLY, SHM_RND, SHM_REMAP = 0o10000, 0o20000, 0o40000
+SHM_RND, SHM_REMAP = 0o20000, 0o40000
 SHM_HUGETLB, SHM_NORESERVE = 0o4000, 0o10000
 
 # What msgsnd and msgrcv take as a type, and semop as a change: the module refuses more by this exception.
@@ -77,7 +79,7 @@ class BusyError(Error):
 
 
 class NotAttachedError(Error):
-    """A segment is not attached. Nothing raises this: there are no segments."""
+    """A segment is read, written or detached, and is not attached."""
 
 
 class ServerLost(Error, session.ServerLost):
@@ -108,28 +110,19 @@ def remove_semaphore(id: int) -> None:
         lane.connection.semctl_rmid(id)
 
 
-def attach(id: int, address: Optional[int] = None, flags: int = 0) -> NoReturn:
-    """There are no segments of System V: it is ENOSYS."""
-    raise _no_segments()
+def attach(id: int, address: Optional[int] = None, flags: int = 0) -> SharedMemory:
+    """Attaches the segment of an identifier, as SharedMemory.attach does."""
+    made = SharedMemory.__new__(SharedMemory)
+    made._id = id
+    made.attach(address, flags)
+    made._key = made._stat().key
+    return made
 
 
-def remove_shared_memory(id: int) -> NoReturn:
-    """There are no segments of System V: it is ENOSYS."""
-    raise _no_segments()
-
-
-class SharedMemory:
-    """There are no segments of System V: each use is ENOSYS, as on a kernel without them."""
-
-    def __init__(
-        self,
-        key: Optional[int],
-        flags: int = 0,
-        mode: int = 0o600,
-        size: int = 0,
-        init_character: Buffer = b" ",
-    ) -> None:
-        raise _no_segments()
+def remove_shared_memory(id: int) -> None:
+    """Removes a segment, IPC_RMID of shmctl(2): it goes when nobody has it attached."""
+    with _refusals(_SEGMENT), session.use() as lane:
+        lane.connection.shmctl_rmid(id)
 
 
 _SEMAPHORE: dict[int, type[Exception]] = {
@@ -146,6 +139,13 @@ _QUEUE: dict[int, type[Exception]] = {
     errno.ENOMSG: BusyError,
 }
 _SEND = {error: raised for error, raised in _QUEUE.items() if error != errno.EINVAL}
+_SEGMENT: dict[int, type[Exception]] = {
+    errno.ENOMEM: MemoryError,
+    **dict.fromkeys((errno.EACCES, errno.EPERM), PermissionsError),
+    **dict.fromkeys((errno.ENOENT, errno.EEXIST, errno.EINVAL), ExistentialError),
+}
+# A get and an attachment.
+_ATTACH: dict[int, type[Exception]] = {**_SEGMENT, errno.EINVAL: ValueError}
 
 
 @contextmanager
@@ -161,8 +161,9 @@ def _refusals(kinds: dict[int, type[Exception]]) -> Iterator[None]:
         raise kinds[refusal.errno](refusal.strerror) from None
 
 
-def _no_segments() -> OSError:
-    return OSError(errno.ENOSYS, os.strerror(errno.ENOSYS))
+def _no_address() -> NoReturn:
+    """The bytes of a segment are the server's, and not in the memory of a program."""
+    raise OSError(errno.ENOSYS, "a segment of a server has no address: it is read and written by calls")
 
 
 def _within(number: int, most: int, what: str) -> int:
@@ -197,7 +198,7 @@ class _Attribute:
 
 
 class _Object:
-    """What queues and semaphores have in common: a key, an identifier and an owner."""
+    """What queues, semaphores and segments have in common: a key, an identifier and an owner."""
 
     __slots__ = ("_id", "_key")
     _id: int
@@ -411,3 +412,112 @@ class Semaphore(_Object):
         new = {"uid": now.uid, "gid": now.gid, "mode": now.mode, **wanted}
         with _refusals(_SEMAPHORE), session.use() as lane:
             lane.connection.semctl_set(self._id, *(number & 0xFFFFFFFF for number in new.values()))
+
+
+class SharedMemory(_Object):
+    """A segment of shared memory, see shmop(2) and shmctl(2), which is read and written by calls: it has no address."""
+
+    __slots__ = ("_flags", "_token")
+    _token: Optional[int]
+
+    size = _Attribute("How many bytes it has. Read only.", lambda self: self._stat().segsz)
+    attached = _Attribute("Whether this object has it attached.", lambda self: self._token is not None)
+    address = _Attribute("There is none: it is ENOSYS.", lambda self: _no_address())
+    last_attach_time = _Attribute("When it was attached last.", lambda self: self._stat().atime // 1000)
+    last_detach_time = _Attribute("When it was detached last.", lambda self: self._stat().dtime // 1000)
+    last_change_time = _Attribute("When it was made or changed.", lambda self: self._stat().ctime // 1000)
+    creator_pid = _Attribute("The server's pid of who made it.", lambda self: self._stat().cpid)
+    last_pid = _Attribute("The server's pid of who attached or detached last.", lambda self: self._stat().lpid)
+    number_attached = _Attribute("By how many attachments it is attached.", lambda self: self._stat().nattch)
+
+    def __init__(
+        self,
+        key: Optional[int],
+        flags: int = 0,
+        mode: int = 0o600,
+        size: int = 0,
+        init_character: bytes = b" ",
+    ) -> None:
+        if not isinstance(init_character, (bytes, bytearray)) or len(init_character) != 1:
+            raise TypeError("init_character must be a byte string of length 1")
+        is_new = flags & IPC_CREX == IPC_CREX
+        wanted = operator.index(size) or (PAGE_SIZE if is_new else 0)
+        if not 0 <= wanted < 2**63:
+            raise ValueError("The size is invalid")
+        with _refusals(_ATTACH):
+            self._find(key, flags, lambda server, found: server.shmget(found, wanted, flags | mode & 0o777))
+        is_written = mode & 0o200 != 0
+        self.attach(flags=0 if is_written else SHM_RDONLY)
+        if is_new and is_written:
+            self.write(wanted * bytes(init_character))
+
+    def attach(self, address: Optional[int] = None, flags: int = 0) -> None:
+        """Attaches it, to be read alone with SHM_RDONLY. An attachment that it has stays, and is no longer used. No
+        address may be given."""
+        if address is not None and not isinstance(address, int):
+            raise TypeError("address must be an integer or None")
+        if address is not None:
+            _no_address()
+        token, flags = next(session.tokens), flags & 0xFFFFFFFF
+        with _refusals(_ATTACH), session.use() as lane:
+            lane.descriptors[token] = lane.connection.shmat(self._id, flags)
+        self._token, self._flags = token, flags
+
+    def detach(self) -> None:
+        """Gives its attachment up."""
+        if self._token is None:
+            raise NotAttachedError("The segment is not attached")
+        session.forget(self._token, Connection.shmdt)
+        self._token = None
+
+    def read(self, byte_count: int = 0, offset: int = 0) -> bytes:
+        """So many bytes from an offset on, fewer at the end, or all of them for 0. Of more than 8192 each 8192 are as
+        they were at one moment."""
+        with self._use() as (connection, attachment):
+            size = connection.shmctl_stat(self._id).segsz
+            if byte_count < 0:
+                raise ValueError("The byte_count cannot be negative")
+            if not 0 <= offset < size:
+                raise ValueError("The offset must be less than the segment size")
+            end = min(offset + byte_count, size) if byte_count else size
+            return b"".join(
+                connection.attached_read(attachment, at, to - at) for at, to in session.pieces(offset, end)
+            )
+
+    def write(self, s: Buffer, offset: int = 0) -> None:
+        """Writes bytes at an offset, all within the segment. Each 8192 are written at once."""
+        data = s.encode() if isinstance(s, str) else bytes(memoryview(s))
+        with self._use() as (connection, attachment):
+            if self._flags & SHM_RDONLY:
+                raise OSError("Write attempt on read-only memory segment")
+            if not 0 <= offset <= connection.shmctl_stat(self._id).segsz - len(data):
+                raise ValueError("Attempt to write past end of memory segment")
+            for at, to in session.pieces(0, len(data)):
+                connection.attached_write(attachment, offset + at, data[at:to])
+
+    def remove(self) -> None:
+        """Removes the segment, which goes when nobody has it attached."""
+        remove_shared_memory(self._id)
+
+    @contextmanager
+    def _use(self) -> Iterator[tuple[Connection, int]]:
+        """A connection on which it is attached, and the attachment there."""
+        if self._token is None:
+            raise NotAttachedError("The segment is not attached")
+        with _refusals(_SEGMENT), session.use(token=self._token) as lane:
+            yield lane.connection, lane.descriptor(self._token, self._again)
+
+    def _again(self, connection: Connection) -> int:
+        """Attaches it on a further connection."""
+        return connection.shmat(self._id, self._flags)
+
+    def _stat(self) -> ShmidStat:
+        with _refusals(_SEGMENT), session.use() as lane:
+            return lane.connection.shmctl_stat(self._id)
+
+    def _set(self, **wanted: int) -> None:
+        """Changes what is given, and leaves the rest as it is."""
+        now = self._stat()
+        new = {"uid": now.uid, "gid": now.gid, "mode": now.mode, **wanted}
+        with _refusals(_SEGMENT), session.use() as lane:
+            lane.connection.shmctl_set(self._id, *(number & 0xFFFFFFFF for number in new.values()))

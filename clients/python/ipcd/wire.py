@@ -16,6 +16,9 @@ IPC_NOWAIT = 0o4000
 MSG_NOERROR = 0o10000
 MSG_EXCEPT = 0o20000
 SEM_UNDO = 0o10000
+SHM_RDONLY = 0o10000
+# What the mode of a System V segment shows if it was removed while somebody had it attached.
+SHM_DEST = 0o1000
 O_RDONLY = 0
 O_WRONLY = 1
 O_RDWR = 2
@@ -38,6 +41,7 @@ TOO_LONG = {
     0x1C: errno.EINVAL,
     0x2A: errno.EMSGSIZE,
     0x40: errno.EINVAL,
+    0x4D: errno.EINVAL,
     **dict.fromkeys((0x28, 0x29, 0x32, 0x33, 0x3C, 0x3D), errno.ENAMETOOLONG),
 }
 
@@ -224,6 +228,38 @@ def shm_stat_request(fd: int) -> bytes:
     return struct.pack(">BI", 0x41, fd)
 
 
+def shmget_request(key: int, size: int, shmflg: int) -> bytes:
+    return struct.pack(">BiQI", 0x46, key, size, shmflg)
+
+
+def shmat_request(shmid: int, shmflg: int = 0) -> bytes:
+    return struct.pack(">BII", 0x47, shmid, shmflg)
+
+
+def shmdt_request(attachment: int) -> bytes:
+    return struct.pack(">BI", 0x48, attachment)
+
+
+def shmctl_stat_request(shmid: int) -> bytes:
+    return struct.pack(">BI", 0x49, shmid)
+
+
+def shmctl_set_request(shmid: int, uid: int, gid: int, mode: int) -> bytes:
+    return struct.pack(">BIIII", 0x4A, shmid, uid, gid, mode)
+
+
+def shmctl_rmid_request(shmid: int) -> bytes:
+    return struct.pack(">BI", 0x4B, shmid)
+
+
+def attached_read_request(attachment: int, offset: int, length: int) -> bytes:
+    return struct.pack(">BIQI", 0x4C, attachment, offset, length)
+
+
+def attached_write_request(attachment: int, offset: int, data: bytes) -> bytes:
+    return struct.pack(">BIQ", 0x4D, attachment, offset) + data
+
+
 def _milliseconds(seconds: float | None) -> int:
     """In a request a time is in milliseconds, and the greatest number is none."""
     return 2**64 - 1 if seconds is None else round(1000 * seconds)
@@ -231,6 +267,7 @@ def _milliseconds(seconds: float | None) -> int:
 
 # How the records stand in a body.
 QUEUE_FORM, SET_FORM, ATTR_FORM, SEGMENT_FORM = ">iIIIIIQQQIIIII", ">iIIIIIQQI", ">IIII", ">QIII"
+SYSTEM_V_SEGMENT_FORM = ">iIIIIIQQQIIIQ"
 
 
 class QueueStat(NamedTuple):
@@ -273,3 +310,22 @@ class ShmStat(NamedTuple):
     uid: int
     gid: int
     mode: int
+
+
+class ShmidStat(NamedTuple):
+    """What IPC_STAT tells of a System V segment, see shmctl(2). Times are in milliseconds, and 0 is never. The mode has
+    SHM_DEST too, and the key is 0, if it was removed and is still attached."""
+
+    key: int
+    uid: int
+    gid: int
+    cuid: int
+    cgid: int
+    mode: int
+    atime: int
+    dtime: int
+    ctime: int
+    cpid: int
+    lpid: int
+    nattch: int
+    segsz: int

@@ -110,6 +110,14 @@ CALLS: dict[str, Callable[[Connection], object]] = {
     "shm_read": lambda c: c.shm_read(0, 0, 2),
     "shm_write": lambda c: c.shm_write(0, 0, b"a"),
     "shm_stat": lambda c: c.shm_stat(0),
+    "shmget": lambda c: c.shmget(1, 1, 0),
+    "shmat": lambda c: c.shmat(1),
+    "shmdt": lambda c: c.shmdt(0),
+    "shmctl_stat": lambda c: c.shmctl_stat(1),
+    "shmctl_set": lambda c: c.shmctl_set(1, 0, 0, 0),
+    "shmctl_rmid": lambda c: c.shmctl_rmid(1),
+    "attached_read": lambda c: c.attached_read(0, 0, 2),
+    "attached_write": lambda c: c.attached_write(0, 0, b"a"),
 }
 
 # Calls of the two modules on objects that the false server has let them open. Each is the first of its connection.
@@ -124,6 +132,12 @@ MODULE_CALLS: dict[str, Callable[[dict[str, object]], object]] = {
     "acquire": lambda things: things["sem"].acquire(),
     "release": lambda things: things["sem"].release(),
     "value": lambda things: things["sem"].value,
+    "remove_shared_memory": lambda things: sysv_ipc.remove_shared_memory(1),
+    "SharedMemory": lambda things: sysv_ipc.SharedMemory(1),
+    "attach": lambda things: sysv_ipc.attach(1),
+    "read": lambda things: things["memory"].read(),
+    "write": lambda things: things["memory"].write(b"a"),
+    "number_attached": lambda things: things["memory"].number_attached,
     "posix_ipc.Semaphore": lambda things: posix_ipc.Semaphore("/s"),
     "posix_ipc.MessageQueue": lambda things: posix_ipc.MessageQueue("/q"),
     "posix_ipc.SharedMemory": lambda things: posix_ipc.SharedMemory("/m"),
@@ -203,6 +217,7 @@ def opened(server: FalseServer) -> dict[str, object]:
     return {
         "queue": sysv_ipc.MessageQueue(1),
         "sem": sysv_ipc.Semaphore(1),
+        "memory": sysv_ipc.SharedMemory(1),
         "named": posix_ipc.Semaphore("/s"),
     }
 

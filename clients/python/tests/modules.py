@@ -122,8 +122,8 @@ def names_are_there(found: list[str]) -> None:
     check(len(names) > 100, f"{names} are few")
     for name in set(names) - NOT_OURS:
         thing: object = sysv_ipc
-        # What every exception has is Python's, and of segments there is none.
-        if name.startswith(("SharedMemory.", "__")) or "Error." in name:
+        # What every exception has is Python's.
+        if name.startswith("__") or "Error." in name:
             continue
         for part in name.split("."):
             check(part in dir(thing), f"there is no {name}")
@@ -146,6 +146,11 @@ def signatures() -> None:
         sysv_ipc.MessageQueue: "key, flags=0, mode=384, max_message_size=2048",
         sysv_ipc.MessageQueue.send: "self, message, block=True, type=1",
         sysv_ipc.MessageQueue.receive: "self, block=True, type=0",
+        sysv_ipc.SharedMemory: "key, flags=0, mode=384, size=0, init_character=b' '",
+        sysv_ipc.SharedMemory.attach: "self, address=None, flags=0",
+        sysv_ipc.SharedMemory.read: "self, byte_count=0, offset=0",
+        sysv_ipc.SharedMemory.write: "self, s, offset=0",
+        sysv_ipc.attach: "id, address=None, flags=0",
         sysv_ipc.ftok: "path, id, silence_warning=False",
         posix_ipc.Semaphore: "name, flags=0, mode=384, initial_value=0",
         posix_ipc.Semaphore.acquire: "self, timeout=None",
@@ -162,10 +167,64 @@ def signatures() -> None:
         equals(", ".join(str(p.replace(annotation=p.empty)) for p in found), parameters)
 
 
-def no_segments() -> None:
-    for call in (sysv_ipc.SharedMemory, sysv_ipc.attach, sysv_ipc.remove_shared_memory):
-        equals(raises(lambda: call(1), OSError).errno, 38)  # type: ignore[attr-defined]
+def a_key_that_is_none() -> None:
     raises(lambda: sysv_ipc.MessageQueue(2**40), ValueError)
+
+
+def attachments() -> None:
+    """Of a segment, by as many calls as its bytes need. There is no address, and nothing that needs one."""
+    with served():
+        memory = sysv_ipc.SharedMemory(None, sysv_ipc.IPC_CREX, size=20000)
+        data = random.Random(1).randbytes(20000)
+        memory.write(data)
+        equals(memory.read(), data)
+        equals((memory.read(9000, 10000), memory.read(2, 19999)), (data[10000:19000], data[19999:]))
+        calls = (lambda: memory.address, lambda: memory.attach(4096), lambda: sysv_ipc.attach(memory.id, 0))
+        for call in calls:
+            equals(raises(call, OSError).errno, 38)  # type: ignore[attr-defined]
+        raises(lambda: memoryview(memory), TypeError)  # type: ignore[arg-type]
+        equals((memory.number_attached, sysv_ipc.attach(memory.id).key), (1, memory.key))
+        # Each takes a descriptor, of which a process has 32, until it is detached.
+        more = [sysv_ipc.attach(memory.id) for _ in range(30)]
+        equals(raises(lambda: sysv_ipc.attach(memory.id), OSError).errno, 24)  # type: ignore[attr-defined]
+        for one in (*more, memory):
+            one.detach()
+        equals((memory.number_attached, len(session._lanes[0].descriptors)), (1, 1))
+        for size in (2**63, 2**70):
+            raises(lambda size=size: sysv_ipc.SharedMemory(None, sysv_ipc.IPC_CREX, size=size), ValueError)
+
+
+def attachments_of_others() -> None:
+    """Who uses a segment by a further connection attaches it there: a thread while another one waits, and a child."""
+    with served() as server:
+        memory = sysv_ipc.SharedMemory(5, sysv_ipc.IPC_CREX, size=10)
+        gone = sysv_ipc.SharedMemory(6, sysv_ipc.IPC_CREX, size=10)
+        queue = sysv_ipc.MessageQueue(None, sysv_ipc.IPC_CREX)
+        thread = threading.Thread(target=queue.receive)
+        thread.start()
+        time.sleep(0.2)
+        memory.write(b"both")
+        equals((memory.number_attached, memory.read(4)), (2, b"both"))
+        queue.send(b"x")
+        thread.join(10)
+        memory.detach()
+        until(lambda: memory.number_attached == 0, "it is attached for ever")
+        memory.attach()
+
+        def child() -> None:
+            equals((memory.read(4), memory.number_attached), (b"both", 2))
+            memory.write(b"child")
+
+        in_a_child(child)
+        until(lambda: memory.number_attached == 1, "a child's attachment is left")
+        gone.remove()
+        server.stop(signal.SIGKILL)
+        raises(memory.read, sysv_ipc.ServerLost)
+    with served():
+        # It is attached anew, and what was removed is gone.
+        equals((memory.read(5), memory.number_attached), (b"child", 1))
+        raises(gone.read, sysv_ipc.ExistentialError)
+        raises(lambda: gone.size, sysv_ipc.ExistentialError)
 
 
 def named_semaphores() -> None:
@@ -573,9 +632,11 @@ def users() -> None:
             raises(lambda: posix_ipc.MessageQueue("/roots"), posix_ipc.PermissionsError)
             raises(lambda: posix_ipc.SharedMemory("/roots"), posix_ipc.PermissionsError)
             raises(named.unlink, posix_ipc.PermissionsError)
+            raises(attached.attach, sysv_ipc.PermissionsError)
+            raises(lambda: attached.mode, sysv_ipc.PermissionsError)
             named.release()
             jobs.send("open")
-            equals(memory.pread(2, 0), bytes(2))
+            equals((memory.pread(2, 0), attached.read(2)), (bytes(2), b"  "))
             own = sysv_ipc.MessageQueue(None, sysv_ipc.IPC_CREX)
             equals((own.uid, own.gid), (12345, 12345))
             own.remove()
@@ -588,10 +649,11 @@ def users() -> None:
         named = posix_ipc.Semaphore("/roots", posix_ipc.O_CREX)
         jobs = posix_ipc.MessageQueue("/roots", posix_ipc.O_CREX)
         memory = posix_ipc.SharedMemory("/roots", posix_ipc.O_CREX, size=10)
+        attached = sysv_ipc.SharedMemory(88, sysv_ipc.IPC_CREX, size=10)
         as_another()
         queue.send("root's")
         equals((queue.receive()[0], named.value, jobs.receive()[0]), (b"root's", 1, b"open"))
-        for thing in (queue.remove, named.unlink, jobs.unlink, memory.unlink):
+        for thing in (queue.remove, named.unlink, jobs.unlink, memory.unlink, attached.remove):
             thing()
 
 
@@ -604,6 +666,7 @@ def killed_in_each_call() -> None:
         named = posix_ipc.Semaphore("/killed in", posix_ipc.O_CREX)
         jobs = posix_ipc.MessageQueue("/killed in", posix_ipc.O_CREX, max_messages=1)
         memory = posix_ipc.SharedMemory("/killed in", posix_ipc.O_CREX, size=10000)
+        attached = sysv_ipc.SharedMemory(None, sysv_ipc.IPC_CREX, size=10000)
         sem.undo = True
         calls: list[Callable[[], object]] = [
             *(lambda: (queue.send("x"), queue.receive()), lambda: queue.mode, queue.receive, lambda: queue.send("x")),
@@ -611,6 +674,8 @@ def killed_in_each_call() -> None:
             *(named.acquire, lambda: (named.release(), named.acquire()), lambda: named.value),
             *(jobs.receive, lambda: jobs.send("x"), lambda: jobs.current_messages),
             *(lambda: memory.pwrite(9000 * b"x", 0), lambda: memory.pread(9000, 0), lambda: memory.size),
+            *(lambda: attached.write(9000 * b"x"), attached.read, lambda: attached.mode),
+            *(lambda: (attached.attach(), attached.detach()), lambda: sysv_ipc.SharedMemory(None, 0o3000).remove()),
             *(lambda: posix_ipc.Semaphore("/killed in").close(), lambda: sysv_ipc.MessageQueue(None, 0o3000).remove()),
         ]
         rng = random.Random(2)
@@ -623,7 +688,7 @@ def killed_in_each_call() -> None:
             os.kill(child, signal.SIGKILL)
             equals(os.waitpid(child, 0)[1], signal.SIGKILL)
         until(lambda: sem.value == 1, "what was taken does not come back")
-        equals((gate.waiting_for_nonzero, gate.waiting_for_zero), (0, 0))
+        equals((gate.waiting_for_nonzero, gate.waiting_for_zero, attached.number_attached), (0, 0, 1))
         held: list[Connection] = []
         until(lambda: has_room(held, 63), "a process is left")
         for connection in held:
@@ -645,7 +710,8 @@ def has_room(held: list[Connection], count: int) -> bool:
 def main() -> None:
     os.environ["IPCD_SOCKET"] = os.path.join(os.getcwd(), "socket")
     os.chmod(".", 0o755)
-    tests = [the_kernels_sysv_ipc, signatures, no_segments, named_semaphores, posix_queues, shared_memory]
+    tests = [the_kernels_sysv_ipc, signatures, a_key_that_is_none, named_semaphores, posix_queues, shared_memory]
+    tests += [attachments, attachments_of_others]
     tests += [notifications, two_threads_of_which_one_waits, a_fork, a_restart, more_than_the_limit]
     tests += [interrupted_again_and_again, sixty_processes, descriptors_that_the_program_closes]
     tests += [with_a_thousand_descriptors]

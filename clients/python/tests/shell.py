@@ -14,7 +14,7 @@ import time
 from typing import Optional
 
 import setting
-from ipcd import IPC_CREAT, O_CREAT, O_RDWR, Connection, QueueStat, top
+from ipcd import IPC_CREAT, O_CREAT, O_RDWR, Connection, QueueStat, ShmidStat, top
 from ipcd.__main__ import main as main_of_shell
 from server import PROGRAM, check, in_a_folder, printed, run_tests, serving, until
 
@@ -67,12 +67,21 @@ def lists() -> None:
         queue = connection.msgget(0x4D2, IPC_CREAT | 0o640)
         connection.msgsnd(queue, 1, b"hello")
         gates = connection.semget(-5, 3, IPC_CREAT | 0o600)
+        connection.shmget(0x4D2, 100, IPC_CREAT | 0o640)
+        for _ in range(2):
+            connection.shmat(connection.shmget(7, 4096, IPC_CREAT | 0o600))
         connection.mq_send(connection.mq_open("/jobs", O_CREAT | O_RDWR, 0o600), b"sweep")
         connection.sem_open("/ready", O_CREAT, 0o600, 4)
         connection.ftruncate(connection.shm_open("/table", O_CREAT | O_RDWR, 0o640), 100)
+        says("rm -m 2", "")
         queues = f"""------ Message Queues --------
 key        msqid      owner      perms      used-bytes   messages
 0x000004d2 1          {ME:10} 640        5            1
+"""
+        segments = f"""------ Shared Memory Segments --------
+key        shmid      owner      perms      bytes      nattch     status
+0x000004d2 1          {ME:10} 640        100        0
+0x00000000 2          {ME:10} 600        4096       2          dest
 """
         sets = f"""------ Semaphore Arrays --------
 key        semid      owner      perms      nsems
@@ -92,15 +101,20 @@ name       owner      perms      bytes
 /table     {ME:10} 640        100
 """
         tried = "\nidentifiers 1 to {} were tried\n"
-        says("ls", queues + "\n" + sets + tried.format(1024))
+        says("ls", queues + "\n" + segments + "\n" + sets + tried.format(1024))
+        says("ls -m --upto 2", segments + tried.format(2))
+        says("ls -q -s --upto 2", queues + "\n" + sets + tried.format(2))
         says("ls -q --upto 3", queues + tried.format(3))
         says("ls -s --upto 70", sets + tried.format(70))
         given = "--posix-mqueue /jobs --posix-semaphore /ready --posix-shmem /table"
         says(f"ls -s --upto 1 {given}", sets + names + tried.format(1))
         missing = "ipcd: ls: /no: No such file or directory\n"
         says("ls -q --upto 1 --posix-shmem /no", queues + tried.format(1), 1, missing)
-        as_ipcs_prints(queues + sets)
+        as_ipcs_prints(queues + segments + sets)
         stats(gates)
+        # The one that was removed goes with its last attachment.
+        for attachment in (0, 1):
+            connection.shmdt(attachment)
         removals()
 
 
@@ -109,7 +123,7 @@ def as_ipcs_prints(ours: str) -> None:
     if not shutil.which("ipcs"):
         print("shell: there is no ipcs, so nothing is compared with it")
         return
-    for option, title in (("-q", "Message Queues"), ("-s", "Semaphore Arrays")):
+    for option, title in (("-q", "Message Queues"), ("-m", "Shared Memory Segments"), ("-s", "Semaphore Arrays")):
         lines = subprocess.run(["ipcs", option], capture_output=True, text=True).stdout.strip().splitlines()
         wanted = [line.rstrip() for line in lines[:2]]
         check("\n".join(wanted) in ours, f"{wanted} is what ipcs has of {title}")
@@ -125,12 +139,19 @@ def stats(gates: int) -> None:
     check(abs(sent - time.time()) < 60, f"{fields['stime']} is when a message was sent")
     output = start("stat", "-S", "-5").communicate(timeout=20)[0]
     check("nsems=3\n" in output and "otime=never\n" in output, f"{output!r} is said of set {gates}")
+    found = start("stat", "-m", "2").communicate(timeout=20)[0]
+    fields = dict(line.split("=", 1) for line in found.splitlines())
+    check(list(fields) == list(ShmidStat._fields), f"{fields} are the fields")
+    wanted = {"key": "0x00000000", "mode": "1600", "segsz": "4096", "nattch": "2", "dtime": "never"}
+    check({name: fields[name] for name in wanted} == wanted, f"{fields}")
+    output = start("stat", "-M", "1234").communicate(timeout=20)[0]
+    check("segsz=100\n" in output and "atime=never\n" in output, f"{output!r} is said of the segment of key 1234")
     says("stat --posix-semaphore /ready", "name=/ready\nvalue=4\n")
 
 
 def removals() -> None:
-    refused = "ipcd: rm: 9: Invalid argument\nipcd: rm: /no: No such file or directory\n"
-    says("rm -q 9 -Q 1234 -S -5 --posix-mqueue /jobs --posix-shmem /no", "", 1, refused)
+    refused = "ipcd: rm: 9: Invalid argument\nipcd: rm: 3: Invalid argument\nipcd: rm: /no: No such file or directory\n"
+    says("rm -q 9 -Q 1234 -m 3 -M 1234 -S -5 --posix-mqueue /jobs --posix-shmem /no", "", 1, refused)
     says("rm --posix-semaphore /ready --posix-shmem /table", "")
     check("0x" not in says("ls --upto 5", EMPTY), "something is left")
     says("rm", "", 2, "ipcd: rm: no object is named: see --help\n")
@@ -138,6 +159,9 @@ def removals() -> None:
 
 EMPTY = """------ Message Queues --------
 key        msqid      owner      perms      used-bytes   messages
+
+------ Shared Memory Segments --------
+key        shmid      owner      perms      bytes      nattch     status
 
 ------ Semaphore Arrays --------
 key        semid      owner      perms      nsems
@@ -156,12 +180,14 @@ def what_may_not_be_read() -> None:
         connection.hello(0, 0)
         connection.msgget(7, IPC_CREAT | 0o600)
         connection.semget(7, 1, IPC_CREAT | 0o600)
+        connection.shmget(7, 1, IPC_CREAT | 0o600)
         connection.sem_open("/theirs", O_CREAT, 0o600, 1)
         os.chmod("socket", 0o777)
         os.chmod(".", 0o755)
         output = as_another("--socket", "socket", "ls", "--upto", "5", "--posix-semaphore", "/theirs")
         rows = [line.split() for line in output.splitlines() if "-" in line.split()]
-        check(rows == [["-", "1", *4 * "-"], ["-", "1", *3 * "-"], ["/theirs", "-"]], f"{output!r}")
+        theirs = [["-", "1", *4 * "-"], ["-", "1", *5 * "-"], ["-", "1", *3 * "-"], ["/theirs", "-"]]
+        check(rows == theirs, f"{output!r}")
 
 
 def as_another(*words: str) -> str:

@@ -96,7 +96,7 @@ def queues() -> None:
 
 
 def makes() -> None:
-    for cls in (sysv_ipc.MessageQueue, sysv_ipc.Semaphore):
+    for cls in (sysv_ipc.MessageQueue, sysv_ipc.Semaphore, sysv_ipc.SharedMemory):
         for arguments in ((KEY,), (None,), ("a",), (), (KEY, sysv_ipc.IPC_EXCL), (KEY, "x"), (-5,)):
             shows(f"{cls.__name__}{len(arguments)} {arguments[1:]}", lambda a=arguments, c=cls: c(*a))
         shows("by name", lambda c=cls: c(key=None, flags=NEW, mode=0o600).remove())
@@ -147,6 +147,86 @@ def semaphores() -> None:
     shows("no function", lambda: sysv_ipc.remove_semaphore(2**30))
 
 
+def writes(memory: Any) -> None:
+    for text in ("text", b"x\0y", bytearray(b"a"), memoryview(b"mv"), b"", "é", 20 * b"y"):
+        shows(f"write {text!r:.12}", lambda text=text: memory.write(text))
+    for text, offset in ((b"", 20), (b"", 21), (b"x", 20), (b"xy", 19), (b"z", 19), (b"a", -1), (21 * b"a", 0), (5, 0)):
+        shows(f"write {text!r:.12} at {offset}", lambda text=text, offset=offset: memory.write(text, offset))
+    shows("write by name", lambda: memory.write(s=b"abc", offset=5))
+    for count, offset in ((4, 4), (0, 15), (100, 15), (0, 19), (1, 20), (1, 21), (1, -1), (-1, 0), ("x", 0)):
+        shows(f"read {count} at {offset}", lambda count=count, offset=offset: memory.read(count, offset))
+    shows("read by name", lambda: memory.read(byte_count=3, offset=5))
+
+
+def attachments(memory: Any) -> None:
+    shows("attach again", lambda: (memory.attach(), memory.number_attached))
+    shows("detach", lambda: (memory.detach(), memory.number_attached, memory.attached))
+    shows("detached", lambda: abs(memory.last_detach_time - time.time()) < 5)
+    for call in (memory.detach, memory.read, lambda: memory.write(b"a")):
+        shows("not attached", call)
+    shows("attach to read", lambda: (memory.attach(flags=sysv_ipc.SHM_RDONLY), memory.attached, memory.read(2)))
+    shows("write to it", lambda: memory.write(b"a"))
+    shows("attach at text", lambda: memory.attach("x"))
+    shows("attach by name", lambda: (memory.attach(address=None, flags=0), memory.write(b"b")))
+    shows("by identifier", lambda: (sysv_ipc.attach(memory.id).read(2), sysv_ipc.attach(id=memory.id).id == memory.id))
+    shows("by identifier, to read", lambda: sysv_ipc.attach(memory.id, None, sysv_ipc.SHM_RDONLY).write(b"a"))
+    shows("by no identifier", lambda: sysv_ipc.attach(2**30))
+    shows("attachments", lambda: memory.number_attached)
+
+
+def segments() -> None:
+    memory = sysv_ipc.SharedMemory(KEY, NEW, 0o640, 20)
+    named = f"sysv_ipc.SharedMemory({KEY})", f"Key={KEY}, id={memory.id}"
+    shows("repr", lambda: (repr(memory) == named[0], str(memory) == named[1]))
+    shows("fresh", lambda: (oct(memory.mode), memory.size, memory.number_attached, memory.attached, memory.read()))
+    shows("times", lambda: [abs(t - time.time()) < 5 for t in (memory.last_attach_time, memory.last_change_time)])
+    shows("never", lambda: memory.last_detach_time)
+    shows("who", lambda: (memory.creator_pid == memory.last_pid, memory.last_pid > 0))
+    shows("owner", lambda: (memory.uid, memory.gid, memory.cuid, memory.cgid) == 2 * (os.geteuid(), os.getegid()))
+    writes(memory)
+    attachments(memory)
+    for name, value in (("mode", 0o644), ("mode", "x"), ("cuid", 1), ("key", 1), ("id", 1), ("size", 1), ("foo", 1)):
+        shows(f"set {name}", sets(memory, name, value))
+    for name in ("attached", "number_attached", "creator_pid", "last_pid", "last_attach_time"):
+        shows(f"set {name}", sets(memory, name, 1))
+    opens = [{"size": 20}, {"size": 5}, {"size": 21}, {"size": -5}, {"flags": NEW}, {"flags": sysv_ipc.IPC_CREAT}]
+    for words in opens:
+        shows(f"open {words}", lambda words=words: sysv_ipc.SharedMemory(KEY, **words).size)
+    shows("remove", memory.remove)
+    shows("removed", lambda: (memory.read(2), memory.size, oct(memory.mode), memory.key == KEY))
+    shows("remove again", memory.remove)
+    shows("open it", lambda: sysv_ipc.SharedMemory(KEY))
+    shows("attach it", lambda: sysv_ipc.attach(memory.id).read(2))
+    shows("no function", lambda: sysv_ipc.remove_shared_memory(2**30))
+    new_segments()
+
+
+def new_segments() -> None:
+    for words in ({}, {"size": 10}, {"init_character": b"q"}, {"mode": 0o400}, {"size": -1}):
+        shows(f"new {words}", lambda words=words: of_new(sysv_ipc.SharedMemory(None, NEW, **words)))
+    for character in ("q", b"qq", b"", 5):
+        words = {"init_character": character}
+        shows(f"new of {character}", lambda words=words: sysv_ipc.SharedMemory(None, NEW, **words))
+    shows("new by IPC_CREAT", lambda: sysv_ipc.SharedMemory(KEY, sysv_ipc.IPC_CREAT))
+    shows("with a size", lambda: of_new(sysv_ipc.SharedMemory(KEY, sysv_ipc.IPC_CREAT, size=10)))
+    shows("to read", lambda: sysv_ipc.SharedMemory(KEY, NEW, 0o400, 10).write(b"a"))
+    shows("which is left", lambda: of_new(sysv_ipc.SharedMemory(KEY, 0, 0)))
+    gone = sysv_ipc.SharedMemory(None, NEW)
+    shows("goes", lambda: (gone.remove(), gone.detach()))
+    for name in ("size", "mode", "number_attached"):
+        shows(f"{name} of a segment that is gone", lambda name=name: getattr(gone, name))
+    for call in (gone.attach, gone.read, gone.detach, gone.remove, sets(gone, "mode", 1)):
+        shows("when it is gone", call)
+
+
+def of_new(memory: Any) -> object:
+    """What is in it. It is removed."""
+    found = memory.size == sysv_ipc.PAGE_SIZE or memory.size, set(memory.read())
+    memory.remove()
+    memory.detach()
+    return found
+
+
 def in_a_moment(handler: Callable[..., object]) -> None:
     signal.signal(signal.SIGALRM, handler)
     signal.setitimer(signal.ITIMER_REAL, 0.2)
@@ -170,6 +250,7 @@ def users() -> None:
     """Another user, whom the mode gives nothing, and one whom it lets read."""
     sem, queue = sysv_ipc.Semaphore(KEY, NEW, 0o600, 1), sysv_ipc.MessageQueue(KEY, NEW, 0o600)
     free = sysv_ipc.MessageQueue(KEY + 1, NEW, 0o644)
+    memory, shared = sysv_ipc.SharedMemory(KEY, NEW, 0o600), sysv_ipc.SharedMemory(KEY + 1, NEW, 0o644)
     sys.stdout.flush()
     child = os.fork()
     if child == 0:
@@ -190,10 +271,19 @@ def users() -> None:
             shows("texts", call)
         shows("free", lambda: sysv_ipc.MessageQueue(KEY + 1, 0, 0o444).mode)
         shows("free set", sets(sysv_ipc.MessageQueue(KEY + 1, 0, 0), "mode", 0o600))
+        for mode in (0o600, 0):
+            shows("segment", lambda mode=mode: sysv_ipc.SharedMemory(KEY, 0, mode))
+        reads = [memory.read, lambda: memory.write(b"a"), lambda: memory.mode, lambda: sysv_ipc.attach(memory.id)]
+        for call in (*reads, memory.remove, lambda: sysv_ipc.remove_shared_memory(memory.id), sets(memory, "mode", 1)):
+            shows("theirs", call)
+        shows("shared", lambda: sysv_ipc.SharedMemory(KEY + 1))
+        shows("shared, to read", lambda: sysv_ipc.SharedMemory(KEY + 1, 0, 0o444).read(3))
+        shows("attach it", lambda: sysv_ipc.attach(shared.id))
+        shows("attach it to read", lambda: sysv_ipc.attach(shared.id, flags=sysv_ipc.SHM_RDONLY).read(2))
         sys.stdout.flush()
         os._exit(0)
     shows("the child", lambda: os.waitpid(child, 0)[1])
-    for thing in (sem, queue, free):
+    for thing in (sem, queue, free, memory, shared):
         shows("remove", thing.remove)
 
 
@@ -206,7 +296,7 @@ def others() -> None:
 
 
 def main() -> None:
-    for part in (queues, makes, semaphores, signals, users, others):
+    for part in (queues, makes, semaphores, segments, signals, users, others):
         if part is not users or os.geteuid() == 0:
             print(f"# {part.__name__}")
             part()

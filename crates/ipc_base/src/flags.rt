@@ -73,6 +73,38 @@ impl Flags for MsgFlags {
     }
 }
 
+/// The flags of shmat(2).
+#[derive(Clone, Copy, Debug, PartialEq, Eq)]
+pub struct ShmFlags(pub u32);
+
+bitflag_items! {
+    impl ShmFlags: u32 {
+        const SHM_RDONLY = 0o10000;
+    }
+}
+
+impl Flags for ShmFlags {
+    type Bits = u32;
+
+    ghost exact = { ⊤ };
+
+    ghost table = { (codes "SHM_RDONLY", 4096) ∷ [] };
+
+    ghost set_of = { λ f. f.0 };
+
+    fn flags<'a>() -> &'a [Flag<ShmFlags>] {
+        ShmFlags::FLAGS
+    }
+
+    fn bits(&self) -> u32 {
+        self.0
+    }
+
+    fn from_bits_retain(bits: u32) -> ShmFlags {
+        ShmFlags(bits)
+    }
+}
+
 /// The flags of one operation of semop(2).
 #[derive(Clone, Copy, Debug, PartialEq, Eq)]
 pub struct SemFlags(pub u16);

@@ -13,7 +13,7 @@ mod put;
 pub use cursor::Cursor;
 pub use errno::Errno;
 pub use field::{Field, FieldBytes, Size, take_fields};
-pub use flags::{GetFlags, MsgFlags, OpenFlags, SemFlags};
+pub use flags::{GetFlags, MsgFlags, OpenFlags, SemFlags, ShmFlags};
 pub use identity::{Cred, Id, Moment, Pid};
 pub use limits::{BadLimits, Limits};
 pub use objects::{Mark, ObjectMap, Objects, window_of};

@@ -308,6 +308,15 @@ or-twice now mid start a b first second = second ∙ (ap (λ (c : Bool). c || b)
     by_test true = refl
     by_test false = refl
 
+pub or-thrice : (now later mid start a b c : Bool) → mid ≡ (start || a) → later ≡ (mid || b) → now ≡ (later || c) → now ≡ (start || (a || b || c))
+or-thrice now later mid start a b c first second third =
+    or-twice now later start (a || b) c (or-twice later mid start a b first second) third ∙ by_test start a
+  where
+    by_test : (d e : Bool) → (d || ((e || b) || c)) ≡ (d || (e || b || c))
+    by_test true e = refl
+    by_test false true = refl
+    by_test false false = refl
+
 -- one more mark, and one that is there
 pub marked-push : (marks : List Object) (m o : Object) → is_marked (marks ++ m ∷ []) o ≡ (is_marked marks o || is_on m o)
 marked-push marks m o =

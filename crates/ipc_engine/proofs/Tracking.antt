@@ -25,15 +25,16 @@ use Rattle.ipc_state.specs.Named.{NamedEntry}
 use Rattle.ipc_state.specs.Opening.{is_on, is_or_any, is_there_for, object_as, opened_as}
 use Rattle.ipc_state.specs.Sound.{HasSoundParts}
 use Rattle.ipc_state.specs.State.{State, exit, has_all_processes, is_waiting, objects_in, objects_of}
-use Rattle.ipc_state.specs.Touching.{IsSameIn, changes_by_exit, is_adjusted, is_adjusted_in, is_made_by, object_of}
+use Rattle.ipc_state.specs.Touching.{IsSameIn, changes_by_exit, is_adjusted, is_adjusted_in, is_made_by, is_opened_by, is_segment, object_of}
 use Rattle.ipc_state.specs.Waiting.{PlainWaiting, IsSoundWaiting, awaited_by}
 use Rattle.ipc_state.proofs.CallerLemmas.{elsewhere-exit, exit-sound, is_on-same, same_in-exit, same_in-restart}
 use Rattle.sem_undo.specs.Undo.{Key, Undo}
+use Rattle.shm_segment.specs.SysSegment.{SysSegment}
 use Rattle.sysv_sem.specs.Set.{Set}
 use Rattle.posix_mq.specs.Queue.{Queue as Mq}
 use Rattle.ipc_keys.specs.declared.check.NameKind.TheVariants as names
 use Rattle.ipc_state.specs.declared.parked.ObjectKind.TheVariants as kinds
-use Rattle.ipc_engine.specs.Changes.{HasMarked, IsTracked, changes, changes_by_call, changes_if_done, has_adjustments, is_marked, is_one}
+use Rattle.ipc_engine.specs.Changes.{HasMarked, IsTracked, changes, changes_by_call, changes_if_done, has_adjustments, has_attachments, is_marked, is_one}
 use Rattle.ipc_engine.specs.Changes.{is_registered_with, may_leave_changes}
 use Rattle.ipc_engine.specs.Event.{PlainEvent, Connect, Call, Interrupt, Tick, Exit, Restart}
 use Rattle.ipc_engine.specs.Settling.{OthersWait, touched_by}
@@ -67,10 +68,6 @@ none-of p q fewer (x ∷ xs) is = by_first (q x) refl (none-of p q fewer xs)
         let later : list_any q xs ≡ false = sym (ap (λ (c : Bool). c || list_any q xs) no-first) ∙ is in
         ap (λ (c : Bool). c || list_any p xs) (fewer x no-first) ∙ rest later
 
-neither-of : (a b : Bool) → (a || b) ≡ false → (a ≡ false) × (b ≡ false)
-neither-of true b is = cc
-neither-of false b is = (refl, is)
-
 and-false : (b : Bool) → (b && false) ≡ false
 and-false true = refl
 and-false false = refl
@@ -89,25 +86,53 @@ unadjusted undo pid n none =
     by_owner true es off = by_rows es off
     by_owner false es off = refl
 
+-- and one that has attached no segment has none open
+unopened : (ps : List (ℕ × Process)) (pid n : ℕ) → has_attachments pid ps ≡ false → is_opened_by (Some pid) ps (object_as kinds.Shm n) ≡ false
+unopened ps pid n none =
+    none-of (λ (p : ℕ × Process). is_or_any (Some pid) p.0 && list_any (λ (d : ℕ × Descriptor). is_on (object_as kinds.Shm n) d.1.on) p.1.descriptors)
+    (λ (p : ℕ × Process). nat_eq pid p.0 && list_any (λ (d : ℕ × Descriptor). is_segment d.1.on.kind) p.1.descriptors)
+    (λ p off. by_owner (nat_eq pid p.0) p.1.descriptors off) ps none
+  where
+    by_owner : (b : Bool) (table : List (ℕ × Descriptor)) → (b && list_any (λ (d : ℕ × Descriptor). is_segment d.1.on.kind) table) ≡ false
+        → (b && list_any (λ (d : ℕ × Descriptor). is_on (object_as kinds.Shm n) d.1.on) table) ≡ false
+    by_owner true table off =
+        none-of (λ (d : ℕ × Descriptor). is_on (object_as kinds.Shm n) d.1.on) (λ (d : ℕ × Descriptor). is_segment d.1.on.kind)
+        (λ d no. ap (λ (b : Bool). b && nat_eq d.1.on.number n) no) table off
+    by_owner false table off = refl
+
+none-of-three : (a b c : Bool) → (a || b || c) ≡ false → (a ≡ false) × ((b ≡ false) × (c ≡ false))
+none-of-three true b c is = cc
+none-of-three false true c is = cc
+none-of-three false false c is = (refl, (refl, is))
+
 -- so its exit changes no object, if it is registered with no queue
 unchanged-by-exit : (s : State) (pid : ℕ) → may_leave_changes pid s ≡ false → (o : Object) → changes_by_exit (Some pid) s o ≡ false
-unchanged-by-exit s pid none o = λ i. sets i || queues i
+unchanged-by-exit s pid none o = λ i. sets i || segments i || queues i
   where
-    both : (has_adjustments pid s.undo ≡ false) × (is_registered_with pid s.mq.entries ≡ false)
-    both = neither-of _ _ none
+    each : (has_adjustments pid s.undo ≡ false) × ((has_attachments pid s.processes.entries ≡ false) × (is_registered_with pid s.mq.entries ≡ false))
+    each = none-of-three _ _ _ none
 
     sets : list_any (λ (e : ℕ × KeyedEntry Set). is_on (object_as kinds.Semset e.0) o && is_adjusted (Some pid) s.undo e.0) s.semset.entries ≡ false
     sets =
         list_any_none (λ (e : ℕ × KeyedEntry Set). is_on (object_as kinds.Semset e.0) o && is_adjusted (Some pid) s.undo e.0) s.semset.entries
         (λ k d i.
         let n = (get_or s.semset.entries k d).0 in
-        ap (λ (b : Bool). is_on (object_as kinds.Semset n) o && b) (unadjusted s.undo pid n both.0) ∙ and-false (is_on (object_as kinds.Semset n) o))
+        ap (λ (b : Bool). is_on (object_as kinds.Semset n) o && b) (unadjusted s.undo pid n each.0) ∙ and-false (is_on (object_as kinds.Semset n) o))
+
+    segments : list_any (λ (e : ℕ × KeyedEntry SysSegment). is_on (object_as kinds.Shm e.0) o
+        && is_opened_by (Some pid) s.processes.entries (object_as kinds.Shm e.0)) s.shm.entries ≡ false
+    segments =
+        list_any_none (λ (e : ℕ × KeyedEntry SysSegment). is_on (object_as kinds.Shm e.0) o
+        && is_opened_by (Some pid) s.processes.entries (object_as kinds.Shm e.0)) s.shm.entries
+        (λ k d i.
+        let n = (get_or s.shm.entries k d).0 in
+        ap (λ (b : Bool). is_on (object_as kinds.Shm n) o && b) (unopened s.processes.entries pid n each.1.0) ∙ and-false (is_on (object_as kinds.Shm n) o))
 
     queues : list_any (λ (e : ℕ × NamedEntry Mq). is_on (opened_as names.Mq e.0) o && is_made_by (Some pid) None e.1.object.registration) s.mq.entries ≡ false
     queues =
         none-of (λ (e : ℕ × NamedEntry Mq). is_on (opened_as names.Mq e.0) o && is_made_by (Some pid) None e.1.object.registration)
         (λ (e : ℕ × NamedEntry Mq). is_made_by (Some pid) None e.1.object.registration)
-        (λ e off. ap (λ (b : Bool). is_on (opened_as names.Mq e.0) o && b) off ∙ and-false (is_on (opened_as names.Mq e.0) o)) s.mq.entries both.1
+        (λ e off. ap (λ (b : Bool). is_on (opened_as names.Mq e.0) o && b) off ∙ and-false (is_on (opened_as names.Mq e.0) o)) s.mq.entries each.1.1
 
 module _ (limits : Limits) where
   -- ---- those that go on wait on what has changed

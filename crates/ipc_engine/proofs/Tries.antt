@@ -1,7 +1,7 @@
 -- A call that is tried, whatever its kind: what it leaves when it comes to its end, and on what it depends whether it has to
 -- wait.
 use Rattle.std.proofs.Common.{◌≡◌, ◌≢◌, ℕ, Bool, true, false, Option, Some, None, refl, sym, ap, subst, ◌∙◌, arith}
-use Rattle.std.specs.Prelude.{is_some, option_map, sum_by}
+use Rattle.std.specs.Prelude.{is_some, option_map}
 use Rattle.ipc_base.specs.declared.errno.Errno.{Errno}
 use Rattle.ipc_base.specs.declared.errno.Errno.TheVariants.{EPROTO}
 use Rattle.ipc_base.specs.declared.limits.Limits.{Limits}
@@ -12,14 +12,12 @@ use Rattle.ipc_state.specs.declared.descriptors.Descriptor.{Descriptor}
 use Rattle.ipc_state.specs.declared.parked.Awaited.{Awaited}
 use Rattle.ipc_state.specs.declared.parked.Awaited.TheVariants as awaited
 use Rattle.ipc_state.specs.declared.parked.Object.{Object}
-use Rattle.posix_mq.specs.Queue.{Queue as Mq}
 use Rattle.ipc_state.specs.Finish.{Finish, Tried, Finishes, Waits, IfFinishes, has_to_wait, refused}
-use Rattle.ipc_state.specs.Named.{Named, NamedEntry}
 use Rattle.ipc_state.specs.Opening.{descriptor_at}
 use Rattle.ipc_state.specs.State.{State, cred_of, is_waiting}
 use Rattle.ipc_state.specs.Touching.{object_of, is_there, IsAsBefore}
 use Rattle.ipc_state.specs.Waiting.{awaited_by}
-use Rattle.ipc_state.proofs.CallerLemmas.{IsGood, by-finish, refused-good, same-objects}
+use Rattle.ipc_state.proofs.CallerLemmas.{IsGood, by-finish, refused-good}
 use Rattle.posix_calls.specs.Calls as posix
 use Rattle.posix_calls.specs.Registrations.{own}
 use Rattle.posix_calls.proofs.CallerLemmas as posixly
@@ -42,9 +40,9 @@ there-object s pid (awaited.Descriptor fd) there = by_found (descriptor_at s.pro
     by_found (Some d) there = λ no. cc
 
 -- a call that waits on an object is one that may change it
-waits-touched : (s : State) (pid : ℕ) (call : PlainSysv) (on : Awaited) → awaited_by (Sysv call) ≡ Some on → touched s call ≡ object_of s pid on
+waits-touched : (s : State) (pid : ℕ) (call : PlainSysv) (on : Awaited) → awaited_by (Sysv call) ≡ Some on → touched s pid call ≡ object_of s pid on
 waits-touched s pid =
-    by-waiting (λ call. (on : Awaited) → awaited_by (Sysv call) ≡ Some on → touched s call ≡ object_of s pid on)
+    by-waiting (λ call. (on : Awaited) → awaited_by (Sysv call) ≡ Some on → touched s pid call ≡ object_of s pid on)
     (λ id flags mtype text on is. let same : awaited.MsgQueue (record { 0 = id }) ≡ on = cc in ap (object_of s pid) same)
     (λ id flags size mtype on is. let same : awaited.MsgQueue (record { 0 = id }) ≡ on = cc in ap (object_of s pid) same)
     (λ id timeout operations on is. let same : awaited.Semset (record { 0 = id }) ≡ on = cc in ap (object_of s pid) same)
@@ -74,18 +72,14 @@ module _ (limits : Limits) where
         leaves = λ p. record { owed = omega arith; objects = λ other on. refl };
       }
 
-  call-ended : (s : State) (pid : ℕ) (call : PlainSysv) (t : Tried) → IfFinishes (IsGood limits s (touched s call)) t → IfFinishes (IsApart s) t
-      → IfFinishes (HasEnded limits s pid (touched s call)) t
+  call-ended : (s : State) (pid : ℕ) (call : PlainSysv) (t : Tried) → IfFinishes (IsGood limits s (touched s pid call)) t → IfFinishes (IsApart s pid) t
+      → IfFinishes (HasEnded limits s pid (touched s pid call)) t
   call-ended s pid call (Finishes f) good apart =
       record {
         good = good;
         leaves = λ p. record {
-          owed = omega (
-            arith,
-            ap (own p) apart.fired,
-            ap (λ (o : Named Mq). sum_by (λ (e : ℕ × NamedEntry Mq). own p e.1.object.registration) o.entries) apart.mq,
-          );
-          objects = λ other on. same-objects s f.state p on apart.processes;
+          owed = omega (arith, ap (own p) apart.fired, apart.mq.weigh (own p) refl);
+          objects = λ other on. apart.objects p other on;
         };
       }
   call-ended s pid call Waits good apart = tt
@@ -98,7 +92,7 @@ module _ (limits : Limits) where
   pub tried-ended : (s : State) (pid : ℕ) (again : Bool) (kind : PlainKind) → is_waiting s pid ≡ false
       → IfFinishes (HasEnded limits s pid (touched_by s pid kind)) (tried limits s pid again kind)
   tried-ended s pid again (Sysv call) free =
-      call-ended s pid call (attempt limits s pid again call) (attempt-good limits s pid again call) (attempt-apart limits s pid again call)
+      call-ended s pid call (attempt limits s pid again call) (attempt-good limits s pid again call free) (attempt-apart limits s pid again call)
   tried-ended s pid again (Posix call) free =
       posix-ended s pid (posix.touched s pid call) (posix.attempt limits s pid call) (posixly.attempt-good limits s pid call free)
       (call-leaves limits s pid call)

@@ -13,11 +13,12 @@ use Rattle.ipc_wire.specs.Request.{PlainKind}
 use Rattle.ipc_state.specs.declared.parked.Object.{Object}
 use Rattle.ipc_state.specs.declared.parked.ObjectKind.{ObjectKind}
 use Rattle.ipc_state.specs.declared.parked.ObjectKind.TheVariants as kinds
+use Rattle.ipc_state.specs.declared.processes.Process.{Process}
 use Rattle.ipc_state.specs.Finish.{Tried, Finishes, Waits}
 use Rattle.ipc_state.specs.Named.{NamedEntry}
 use Rattle.ipc_state.specs.Opening.{is_on, is_there_for, object_as}
 use Rattle.ipc_state.specs.State.{State, is_waiting, objects_in}
-use Rattle.ipc_state.specs.Touching.{IsSameIn, changes_by_exit, is_made_by}
+use Rattle.ipc_state.specs.Touching.{IsSameIn, changes_by_exit, is_made_by, is_segment}
 use Rattle.ipc_engine.specs.Event.{PlainEvent, Call, Exit, Restart}
 use Rattle.ipc_engine.specs.Settling.{touched_by}
 use Rattle.ipc_engine.specs.Step.{due, tried}
@@ -37,23 +38,29 @@ abbrev pub changes_by_call : Limits → State → ℕ → PlainKind → Object �
 changes_by_call limits s pid kind o =
     not (is_waiting s pid) && changes_if_done (touched_by s pid kind) (tried limits s pid false kind) o
 
--- what an event changes: a call its own object; an exit and a restart the sets that they adjust, and the queues that
--- lose a registration; any other none
+-- what an event changes: a call its own object; an exit and a restart the sets that they adjust, the segments that they
+-- detach, and the queues that lose a registration; any other none
 abbrev pub changes : Limits → State → PlainEvent → Object → Bool
 changes limits s (Call pid request moment) o = changes_by_call limits (due moment s).state pid request.kind o
 changes limits s (Exit pid moment) o = changes_by_exit (Some pid) s o
 changes limits s Restart o = changes_by_exit None s o
 changes limits s e o = false
 
--- whether a process has adjustments, and whether it is registered with a queue; if neither, its exit changes nothing
+-- whether a process has adjustments, whether it has attached a segment, and whether it is registered with a queue; if
+-- none of them, its exit changes nothing
 abbrev pub has_adjustments : ℕ → List (ℕ × Undo) → Bool
 has_adjustments pid undo = list_any (λ p. nat_eq pid p.0 && not (length (fin.entries p.1) == 0)) undo
+
+abbrev pub has_attachments : ℕ → List (ℕ × Process) → Bool
+has_attachments pid processes =
+    list_any (λ p. nat_eq pid p.0 && list_any (λ d. is_segment d.1.on.kind) p.1.descriptors) processes
 
 abbrev pub is_registered_with : ℕ → List (ℕ × NamedEntry Mq) → Bool
 is_registered_with pid queues = list_any (λ e. is_made_by (Some pid) None e.1.object.registration) queues
 
 abbrev pub may_leave_changes : ℕ → State → Bool
-may_leave_changes pid s = has_adjustments pid s.undo || is_registered_with pid s.mq.entries
+may_leave_changes pid s =
+    has_adjustments pid s.undo || has_attachments pid s.processes.entries || is_registered_with pid s.mq.entries
 
 -- ---- marks
 

@@ -20,7 +20,7 @@ AreLinked s = All (λ (w : PlainWaiting). is_process s w.pid.0 ≡ true) s.wait
 
 -- the object that a request of a process may leave otherwise, so that those that wait on it may go on
 abbrev pub touched_by : State → ℕ → PlainKind → Option Object
-touched_by s pid (Sysv call) = touched s call
+touched_by s pid (Sysv call) = touched s pid call
 touched_by s pid (Posix call) = touched_posix s pid call
 touched_by s pid kind = None
 

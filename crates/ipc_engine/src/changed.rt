@@ -13,12 +13,15 @@ ghost use Rattle.ipc_state.specs.Opening.{is_on, is_or_any, is_there_for, object
 ghost use Rattle.ipc_state.specs.Sound.{HasSoundParts};
 ghost use Rattle.ipc_state.specs.State.{objects_in};
 ghost use Rattle.ipc_state.specs.Tables.{item_row};
-ghost use Rattle.ipc_state.specs.Touching.{changes_by_exit, is_adjusted, is_adjusted_in, is_made_by};
+ghost use Rattle.ipc_state.specs.Touching.{changes_by_exit, is_adjusted, is_adjusted_in, is_made_by, is_opened_by};
+ghost use Rattle.ipc_state.specs.Touching.{is_segment};
 ghost use Rattle.ipc_engine.specs.Changes.{HasMarked, is_marked, is_object, is_one, may_leave_changes, most_objects};
 
 use ipc_base::{Limits, Pid};
 use ipc_keys::NameKind;
-use ipc_state::{Item, NamedEntry, Object, ObjectKind, State, is_on};
+use ipc_state::{
+    DescriptorRow, Item, NamedEntry, Object, ObjectKind, Process, State, is_on, is_segment,
+};
 use posix_mq::{Mq, Registration};
 use sem_undo::{SemUndo, UndoRow};
 use std::alloc::{AllocError, Global};
@@ -122,8 +125,8 @@ impl Changed {
         }
     }
 
-    /// Marks what the exit of a process changes, or of each: the sets at which it has an adjustment, and the queues
-    /// with which it is registered.
+    /// Marks what the exit of a process changes, or of each: the sets at which it has an adjustment, the segments that
+    /// it has attached, and the queues with which it is registered.
     pub(crate) fn mark_leaving(&mut self, state: &State, pid: Option<u32>)
         requires parts { HasSoundParts state.now.limits state.now.state }
         requires capacity { 2 * most_objects state.now.limits < vec_capacity self.old.marks }
@@ -138,12 +141,14 @@ impl Changed {
     /// The same, if there is room.
     fn mark_exit(&mut self, state: &State, pid: Option<u32>)
         requires { length self.old.marks.items + length state.now.state.semset.entries
-            + length state.now.state.mq.entries ≤ vec_capacity self.old.marks }
+            + length state.now.state.shm.entries + length state.now.state.mq.entries
+            ≤ vec_capacity self.old.marks }
         ensures marked { (o : PlainObject) → is_marked self.new.marks.items o
             ≡ (is_marked self.old.marks.items o || changes_by_exit pid state.now.state o) }
         ensures capacity { vec_capacity self.new.marks ≡ vec_capacity self.old.marks }
     {
         self.mark_sets(state, pid);
+        self.mark_segments(state, pid);
         self.mark_queues(state, pid);
     }
 
@@ -162,6 +167,25 @@ impl Changed {
                 number: item.number,
             };
             self.mark_if(is_adjusted(state, pid, item.number), Some(set));
+        }
+    }
+
+    fn mark_segments(&mut self, state: &State, pid: Option<u32>)
+        requires { length self.old.marks.items + length state.now.state.shm.entries ≤ vec_capacity self.old.marks }
+        ensures marked { (o : PlainObject) → is_marked self.new.marks.items o ≡ (is_marked self.old.marks.items o
+            || list_any (λ e. is_on (object_as kinds.Shm e.0) o
+            && is_opened_by pid state.now.state.processes.entries (object_as kinds.Shm e.0))
+            state.now.state.shm.entries) }
+        ensures few { length self.new.marks.items
+            ≤ length self.old.marks.items + length state.now.state.shm.entries }
+        ensures capacity { vec_capacity self.new.marks ≡ vec_capacity self.old.marks }
+    {
+        for item in state.shms() {
+            let segment = Object {
+                kind: ObjectKind::Shm,
+                number: item.number,
+            };
+            self.mark_if(is_opened_by(state, pid, segment), Some(segment));
         }
     }
 
@@ -260,11 +284,73 @@ fn some_is_at(rows: &[UndoRow], set: u32) -> bool
     rows.iter().any(|row| row.set.0 == set)
 }
 
-/// Whether the exit of a process may change an object: it has adjustments, or is registered with a queue.
+/// Whether the process, or any, has an object open.
+fn is_opened_by(state: &State, pid: Option<u32>, this: Object) -> bool
+    ensures { result ≡ is_opened_by pid state.now.state.processes.entries this }
+{
+    some_opens(state.processes(), pid, this)
+}
+
+fn some_opens(items: &[Item<Process>], pid: Option<u32>, this: Object) -> bool
+    ensures { result ≡ list_any
+        (λ i. is_or_any pid i.number && list_any (λ d. is_on this d.1.on) i.value.descriptors) items.now }
+{
+    items.iter().any(|item| opens(item, pid, this))
+}
+
+fn opens(item: &Item<Process>, pid: Option<u32>, this: Object) -> bool
+    ensures { result ≡ (is_or_any pid item.now.number
+        && list_any (λ d. is_on this d.1.on) item.now.value.descriptors) }
+{
+    is_or_any(pid, item.number) && has_open(item, this)
+}
+
+fn has_open(item: &Item<Process>, this: Object) -> bool
+    ensures { result ≡ list_any (λ d. is_on this d.1.on) item.now.value.descriptors }
+{
+    some_is_on(item.value.descriptors.rows(), this)
+}
+
+fn some_is_on(rows: &[DescriptorRow], this: Object) -> bool
+    ensures { result ≡ list_any (λ r. is_on this r.descriptor.on) rows.now }
+{
+    rows.iter().any(|row| is_on(this, row.descriptor.on))
+}
+
+/// Whether the exit of a process may change an object: it has adjustments, or has attached a segment, or is registered
+/// with a queue.
 pub(crate) fn may_leave_changes(state: &State, pid: Pid) -> bool
     ensures { result ≡ may_leave_changes pid.0 state.now.state }
 {
-    has_adjustments(state.adjustments(), pid.0) || is_registered_with(state.mqs(), pid.0)
+    has_adjustments(state.adjustments(), pid.0)
+        || has_attachments(state.processes(), pid.0)
+        || is_registered_with(state.mqs(), pid.0)
+}
+
+fn has_attachments(items: &[Item<Process>], pid: u32) -> bool
+    ensures { result ≡ list_any
+        (λ i. nat_eq pid i.number && list_any (λ d. is_segment d.1.on.kind) i.value.descriptors) items.now }
+{
+    items.iter().any(|item| attaches(item, pid))
+}
+
+fn attaches(item: &Item<Process>, pid: u32) -> bool
+    ensures { result ≡ (nat_eq pid item.now.number
+        && list_any (λ d. is_segment d.1.on.kind) item.now.value.descriptors) }
+{
+    pid == item.number && has_attachment(item)
+}
+
+fn has_attachment(item: &Item<Process>) -> bool
+    ensures { result ≡ list_any (λ d. is_segment d.1.on.kind) item.now.value.descriptors }
+{
+    some_is_attachment(item.value.descriptors.rows())
+}
+
+fn some_is_attachment(rows: &[DescriptorRow]) -> bool
+    ensures { result ≡ list_any (λ r. is_segment r.descriptor.on.kind) rows.now }
+{
+    rows.iter().any(|row| is_segment(row.descriptor.on.kind))
 }
 
 fn has_adjustments(items: &[Item<SemUndo>], pid: u32) -> bool

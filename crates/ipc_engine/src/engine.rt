@@ -171,20 +171,13 @@ impl Engine {
         &self.state
     }
 
-    /// A row for each object, kind by kind: message queues and semaphore sets by rising identifier, and then POSIX
-    /// queues, named semaphores and segments by the bytes of their names, those without a name first. Refused for want
-    /// of memory.
+    /// A row for each object, kind by kind: message queues and semaphore sets by rising identifier, then POSIX queues,
+    /// named semaphores and segments by the bytes of their names, those without a name first, and last the System V
+    /// segments by rising identifier. Refused for want of memory.
     pub fn list(&self, alloc: Global) -> Result<Vec<Row<&[u8]>>, AllocError>
         ensures { IfOk result (λ rows. map plain_row rows.items ≡ rows_of self.now.state) }
     {
-        list_objects(
-            alloc,
-            self.state.msg_queues(),
-            self.state.semsets(),
-            self.state.mqs(),
-            self.state.psems().items(),
-            self.state.pshms().items(),
-        )
+        list_objects(alloc, &self.state)
     }
 
     /// The limits that it keeps, which have passed their check; by them the state is sound.
@@ -197,9 +190,9 @@ impl Engine {
     }
 
     /// Whether the object of this kind and number may be otherwise than when the state was saved (`mark_saved`), or was
-    /// taken over: a call has ended with it, other than by a refusal, an exit has adjusted it, or it has lost a
-    /// registration. Kinds are numbered as on a device: 1 message queues, 2 semaphore sets, 3 POSIX queues, 4 named
-    /// semaphores, 5 segments with a name, 6 those of System V; what is of kind 0 counts as changed always.
+    /// taken over: a call has ended with it, other than by a refusal, an exit has adjusted or detached it, or it has
+    /// lost a registration. Kinds are numbered as on a device: 1 message queues, 2 semaphore sets, 3 POSIX queues, 4
+    /// named semaphores, 5 segments with a name, 6 those of System V; what is of kind 0 counts as changed always.
     pub fn changed(&self, kind: u32, number: u32) -> bool
         ensures { result ≡ is_changed self.now.changed kind number }
     {

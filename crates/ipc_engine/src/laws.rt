@@ -2,7 +2,7 @@
 
 ghost use Rattle.std.specs.Prelude.{◌≡◌, ◌≢◌, ◌+◌, ◌<◌, ◌≤◌, ℕ, Bool, true, false};
 ghost use Rattle.std.specs.Prelude.{List, [], ◌∷◌, ◌++◌, length, map, max};
-ghost use Rattle.std.specs.Prelude.{None, Some, All, is_some, nat_eq};
+ghost use Rattle.std.specs.Prelude.{None, Some, All, is_some, nat_eq, not};
 ghost use Rattle.std.specs.List.{fold};
 ghost use Rattle.std.specs.List.Sorted.{IsPermutation, IsSortedBy, IsStableBy};
 ghost use Rattle.ipc_base.specs.Table.{keys_of, value_at};
@@ -14,6 +14,7 @@ ghost use Rattle.ipc_wire.specs.Request.{PlainKind, PlainRequest, Interrupt as I
 ghost use Rattle.ipc_keys.specs.declared.check.NameKind.{NameKind};
 ghost use Rattle.ipc_state.specs.declared.parked.Awaited.{Awaited};
 ghost use Rattle.ipc_state.specs.declared.parked.ObjectKind.TheVariants as kinds;
+ghost use Rattle.ipc_state.specs.Attached.{detached_each};
 ghost use Rattle.ipc_state.specs.Finish.{Finish, Finishes, Waits, refused};
 ghost use Rattle.ipc_state.specs.Bound.{kept_if, holding};
 ghost use Rattle.ipc_state.specs.Kinds.{Content};
@@ -253,7 +254,8 @@ pub fn restart_adds_adjustments()
 
 /// A restart leaves the queues, the identifiers of the sets and the numbers of those to come as they are. Of POSIX
 /// queues, named semaphores and segments those with a name are left, as they were but for a registration with a queue,
-/// and no other.
+/// and no other. Of the System V segments, each detached by every process that had it attached, those that are not
+/// marked are left (`shared`).
 pub fn restart_keeps_objects()
     ensures next_pid { (limits : Limits) (s : State)
         → (step limits s Restart).state.processes.next ≡ s.processes.next }
@@ -271,6 +273,9 @@ pub fn restart_keeps_objects()
         → (step limits s Restart).state.psem ≡ kept_if (λ e. has_name e.1) s.psem }
     ensures segments { (limits : Limits) (s : State)
         → (step limits s Restart).state.pshm ≡ kept_if (λ e. has_name e.1) s.pshm }
+    ensures shared { (limits : Limits) (s : State) → IsSound limits s
+        → (step limits s Restart).state.shm
+        ≡ kept_if (λ e. not e.1.object.is_marked) (detached_each s.clock s.shm s.processes.entries) }
 {}
 
 /// A restart twice is a restart once.

@@ -62,7 +62,7 @@ pub(crate) fn try_at_once(
 {
     match kind {
         RequestKind::Sysv(call) => {
-            let touched = sysv_calls::touched(state, call);
+            let touched = sysv_calls::touched(state, pid, call);
             (sysv_calls::attempt(state, pid, call, spare), touched)
         }
         RequestKind::Posix(call) => {
@@ -132,7 +132,7 @@ pub(crate) fn touched_by(state: &State, pid: Pid, parked: &Parked) -> Option<Obj
     ensures { result ≡ touched_by state.now.state pid.0 parked.now.kind }
 {
     match parked.kind() {
-        ParkedKind::Sysv(call) => sysv_calls::touched(state, &call.lend()),
+        ParkedKind::Sysv(call) => sysv_calls::touched(state, pid, &call.lend()),
         ParkedKind::Posix(call) => posix_calls::touched(state, pid, &call.lend()),
     }
 }

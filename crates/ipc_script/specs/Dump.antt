@@ -5,7 +5,7 @@ use Rattle.std.specs.List.{flat_map}
 use Rattle.std.specs.Char.{is_ascii_graphic}
 use Rattle.std.specs.Fmt.{decimal, signed_decimal, digits}
 use Rattle.ipc_engine.specs.Listing.{PlainRow}
-use Rattle.ipc_engine.specs.declared.listing.Row.TheVariants.{Msg, Sem, Pmq, Psm, Shm}
+use Rattle.ipc_engine.specs.declared.listing.Row.TheVariants.{Msg, Sem, Pmq, Psm, Shm, Seg}
 
 -- A text at the right end of so many places: spaces stand before it. A text that is longer stands
 -- as it is.
@@ -43,7 +43,8 @@ name_text name = flat_map byte_text name
 -- identifier, key, mode, owner and group, and how many semaphores it has. A POSIX queue: its mode, owner and group, how
 -- many messages it holds, how many it may hold, how many bytes each of them may have, and its name. A named semaphore:
 -- its mode, owner and group, its value, and its name. A segment: its mode, owner and group, how many bytes it has, and
--- its name.
+-- its name. A System V segment: its identifier, key, mode, owner and group, how many bytes it has, and how many have it
+-- attached.
 abbrev pub row_line : PlainRow → List ℕ
 row_line (Msg id key mode uid gid bytes messages) =
     codes "msg " ++ number_text id.0 ++ codes " " ++ key_text key
@@ -63,6 +64,10 @@ row_line (Psm mode uid gid value name) =
 row_line (Shm mode uid gid bytes name) =
     codes "shm " ++ mode_text mode ++ codes " " ++ number_text uid ++ codes " " ++ number_text gid
     ++ codes " " ++ number_text bytes ++ codes " " ++ name_text name ++ codes "\n"
+row_line (Seg id key mode uid gid bytes attachments) =
+    codes "seg " ++ number_text id.0 ++ codes " " ++ key_text key
+    ++ codes " " ++ mode_text mode ++ codes " " ++ number_text uid ++ codes " " ++ number_text gid
+    ++ codes " " ++ number_text bytes ++ codes " " ++ number_text attachments ++ codes "\n"
 
 -- the line of each row
 abbrev pub dump_text : List PlainRow → List ℕ

@@ -5,7 +5,7 @@ ghost use Rattle.std.specs.Io.KnownBytes.{Appends};
 ghost use Rattle.ipc_engine.specs.Listing.{plain_row, rows_of};
 ghost use Rattle.ipc_script.specs.Dump.{dump_text, row_line as row_text};
 ghost use Rattle.ipc_script.specs.Dump.{number_text, key_text, mode_text, is_plain, byte_text, name_text};
-ghost use Rattle.ipc_script.specs.Relations.Columns.{msg_text, sem_text, pmq_text, psm_text, shm_text};
+ghost use Rattle.ipc_script.specs.Relations.Columns.{msg_text, sem_text, pmq_text, psm_text, shm_text, seg_text};
 ghost use Rattle.ipc_script.specs.Script.{WritesPart};
 ghost use Rattle.ipc_script.specs.declared.listing.DumpError.TheVariants.{NoMemory};
 
@@ -44,7 +44,8 @@ impl From<AllocError> for DumpError {
 /// of one, and its name. Then the named semaphores and the segments, by name: `psm` or `shm`, and then its mode,
 /// owner and group, the value of a semaphore or the bytes of a segment, and its name. What was unlinked has none,
 /// so that its line ends with a space. A backslash of a name, and a byte that is no character from `!` to `~`, is
-/// written as `\x` and two hexadecimal digits.
+/// written as `\x` and two hexadecimal digits. Last come the System V segments, by rising identifier: `seg`, and then
+/// its identifier, key, mode, owner and group, its bytes, and how many have it attached.
 pub fn dump<D: SectorDisk, W: Write>(
     alloc: Global,
     store: &Store<D>,
@@ -254,6 +255,30 @@ impl<'a> fmt::Display for ShmLine<'a> {
     }
 }
 
+/// The line of a System V segment.
+#[derive(Clone, Copy)]
+struct SegLine {
+    id: Number,
+    key: Key,
+    mode: Mode,
+    uid: Number,
+    gid: Number,
+    length: Number,
+    attachments: Number,
+}
+
+impl fmt::Display for SegLine {
+    ghost output = { λ line. Some (seg_text line) };
+
+    fn fmt<W: fmt::Write>(&self, f: &mut fmt::Formatter<W>) -> fmt::Result {
+        write!(
+            f,
+            "seg {} {} {} {} {} {} {}\n",
+            self.id, self.key, self.mode, self.uid, self.gid, self.length, self.attachments
+        )
+    }
+}
+
 /// The line of an object. Refused for want of memory.
 fn line_of(alloc: Global, row: &Row<&[u8]>) -> Result<String, AllocError>
     ensures { IfOk result (λ line. string_bytes line ≡ row_text (plain_row row.now)) }
@@ -337,6 +362,24 @@ fn line_of(alloc: Global, row: &Row<&[u8]>) -> Result<String, AllocError>
             gid: Number(u128::from(gid)),
             length: Number(length as u128),
             name: Name(name),
+        }
+        .to_string(alloc),
+        Row::Seg {
+            id,
+            key,
+            mode,
+            uid,
+            gid,
+            length,
+            attachments,
+        } => SegLine {
+            id: Number(u128::from(id.0)),
+            key: Key(key),
+            mode: Mode(mode),
+            uid: Number(u128::from(uid)),
+            gid: Number(u128::from(gid)),
+            length: Number(length as u128),
+            attachments: Number(attachments as u128),
         }
         .to_string(alloc),
     }

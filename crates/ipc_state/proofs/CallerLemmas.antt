@@ -13,7 +13,7 @@ use Rattle.ipc_base.specs.Table.{keys_of, seen_as, value_at, without as without_
 use Rattle.std.specs.FinMap as fin
 use Rattle.sem_undo.specs.Undo.{Key, Undo, cleared, IsSoundUndo}
 use Rattle.sem_undo.proofs.CallerLemmas.{empty-sound}
-use Rattle.ipc_base.proofs.CallerLemmas.{nobody, each-at, each-with, each-without, keys_of-with_value}
+use Rattle.ipc_base.proofs.CallerLemmas.{All-value_at, nobody, each-at, each-with, each-without, keys_of-with_value}
 use Rattle.ipc_state.specs.Directory.{ArePositive}
 use Rattle.ipc_state.proofs.Directories.{named-positive}
 use Rattle.ipc_state.specs.Tables.{HeldObjects}
@@ -26,6 +26,8 @@ use Rattle.ipc_wait.proofs.CallerLemmas.{without-distinct, left-distinct, due-or
 use Rattle.posix_mq.specs.Queue.{Queue as Mq, PlainMessage as MqMessage, empty_queue, is_full as is_full_mq, next_to_receive, received, with_message}
 use Rattle.std.specs.List.{remove}
 use Rattle.ipc_keys.specs.declared.check.NameKind.TheVariants as names
+use Rattle.shm_segment.specs.Segment.{Segment, is_within, written}
+use Rattle.shm_segment.specs.SysSegment.{SysSegment}
 use Rattle.sysv_sem.specs.Set.{Set, after_exit}
 use Rattle.ipc_wire.specs.Posix as posix
 use Rattle.ipc_wire.specs.Request.{PlainKind, PlainRequest, Interrupt, Sysv, Posix}
@@ -41,7 +43,8 @@ use Rattle.ipc_state.specs.Numbered.{Numbered, entry_of, with_entry, with_new, i
 use Rattle.ipc_state.specs.declared.descriptors.Descriptor.{Descriptor}
 use Rattle.ipc_state.specs.Named.{NamedEntry}
 use Rattle.ipc_state.specs.Descriptors.{opened, with_flags}
-use Rattle.ipc_state.specs.Bound.{AreFound, holding, number_of, permitting, unbound}
+use Rattle.ipc_state.specs.Attached.{detached_each}
+use Rattle.ipc_state.specs.Bound.{AreFound, holding, kept_if, number_of, permitting, unbound}
 use Rattle.ipc_state.specs.Opening.{descriptors_of, descriptor_at, is_by_descriptor, is_registered}
 use Rattle.ipc_state.specs.Opening.{is_sound_descriptor, stays}
 use Rattle.ipc_state.specs.State.{State, start, at_moment, has_all_processes, is_process, with_process, exit, restart}
@@ -64,19 +67,22 @@ use Rattle.ipc_state.proofs.SoundOpening as opening
 pub use Rattle.ipc_state.proofs.SoundOpening.{MayBind, MayJoin, MayStandFor, perm_of-mode}
 pub use Rattle.ipc_state.proofs.SoundQueues.{new_queue-sound}
 pub use Rattle.ipc_state.proofs.SoundSets.{new_set-sound}
+use Rattle.ipc_state.proofs.Detaching.{AreDetached, all-detached, by-detached, each-detached, unmarked-kept}
 use Rattle.ipc_state.proofs.Adjusting.{HasAll, moved, has-new, has-with, has-adjusted, adjusted-by, exit-length, undone-keeps, all-undone-keeps}
 use Rattle.ipc_state.proofs.Adjusting.{each-moved, each-cleared, each-dropped, kept-cleared, none-at, without-same, push-same, each-pushed, seen-keys}
 pub use Rattle.ipc_state.proofs.EntryKeys.{All-seen}
 pub use Rattle.ipc_state.proofs.Ending.{HasSameProcesses, IsGood, as_before, by-finish, refused-good, same-processes, same-but-table, same-connected}
 pub use Rattle.ipc_state.proofs.Ending.{same-awaited, same-objects}
-pub use Rattle.ipc_state.proofs.Changes.{same_in-closed, same_in-exit, same_in-new, same_in-object, same_in-restart, same_in-unlinked}
+pub use Rattle.ipc_state.proofs.Changes.{same_in-closed, same_in-exit, same_in-new, same_in-object, same_in-put, same_in-restart, same_in-unlinked}
 pub use Rattle.ipc_state.proofs.Elsewhere.{before-then, elsewhere-closed, elsewhere-exit, elsewhere-new, elsewhere-object, elsewhere-table, elsewhere-unlinked}
+pub use Rattle.ipc_state.proofs.Elsewhere.{table-objects}
 pub use Rattle.ipc_state.proofs.Numbering.{neither}
 pub use Rattle.ipc_state.proofs.SoundMqs.{is_on-same}
 pub use Rattle.ipc_state.proofs.Steps.{AtEnd, after, after-orelse, after-orstop, after-refuse, after-stop, after-then, at-all, at-failure, at-halt, at-some}
 pub use Rattle.ipc_state.proofs.Steps.{at-value, by-if_some, by-test, may-wait, ok-same}
 pub use Rattle.ipc_state.proofs.Steps.{HasFound, Tested, finishes, has-found, is_blocked, tested, waits-as-tested, waits-blocked, waits-for}
 pub use Rattle.ipc_state.proofs.Steps.{Answered, ends-as, ends-stopped, said, waits-on, AreAlike, alike-waits, orelse-alike, past-alike, same-alike, then-alike}
+pub use Rattle.ipc_state.proofs.Weighing.{AreFewer, fewer-kept, fewer-swept, same-fewer}
 pub use Rattle.ipc_state.proofs.SoundQueues.{queue-numbers, sent-sound, taken-sound, changed-sound}
 pub use Rattle.ipc_state.proofs.SoundSets.{with_value-sound, with_values-sound, carried-sound, changed_set-sound}
 
@@ -164,7 +170,8 @@ module _ (limits : Limits) where
   start-sound =
       let none : (kind : ObjectKind) → AreSound limits [] kind (objects_of start kind) =
       mqs.on-kinds (AreSound limits []) (objects_in start) (mqs.none-sound limits kinds.MsgQueue) (mqs.none-sound limits kinds.Semset)
-      (mqs.none-sound limits kinds.Shm) (mqs.none-sound limits (kinds.Named names.Mq)) (mqs.none-sound limits (kinds.Named names.Psem)) (mqs.none-sound limits (kinds.Named names.Pshm)) in
+      (mqs.none-sound limits kinds.Shm) (mqs.none-sound limits (kinds.Named names.Mq)) (mqs.none-sound limits (kinds.Named names.Psem))
+      (mqs.none-sound limits (kinds.Named names.Pshm)) in
       record {
         processes = record { numbered = none_yet-numbered limits.processes; descriptors = All-nil _ };
         wait = none-waits;
@@ -207,12 +214,19 @@ module _ (limits : Limits) where
       → mqs.AreAllHeld limits ps (with_kind o kinds.Semset m)
   with-sets ps o m h good = opening.others-held limits ps o h kinds.Semset m (λ may n there. cc) (sets-of [] ps.entries m good)
 
+  -- with some segments detached
+  with-segments : (s : State) → HasSoundParts limits s → {segments : Keyed SysSegment} → AreDetached limits s.processes.entries s.shm segments
+      → mqs.AreAllHeld limits s.processes (with_kind (objects_in s) kinds.Shm segments)
+  with-segments s h {segments} detached =
+      opening.others-held limits s.processes (objects_in s) (all-held s h) kinds.Shm segments (λ may n there. detached.there n ∙ there) (detached.sound h.shm)
+
   pub exit-sound : (s : State) (pid : ℕ) → HasSoundParts limits s → HasSoundParts limits (exit s pid)
   exit-sound s pid h =
       let p : ℕ × Undo = (pid, undo_of s pid) in
       let all : HasAll s.semset (undone s.semset p) = undone-keeps (HasAll s.semset) (has-adjusted s.semset) s.semset p (λ k is. is) in
       let good = undone-keeps AreSets adjusted-sound s.semset p (sets-of s.processes.entries [] s.semset h.semset) in
-      let left = with-sets _ _ (undone s.semset p) (mqs.exit-held limits s.processes pid (objects_in s) (all-held s h)) good in
+      let gone = with-segments s h (all-detached limits s.processes.entries s.shm s.clock pid (descriptors_of s.processes.entries pid)) in
+      let left = with-sets _ _ (undone s.semset p) (mqs.exit-held limits s.processes pid _ gone) good in
       record {
         processes = left.processes;
         wait = without-waits (record { 0 = pid }) s.wait h.wait;
@@ -230,7 +244,8 @@ module _ (limits : Limits) where
   pub restart-sound : (s : State) → HasSoundParts limits s → HasSoundParts limits (restart s)
   restart-sound s h =
       let good = all-undone-keeps AreSets adjusted-sound s.semset s.undo (sets-of s.processes.entries [] s.semset h.semset) in
-      let left = with-sets _ _ _ (mqs.restart-held limits s.processes (objects_in s) (all-held s h)) good in
+      let gone = with-segments s h (each-detached limits s.processes.entries s.shm s.clock s.processes.entries) in
+      let left = with-sets _ _ _ (mqs.restart-held limits s.processes _ gone) good in
       record {
         processes = left.processes;
         wait = none-waits;
@@ -265,6 +280,13 @@ module _ (limits : Limits) where
       (λ pid o a h. adjusted-by (λ (t : Keyed Set). (keys_of t.entries ≡ keys_of s.semset.entries) × (t.next ≡ s.semset.next)) pid o a
       (λ e is. (keys_of-with_value nat_eq o.entries a.0.0 (holding e (after_exit e.object a.0.1 a.1 (record { 0 = pid }))) ∙ h.0, h.1)) h)
       s.semset s.undo (refl, refl)
+
+  -- of the segments, each detached by those that had it attached, a restart leaves those that are not marked
+  pub restart-segments : (s : State) → HasSoundParts limits s
+      → (restart s).shm ≡ kept_if (λ (e : ℕ × EntryOf kinds.Shm). not e.1.object.is_marked) (detached_each s.clock s.shm s.processes.entries)
+  restart-segments s h =
+      unmarked-kept limits s.processes.entries (detached_each s.clock s.shm s.processes.entries)
+      ((each-detached limits s.processes.entries s.shm s.clock s.processes.entries).sound h.shm)
 
   -- adjustments at semaphores that are there are no more than there may be semaphores, and so are those of each process
   pub few-at : (s : State) (u : Undo) → HasSoundParts limits s → AreAt s.semset u → fin.len u ≤ limits.semmns
@@ -320,7 +342,7 @@ module _ (limits : Limits) where
 
   -- another object in the place of one that is there, used by others
   pub permitted-sound : (s : State) (kind : ObjectKind) (n : ℕ) (e : EntryOf kind) (perm : Perm) (x : Content kind) → entry_of (objects_of s kind) n ≡ Some e
-      → perm.mode < 512 → is_bound_so kind e.bound perm ≡ true → IsSoundContent limits kind x
+      → perm.mode < 512 → is_bound_so kind e.bound perm x ≡ true → IsSoundContent limits kind x
       → MayStandFor limits s.processes.entries kind (objects_of s kind) n e x → HasSoundParts limits s
       → HasSoundParts limits (with_objects_of s kind (with_entry (objects_of s kind) n (holding (permitting e perm) x)))
   permitted-sound s kind n e perm x is mode so good may h =
@@ -347,7 +369,7 @@ module _ (limits : Limits) where
 
   -- a new object, bound to what names nothing
   pub with_entry-sound : (s : State) (kind : ObjectKind) (e : EntryOf kind) → number_of (same_bound kind) (no_bound kind) (objects_of s kind) e.bound ≡ None
-      → is_full (most_of limits kind) (objects_of s kind) ≡ false → e.perm.mode < 512 → is_bound_so kind e.bound e.perm ≡ true
+      → is_full (most_of limits kind) (objects_of s kind) ≡ false → e.perm.mode < 512 → is_bound_so kind e.bound e.perm e.object ≡ true
       → keeps kind e.bound e.object ≡ true → IsSoundContent limits kind e.object → MayJoin limits kind (objects_of s kind) e.object
       → HasSoundParts limits s → HasSoundParts limits (with_entry_of s kind e)
   with_entry-sound s kind e unused room mode so stays-so good may h =
@@ -357,11 +379,11 @@ module _ (limits : Limits) where
   -- of this owner and mode
   pub with_new-sound : (s : State) (kind : ObjectKind) (b : BoundOf kind) (cred : Cred) (mode : ℕ) (x : Content kind)
       → number_of (same_bound kind) (no_bound kind) (objects_of s kind) b ≡ None → is_full (most_of limits kind) (objects_of s kind) ≡ false
-      → MayBind kind b → IsSoundContent limits kind x → MayJoin limits kind (objects_of s kind) x → HasSoundParts limits s
+      → MayBind kind b x → IsSoundContent limits kind x → MayJoin limits kind (objects_of s kind) x → HasSoundParts limits s
       → HasSoundParts limits (with_new_of s kind b cred mode x)
   with_new-sound s kind b cred mode x unused room proper good may h =
       with_entry-sound s kind (record { bound = b; perm = perm_of cred mode; object = x }) unused room (perm_of-mode cred mode)
-      (opening.bound-new kind b cred mode proper) (opening.keeps-new kind b x proper) good may h
+      (opening.bound-new kind b cred mode x proper) (opening.keeps-new kind b x proper) good may h
 
   -- one that is bound to none any more, and goes if it is not open
   pub unlinked-sound : (s : State) (kind : ObjectKind) (n : ℕ) → may_open kind ≡ true → HasSoundParts limits s → HasSoundParts limits (unlinked s kind n)
@@ -392,6 +414,12 @@ module _ (limits : Limits) where
       → HasSoundParts limits s → IsSoundContent limits kind e.object
   content-sound s kind n e is h = opening.content-of limits s.processes.entries kind (objects_of s kind) (mqs.sound-of limits s h kind) n e is
 
+  -- a System V segment that is marked has no key
+  pub shm-bound : (s : State) (id : ℕ) (e : EntryOf kinds.Shm) → entry_of s.shm id ≡ Some e → HasSoundParts limits s
+      → is_bound_so kinds.Shm e.bound e.perm e.object ≡ true
+  shm-bound s id e is h =
+      All-value_at nat_eq (λ (d : EntryOf kinds.Shm). is_bound_so kinds.Shm d.bound d.perm d.object ≡ true) s.shm.entries id e h.shm.held.forms is
+
   -- numbers are above 0, so that a directory tells them; and each key or name names the object that is bound to it
   pub kind-positive : (s : State) (kind : ObjectKind) → HasSoundParts limits s → ArePositive (objects_of s kind).entries
   kind-positive s kind h =
@@ -421,7 +449,8 @@ module _ (limits : Limits) where
   pub closed-sound : (s : State) (pid fd : ℕ) → HasSoundParts limits s → HasSoundParts limits (closed s pid fd)
   closed-sound s pid fd h =
       set-opened s _ _ h (opening.table-keys s.processes pid (without_value nat_eq (descriptors_of s.processes.entries pid) fd)) h.undo
-      (opening.closed-held limits s.processes pid (objects_in s) (all-held s h) fd)
+      (opening.closed-held limits s.processes pid _
+      (with-segments s h (by-detached limits s.processes.entries s.shm s.clock pid (descriptor_at s.processes.entries pid fd))) fd)
 
   -- what a descriptor of a process is, is sound
   pub descriptor-sound : (s : State) (pid fd : ℕ) (d : Descriptor) → descriptor_at s.processes.entries pid fd ≡ Some d → HasSoundParts limits s
@@ -471,10 +500,25 @@ module _ (limits : Limits) where
 pub restart-twice : (s : State) → restart (restart s) ≡ restart s
 restart-twice s =
     (λ i. record (restart s) {
+      shm = mqs.kept-again (stays kinds.Shm []) (detached_each s.clock s.shm s.processes.entries) i;
       mq = mqs.restarted-again s.mq i;
       psem = mqs.kept-again (stays (kinds.Named names.Psem) []) s.psem i;
       pshm = mqs.kept-again (stays (kinds.Named names.Pshm) []) s.pshm i;
     })
+
+-- a write leaves as many bytes as there were
+pub written-length : (x : Segment) (offset : ℕ) (bytes : List ℕ) → is_within offset (length bytes) x ≡ true
+    → length (written offset bytes x).bytes ≡ length x.bytes
+written-length x offset bytes within =
+    let inside : offset + length bytes ≤ length x.bytes = grind (arith, nat_tests) in
+    omega (
+      arith,
+      inside,
+      length-append (take offset x.bytes) (bytes ++ drop (offset + length bytes) x.bytes),
+      length-append bytes (drop (offset + length bytes) x.bytes),
+      length-take offset x.bytes,
+      length-drop (offset + length bytes) x.bytes,
+    )
 
 -- ---- deadlines
 

@@ -1,6 +1,6 @@
 -- Each object stays what it is, but for the one that a call, a close or an exit changes; it may go.
 use Rattle.std.proofs.Common.{◌≡◌, ◌≢◌, ℕ, ℤ, pos, ◌+◌, Bool, true, false, cond, List, [], ◌∷◌, Option, Some, None, length, refl, sym, ap, subst, ◌∙◌, arith}
-use Rattle.std.specs.Prelude.{◌&&◌, All, nat_eq, filter, is_some, option_map, option_and_then, unwrap_or, if◌then◌else◌}
+use Rattle.std.specs.Prelude.{◌&&◌, ◌||◌, All, nat_eq, filter, is_some, option_map, option_and_then, unwrap_or, if◌then◌else◌}
 use Rattle.std.specs.FinMap as fin
 use Rattle.std.specs.FinMap.{find, get-empty, get-entries, len-empty, len-entries}
 use Rattle.std.specs.Ordering.{is_eq}
@@ -16,6 +16,7 @@ use Rattle.posix_mq.specs.Queue.{Queue as Mq}
 use Rattle.posix_mq.specs.declared.queue.Registration.{Registration}
 use Rattle.sem_undo.specs.Undo.{Key, Undo, adjustment, key_cmp}
 use Rattle.sem_undo.proofs.CallerLemmas.{key_apart}
+use Rattle.shm_segment.specs.SysSegment.{SysSegment}
 use Rattle.sysv_sem.specs.Set.{Set}
 use Rattle.ipc_state.specs.declared.descriptors.Descriptor.{Descriptor}
 use Rattle.ipc_state.specs.declared.parked.Awaited.TheVariants as awaited
@@ -23,18 +24,22 @@ use Rattle.ipc_state.specs.declared.parked.Object.{Object}
 use Rattle.ipc_state.specs.declared.parked.ObjectKind.{ObjectKind}
 use Rattle.ipc_state.specs.declared.parked.ObjectKind.TheVariants as kinds
 use Rattle.ipc_state.specs.declared.processes.Process.{Process}
+use Rattle.ipc_state.specs.Attached.{detached_all, detached_by, detached_each}
 use Rattle.ipc_state.specs.Bound.{holding, putting, rebound, without_bound}
 use Rattle.ipc_state.specs.Keyed.{Keyed, KeyedEntry}
 use Rattle.ipc_state.specs.Kinds.{Content, EntryOf, Objects, Those, each_open, may_open, no_bound, of_kind, parted, with_kind}
 use Rattle.ipc_state.specs.Named.{Named, NamedEntry}
 use Rattle.ipc_state.specs.Numbered.{entry_of, with_entry, with_new}
-use Rattle.ipc_state.specs.Opening.{deregistered, descriptor_at, is_by, is_by_descriptor, is_on, is_registered, object_as, opened_as, same_kind, stays}
+use Rattle.ipc_state.specs.Opening.{deregistered, descriptor_at, descriptors_of, is_by, is_by_descriptor, is_on}
+use Rattle.ipc_state.specs.Opening.{is_registered, object_as, opened_as, same_kind, stays}
 use Rattle.ipc_state.specs.Opening.{still_open, unless_so, without_registrations}
 use Rattle.ipc_state.specs.Sound.{HasSoundParts}
 use Rattle.ipc_state.specs.State.{State, adjusted, closed, exit, objects_in, objects_of, restart, undo_of, undone, unlinked, with_entry_of, with_object_of}
 use Rattle.ipc_state.specs.State.{with_objects_of}
-use Rattle.ipc_state.specs.Touching.{IsSameIn, changes_by_exit, closed_on, is_adjusted, is_adjusted_in, is_made_by, object_of, parted_from}
+use Rattle.ipc_state.specs.Touching.{IsSameIn, changes_by_exit, closed_on, is_adjusted, is_adjusted_in, is_made_by, is_opened_by, is_queue, is_segment}
+use Rattle.ipc_state.specs.Touching.{object_of, parted_from, registration_of}
 use Rattle.ipc_state.proofs.Adjusting.{adjusted-by, all-undone-keeps, seen-keys, undone-keeps}
+use Rattle.ipc_state.proofs.Detaching.{AreDetached, all-apart, all-detached, by-detached, each-apart, each-detached, on-apart}
 use Rattle.ipc_state.proofs.Numbering.{neither}
 use Rattle.ipc_state.proofs.SoundMqs.{both_true, each-holds, is_on-same, put-holds, sound-of}
 use Rattle.ipc_state.proofs.SoundOpening.{All-found}
@@ -190,6 +195,28 @@ unadjusted-none u n num none =
             let one : n ≡ e.0.0 = ap (λ (k : Key). k.0) (key_apart (n, num) e.0 is) in
             absurd (grind (arith, nat_tests))
 
+-- an object that a process has not open, is open by none of its descriptors
+own-unopened : (ps : List (ℕ × Process)) (pid : ℕ) (this : Object) → is_opened_by (Some pid) ps this ≡ false
+    → list_any (λ (d : ℕ × Descriptor). is_on this d.1.on) (descriptors_of ps pid) ≡ false
+own-unopened ps pid this none = by_value (value_at nat_eq ps pid) refl
+  where
+    by_value : (r : Option Process) → value_at nat_eq ps pid ≡ r
+        → list_any (λ (d : ℕ × Descriptor). is_on this d.1.on) (unwrap_or (option_map (λ (p : Process). p.descriptors) r) []) ≡ false
+    by_value None is = refl
+    by_value (Some p) is =
+        sym (ap (λ (b : Bool). b && list_any (λ (d : ℕ × Descriptor). is_on this d.1.on) p.descriptors) (same_key pid))
+        ∙ any-at (λ (q : ℕ × Process). nat_eq pid q.0 && list_any (λ (d : ℕ × Descriptor). is_on this d.1.on) q.1.descriptors) ps pid p is none
+
+-- a segment of this number
+on-segment : (on : Object) (n : ℕ) → same_kind on.kind kinds.Shm ≡ true → on.number ≡ n → on ≡ object_as kinds.Shm n
+on-segment on n same number = λ i. record { kind = by_kind on.kind same i; number = number i }
+  where
+    by_kind : (kind : ObjectKind) → same_kind kind kinds.Shm ≡ true → kind ≡ kinds.Shm
+    by_kind kinds.MsgQueue is = cc
+    by_kind kinds.Semset is = cc
+    by_kind kinds.Shm is = refl
+    by_kind (kinds.Named kind) is = cc
+
 -- ---- each object
 
 -- an object is what it is in a state, if it is one of these of a kind
@@ -268,18 +295,23 @@ module _ (s : State) (o : Object) where
             subst (λ (ks : List ℕ). IsRising 1 ks those.next) (sym (keys_of-with_value nat_eq those.entries n (rebound (parted kind) e (no_bound kind))))
             (rising kind may)
 
-    -- sets are others, registrations go, and objects that are not open
-    left-stays : (left : List (ℕ × Process)) (sets : Keyed Set) (goes : Registration → Bool) → Stays s o kinds.Semset sets
+    -- sets and segments are others, registrations go, and objects that are not open
+    left-stays : (left : List (ℕ × Process)) (sets : Keyed Set) (segments : Keyed SysSegment) (goes : Registration → Bool) → Stays s o kinds.Semset sets
+        → AreDetached limits s.processes.entries s.shm segments → Stays s o kinds.Shm segments
         → ((m : ℕ) → o ≡ opened_as names.Mq m → (d : NamedEntry Mq) → entry_of s.mq m ≡ Some d → deregistered goes d ≡ d) → (kind : ObjectKind)
-        → Stays s o kind (of_kind (each_open (λ k. still_open k left) (with_kind (with_kind (objects_in s) kinds.Semset sets) (kinds.Named names.Mq)
-        (without_registrations goes s.mq))) kind)
-    left-stays left sets goes same stay =
+        → Stays s o kind (of_kind (each_open (λ k. still_open k left) (with_kind (with_kind (with_kind (objects_in s) kinds.Semset sets) kinds.Shm segments)
+        (kinds.Named names.Mq) (without_registrations goes s.mq))) kind)
+    left-stays left sets segments goes same detached alike stay =
         let mqs : Named Mq = without_registrations goes s.mq in
-        let os : Objects = with_kind (objects_in s) kinds.Semset sets in
+        let those : Objects = with_kind (objects_in s) kinds.Semset sets in
+        let os : Objects = with_kind those kinds.Shm segments in
         swept-stays left (with_kind os (kinds.Named names.Mq) mqs)
-        (put-holds AreRising os (kinds.Named names.Mq) mqs (put-holds AreRising (objects_in s) kinds.Semset sets rising (λ may. cc))
+        (put-holds AreRising os (kinds.Named names.Mq) mqs
+        (put-holds AreRising those kinds.Shm segments (put-holds AreRising (objects_in s) kinds.Semset sets rising (λ may. cc))
+        (λ may. subst (λ (n : ℕ). IsRising 1 (keys_of segments.entries) n) (sym detached.next)
+        (subst (λ (ks : List ℕ). IsRising 1 ks s.shm.next) (sym detached.keys) (rising kinds.Shm may))))
         (λ may. subst (λ (ks : List ℕ). IsRising 1 ks s.mq.next) (sym (seen-keys (deregistered goes) s.mq.entries)) (rising (kinds.Named names.Mq) may)))
-        (put-holds (Stays s o) os (kinds.Named names.Mq) mqs (put-stays kinds.Semset sets same)
+        (put-holds (Stays s o) os (kinds.Named names.Mq) mqs (put-holds (Stays s o) those kinds.Shm segments (put-stays kinds.Semset sets same) alike)
         (λ m is e at. by_entry m is e (entry_of s.mq m) refl (sym (at-map (deregistered goes) s.mq.entries m) ∙ at)))
       where
         by_entry : (m : ℕ) → o ≡ opened_as names.Mq m → (e : NamedEntry Mq) (r : Option (NamedEntry Mq)) → entry_of s.mq m ≡ r
@@ -287,10 +319,33 @@ module _ (s : State) (o : Object) where
         by_entry m is e None found at = cc
         by_entry m is e (Some d) found at = found ∙ (ap (λ (f : NamedEntry Mq). Some f) (sym (stay m is d found)) ∙ at)
 
-    -- a descriptor is closed
+    -- a descriptor is closed, and its segment detached
+    closed-apart : (pid fd : ℕ) → closed_on s pid fd ≢ Some o
+        → Stays s o kinds.Shm (detached_by s.clock pid s.shm (descriptor_at s.processes.entries pid fd))
+    closed-apart pid fd apart n is e at = by_value (descriptor_at s.processes.entries pid fd) refl at
+      where
+        changes : (d : Descriptor) → descriptor_at s.processes.entries pid fd ≡ Some d → is_segment d.on.kind ≡ true → closed_on s pid fd ≡ Some d.on
+        changes d found segment =
+            ap (λ (v : Option Descriptor). option_and_then (parted_from s pid fd) (on_of v)) found
+            ∙ ap (λ (b : Bool). if b || is_queue d.on.kind && is_made_by (Some pid) (Some fd) (registration_of s d.on.number) then Some d.on else None) segment
+
+        by_value : (v : Option Descriptor) → descriptor_at s.processes.entries pid fd ≡ v → entry_of (detached_by s.clock pid s.shm v) n ≡ Some e
+            → entry_of s.shm n ≡ Some e
+        by_value None found at = at
+        by_value (Some d) found at = by_test (is_on (object_as kinds.Shm n) d.on) refl
+          where
+            by_test : (b : Bool) → is_on (object_as kinds.Shm n) d.on ≡ b → entry_of s.shm n ≡ Some e
+            by_test true on =
+                let both = both_true (same_kind d.on.kind kinds.Shm) (nat_eq d.on.number n) on in
+                let one : d.on ≡ object_as kinds.Shm n = on-segment d.on n both.0 (grind (arith, nat_tests, both.1)) in
+                absurd (apart (changes d found both.0 ∙ (ap (λ (this : Object). Some this) (one ∙ sym is))))
+            by_test false other = sym (on-apart s.clock n pid s.shm d.on other) ∙ at
+
     pub same_in-closed : (pid fd : ℕ) → closed_on s pid fd ≢ Some o → IsSameIn o s (closed s pid fd)
     same_in-closed pid fd apart =
-        left-stays (closed s pid fd).processes.entries s.semset (is_by (Some pid) (Some fd)) (λ n is e at. at)
+        left-stays (closed s pid fd).processes.entries s.semset (detached_by s.clock pid s.shm (descriptor_at s.processes.entries pid fd))
+        (is_by (Some pid) (Some fd)) (λ n is e at. at)
+        (by-detached limits s.processes.entries s.shm s.clock pid (descriptor_at s.processes.entries pid fd)) (closed-apart pid fd apart)
         (λ m is d found. closed-stays s pid fd m d (h.named names.Mq).together found
         (λ one. apart (one ∙ ap (λ (this : Object). Some this) (sym is)))) o.kind o.number refl
 
@@ -303,8 +358,10 @@ module _ (s : State) (o : Object) where
 
     module _ (pid : Option ℕ) (none : changes_by_exit pid s o ≡ false) where
       unchanged : (list_any (λ (e : ℕ × KeyedEntry Set). is_on (object_as kinds.Semset e.0) o && is_adjusted pid s.undo e.0) s.semset.entries ≡ false)
-          × (list_any (λ (e : ℕ × NamedEntry Mq). is_on (opened_as names.Mq e.0) o && is_made_by pid None e.1.object.registration) s.mq.entries ≡ false)
-      unchanged = neither _ _ none
+          × ((list_any (λ (e : ℕ × KeyedEntry SysSegment).
+          is_on (object_as kinds.Shm e.0) o && is_opened_by pid s.processes.entries (object_as kinds.Shm e.0)) s.shm.entries ≡ false)
+          × (list_any (λ (e : ℕ × NamedEntry Mq). is_on (opened_as names.Mq e.0) o && is_made_by pid None e.1.object.registration) s.mq.entries ≡ false))
+      unchanged = let both = neither _ _ none in let keyed = neither _ _ both.0 in (keyed.0, (keyed.1, both.1))
 
       -- a set that is there has no adjustment of it
       pub unadjusted : (n : ℕ) → o ≡ object_as kinds.Semset n → (e : KeyedEntry Set) → entry_of s.semset n ≡ Some e → is_adjusted pid s.undo n ≡ false
@@ -312,13 +369,21 @@ module _ (s : State) (o : Object) where
           at-object (object_as kinds.Semset n) (is_adjusted pid s.undo n) is
           (any-at (λ (e : ℕ × KeyedEntry Set). is_on (object_as kinds.Semset e.0) o && is_adjusted pid s.undo e.0) s.semset.entries n e found unchanged.0)
 
+      -- a segment is not attached by it
+      unattached : (n : ℕ) → o ≡ object_as kinds.Shm n → (e : KeyedEntry SysSegment) → entry_of s.shm n ≡ Some e
+          → is_opened_by pid s.processes.entries (object_as kinds.Shm n) ≡ false
+      unattached n is e found =
+          at-object (object_as kinds.Shm n) (is_opened_by pid s.processes.entries (object_as kinds.Shm n)) is
+          (any-at (λ (e : ℕ × KeyedEntry SysSegment).
+          is_on (object_as kinds.Shm e.0) o && is_opened_by pid s.processes.entries (object_as kinds.Shm e.0)) s.shm.entries n e found unchanged.1.0)
+
       -- and a queue no registration
       pub unregistered : (m : ℕ) → o ≡ opened_as names.Mq m → (d : NamedEntry Mq) → entry_of s.mq m ≡ Some d → deregistered (is_by pid None) d ≡ d
       unregistered m is d found =
           ap (λ (r : Option Registration). let e : NamedEntry Mq = record d { object = record d.object { registration = r } } in e)
           (unmade-stays pid None d.object.registration (at-object (opened_as names.Mq m) (is_made_by pid None d.object.registration) is
           (any-at (λ (e : ℕ × NamedEntry Mq).
-          is_on (opened_as names.Mq e.0) o && is_made_by pid None e.1.object.registration) s.mq.entries m d found unchanged.1)))
+          is_on (opened_as names.Mq e.0) o && is_made_by pid None e.1.object.registration) s.mq.entries m d found unchanged.1.1)))
 
       sets-stay : (sets : Keyed Set) → ((n : ℕ) → is_adjusted pid s.undo n ≡ false → entry_of sets n ≡ entry_of s.semset n)
           → ((n : ℕ) → entry_of s.semset n ≡ None → entry_of sets n ≡ None) → Stays s o kinds.Semset sets
@@ -328,11 +393,23 @@ module _ (s : State) (o : Object) where
           by_entry None found = let no = gone n found in cc
           by_entry (Some d) found = sym (apart n (unadjusted n is d found)) ∙ at
 
-      exit-stays : (left : List (ℕ × Process)) (sets : Keyed Set) → ((n : ℕ) → is_adjusted pid s.undo n ≡ false → entry_of sets n ≡ entry_of s.semset n)
-          → ((n : ℕ) → entry_of s.semset n ≡ None → entry_of sets n ≡ None) → (kind : ObjectKind)
-          → Stays s o kind (of_kind (each_open (λ k. still_open k left) (with_kind (with_kind (objects_in s) kinds.Semset sets) (kinds.Named names.Mq)
-          (without_registrations (is_by pid None) s.mq))) kind)
-      exit-stays left sets apart gone = left-stays left sets (is_by pid None) (sets-stay sets apart gone) unregistered
+      segments-stay : (segments : Keyed SysSegment) → AreDetached limits s.processes.entries s.shm segments
+          → ((n : ℕ) → is_opened_by pid s.processes.entries (object_as kinds.Shm n) ≡ false → entry_of segments n ≡ entry_of s.shm n)
+          → Stays s o kinds.Shm segments
+      segments-stay segments detached apart n is e at = by_entry (entry_of s.shm n) refl
+        where
+          by_entry : (r : Option (KeyedEntry SysSegment)) → entry_of s.shm n ≡ r → entry_of s.shm n ≡ Some e
+          by_entry None found = let no = sym (ap is_some at) ∙ (detached.there n ∙ ap is_some found) in cc
+          by_entry (Some d) found = sym (apart n (unattached n is d found)) ∙ at
+
+      exit-stays : (left : List (ℕ × Process)) (sets : Keyed Set) (segments : Keyed SysSegment)
+          → ((n : ℕ) → is_adjusted pid s.undo n ≡ false → entry_of sets n ≡ entry_of s.semset n)
+          → ((n : ℕ) → entry_of s.semset n ≡ None → entry_of sets n ≡ None) → AreDetached limits s.processes.entries s.shm segments
+          → ((n : ℕ) → is_opened_by pid s.processes.entries (object_as kinds.Shm n) ≡ false → entry_of segments n ≡ entry_of s.shm n) → (kind : ObjectKind)
+          → Stays s o kind (of_kind (each_open (λ k. still_open k left) (with_kind (with_kind (with_kind (objects_in s) kinds.Semset sets) kinds.Shm segments)
+          (kinds.Named names.Mq) (without_registrations (is_by pid None) s.mq))) kind)
+      exit-stays left sets segments apart gone detached alike =
+          left-stays left sets segments (is_by pid None) (sets-stay sets apart gone) detached (segments-stay segments detached alike) unregistered
 
     -- what is not there does not come
     still-gone : (n q : ℕ) (sets : Keyed Set) (a : Key × ℤ) → entry_of sets n ≡ None → entry_of (adjusted q sets a) n ≡ None
@@ -343,12 +420,16 @@ module _ (s : State) (o : Object) where
     pub same_in-exit : (pid : ℕ) → changes_by_exit (Some pid) s o ≡ false → IsSameIn o s (exit s pid)
     same_in-exit pid none =
         exit-stays (Some pid) none (exit s pid).processes.entries (undone s.semset (pid, undo_of s pid))
+        (detached_all s.clock pid s.shm (descriptors_of s.processes.entries pid))
         (λ n is. undone-apart s.semset (pid, undo_of s pid) n (own-unadjusted s.undo pid n is))
         (λ n gone. undone-keeps (λ (os : Keyed Set). entry_of os n ≡ None) (λ q os a. still-gone n q os a) s.semset (pid, undo_of s pid) gone)
+        (all-detached limits s.processes.entries s.shm s.clock pid (descriptors_of s.processes.entries pid))
+        (λ n is. all-apart s.clock n pid s.shm (descriptors_of s.processes.entries pid) (own-unopened s.processes.entries pid (object_as kinds.Shm n) is))
         o.kind o.number refl
 
     pub same_in-restart : changes_by_exit None s o ≡ false → IsSameIn o s (restart s)
     same_in-restart none =
-        exit-stays None none [] (fold undone s.semset s.undo) (λ n is. all-undone-apart s.semset s.undo n is)
+        exit-stays None none [] (fold undone s.semset s.undo) (detached_each s.clock s.shm s.processes.entries) (λ n is. all-undone-apart s.semset s.undo n is)
         (λ n gone. all-undone-keeps (λ (os : Keyed Set). entry_of os n ≡ None) (λ q os a. still-gone n q os a) s.semset s.undo gone)
+        (each-detached limits s.processes.entries s.shm s.clock s.processes.entries) (λ n is. each-apart s.clock n s.shm s.processes.entries is)
         o.kind o.number refl

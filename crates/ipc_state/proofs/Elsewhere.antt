@@ -22,6 +22,7 @@ use Rattle.ipc_state.specs.declared.parked.ObjectKind.{ObjectKind}
 use Rattle.ipc_state.specs.declared.parked.ObjectKind.TheVariants as kinds
 use Rattle.ipc_state.specs.declared.processes.Process.{Process}
 use Rattle.ipc_state.specs.Descriptors.{Table}
+use Rattle.ipc_state.specs.Attached.{detached_all, detached_by}
 use Rattle.ipc_state.specs.Bound.{ObjectsOf, holding, putting, rebound, unbound, without_bound}
 use Rattle.ipc_state.specs.Keyed.{Keyed, KeyedEntry}
 use Rattle.ipc_state.specs.Kinds.{Content, EntryOf, Objects, Those, each_open, has_access, may_open, no_bound, of_kind, parted, with_kind}
@@ -99,20 +100,20 @@ same-unbound {B} {X} f none kept o n m = same (entry_of o n) refl
 parted-same : (kind : ObjectKind) → is_awaited kind ≡ true → (x : Content kind) → parted kind x ≡ x
 parted-same kinds.MsgQueue may x = refl
 parted-same kinds.Semset may x = refl
-parted-same kinds.Shm may x = refl
+parted-same kinds.Shm may x = cc
 parted-same (kinds.Named kind) may x = refl
 
 -- others of a kind that may be open leave the queues and the sets of System V
 pub open-msg : (o : Objects) (kind : ObjectKind) (m : Those kind) → may_open kind ≡ true → (with_kind o kind m).msg ≡ o.msg
 open-msg o kinds.MsgQueue m may = cc
 open-msg o kinds.Semset m may = cc
-open-msg o kinds.Shm m may = cc
+open-msg o kinds.Shm m may = refl
 open-msg o (kinds.Named kind) m may = refl
 
 pub open-semset : (o : Objects) (kind : ObjectKind) (m : Those kind) → may_open kind ≡ true → (with_kind o kind m).semset ≡ o.semset
 open-semset o kinds.MsgQueue m may = cc
 open-semset o kinds.Semset m may = cc
-open-semset o kinds.Shm m may = cc
+open-semset o kinds.Shm m may = refl
 open-semset o (kinds.Named kind) m may = refl
 
 -- what a call may wait on is what it was
@@ -151,6 +152,12 @@ elsewhere-table s pid table p (awaited.Descriptor fd) other = (
   ap (λ (r : Option Process). value_at nat_eq (table_in r) fd) (opening.table-other s.processes pid table p other),
   λ kind m may is. refl,
 )
+
+-- so it has the same objects
+pub table-objects : (s : State) (pid : ℕ) (table : Table) (p : ℕ) → p ≢ pid → (on : Awaited) → object_of (with_descriptors s pid table) p on ≡ object_of s p on
+table-objects s pid table p other (awaited.MsgQueue id) = refl
+table-objects s pid table p other (awaited.Semset id) = refl
+table-objects s pid table p other (awaited.Descriptor fd) = ap on_of (elsewhere-table s pid table p (awaited.Descriptor fd) other).0
 
 module _ (limits : Limits) (s : State) (h : HasSoundParts limits s) where
   -- what a descriptor is open on is there
@@ -225,11 +232,13 @@ module _ (limits : Limits) (s : State) (h : HasSoundParts limits s) where
   elsewhere-closed pid fd p (awaited.Semset id) other apart = (refl, λ q num. refl)
   elsewhere-closed pid fd p (awaited.Descriptor k) other apart =
       let table : Table = without nat_eq (descriptors_of s.processes.entries pid) fd in
+      let those : Objects = with_kind (objects_in s) kinds.Shm (detached_by s.clock pid s.shm (descriptor_at s.processes.entries pid fd)) in
       let same : descriptor_at (with_table s.processes pid table).entries p k ≡ descriptor_at s.processes.entries p k =
       ap (λ (r : Option Process). value_at nat_eq (table_in r) k) (opening.table-other s.processes pid table p other) in (
         same,
-        swept-same (with_table s.processes pid table).entries (without_goers (is_by (Some pid) (Some fd)) (objects_in s)) p k same
-            (put-holds (Same s p k) (objects_in s) (kinds.Named names.Mq) (without_registrations (is_by (Some pid) (Some fd)) s.mq) (λ kind m may is. refl)
+        swept-same (with_table s.processes pid table).entries (without_goers (is_by (Some pid) (Some fd)) those) p k same
+            (put-holds (Same s p k) those (kinds.Named names.Mq) (without_registrations (is_by (Some pid) (Some fd)) s.mq)
+            (put-holds (Same s p k) (objects_in s) kinds.Shm those.shm (λ kind m may is. refl) (λ m may is. cc))
             (same-queues p k (is_by (Some pid) (Some fd))
             (λ m e is found. closed-stays s pid fd m e (h.named names.Mq).together found (λ one. apart (one ∙ sym is))))),
       )
@@ -267,12 +276,14 @@ module _ (limits : Limits) (s : State) (h : HasSoundParts limits s) where
   elsewhere-exit pid p (awaited.Descriptor k) other none there =
       let left : List (ℕ × Process) = without nat_eq s.processes.entries pid in
       let sets : Objects = with_kind (objects_in s) kinds.Semset (undone s.semset (pid, undo_of s pid)) in
+      let those : Objects = with_kind sets kinds.Shm (detached_all s.clock pid s.shm (descriptors_of s.processes.entries pid)) in
       let same : descriptor_at left p k ≡ descriptor_at s.processes.entries p k =
       ap (λ (r : Option Process). value_at nat_eq (table_in r) k) (value_at-without s.processes.entries pid p other) in (
         same,
-        swept-same left (without_goers (is_by (Some pid) None) sets) p k same
-            (put-holds (Same s p k) sets (kinds.Named names.Mq) (without_registrations (is_by (Some pid) None) s.mq)
-            (put-holds (Same s p k) (objects_in s) kinds.Semset sets.semset (λ kind m may is. refl) (λ m may is. cc))
+        swept-same left (without_goers (is_by (Some pid) None) those) p k same
+            (put-holds (Same s p k) those (kinds.Named names.Mq) (without_registrations (is_by (Some pid) None) s.mq)
+            (put-holds (Same s p k) sets kinds.Shm those.shm
+            (put-holds (Same s p k) (objects_in s) kinds.Semset sets.semset (λ kind m may is. refl) (λ m may is. cc)) (λ m may is. cc))
             (same-queues p k (is_by (Some pid) None)
             (λ m e is found. unregistered s (opened_as names.Mq m) limits h (Some pid) (none (opened_as names.Mq m) is) m refl e found))),
       )

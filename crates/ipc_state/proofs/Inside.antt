@@ -31,16 +31,16 @@ with_undo_in s undo place =
     record v {
       state = record v.state { undo = undo };
       ready = ready_of (is_some s.fresh && (has_place s.processes && place)) (option_map (λ r. r.0) s.msg.ready)
-          (option_map (λ r. (r.0, length r.1.semaphores)) s.semset.ready) (option_map (λ r. r.0) s.mq.ready) (option_map (λ r. r.0) s.psem.ready)
-          (option_map (λ r. r.0) s.pshm.ready) s.zeros;
+          (option_map (λ r. (r.0, length r.1.semaphores)) s.semset.ready) (option_map (λ r. (r.0, r.1.memory)) s.shm.ready)
+          (option_map (λ r. r.0) s.mq.ready) (option_map (λ r. r.0) s.psem.ready) (option_map (λ r. r.0) s.pshm.ready) s.zeros;
     }
 
 -- what is reserved stands ready in its part
 abbrev pub HasReadyIn : Inside → Ready → Type 0
 HasReadyIn s r =
     HasReady r (is_some s.fresh && (has_place s.processes && has_place s.undo)) (option_map (λ r. r.0) s.msg.ready)
-    (option_map (λ r. (r.0, length r.1.semaphores)) s.semset.ready) (option_map (λ r. r.0) s.mq.ready) (option_map (λ r. r.0) s.psem.ready)
-    (option_map (λ r. r.0) s.pshm.ready) s.zeros
+    (option_map (λ r. (r.0, length r.1.semaphores)) s.semset.ready) (option_map (λ r. (r.0, r.1.memory)) s.shm.ready)
+    (option_map (λ r. r.0) s.mq.ready) (option_map (λ r. r.0) s.psem.ready) (option_map (λ r. r.0) s.pshm.ready) s.zeros
 
 pub ready-in : (s : Inside) (r : Ready) → (the_view s).ready ≡ r → HasReadyIn s r
-ready-in s r is = subst (HasReadyIn s) is (ready-there _ _ _ _ _ _ _)
+ready-in s r is = subst (HasReadyIn s) is (ready-there _ _ _ _ _ _ _ _)

@@ -8,6 +8,7 @@ mod SoundQueues
 mod SoundSets
 mod SoundMqs
 mod SoundOpening
+mod Detaching
 mod Changes
 mod Elsewhere
 mod Ending
@@ -18,8 +19,10 @@ mod Lent
 mod Adjusting
 mod Clearing
 mod Few
+mod Attachments
 mod Inside
 mod Opening
 mod Steps
 mod Walks
+mod Weighing
 mod Demands

@@ -5,7 +5,6 @@ use Rattle.std.proofs.lemmas.Bool.Decides.{nat_tests}
 use Rattle.ipc_base.specs.Table.{keys_of, IsRising}
 use Rattle.ipc_base.proofs.CallerLemmas.{rising-bounds}
 use Rattle.shm_segment.specs.Segment.{Segment}
-use Rattle.sysv_sem.specs.Set.{Set}
 use Rattle.ipc_state.specs.Held.{Ready, ready_of}
 use Rattle.ipc_state.specs.Bound.{ObjectsOf, number_of}
 use Rattle.ipc_state.specs.Directory.{ArePositive}
@@ -14,39 +13,43 @@ use Rattle.ipc_state.specs.Tables.{HeldObjects}
 use Rattle.ipc_state.proofs.Directories.{named-positive}
 use Rattle.ipc_state.proofs.EntryKeys.{Bounds}
 use Rattle.ipc_state.proofs.Numbering.{neither}
-use Rattle.ipc_state.specs.Held.Ready.{Nothing, Process, MsgQueue, Semset, Mq, Psem, Pshm, Zeros}
+use Rattle.ipc_state.specs.Held.Ready.{Nothing, Process, MsgQueue, Semset, Shm, Mq, Psem, Pshm, Zeros}
 
 -- no part has anything
-pub record NoneReady (p : Bool) (a : Option ℤ) (b : Option (ℤ × ℕ)) (c d e : Option (List ℕ)) (z : Option Segment) : Type 0 where
+pub record NoneReady (p : Bool) (a : Option ℤ) (b : Option (ℤ × ℕ)) (s : Option (ℤ × Segment)) (c d e : Option (List ℕ)) (z : Option Segment) : Type 0 where
   pub process : p ≡ false
   pub msg_queue : a ≡ None
   pub semset : b ≡ None
+  pub shm : s ≡ None
   pub mq : c ≡ None
   pub psem : d ≡ None
   pub pshm : e ≡ None
   pub zeros : z ≡ None
 
-abbrev pub HasReady : Ready → Bool → Option ℤ → Option (ℤ × ℕ) → Option (List ℕ) → Option (List ℕ) → Option (List ℕ) → Option Segment → Type 0
-HasReady Nothing p a b c d e z = NoneReady p a b c d e z
-HasReady Process p a b c d e z = p ≡ true
-HasReady (MsgQueue key) p a b c d e z = a ≡ Some key
-HasReady (Semset key nsems) p a b c d e z = b ≡ Some (key, nsems)
-HasReady (Mq name) p a b c d e z = c ≡ Some name
-HasReady (Psem name) p a b c d e z = d ≡ Some name
-HasReady (Pshm name) p a b c d e z = e ≡ Some name
-HasReady (Zeros zeros) p a b c d e z = z ≡ Some zeros
+abbrev pub HasReady : Ready → Bool → Option ℤ → Option (ℤ × ℕ) → Option (ℤ × Segment) → Option (List ℕ) → Option (List ℕ) → Option (List ℕ)
+    → Option Segment → Type 0
+HasReady Nothing p a b s c d e z = NoneReady p a b s c d e z
+HasReady Process p a b s c d e z = p ≡ true
+HasReady (MsgQueue key) p a b s c d e z = a ≡ Some key
+HasReady (Semset key nsems) p a b s c d e z = b ≡ Some (key, nsems)
+HasReady (Shm key zeros) p a b s c d e z = s ≡ Some (key, zeros)
+HasReady (Mq name) p a b s c d e z = c ≡ Some name
+HasReady (Psem name) p a b s c d e z = d ≡ Some name
+HasReady (Pshm name) p a b s c d e z = e ≡ Some name
+HasReady (Zeros zeros) p a b s c d e z = z ≡ Some zeros
 
-pub ready-there : (p : Bool) (a : Option ℤ) (b : Option (ℤ × ℕ)) (c d e : Option (List ℕ)) (z : Option Segment)
-    → HasReady (ready_of p a b c d e z) p a b c d e z
-ready-there true _ _ _ _ _ _ = refl
-ready-there false (Some _) _ _ _ _ _ = refl
-ready-there false None (Some _) _ _ _ _ = refl
-ready-there false None None (Some _) _ _ _ = refl
-ready-there false None None None (Some _) _ _ = refl
-ready-there false None None None None (Some _) _ = refl
-ready-there false None None None None None (Some _) = refl
-ready-there false None None None None None None =
-    record { process = refl; msg_queue = refl; semset = refl; mq = refl; psem = refl; pshm = refl; zeros = refl }
+pub ready-there : (p : Bool) (a : Option ℤ) (b : Option (ℤ × ℕ)) (s : Option (ℤ × Segment)) (c d e : Option (List ℕ)) (z : Option Segment)
+    → HasReady (ready_of p a b s c d e z) p a b s c d e z
+ready-there true _ _ _ _ _ _ _ = refl
+ready-there false (Some _) _ _ _ _ _ _ = refl
+ready-there false None (Some _) _ _ _ _ _ = refl
+ready-there false None None (Some _) _ _ _ _ = refl
+ready-there false None None None (Some _) _ _ _ = refl
+ready-there false None None None None (Some _) _ _ = refl
+ready-there false None None None None None (Some _) _ = refl
+ready-there false None None None None None None (Some _) = refl
+ready-there false None None None None None None None =
+    record { process = refl; msg_queue = refl; semset = refl; shm = refl; mq = refl; psem = refl; pshm = refl; zeros = refl }
 
 -- under this key nothing stands, the numbers are in order, and one more may come
 abbrev pub MayCome : {B X : Type 0} → Bounds B → ℕ → ObjectsOf B X → B → Type 0
@@ -89,8 +92,8 @@ come {B} {X} ready key made new want mine is put = by_ready ready refl mine put
         let same : s.0 ≡ key = cc in
         put ∙ (ap (λ (k : B). made (k, s.1)) same ∙ is s.1 (at ∙ ap (λ (k : B). Some (k, s.1)) same))
 
--- a set that is ready has a key, and so many semaphores
-pub set-key : (ready : Option (ℤ × Set)) (key : ℤ) (nsems : ℕ) → option_map {U = ℤ × ℕ} (λ r. (r.0, length r.1.semaphores)) ready ≡ Some (key, nsems)
+-- what is ready has a key, as it is seen with its key
+pub asked-key : {X Y : Type 0} (f : X → Y) (ready : Option (ℤ × X)) (key : ℤ) (y : Y) → option_map {U = ℤ × Y} (λ r. (r.0, f r.1)) ready ≡ Some (key, y)
     → option_map (λ r. r.0) ready ≡ Some key
-set-key None key nsems is = cc
-set-key (Some r) key nsems is = ap (option_map {U = ℤ} (λ (a : ℤ × ℕ). a.0)) is
+asked-key f None key y is = cc
+asked-key {X} {Y} f (Some r) key y is = ap (option_map {U = ℤ} (λ (a : ℤ × Y). a.0)) is

@@ -122,7 +122,7 @@ is_on-same on = rw (kind-itself on.kind) (grind (arith, nat_tests))
 access-opens : (kind : ObjectKind) (flags : ℕ) → has_access kind flags ≡ true → may_open kind ≡ true
 access-opens kinds.MsgQueue flags is = cc
 access-opens kinds.Semset flags is = cc
-access-opens kinds.Shm flags is = cc
+access-opens kinds.Shm flags is = refl
 access-opens (kinds.Named kind) flags is = refl
 
 -- an object of a kind that may be open is there among others too
@@ -183,14 +183,14 @@ bound-keeps b k leaves some = first _ _ (by_test (b.same k b.none) refl)
 keeps-closed : (kind : ObjectKind) (b : BoundOf kind) (x : Content kind) → may_open kind ≡ false → keeps kind b x ≡ true
 keeps-closed kinds.MsgQueue b x closed = either _ _ refl
 keeps-closed kinds.Semset b x closed = either _ _ refl
-keeps-closed kinds.Shm b x closed = either _ _ refl
+keeps-closed kinds.Shm b x closed = cc
 keeps-closed (kinds.Named kind) b x closed = cc
 
-bound-closed : (kind : ObjectKind) (b : BoundOf kind) (perm : Perm) → may_open kind ≡ false → is_bound_so kind b perm ≡ true
-bound-closed kinds.MsgQueue b perm closed = refl
-bound-closed kinds.Semset b perm closed = refl
-bound-closed kinds.Shm b perm closed = refl
-bound-closed (kinds.Named kind) b perm closed = cc
+bound-closed : (kind : ObjectKind) (b : BoundOf kind) (perm : Perm) (x : Content kind) → may_open kind ≡ false → is_bound_so kind b perm x ≡ true
+bound-closed kinds.MsgQueue b perm x closed = refl
+bound-closed kinds.Semset b perm x closed = refl
+bound-closed kinds.Shm b perm x closed = cc
+bound-closed (kinds.Named kind) b perm x closed = cc
 
 -- what holds of each kind with a name
 pub on-names : (P : NameKind → Type 0) → P names.Mq → P names.Psem → P names.Pshm → (kind : NameKind) → P kind
@@ -238,7 +238,7 @@ module _ (P : (kind : ObjectKind) → Those kind → Type 0) (o : Objects) where
   pub each-holds : (f : (kind : ObjectKind) → Those kind → Those kind) → ((kind : ObjectKind) → may_open kind ≡ true → P kind (f kind (of_kind o kind)))
       → ((kind : ObjectKind) → may_open kind ≡ false → P kind (of_kind o kind)) → (kind : ObjectKind) → P kind (of_kind (each_open f o) kind)
   each-holds f may never =
-      on-kinds P (each_open f o) (never kinds.MsgQueue refl) (never kinds.Semset refl) (never kinds.Shm refl) (may (kinds.Named names.Mq) refl)
+      on-kinds P (each_open f o) (never kinds.MsgQueue refl) (never kinds.Semset refl) (may kinds.Shm refl) (may (kinds.Named names.Mq) refl)
       (may (kinds.Named names.Psem) refl) (may (kinds.Named names.Pshm) refl)
 
 -- what is left of some has together no more than all of them
@@ -349,7 +349,7 @@ filter-seen {X} {Y} test row (x ∷ xs) = by_test (test (row x)) (filter-seen te
 -- objects of a kind of which some may have to go: all holds, but that each stays
 pub record MayGo (limits : Limits) (ps : List (ℕ × Process)) (kind : ObjectKind) (o : Those kind) : Type 0 where
   pub bound : AreBound (same_bound kind) (no_bound kind) (most_of limits kind) (IsSoundContent limits kind) o
-  pub forms : All (λ e. is_bound_so kind e.1.bound e.1.perm ≡ true) o.entries
+  pub forms : All (λ e. is_bound_so kind e.1.bound e.1.perm e.1.object ≡ true) o.entries
   pub together : AreSoundTogether limits ps kind o
 
 module _ (limits : Limits) (kind : ObjectKind) where
@@ -380,7 +380,7 @@ module _ (limits : Limits) (kind : ObjectKind) where
         held = record {
           bound = kept_if-bound (bounds_of kind) (most_of limits kind) (IsSoundContent limits kind) (stays kind ps)
               (λ e some. first _ _ (bound-keeps (bounds_of kind) e.1.bound (leaves kind e.1.object) some)) o h.bound;
-          forms = All-filter (stays kind ps) (λ (e : ℕ × EntryOf kind). is_bound_so kind e.1.bound e.1.perm ≡ true) o.entries h.forms;
+          forms = All-filter (stays kind ps) (λ (e : ℕ × EntryOf kind). is_bound_so kind e.1.bound e.1.perm e.1.object ≡ true) o.entries h.forms;
           stay = All-passed (stays kind ps) o.entries;
         };
         together = together-left ps (stays kind ps) o h.together;
@@ -393,7 +393,7 @@ module _ (limits : Limits) (kind : ObjectKind) where
       record {
         held = record {
           bound = bound;
-          forms = λ k d within. bound-closed kind (get_or o.entries k d).1.bound (get_or o.entries k d).1.perm never;
+          forms = λ k d within. let e = (get_or o.entries k d).1 in bound-closed kind e.bound e.perm e.object never;
           stay = λ k d within. first _ _ (keeps-closed kind (get_or o.entries k d).1.bound (get_or o.entries k d).1.object never);
         };
         together = together;

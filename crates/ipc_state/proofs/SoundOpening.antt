@@ -1,8 +1,9 @@
 -- POSIX queues, and the descriptors that are open on them, stay sound as queues come and change and lose their names, and
 -- as descriptors are opened, changed and closed.
 use Rattle.std.proofs.Common.{◌≡◌, ◌≢◌, ℕ, ◌<◌, pos, Bool, true, false, cond, List, [], ◌∷◌, length, Option, Some, None, inl, refl, sym, ap, subst, ◌∙◌, arith}
-use Rattle.std.specs.Prelude.{⊤, ◌+◌, ◌-◌, ◌≤◌, All, is_some, ◌||◌, ◌&&◌, nat_eq, nat_lt, option_map, sum_by, unwrap_or, if◌then◌else◌}
+use Rattle.std.specs.Prelude.{⊤, ◌+◌, ◌-◌, ◌≤◌, All, is_some, not, ◌||◌, ◌&&◌, nat_eq, nat_lt, option_map, sum_by, unwrap_or, if◌then◌else◌}
 use Rattle.std.specs.List.{list_any}
+use Rattle.std.specs.Ordering.{int_eq}
 use Rattle.std.specs.Result.{is_ok}
 use Rattle.std.proofs.lemmas.Bool.Decides.{nat_tests}
 use Rattle.std.proofs.lemmas.List.Sums.{sum_by-append, sum_by-cons}
@@ -20,7 +21,7 @@ use Rattle.ipc_keys.specs.declared.check.NameKind.TheVariants as names
 use Rattle.posix_mq.specs.Queue.{Queue as Mq}
 use Rattle.posix_mq.specs.declared.queue.Registration.{Registration}
 use Rattle.shm_segment.specs.Segment.{Segment}
-use Rattle.shm_segment.specs.SysSegment.{SysSegment}
+use Rattle.shm_segment.specs.SysSegment.{SysSegment, marked}
 use Rattle.sysv_sem.specs.Set.{Set}
 use Rattle.ipc_state.specs.declared.descriptors.Descriptor.{Descriptor}
 use Rattle.ipc_state.specs.declared.objects.Entry.{Entry}
@@ -93,24 +94,26 @@ pub perm_of-mode : (cred : Cred) (flags : ℕ) → (perm_of cred flags).mode < 5
 perm_of-mode cred flags = omega (arith, and_le_r flags 511)
 
 -- a new object of a kind may be bound so
-abbrev pub MayBind : (kind : ObjectKind) → BoundOf kind → Type 0
-MayBind kinds.MsgQueue key = ⊤
-MayBind kinds.Semset key = ⊤
-MayBind kinds.Shm key = ⊤
-MayBind (kinds.Named kind) name = is_ok (check_name kind name) ≡ true
+abbrev pub MayBind : (kind : ObjectKind) → BoundOf kind → Content kind → Type 0
+MayBind kinds.MsgQueue key q = ⊤
+MayBind kinds.Semset key s = ⊤
+MayBind kinds.Shm key x = x.is_marked ≡ false
+MayBind (kinds.Named kind) name x = is_ok (check_name kind name) ≡ true
 
-pub bound-new : (kind : ObjectKind) (b : BoundOf kind) (cred : Cred) (mode : ℕ) → MayBind kind b → is_bound_so kind b (perm_of cred mode) ≡ true
-bound-new kinds.MsgQueue b cred mode may = refl
-bound-new kinds.Semset b cred mode may = refl
-bound-new kinds.Shm b cred mode may = refl
-bound-new (kinds.Named kind) b cred mode may = rw (either (is_none b) _ may) (own-new cred mode)
+pub bound-new : (kind : ObjectKind) (b : BoundOf kind) (cred : Cred) (mode : ℕ) (x : Content kind) → MayBind kind b x
+    → is_bound_so kind b (perm_of cred mode) x ≡ true
+bound-new kinds.MsgQueue b cred mode x may = refl
+bound-new kinds.Semset b cred mode x may = refl
+bound-new kinds.Shm b cred mode x may = first _ _ (ap not may)
+bound-new (kinds.Named kind) b cred mode x may = rw (either (is_none b) _ may) (own-new cred mode)
 
 -- what is bound to none any more is bound so too
-bound-none : (kind : ObjectKind) (b : BoundOf kind) (perm : Perm) → is_bound_so kind b perm ≡ true → is_bound_so kind (no_bound kind) perm ≡ true
-bound-none kinds.MsgQueue b perm so = refl
-bound-none kinds.Semset b perm so = refl
-bound-none kinds.Shm b perm so = refl
-bound-none (kinds.Named kind) b perm so = (both_true _ _ so).1
+bound-none : (kind : ObjectKind) (b : BoundOf kind) (perm : Perm) (x : Content kind) → is_bound_so kind b perm x ≡ true
+    → is_bound_so kind (no_bound kind) perm (parted kind x) ≡ true
+bound-none kinds.MsgQueue b perm x so = refl
+bound-none kinds.Semset b perm x so = refl
+bound-none kinds.Shm b perm x so = refl
+bound-none (kinds.Named kind) b perm x so = (both_true _ _ so).1
 
 -- what holds of what an entry becomes holds when it is bound to none
 unbound-all : {B X : Type 0} (f : X → X) (none : B) (o : ObjectsOf B X) (n : ℕ) (Q : ℕ × Entry B X → Type 0)
@@ -168,7 +171,7 @@ memory x = length x.memory.bytes
 abbrev pub MayStandFor : Limits → List (ℕ × Process) → (kind : ObjectKind) → Those kind → ℕ → EntryOf kind → Content kind → Type 0
 MayStandFor limits ps kinds.MsgQueue o n e q = ⊤
 MayStandFor limits ps kinds.Semset o n e x = length x.semaphores ≡ length e.object.semaphores
-MayStandFor limits ps kinds.Shm o n e x = memory x ≡ memory e.object
+MayStandFor limits ps kinds.Shm o n e x = (memory x ≡ memory e.object) × (x.is_marked ≡ e.object.is_marked)
 MayStandFor limits ps (kinds.Named names.Mq) o n e q = is_by_descriptor ps n q.registration ≡ true
 MayStandFor limits ps (kinds.Named names.Psem) o n e value = ⊤
 MayStandFor limits ps (kinds.Named names.Pshm) o n e x = segment_bytes o - length e.object.bytes + length x.bytes ≤ limits.segment_bytes
@@ -181,10 +184,10 @@ MayJoin limits (kinds.Named names.Mq) o q = q.registration ≡ None
 MayJoin limits (kinds.Named names.Psem) o value = ⊤
 MayJoin limits (kinds.Named names.Pshm) o x = segment_bytes o + length x.bytes ≤ limits.segment_bytes
 
-pub keeps-new : (kind : ObjectKind) (b : BoundOf kind) (x : Content kind) → MayBind kind b → keeps kind b x ≡ true
+pub keeps-new : (kind : ObjectKind) (b : BoundOf kind) (x : Content kind) → MayBind kind b x → keeps kind b x ≡ true
 keeps-new kinds.MsgQueue b x may = either _ _ refl
 keeps-new kinds.Semset b x may = either _ _ refl
-keeps-new kinds.Shm b x may = either _ _ refl
+keeps-new kinds.Shm b x may = either _ _ (ap not may)
 keeps-new (kinds.Named names.Mq) [] x may = cc
 keeps-new (kinds.Named names.Psem) [] x may = cc
 keeps-new (kinds.Named names.Pshm) [] x may = cc
@@ -202,14 +205,21 @@ module _ (limits : Limits) (ps : List (ℕ × Process)) where
       → keeps kind e.bound e.object ≡ true → keeps kind e.bound x ≡ true
   keeps-put kinds.MsgQueue o n e x may h = h
   keeps-put kinds.Semset o n e x may h = h
-  keeps-put kinds.Shm o n e x may h = h
+  keeps-put kinds.Shm o n e x may h = subst (λ (m : Bool). (not (int_eq e.bound (pos 0)) || not m) ≡ true) (sym may.1) h
   keeps-put (kinds.Named kind) o n e x may h = h
+
+  bound-put : (kind : ObjectKind) (o : Those kind) (n : ℕ) (e : EntryOf kind) (x : Content kind) → MayStandFor limits ps kind o n e x
+      → is_bound_so kind e.bound e.perm e.object ≡ true → is_bound_so kind e.bound e.perm x ≡ true
+  bound-put kinds.MsgQueue o n e x may h = h
+  bound-put kinds.Semset o n e x may h = h
+  bound-put kinds.Shm o n e x may h = subst (λ (m : Bool). (not m || int_eq e.bound (pos 0)) ≡ true) (sym may.1) h
+  bound-put (kinds.Named kind) o n e x may h = h
 
   together-put : (kind : ObjectKind) (o : Those kind) (n : ℕ) (e f : EntryOf kind) → entry_of o n ≡ Some e
       → MayStandFor limits ps kind o n e f.object → AreSoundTogether limits ps kind o → AreSoundTogether limits ps kind (with_entry o n f)
   together-put kinds.MsgQueue o n e f is may h = tt
   together-put kinds.Semset o n e f is may h = omega (arith, sum-with (λ (d : KeyedEntry Set). semaphores d.object) o.entries n e f is, may, h)
-  together-put kinds.Shm o n e f is may h = omega (arith, sum-with (λ (d : KeyedEntry SysSegment). memory d.object) o.entries n e f is, may, h)
+  together-put kinds.Shm o n e f is may h = omega (arith, sum-with (λ (d : KeyedEntry SysSegment). memory d.object) o.entries n e f is, may.0, h)
   together-put (kinds.Named names.Mq) o n e f is may h = All-put (IsRegistered ps) o.entries n f h may
   together-put (kinds.Named names.Psem) o n e f is may h = tt
   together-put (kinds.Named names.Pshm) o n e f is may h = omega (arith, sum-with (λ (d : NamedEntry Segment). bytes d.object) o.entries n e f is, may)
@@ -231,7 +241,7 @@ module _ (limits : Limits) (ps : List (ℕ × Process)) where
       → AreSoundTogether limits ps kind (unbound (parted kind) (no_bound kind) o n)
   together-unbound kinds.MsgQueue o n h = tt
   together-unbound kinds.Semset o n h = omega (arith, unbound-sum (λ x. x) (pos 0) semaphores (λ x. refl) o n, h)
-  together-unbound kinds.Shm o n h = omega (arith, unbound-sum (λ x. x) (pos 0) memory (λ x. refl) o n, h)
+  together-unbound kinds.Shm o n h = omega (arith, unbound-sum marked (pos 0) memory (λ x. refl) o n, h)
   together-unbound (kinds.Named names.Mq) o n h = unbound-all (λ x. x) [] o n (IsRegistered ps) (λ e r. r) h
   together-unbound (kinds.Named names.Psem) o n h = tt
   together-unbound (kinds.Named names.Pshm) o n h = omega (arith, unbound-sum (λ x. x) [] bytes (λ x. refl) o n, h)
@@ -250,15 +260,15 @@ module _ (limits : Limits) (ps : List (ℕ × Process)) (kind : ObjectKind) (o :
   Stays d = stays kind ps d ≡ true
 
   abbrev Formed : ℕ × EntryOf kind → Type 0
-  Formed d = is_bound_so kind d.1.bound d.1.perm ≡ true
+  Formed d = is_bound_so kind d.1.bound d.1.perm d.1.object ≡ true
 
   -- another object at a number that is there, used by others
   pub put-sound : (n : ℕ) (e : EntryOf kind) (perm : Perm) (x : Content kind) → entry_of o n ≡ Some e → perm.mode < 512
-      → is_bound_so kind e.bound perm ≡ true → IsSoundContent limits kind x → MayStandFor limits ps kind o n e x
+      → is_bound_so kind e.bound perm x ≡ true → IsSoundContent limits kind x → MayStandFor limits ps kind o n e x
       → AreSound limits ps kind (with_entry o n (holding (permitting e perm) x))
   put-sound n e perm x is mode so good may =
       let f : EntryOf kind = holding (permitting e perm) x in
-      let Bound' : EntryOf kind → Type 0 = λ (d : EntryOf kind). is_bound_so kind d.bound d.perm ≡ true in
+      let Bound' : EntryOf kind → Type 0 = λ (d : EntryOf kind). is_bound_so kind d.bound d.perm d.object ≡ true in
       record {
         held = record {
           bound = with_entry-bound (bounds_of kind) (most_of limits kind) (IsSoundContent limits kind) o n e f is (inl refl) mode good h.held.bound;
@@ -281,11 +291,12 @@ module _ (limits : Limits) (ps : List (ℕ × Process)) (kind : ObjectKind) (o :
       → MayStandFor limits ps kind o n e x → AreSound limits ps kind (with_entry o n (holding e x))
   hold-sound n e x is good may =
       put-sound n e e.perm x is (mode-of n e is)
-      (All-value_at nat_eq (λ (d : EntryOf kind). is_bound_so kind d.bound d.perm ≡ true) o.entries n e h.held.forms is) good may
+      (bound-put limits ps kind o n e x may
+      (All-value_at nat_eq (λ (d : EntryOf kind). is_bound_so kind d.bound d.perm d.object ≡ true) o.entries n e h.held.forms is)) good may
 
   -- a new one, bound to what names nothing
   pub new-sound : (e : EntryOf kind) → number_of (same_bound kind) (no_bound kind) o e.bound ≡ None → is_full (most_of limits kind) o ≡ false
-      → e.perm.mode < 512 → is_bound_so kind e.bound e.perm ≡ true → keeps kind e.bound e.object ≡ true → IsSoundContent limits kind e.object
+      → e.perm.mode < 512 → is_bound_so kind e.bound e.perm e.object ≡ true → keeps kind e.bound e.object ≡ true → IsSoundContent limits kind e.object
       → MayJoin limits kind o e.object → AreSound limits ps kind (with_new o e)
   new-sound e unused room mode so stays-so good may =
       record {
@@ -314,7 +325,7 @@ module _ (limits : Limits) (ps : List (ℕ × Process)) (kind : ObjectKind) (o :
   unbound-may-go n =
       record {
         bound = unbound-bound (bounds_of kind) (most_of limits kind) (IsSoundContent limits kind) (parted kind) o n (parted-sound limits kind) h.held.bound;
-        forms = unbound-all (parted kind) (no_bound kind) o n Formed (λ e. bound-none kind e.1.bound e.1.perm) h.held.forms;
+        forms = unbound-all (parted kind) (no_bound kind) o n Formed (λ e. bound-none kind e.1.bound e.1.perm e.1.object) h.held.forms;
         together = together-unbound limits ps kind o n h.together;
       }
 

@@ -11,7 +11,7 @@ use Rattle.ipc_keys.specs.declared.check.NameKind.{NameKind}
 use Rattle.ipc_keys.specs.declared.check.NameKind.TheVariants as names
 use Rattle.posix_mq.specs.Queue.{Queue as Mq}
 use Rattle.shm_segment.specs.Segment.{Segment}
-use Rattle.shm_segment.specs.SysSegment.{SysSegment}
+use Rattle.shm_segment.specs.SysSegment.{SysSegment, marked}
 use Rattle.sysv_msg.specs.Queue.{Queue}
 use Rattle.sysv_sem.specs.Set.{Set}
 use Rattle.ipc_state.specs.declared.objects.Entry.{Entry}
@@ -55,32 +55,34 @@ EntryOf kind = Entry (BoundOf kind) (Content kind)
 abbrev pub Those : ObjectKind → Type 0
 Those kind = ObjectsOf (BoundOf kind) (Content kind)
 
--- whether descriptors may be open on objects of the kind, and with which flags: on a queue to read, to write, or both;
--- on a segment to read, or both
+-- whether descriptors may be open on objects of the kind, and with which flags: on a POSIX queue to read, to write, or
+-- both; on a segment with a name to read, or both
 abbrev pub may_open : ObjectKind → Bool
 may_open kinds.MsgQueue = false
 may_open kinds.Semset = false
-may_open kinds.Shm = false
+may_open kinds.Shm = true
 may_open (kinds.Named kind) = true
 
 abbrev pub has_access : ObjectKind → ℕ → Bool
 has_access (kinds.Named names.Mq) flags = not (nat_eq (bit_and flags 3) 3)
 has_access (kinds.Named names.Psem) flags = true
 has_access (kinds.Named names.Pshm) flags = nat_eq (bit_and flags 1) 0
+has_access kinds.Shm flags = true
 has_access kind flags = false
 
--- whether an object goes if it is bound to none and no descriptor is open on it: one that may have a name does
+-- whether an object goes if it is bound to none and no descriptor is open on it: one that may have a name does, and a
+-- System V segment that is marked
 abbrev pub leaves : (kind : ObjectKind) → Content kind → Bool
 leaves kinds.MsgQueue q = false
 leaves kinds.Semset s = false
-leaves kinds.Shm x = false
+leaves kinds.Shm x = x.is_marked
 leaves (kinds.Named kind) x = true
 
--- what an object becomes as it is bound to none any more: it stays what it is
+-- what an object becomes as it is bound to none any more: a System V segment is marked, any other stays what it is
 abbrev pub parted : (kind : ObjectKind) → Content kind → Content kind
 parted kinds.MsgQueue q = q
 parted kinds.Semset s = s
-parted kinds.Shm x = x
+parted kinds.Shm x = marked x
 parted (kinds.Named kind) x = x
 
 -- whether an object that is bound to this stays, on which no descriptor is open
@@ -91,12 +93,12 @@ abbrev pub keeps : (kind : ObjectKind) → BoundOf kind → Content kind → Boo
 keeps kind b x = keeps_by (same_bound kind) (no_bound kind) b (leaves kind x)
 
 -- whether an object may be bound to this, with these permissions: a name, if there is one, is one that an object of the
--- kind may have, and whoever made the object owns it
-abbrev pub is_bound_so : (kind : ObjectKind) → BoundOf kind → Perm → Bool
-is_bound_so kinds.MsgQueue key perm = true
-is_bound_so kinds.Semset key perm = true
-is_bound_so kinds.Shm key perm = true
-is_bound_so (kinds.Named kind) name perm = (is_none name || is_ok (check_name kind name)) && is_own perm
+-- kind may have, and whoever made the object owns it; a System V segment that is marked has no key
+abbrev pub is_bound_so : (kind : ObjectKind) → BoundOf kind → Perm → Content kind → Bool
+is_bound_so kinds.MsgQueue key perm q = true
+is_bound_so kinds.Semset key perm s = true
+is_bound_so kinds.Shm key perm x = not x.is_marked || int_eq key (pos 0)
+is_bound_so (kinds.Named kind) name perm x = (is_none name || is_ok (check_name kind name)) && is_own perm
 
 -- ---- the objects of all kinds
 
@@ -140,6 +142,7 @@ with_kind o (kinds.Named kind) others = record o { named = with_name_kind o.name
 abbrev pub each_open : ((kind : ObjectKind) → Those kind → Those kind) → Objects → Objects
 each_open f o =
     record o {
+      shm = f kinds.Shm o.shm;
       named = record {
         mq = f (kinds.Named names.Mq) o.named.mq;
         psem = f (kinds.Named names.Psem) o.named.psem;

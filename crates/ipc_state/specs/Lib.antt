@@ -6,6 +6,7 @@ pub mod Waiting
 pub mod Descriptors
 pub mod Kinds
 pub mod Opening
+pub mod Attached
 pub mod State
 pub mod Sound
 pub mod Tests
@@ -17,6 +18,7 @@ pub mod Rows
 pub mod Lends
 pub mod LendsMsgQueue
 pub mod LendsSemset
+pub mod LendsShm
 pub mod LendsMq
 pub mod LendsNamed
 pub mod LendsRow

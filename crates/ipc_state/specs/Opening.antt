@@ -1,7 +1,8 @@
--- What keeps a named object (mq_overview(7)): it is there while it has a name, or while a descriptor of some process is
--- open on it. Who is registered with a queue (mq_notify(3)) is so by a descriptor.
+-- What keeps an object with a name (mq_overview(7)): it is there while it has a name, or while a descriptor of some
+-- process is open on it. A System V segment that is marked (shmctl(2)) is there while one is. Who is registered with a
+-- queue (mq_notify(3)) is so by a descriptor.
 use Rattle.std.specs.Prelude.{ℕ, Bool, true, false, ◌||◌, ◌&&◌, nat_eq, if◌then◌else◌, List, [], option_map}
-use Rattle.std.specs.Prelude.{Option, Some, None, is_some, unwrap_or}
+use Rattle.std.specs.Prelude.{Option, Some, None, is_some, unwrap_or, count_by, sum_by}
 use Rattle.std.specs.List.{list_any}
 use Rattle.ipc_base.specs.Table.{value_at, seen_as}
 use Rattle.ipc_keys.specs.declared.check.NameKind.{NameKind}
@@ -41,6 +42,10 @@ is_on this on = same_kind on.kind this.kind && nat_eq on.number this.number
 -- whether some descriptor of these processes is open on it
 abbrev pub is_open : List (ℕ × Process) → Object → Bool
 is_open processes this = list_any (λ p. list_any (λ d. is_on this d.1.on) p.1.descriptors) processes
+
+-- how many are
+abbrev pub open_count : List (ℕ × Process) → Object → ℕ
+open_count processes this = sum_by (λ p. count_by (λ d. is_on this d.1.on) p.1.descriptors) processes
 
 -- an object of a kind, as a descriptor is open on it
 abbrev pub object_as : ObjectKind → ℕ → Object

@@ -99,7 +99,7 @@ pub record AreHeld {B X : Type 0} (same : B → B → Bool) (none : B) (most : �
   pub forms : All (λ e. is_proper e ≡ true) o.entries
   pub stay : All (λ e. does_stay e ≡ true) o.entries
 
--- how many bytes the segments have together
+-- how many bytes the segments with a name have together, and those of System V
 abbrev pub segment_bytes : Named Segment → ℕ
 segment_bytes o = sum_by (λ e. length e.1.object.bytes) o.entries
 
@@ -138,7 +138,7 @@ AreSoundTogether limits processes (kinds.Named names.Pshm) o = segment_bytes o �
 pub record AreSound (limits : Limits) (processes : List (ℕ × Process)) (kind : ObjectKind)
     (o : Those kind) : Type 0 where
   pub held : AreHeld (same_bound kind) (no_bound kind) (most_of limits kind) (IsSoundContent limits kind)
-      (λ e. is_bound_so kind e.1.bound e.1.perm) (stays kind processes) o
+      (λ e. is_bound_so kind e.1.bound e.1.perm e.1.object) (stays kind processes) o
   pub together : AreSoundTogether limits processes kind o
 
 -- the numbers of a process's descriptors rise, each below the limit; what each is open on is there

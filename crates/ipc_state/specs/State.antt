@@ -16,7 +16,7 @@ use Rattle.posix_mq.specs.Queue.{Queue as Mq}
 use Rattle.sysv_msg.specs.Queue.{Queue, new_queue}
 use Rattle.sem_undo.specs.Undo.{Key, Undo, cleared}
 use Rattle.shm_segment.specs.Segment.{Segment, empty_segment}
-use Rattle.shm_segment.specs.SysSegment.{SysSegment}
+use Rattle.shm_segment.specs.SysSegment.{SysSegment, new_segment}
 use Rattle.sysv_sem.specs.Set.{Set, new_set, after_exit}
 use Rattle.ipc_perm.specs.declared.perm.Perm.{Perm}
 use Rattle.ipc_perm.specs.Perm.{perm_of}
@@ -26,6 +26,7 @@ use Rattle.ipc_state.specs.Descriptors.{Table, opened, with_flags}
 use Rattle.ipc_state.specs.Numbered.{Numbered, none_yet, entry_of, is_full, with_entry, with_new, without_entry}
 use Rattle.ipc_state.specs.declared.parked.ObjectKind.{ObjectKind}
 use Rattle.ipc_state.specs.declared.parked.ObjectKind.TheVariants as kinds
+use Rattle.ipc_state.specs.Attached.{detached_all, detached_by, detached_each}
 use Rattle.ipc_state.specs.Bound.{holding, putting, unbound}
 use Rattle.ipc_state.specs.Keyed.{Keyed, KeyedEntry}
 use Rattle.ipc_state.specs.Kinds.{BoundOf, Content, EntryOf, Objects, Those, each_open, no_bound, of_kind, parted}
@@ -54,7 +55,7 @@ pub record State : Type 0 where
   pub mq : Named Mq
   -- the named semaphores, each with its value
   pub psem : Named ℕ
-  -- the segments
+  -- the segments with a name
   pub pshm : Named Segment
 
 -- nothing has happened yet
@@ -205,13 +206,14 @@ with_process s cred =
       undo = s.undo ++ (s.processes.next, fin.empty) ∷ [];
     }
 
--- without the process and its call that waits; its adjustments are added
+-- without the process and its call that waits; its adjustments are added, and it detaches what it has attached
 abbrev pub without_process : State → ℕ → State
 without_process s pid =
     without_waiting (record s {
       processes = without_entry s.processes pid;
       undo = without_value nat_eq s.undo pid;
       semset = undone s.semset (pid, undo_of s pid);
+      shm = detached_all s.clock pid s.shm (descriptors_of s.processes.entries pid);
     }) pid
 
 -- the process leaves, with its descriptors and registrations
@@ -219,8 +221,8 @@ abbrev pub exit : State → ℕ → State
 exit s pid = swept (deregistered_by (Some pid) None (without_process s pid))
 
 -- The server has stopped and begun anew: no call waits, nobody is registered, the adjustments of all processes are
--- added, and no process is left, so that an object without a name goes. The clock, the next numbers and all else of the
--- objects stay.
+-- added, each detaches what it has attached, and no process is left, so that an object without a name goes, and a
+-- segment that is marked. The clock, the next numbers and all else of the objects stay.
 abbrev pub restart : State → State
 restart s =
     swept (deregistered_by None None (record s {
@@ -228,6 +230,7 @@ restart s =
       wait = [];
       undo = [];
       semset = fold undone s.semset s.undo;
+      shm = detached_each s.clock s.shm s.processes.entries;
     }))
 
 -- ---- descriptors
@@ -254,9 +257,17 @@ abbrev pub without_descriptor : State → ℕ → ℕ → State
 without_descriptor s pid fd =
     with_descriptors s pid (without_value nat_eq (descriptors_of s.processes.entries pid) fd)
 
--- a descriptor is closed: the registration by it goes, and the object, if it has no name and is no longer open
+-- without the descriptor; the segment that was attached by it is detached
+abbrev pub let_go : State → ℕ → ℕ → State
+let_go s pid fd =
+    record (without_descriptor s pid fd) {
+      shm = detached_by s.clock pid s.shm (descriptor_at s.processes.entries pid fd);
+    }
+
+-- a descriptor is closed, or an attachment detached: the registration by it goes, and the object, if it does not stay
+-- by itself and is no longer open
 abbrev pub closed : State → ℕ → ℕ → State
-closed s pid fd = swept (deregistered_by (Some pid) (Some fd) (without_descriptor s pid fd))
+closed s pid fd = swept (deregistered_by (Some pid) (Some fd) (let_go s pid fd))
 
 -- ---- POSIX message queues
 
@@ -286,7 +297,7 @@ with_psem s n value = with_object_of s (kinds.Named names.Psem) n value
 abbrev pub with_new_psem : State → List ℕ → Cred → ℕ → ℕ → State
 with_new_psem s name cred mode value = with_new_of s (kinds.Named names.Psem) name cred mode value
 
--- ---- segments
+-- ---- segments with a name
 
 -- none can be added: there are as many as the limit says, or no number is left
 abbrev pub has_all_pshms : Limits → State → Bool
@@ -341,3 +352,21 @@ with_semset s id e = record s { semset = with_entry s.semset id e }
 abbrev pub with_new_semset : State → ℤ → Perm → ℕ → State
 with_new_semset s key perm nsems =
     record s { semset = with_new s.semset (record { bound = key; perm = perm; object = new_set nsems s.clock }) }
+
+-- ---- System V segments
+
+-- the segment that an identifier has
+abbrev pub shm_of : State → ℕ → Option (KeyedEntry SysSegment)
+shm_of s id = entry_of s.shm id
+
+-- the state with another segment at an identifier that it has
+abbrev pub with_shm : State → ℕ → KeyedEntry SysSegment → State
+with_shm s id e = record s { shm = with_entry s.shm id e }
+
+-- the state with a new segment of so many bytes, which a process makes
+abbrev pub with_new_shm : State → ℤ → Perm → ℕ → ℕ → State
+with_new_shm s key perm pid size =
+    record s {
+      shm = with_new s.shm
+          (record { bound = key; perm = perm; object = new_segment size (record { 0 = pid }) s.clock });
+    }

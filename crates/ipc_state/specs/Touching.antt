@@ -14,9 +14,10 @@ use Rattle.ipc_state.specs.declared.parked.Awaited.TheVariants as awaited
 use Rattle.ipc_state.specs.declared.parked.Object.{Object}
 use Rattle.ipc_state.specs.declared.parked.ObjectKind.{ObjectKind}
 use Rattle.ipc_state.specs.declared.parked.ObjectKind.TheVariants as kinds
+use Rattle.ipc_state.specs.declared.processes.Process.{Process}
 use Rattle.ipc_state.specs.Kinds.{Content, EntryOf}
 use Rattle.ipc_state.specs.Numbered.{entry_of}
-use Rattle.ipc_state.specs.Opening.{descriptor_at, is_by, is_on, is_or_any, object_as, opened_as}
+use Rattle.ipc_state.specs.Opening.{descriptor_at, is_by, is_on, is_or_any, object_as, opened_as, same_kind}
 use Rattle.ipc_state.specs.State.{State, objects_of, undo_of}
 
 -- the object that a request of the process names, if it names one; an identifier does, whether it has an object or not
@@ -78,14 +79,19 @@ is_made_by pid fd r = unwrap_or (option_map (is_by pid fd) r) false
 abbrev pub registration_of : State → ℕ → Option Registration
 registration_of s n = option_and_then (λ e. e.object.registration) (entry_of s.mq n)
 
--- the object that a close of a descriptor changes: the queue on which it is open, if the process is registered by it
+-- the object that a close of a descriptor changes: the queue on which it is open, if the process is registered by it,
+-- or the segment that it detaches
+abbrev pub is_segment : ObjectKind → Bool
+is_segment kind = same_kind kind kinds.Shm
+
 abbrev pub is_queue : ObjectKind → Bool
 is_queue (kinds.Named names.Mq) = true
 is_queue kind = false
 
 abbrev pub parted_from : State → ℕ → ℕ → Object → Option Object
 parted_from s pid fd o =
-    if is_queue o.kind && is_made_by (Some pid) (Some fd) (registration_of s o.number) then Some o else None
+    if is_segment o.kind || is_queue o.kind && is_made_by (Some pid) (Some fd) (registration_of s o.number)
+    then Some o else None
 
 abbrev pub closed_on : State → ℕ → ℕ → Option Object
 closed_on s pid fd = option_and_then (parted_from s pid fd) (object_of s pid (awaited.Descriptor fd))
@@ -97,9 +103,16 @@ is_adjusted_in n undo = list_any (λ a. nat_eq a.0.0 n) (fin.entries undo)
 abbrev pub is_adjusted : Option ℕ → List (ℕ × Undo) → ℕ → Bool
 is_adjusted pid undo n = list_any (λ p. is_or_any pid p.0 && is_adjusted_in n p.1) undo
 
--- whether the exit of a process, or of each, changes an object: a set at which it has an adjustment, or a queue with
--- which it is registered
+-- whether a process, or any, has an object open
+abbrev pub is_opened_by : Option ℕ → List (ℕ × Process) → Object → Bool
+is_opened_by pid processes this =
+    list_any (λ p. is_or_any pid p.0 && list_any (λ d. is_on this d.1.on) p.1.descriptors) processes
+
+-- whether the exit of a process, or of each, changes an object: a set at which it has an adjustment, a segment that it
+-- has attached, or a queue with which it is registered
 abbrev pub changes_by_exit : Option ℕ → State → Object → Bool
 changes_by_exit pid s o =
     list_any (λ e. is_on (object_as kinds.Semset e.0) o && is_adjusted pid s.undo e.0) s.semset.entries
+    || list_any (λ e. is_on (object_as kinds.Shm e.0) o
+    && is_opened_by pid s.processes.entries (object_as kinds.Shm e.0)) s.shm.entries
     || list_any (λ e. is_on (opened_as names.Mq e.0) o && is_made_by pid None e.1.object.registration) s.mq.entries

@@ -1,5 +1,5 @@
-//! What keeps an object with a name: the name, or a descriptor that is open on it. See mq_overview(7), sem_overview(7)
-//! and shm_overview(7).
+//! What keeps an object with a name: the name, or a descriptor that is open on it; and a System V segment that is
+//! marked: a descriptor. See mq_overview(7), sem_overview(7), shm_overview(7) and shmctl(2).
 
 ghost use Rattle.std.specs.Prelude.{◌≡◌, ◌↔◌, ◌&&◌, ◌||◌, not, true, map, [], All, IsTrue, None, filter, is_some};
 ghost use Rattle.std.specs.List.{list_all, list_any};
@@ -31,10 +31,11 @@ use ipc_keys::{Name, NameKind, check_name};
 use ipc_perm::Perm;
 
 impl State {
-    /// Objects go that have no name and on which no descriptor is open. It takes no memory.
+    /// Objects go that do not stay by themselves and on which no descriptor is open. It takes no memory.
     pub(crate) fn sweep(&mut self)
         ensures { self.new ≡ left self.old (swept self.old.state) }
     {
+        self.shm.sweep(self.processes.items(), ObjectKind::Shm);
         self.mq
             .sweep(self.processes.items(), ObjectKind::Named(NameKind::Mq));
         self.psem
@@ -257,7 +258,8 @@ fn has_access(kind: ObjectKind, flags: u32) -> bool
         ObjectKind::Named(NameKind::Mq) => flags & 3 != 3,
         ObjectKind::Named(NameKind::Psem) => true,
         ObjectKind::Named(NameKind::Pshm) => flags & 1 == 0,
-        ObjectKind::MsgQueue | ObjectKind::Semset | ObjectKind::Shm => false,
+        ObjectKind::Shm => true,
+        ObjectKind::MsgQueue | ObjectKind::Semset => false,
     }
 }
 

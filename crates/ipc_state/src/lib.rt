@@ -4,6 +4,7 @@
 
 mod adjustments;
 mod answers;
+mod attached;
 mod bound;
 mod descriptors;
 mod holding;
@@ -27,6 +28,7 @@ mod tables;
 mod waits;
 
 pub use answers::{Answer, Halt, Tried, take_spare};
+pub use attached::shown_mode;
 pub use bound::Bound;
 pub use descriptors::{
     Descriptor, DescriptorRow, Descriptors, lowest_unused_is_so, opened_is_there,
@@ -39,3 +41,4 @@ pub use operations::{Operations, bits_of, operation_of};
 pub use parked::{Awaited, Object, ObjectKind, Parked, ParkedKind, ParkedPosix, ParkedSysv};
 pub use processes::Process;
 pub use state::{Numbers, State};
+pub use tables::is_segment;

@@ -96,7 +96,8 @@ impl State {
     }
 
     /// Takes a process out, if it is there, with its descriptors, its registrations and its call that waits; its
-    /// adjustments are added. Objects without a name go that only it had open.
+    /// adjustments are added, and what it has attached is detached. Objects without a name, and segments that are
+    /// marked, go that only it had open.
     pub fn remove_process(&mut self, pid: Pid)
         ensures { self.new ≡ left self.old (exit self.old.state pid.0) }
     {
@@ -105,11 +106,12 @@ impl State {
         self.sweep();
     }
 
-    /// Takes a process out, and its call that waits; its adjustments are added.
+    /// Takes a process out, and its call that waits; its adjustments are added, and what it has attached is detached.
     fn drop_process(&mut self, pid: Pid)
         ensures { self.new ≡ left self.old (without_process self.old.state pid.0) }
     {
         self.add_adjustments_of(pid);
+        self.detach_all(pid);
         self.undo.remove(pid.0);
         self.processes.remove(pid.0);
         let _waiting = self.wait.leave(pid);
@@ -117,11 +119,13 @@ impl State {
     }
 
     /// The server has stopped and begun anew: no process is left, no call waits, nobody is registered, the adjustments
-    /// are added, and objects without a name go. It takes no memory.
+    /// are added, what is attached is detached, and objects without a name go, and segments that are marked. It takes
+    /// no memory.
     pub fn restart(&mut self)
         ensures { self.new ≡ left self.old (restart self.old.state) }
     {
         self.add_all_adjustments();
+        self.detach_each();
         self.undo.clear();
         self.processes.clear();
         self.wait.clear();

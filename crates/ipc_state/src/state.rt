@@ -47,7 +47,7 @@ pub struct State {
     pub(crate) spare_mq: Option<Mq>,
     pub(crate) psem: Named<NamedSem>,
     pub(crate) pshm: Named<Segment>,
-    /// Zeros that are ready to be a longer segment.
+    /// Zeros that are ready to be a longer segment with a name.
     pub(crate) zeros: Option<Segment>,
 }
 
@@ -104,6 +104,7 @@ impl Model for State {
           (is_some s.fresh && (has_place s.processes && has_place s.undo))
           (option_map (λ r. r.0) s.msg.ready)
           (option_map (λ r. (r.0, length r.1.semaphores)) s.semset.ready)
+          (option_map (λ r. (r.0, r.1.memory)) s.shm.ready)
           (option_map (λ r. r.0) s.mq.ready)
           (option_map (λ r. r.0) s.psem.ready)
           (option_map (λ r. r.0) s.pshm.ready)
@@ -159,9 +160,9 @@ impl State {
     fn has_nothing_ready(&self) -> bool
         ensures { IsTrue result → self.now.ready ≡ Nothing }
     {
-        let has_object = self.msg.is_ready() || self.semset.is_ready() || self.mq.is_ready();
-        let has_named = self.psem.is_ready() || self.pshm.is_ready();
-        !has_object && !has_named && self.fresh.is_none() && self.zeros.is_none()
+        let has_keyed = self.msg.is_ready() || self.semset.is_ready() || self.shm.is_ready();
+        let has_named = self.mq.is_ready() || self.psem.is_ready() || self.pshm.is_ready();
+        !has_keyed && !has_named && self.fresh.is_none() && self.zeros.is_none()
     }
 
     /// Gives back what is reserved. It takes no memory.
@@ -177,6 +178,7 @@ impl State {
             self.spare_msg_queue = Some(queue);
         }
         let _set = self.semset.release();
+        let _shared = self.shm.release();
         if let Some(queue) = self.mq.release() {
             self.spare_mq = Some(queue);
         }

@@ -1,6 +1,6 @@
-//! The descriptors of the processes, as they come, change and go. See open(2), mq_setattr(3) and close(2).
+//! The descriptors of the processes, as they come, change and go. See open(2), mq_setattr(3), close(2) and shmdt(2).
 
-ghost use Rattle.std.specs.Prelude.{◌≡◌, ◌<◌, ◌^◌, true, false, is_some, length, nat_eq};
+ghost use Rattle.std.specs.Prelude.{◌≡◌, ◌<◌, ◌^◌, ◌&&◌, true, false, is_some, length, nat_eq, Some};
 ghost use Rattle.ipc_base.specs.Table.{keys_of, without, IsRising};
 ghost use Rattle.ipc_state.specs.Descriptors.{lowest_unused, most_descriptors, opened, with_flags};
 ghost use Rattle.ipc_state.specs.Held.{left};
@@ -10,12 +10,15 @@ ghost use Rattle.ipc_state.specs.Sound.{HasSoundParts};
 ghost use Rattle.ipc_state.specs.State.{closed, has_all_descriptors, is_process, with_descriptor};
 ghost use Rattle.ipc_state.specs.State.{with_descriptor_flags};
 ghost use Rattle.ipc_state.specs.Tables.{has_place, numbered_of};
+ghost use Rattle.ipc_state.specs.Touching.{closed_on, is_made_by, is_queue, is_segment, registration_of};
 
 use crate::descriptors::Descriptor;
 use crate::numbered::Numbered;
+use crate::parked::{Awaited, Object, ObjectKind};
 use crate::processes::Process;
 use crate::state::State;
 use ipc_base::Pid;
+use ipc_keys::NameKind;
 
 impl State {
     /// Whether a process has as many descriptors as the limit says; no process has none.
@@ -44,15 +47,53 @@ impl State {
         self.processes.set_flags(pid.0, fd, flags);
     }
 
-    /// Closes a descriptor of a process. The registration by it goes with it, and the object, if it has no name and is
-    /// no longer open. It takes no memory.
+    /// Closes a descriptor of a process, or detaches an attachment. The registration by it goes with it, and the
+    /// object, if it does not stay by itself and is no longer open. It takes no memory.
     pub fn close_descriptor(&mut self, pid: Pid, fd: u32)
         ensures { self.new ≡ left self.old (closed self.old.state pid.0 fd) }
     {
+        self.detach(pid, fd);
         self.processes.close(pid.0, fd);
         self.deregister(Some(pid.0), Some(fd));
         self.sweep();
     }
+
+    /// The object that a close of a descriptor changes: the segment that it detaches, or the queue with which the
+    /// process is registered by it.
+    pub fn closed_on(&self, pid: Pid, fd: u32) -> Option<Object>
+        ensures { result ≡ closed_on self.now.state pid.0 fd }
+    {
+        let on = self.object_of(pid, Awaited::Descriptor(fd))?;
+        if is_segment(on.kind) || self.is_registered_by(pid, fd, on) {
+            Some(on)
+        } else {
+            None
+        }
+    }
+
+    /// Whether it is a queue with which the process is registered by this descriptor.
+    fn is_registered_by(&self, pid: Pid, fd: u32, on: Object) -> bool
+        ensures { result ≡ (is_queue on.kind
+            && is_made_by (Some pid.0) (Some fd) (registration_of self.now.state on.number)) }
+    {
+        let ObjectKind::Named(NameKind::Mq) = on.kind else {
+            return false;
+        };
+        let Some(entry) = self.mq(on.number) else {
+            return false;
+        };
+        match entry.object.registration() {
+            Some(registration) => registration.pid == pid && registration.descriptor == fd,
+            None => false,
+        }
+    }
+}
+
+/// Whether descriptors that are open on objects of the kind are attachments.
+pub fn is_segment(kind: ObjectKind) -> bool
+    ensures { result ≡ is_segment kind }
+{
+    kind == ObjectKind::Shm
 }
 
 impl Numbered<Process> {

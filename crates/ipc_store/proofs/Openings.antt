@@ -119,7 +119,8 @@ pub refused_by : (image : Image) (limits : Limits) (s : State) (error : OpenErro
     → ((sector : ℕ) → error ≡ errors.Damaged sector → IsDamaged image × IsFirstFault image sector)
     → (error ≡ errors.Device) ⊎ (error ≡ errors.NoMemory) ⊎ IsAtEnd image
 refused_by image limits s errors.Device stands not version damaged = inl refl
-refused_by image limits s errors.NotFormatted stands not version damaged = absurd ((device-begins format (inr refl) limits image stands.kept.device).0 (not refl))
+refused_by image limits s errors.NotFormatted stands not version damaged =
+    absurd ((device-begins format (inr refl) limits image stands.kept.device).0 (not refl))
 refused_by image limits s (errors.Version found) stands not version damaged =
     let other = version found refl in
     absurd (other.other (sym other.version ∙ (device-begins format (inr refl) limits image stands.kept.device).1))

@@ -18,7 +18,8 @@ pub sector-read : (image : Image) (i : ℕ) (sector : List ℕ) → slice_get im
 sector-read image i sector read = sym (unwrap_or-slice_get image i []) ∙ ap (λ (o : Option (List ℕ)). unwrap_or o []) read
 
 -- a superblock that names no more sectors than there are
-pub is_device : (form : Format) → IsFormat form → (image : Image) (size : ℕ) (sector : List ℕ) → length image ≡ size → sector_at image 0 ≡ sector → size < 2 ^ 32
+pub is_device : (form : Format) → IsFormat form → (image : Image) (size : ℕ) (sector : List ℕ) → length image ≡ size → sector_at image 0 ≡ sector
+    → size < 2 ^ 32
     → (found : Superblock) → found.sectors ≤ size → IsSuperblockIn form found.sectors found.limits sector
     → IsDeviceIn form found.limits image × (found.sectors ≡ named_sectors image)
 is_device form known image size sector whole read fits found there is =

@@ -28,6 +28,14 @@ pub data PlainSysv : Type 0 where
   SemctlStat : (id : ℕ) → PlainSysv
   SemctlSet : (id uid gid mode : ℕ) → PlainSysv
   SemctlRmid : (id : ℕ) → PlainSysv
+  Shmget : (key : ℤ) → (size flags : ℕ) → PlainSysv
+  Shmat : (id flags : ℕ) → PlainSysv
+  Shmdt : (attachment : ℕ) → PlainSysv
+  ShmctlStat : (id : ℕ) → PlainSysv
+  ShmctlSet : (id uid gid mode : ℕ) → PlainSysv
+  ShmctlRmid : (id : ℕ) → PlainSysv
+  AttachedRead : (attachment offset length : ℕ) → PlainSysv
+  AttachedWrite : (attachment offset : ℕ) → (bytes : List ℕ) → PlainSysv
 
 -- HELLO, INTERRUPT, or a call of the process: of System V or of POSIX
 pub data PlainKind : Type 0 where
@@ -59,6 +67,14 @@ plain_sysv (calls.SemctlSetAll id values) = SemctlSetAll id.0 (bytes_of values)
 plain_sysv (calls.SemctlStat id) = SemctlStat id.0
 plain_sysv (calls.SemctlSet id uid gid mode) = SemctlSet id.0 uid gid mode
 plain_sysv (calls.SemctlRmid id) = SemctlRmid id.0
+plain_sysv (calls.Shmget key size flags) = Shmget key size flags.0
+plain_sysv (calls.Shmat id flags) = Shmat id.0 flags.0
+plain_sysv (calls.Shmdt attachment) = Shmdt attachment
+plain_sysv (calls.ShmctlStat id) = ShmctlStat id.0
+plain_sysv (calls.ShmctlSet id uid gid mode) = ShmctlSet id.0 uid gid mode
+plain_sysv (calls.ShmctlRmid id) = ShmctlRmid id.0
+plain_sysv (calls.AttachedRead attachment offset length) = AttachedRead attachment offset length
+plain_sysv (calls.AttachedWrite attachment offset bytes) = AttachedWrite attachment offset bytes.now
 
 abbrev pub plain_kind : RequestKind → PlainKind
 plain_kind (kinds.Hello cred) = Hello cred

@@ -389,6 +389,86 @@ shm_stat =
       make = λ v rest. Posix (posix.ShmStat v.0);
     }
 
+-- key, size, flags
+abbrev pub shmget : Row
+shmget =
+    record {
+      opcode = 0x46;
+      fields = I32 ∷ U64 ∷ U32 ∷ [];
+      rest = Nothing;
+      make = λ v rest. Sysv (requests.Shmget v.0 v.1.0 v.1.1.0);
+    }
+
+-- id, flags
+abbrev pub shmat : Row
+shmat =
+    record {
+      opcode = 0x47;
+      fields = U32 ∷ U32 ∷ [];
+      rest = Nothing;
+      make = λ v rest. Sysv (requests.Shmat v.0 v.1.0);
+    }
+
+-- attachment
+abbrev pub shmdt : Row
+shmdt =
+    record {
+      opcode = 0x48;
+      fields = U32 ∷ [];
+      rest = Nothing;
+      make = λ v rest. Sysv (requests.Shmdt v.0);
+    }
+
+-- id
+abbrev pub shmctl_stat : Row
+shmctl_stat =
+    record {
+      opcode = 0x49;
+      fields = U32 ∷ [];
+      rest = Nothing;
+      make = λ v rest. Sysv (requests.ShmctlStat v.0);
+    }
+
+-- id, uid, gid, mode
+abbrev pub shmctl_set : Row
+shmctl_set =
+    record {
+      opcode = 0x4a;
+      fields = U32 ∷ U32 ∷ U32 ∷ U32 ∷ [];
+      rest = Nothing;
+      make = λ v rest. Sysv (requests.ShmctlSet v.0 v.1.0 v.1.1.0 v.1.1.1.0);
+    }
+
+-- id
+abbrev pub shmctl_rmid : Row
+shmctl_rmid =
+    record {
+      opcode = 0x4b;
+      fields = U32 ∷ [];
+      rest = Nothing;
+      make = λ v rest. Sysv (requests.ShmctlRmid v.0);
+    }
+
+-- attachment, offset, length
+abbrev pub attached_read : Row
+attached_read =
+    record {
+      opcode = 0x4c;
+      fields = U32 ∷ U64 ∷ U32 ∷ [];
+      rest = Nothing;
+      make = λ v rest. Sysv (requests.AttachedRead v.0 v.1.0 v.1.1.0);
+    }
+
+-- attachment, offset; the rest is the bytes
+abbrev pub attached_write : Row
+attached_write =
+    record {
+      opcode = 0x4d;
+      fields = U32 ∷ U64 ∷ [];
+      rest = Bytes;
+      make = λ v rest. Sysv (requests.AttachedWrite v.0 v.1.0 rest);
+    }
+
 abbrev pub rows : List Row
 rows =
     hello ∷ interrupt ∷ close
@@ -398,7 +478,8 @@ rows =
     ∷ semctl_stat ∷ semctl_set ∷ semctl_rmid
     ∷ mq_open ∷ mq_unlink ∷ mq_send ∷ mq_receive ∷ mq_notify ∷ mq_getattr ∷ mq_setattr
     ∷ sem_open ∷ sem_unlink ∷ sem_post ∷ sem_wait ∷ sem_trywait ∷ sem_getvalue
-    ∷ shm_open ∷ shm_unlink ∷ ftruncate ∷ shm_read ∷ shm_write ∷ shm_stat ∷ []
+    ∷ shm_open ∷ shm_unlink ∷ ftruncate ∷ shm_read ∷ shm_write ∷ shm_stat
+    ∷ shmget ∷ shmat ∷ shmdt ∷ shmctl_stat ∷ shmctl_set ∷ shmctl_rmid ∷ attached_read ∷ attached_write ∷ []
 
 -- the row of an opcode among rows, if it has one
 abbrev pub row_among : List Row → ℕ → Option Row
@@ -446,6 +527,18 @@ parts_of (Sysv (requests.SemctlStat id)) = record { row = semctl_stat; values = 
 parts_of (Sysv (requests.SemctlSet id uid gid mode)) =
     record { row = semctl_set; values = (id, (uid, (gid, (mode, tt)))); rest = [] }
 parts_of (Sysv (requests.SemctlRmid id)) = record { row = semctl_rmid; values = (id, tt); rest = [] }
+parts_of (Sysv (requests.Shmget key size flags)) =
+    record { row = shmget; values = (key, (size, (flags, tt))); rest = [] }
+parts_of (Sysv (requests.Shmat id flags)) = record { row = shmat; values = (id, (flags, tt)); rest = [] }
+parts_of (Sysv (requests.Shmdt attachment)) = record { row = shmdt; values = (attachment, tt); rest = [] }
+parts_of (Sysv (requests.ShmctlStat id)) = record { row = shmctl_stat; values = (id, tt); rest = [] }
+parts_of (Sysv (requests.ShmctlSet id uid gid mode)) =
+    record { row = shmctl_set; values = (id, (uid, (gid, (mode, tt)))); rest = [] }
+parts_of (Sysv (requests.ShmctlRmid id)) = record { row = shmctl_rmid; values = (id, tt); rest = [] }
+parts_of (Sysv (requests.AttachedRead attachment offset length)) =
+    record { row = attached_read; values = (attachment, (offset, (length, tt))); rest = [] }
+parts_of (Sysv (requests.AttachedWrite attachment offset bytes)) =
+    record { row = attached_write; values = (attachment, (offset, tt)); rest = bytes }
 parts_of (Posix (posix.MqOpen flags mode attr maxmsg msgsize name)) =
     record { row = mq_open; values = (flags, (mode, (attr, (maxmsg, (msgsize, tt))))); rest = name }
 parts_of (Posix (posix.MqUnlink name)) = record { row = mq_unlink; values = tt; rest = name }

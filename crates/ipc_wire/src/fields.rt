@@ -9,14 +9,18 @@ ghost use Rattle.ipc_wire.specs.Table as table;
 use crate::pairs::Pairs;
 use crate::posix::PosixCall;
 use crate::request::{RequestKind, SysvCall};
+use crate::shm_fields::{
+    read_attached_read, read_attached_write, read_shmat, read_shmctl_rmid, read_shmctl_set,
+    read_shmctl_stat, read_shmdt, read_shmget,
+};
 use crate::sixes::Sixes;
 use crate::spelling::{
-    CLOSE, FTRUNCATE, HELLO, INTERRUPT, MQ_GETATTR, MQ_NOTIFY, MQ_OPEN, MQ_RECEIVE, MQ_SEND,
-    MQ_SETATTR, MQ_UNLINK, MSGCTL_RMID, MSGCTL_SET, MSGCTL_STAT, MSGGET, MSGRCV, MSGSND,
-    SEM_GETVALUE, SEM_OPEN, SEM_POST, SEM_TRYWAIT, SEM_UNLINK, SEM_WAIT, SEMCTL_GET_ALL,
-    SEMCTL_GET_NCNT, SEMCTL_GET_PID, SEMCTL_GET_VAL, SEMCTL_GET_ZCNT, SEMCTL_RMID, SEMCTL_SET,
-    SEMCTL_SET_ALL, SEMCTL_SET_VAL, SEMCTL_STAT, SEMGET, SEMOP, SHM_OPEN, SHM_READ, SHM_STAT,
-    SHM_UNLINK, SHM_WRITE,
+    ATTACHED_READ, ATTACHED_WRITE, CLOSE, FTRUNCATE, HELLO, INTERRUPT, MQ_GETATTR, MQ_NOTIFY,
+    MQ_OPEN, MQ_RECEIVE, MQ_SEND, MQ_SETATTR, MQ_UNLINK, MSGCTL_RMID, MSGCTL_SET, MSGCTL_STAT,
+    MSGGET, MSGRCV, MSGSND, SEM_GETVALUE, SEM_OPEN, SEM_POST, SEM_TRYWAIT, SEM_UNLINK, SEM_WAIT,
+    SEMCTL_GET_ALL, SEMCTL_GET_NCNT, SEMCTL_GET_PID, SEMCTL_GET_VAL, SEMCTL_GET_ZCNT, SEMCTL_RMID,
+    SEMCTL_SET, SEMCTL_SET_ALL, SEMCTL_SET_VAL, SEMCTL_STAT, SEMGET, SEMOP, SHM_OPEN, SHM_READ,
+    SHM_STAT, SHM_UNLINK, SHM_WRITE, SHMAT, SHMCTL_RMID, SHMCTL_SET, SHMCTL_STAT, SHMDT, SHMGET,
 };
 use ipc_base::{Cred, Cursor, GetFlags, Id, MsgFlags, OpenFlags};
 
@@ -66,6 +70,14 @@ pub(crate) fn read_kind(opcode: u8, fields: &[u8]) -> Option<RequestKind<'_>>
         SHM_READ => read_shm_read(fields),
         SHM_WRITE => read_shm_write(fields),
         SHM_STAT => read_shm_stat(fields),
+        SHMGET => read_shmget(fields),
+        SHMAT => read_shmat(fields),
+        SHMDT => read_shmdt(fields),
+        SHMCTL_STAT => read_shmctl_stat(fields),
+        SHMCTL_SET => read_shmctl_set(fields),
+        SHMCTL_RMID => read_shmctl_rmid(fields),
+        ATTACHED_READ => read_attached_read(fields),
+        ATTACHED_WRITE => read_attached_write(fields),
         _ => None,
     }
 }
@@ -514,7 +526,7 @@ fn read_shm_stat(fields: &[u8]) -> Option<RequestKind<'_>>
 
 /// The number of four bytes that is all of these fields, or `None` if they have another size.
 #[tactic(auto, unfolding(ipc_base::specs::Numbers::number_in))]
-fn read_number(fields: &[u8]) -> Option<u32>
+pub(crate) fn read_number(fields: &[u8]) -> Option<u32>
     ensures { result ≡ if length fields.now == 4 then Some (number_in U32 fields.now) else None }
 {
     let mut cursor = Cursor::new(fields);
@@ -527,7 +539,7 @@ fn read_number(fields: &[u8]) -> Option<u32>
 
 /// The two numbers of four bytes that are all of these fields, or `None` if they have another size.
 #[tactic(auto, unfolding(ipc_base::specs::Numbers::number_in))]
-fn read_two_numbers(fields: &[u8]) -> Option<(u32, u32)>
+pub(crate) fn read_two_numbers(fields: &[u8]) -> Option<(u32, u32)>
     ensures { result ≡ if length fields.now == 8
         then Some (number_in U32 fields.now, number_in U32 (drop 4 fields.now)) else None }
 {

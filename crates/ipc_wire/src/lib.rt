@@ -9,6 +9,7 @@ mod reading;
 mod record;
 mod reply;
 mod request;
+mod shm_fields;
 mod sixes;
 mod spelling;
 mod writing;

@@ -8,7 +8,7 @@ ghost use Rattle.ipc_wire.specs.Spelling.{HasFrame, request_bytes};
 use crate::pairs::Pairs;
 use crate::posix::PosixCall;
 use crate::sixes::Sixes;
-use ipc_base::{Cred, GetFlags, Id, MsgFlags};
+use ipc_base::{Cred, GetFlags, Id, MsgFlags, ShmFlags};
 
 /// What a client asks, under a serial by which it knows the reply, and the bytes in which it came: those of its frame
 /// after the length, of which there is one spelling.
@@ -146,6 +146,48 @@ pub enum SysvCall<'a> {
     /// IPC_RMID of semctl(2).
     SemctlRmid {
         id: Id,
+    },
+    /// shmget(2); the size is in bytes.
+    Shmget {
+        key: i32,
+        size: u64,
+        flags: GetFlags,
+    },
+    /// shmat(2), as shmop(2) has it: the segment is attached under a descriptor of the process.
+    Shmat {
+        id: Id,
+        flags: ShmFlags,
+    },
+    /// shmdt(2), as shmop(2) has it.
+    Shmdt {
+        attachment: u32,
+    },
+    /// IPC_STAT of shmctl(2).
+    ShmctlStat {
+        id: Id,
+    },
+    /// IPC_SET of shmctl(2): the owner and the mode.
+    ShmctlSet {
+        id: Id,
+        uid: u32,
+        gid: u32,
+        mode: u32,
+    },
+    /// IPC_RMID of shmctl(2).
+    ShmctlRmid {
+        id: Id,
+    },
+    /// A read of an attached segment (shmop(2)): so many bytes from the offset on.
+    AttachedRead {
+        attachment: u32,
+        offset: u64,
+        length: u32,
+    },
+    /// A write to an attached segment (shmop(2)): the rest of the frame, from the offset on.
+    AttachedWrite {
+        attachment: u32,
+        offset: u64,
+        bytes: &'a [u8],
     },
 }
 

@@ -135,6 +135,30 @@ pub(crate) const SHM_WRITE: u8 = 0x40;
 /// The opcode of fstat(2) of a segment.
 pub(crate) const SHM_STAT: u8 = 0x41;
 
+/// The opcode of shmget(2).
+pub(crate) const SHMGET: u8 = 0x46;
+
+/// The opcode of shmat(2), as shmop(2) has it.
+pub(crate) const SHMAT: u8 = 0x47;
+
+/// The opcode of shmdt(2), as shmop(2) has it.
+pub(crate) const SHMDT: u8 = 0x48;
+
+/// The opcode of IPC_STAT of shmctl(2).
+pub(crate) const SHMCTL_STAT: u8 = 0x49;
+
+/// The opcode of IPC_SET of shmctl(2).
+pub(crate) const SHMCTL_SET: u8 = 0x4a;
+
+/// The opcode of IPC_RMID of shmctl(2).
+pub(crate) const SHMCTL_RMID: u8 = 0x4b;
+
+/// The opcode of a read from an attached segment.
+pub(crate) const ATTACHED_READ: u8 = 0x4c;
+
+/// The opcode of a write to an attached segment.
+pub(crate) const ATTACHED_WRITE: u8 = 0x4d;
+
 /// A request taken apart, as it stands in its frame after its serial.
 #[derive(Drop)]
 pub struct RequestParts<'a> {
@@ -249,6 +273,34 @@ fn call_parts(call: SysvCall<'_>) -> RequestParts<'_>
             &[],
         ),
         SysvCall::SemctlRmid { id } => spelled(SEMCTL_RMID, &[U32(id.0)], &[]),
+        SysvCall::Shmget { key, size, flags } => spelled(
+            SHMGET,
+            &[I32(key), U64(size), U32(flags.0)],
+            &[],
+        ),
+        SysvCall::Shmat { id, flags } => spelled(SHMAT, &[U32(id.0), U32(flags.0)], &[]),
+        SysvCall::Shmdt { attachment } => spelled(SHMDT, &[U32(attachment)], &[]),
+        SysvCall::ShmctlStat { id } => spelled(SHMCTL_STAT, &[U32(id.0)], &[]),
+        SysvCall::ShmctlSet { id, uid, gid, mode } => spelled(
+            SHMCTL_SET,
+            &[U32(id.0), U32(uid), U32(gid), U32(mode)],
+            &[],
+        ),
+        SysvCall::ShmctlRmid { id } => spelled(SHMCTL_RMID, &[U32(id.0)], &[]),
+        SysvCall::AttachedRead {
+            attachment,
+            offset,
+            length,
+        } => spelled(
+            ATTACHED_READ,
+            &[U32(attachment), U64(offset), U32(length)],
+            &[],
+        ),
+        SysvCall::AttachedWrite {
+            attachment,
+            offset,
+            bytes,
+        } => spelled(ATTACHED_WRITE, &[U32(attachment), U64(offset)], bytes),
     }
 }
 

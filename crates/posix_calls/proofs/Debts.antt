@@ -1,32 +1,29 @@
 -- How many registrations a process has, when a queue is changed, and what of a process stays as it is.
-use Rattle.std.proofs.Common.{◌≡◌, ◌≢◌, ℕ, ◌+◌, ◌≤◌, get_or, length, Bool, true, false, not, cond, List, [], ◌∷◌, Option, Some, None, refl, sym, ap, ◌∙◌, arith}
-use Rattle.std.specs.Prelude.{All, ◌==◌, ◌&&◌, nat_eq, is_some, option_map, unwrap_or, filter, sum_by, if◌then◌else◌}
+use Rattle.std.proofs.Common.{◌≡◌, ℕ, ◌+◌, ◌≤◌, get_or, length, Bool, true, false, cond, List, [], ◌∷◌, Option, Some, None, refl, sym, ap, ◌∙◌, arith}
+use Rattle.std.specs.Prelude.{All, ◌==◌, ◌&&◌, nat_eq, is_some, option_map, unwrap_or, sum_by, if◌then◌else◌}
 use Rattle.std.proofs.lemmas.Bool.Decides.{nat_tests}
-use Rattle.std.proofs.lemmas.List.Filters.{sum_by-filter_both}
 use Rattle.std.proofs.lemmas.List.Elements.{All-head, All-tail}
 use Rattle.std.proofs.lemmas.List.Sums.{sum_by-cons, sum_by-le}
-use Rattle.ipc_base.specs.Table.{seen_as, value_at, with_value}
+use Rattle.ipc_base.specs.Table.{value_at, with_value}
 use Rattle.ipc_base.specs.declared.limits.Limits.{Limits}
 use Rattle.ipc_wire.specs.declared.reply.Body.TheVariants.{Empty}
 use Rattle.posix_mq.specs.Queue.{Queue as Mq, PlainMessage, deregistered as without_registration}
 use Rattle.posix_mq.specs.declared.queue.Registration.{Registration}
 use Rattle.ipc_state.specs.declared.parked.ObjectKind.TheVariants as kinds
 use Rattle.ipc_state.specs.declared.descriptors.Descriptor.{Descriptor}
-use Rattle.ipc_state.specs.declared.parked.Awaited.{Awaited}
 use Rattle.ipc_state.specs.declared.parked.Awaited.TheVariants as awaited
-use Rattle.ipc_state.specs.Descriptors.{Table}
 use Rattle.ipc_state.specs.Bound.{holding, rebound, unbound, without_bound}
 use Rattle.ipc_state.specs.Named.{NamedEntry}
 use Rattle.ipc_state.specs.Numbered.{entry_of, with_entry}
 use Rattle.ipc_keys.specs.declared.check.NameKind.{NameKind}
 use Rattle.ipc_keys.specs.declared.check.NameKind.TheVariants as names
-use Rattle.ipc_state.specs.Opening.{deregistered, is_by, is_by_descriptor, is_on, is_registered, opened_as, stays, unless_so}
+use Rattle.ipc_state.specs.Opening.{is_by, is_by_descriptor, is_on, is_registered, opened_as, stays}
 use Rattle.ipc_state.specs.Sound.{HasSoundParts}
-use Rattle.ipc_state.specs.State.{State, closed, exit, is_process, restart, unlinked, with_descriptors}
+use Rattle.ipc_state.specs.State.{State, closed, exit, is_process, restart, unlinked}
 use Rattle.ipc_state.specs.State.{with_mq, without_descriptor, without_process}
 use Rattle.ipc_state.specs.declared.processes.Process.{Process}
-use Rattle.ipc_state.specs.Touching.{mq_object, object_of}
-use Rattle.ipc_state.proofs.CallerLemmas.{elsewhere-table}
+use Rattle.ipc_state.specs.Touching.{mq_object}
+use Rattle.ipc_state.proofs.CallerLemmas.{fewer-kept, fewer-swept}
 use Rattle.posix_calls.specs.Mq.{arrived, firing, is_own}
 use Rattle.posix_calls.specs.Mq.{notified, registration}
 use Rattle.posix_calls.specs.Registrations.{may_make, own, registrations}
@@ -37,25 +34,6 @@ use Rattle.posix_calls.proofs.Reaching.{has-entry}
 module _ (p : ℕ) where
   abbrev pub of-entry : ℕ × NamedEntry Mq → ℕ
   of-entry e = own p e.1.object.registration
-
-  fewer-kept : (test : ℕ × NamedEntry Mq → Bool) (es : List (ℕ × NamedEntry Mq)) → sum_by of-entry (filter test es) ≤ sum_by of-entry es
-  fewer-kept test es = omega (arith, sum_by-filter_both test (λ e. not (test e)) (λ e. refl) of-entry es)
-
-  fewer-left : (goes : Registration → Bool) (r : Option Registration) → own p (unless_so goes r) ≤ own p r
-  fewer-left goes None = omega arith
-  fewer-left goes (Some r) = by_test (goes r)
-    where
-      by_test : (b : Bool) → own p (if b then None else Some r) ≤ own p (Some r)
-      by_test true = omega arith
-      by_test false = omega arith
-
-  fewer-seen : (goes : Registration → Bool) (es : List (ℕ × NamedEntry Mq)) → sum_by of-entry (seen_as (deregistered goes) es) ≤ sum_by of-entry es
-  fewer-seen goes [] = omega arith
-  fewer-seen goes (e ∷ es) =
-      let left : ℕ × NamedEntry Mq = (e.0, deregistered goes e.1) in
-      let rest : List (ℕ × NamedEntry Mq) = seen_as (deregistered goes) es in
-      let step : sum_by of-entry (seen_as (deregistered goes) (e ∷ es)) ≡ of-entry left + sum_by of-entry rest = sum_by-cons of-entry left rest in
-      omega (arith, sum_by-cons of-entry e es, step, fewer-seen goes es, fewer-left goes e.1.object.registration)
 
   put : (es : List (ℕ × NamedEntry Mq)) (n : ℕ) (e x : NamedEntry Mq) → value_at nat_eq es n ≡ Some e
       → sum_by of-entry (with_value nat_eq es n x) + own p e.object.registration ≡ sum_by of-entry es + own p x.object.registration
@@ -88,19 +66,14 @@ module _ (p : ℕ) where
       e.there in
       omega (arith, whole, same, state)
 
-  -- registrations go, and queues that are no longer open
-  fewer-swept : (left : List (ℕ × Process)) (goes : Registration → Bool) (es : List (ℕ × NamedEntry Mq))
-      → sum_by of-entry (filter (stays (kinds.Named names.Mq) left) (seen_as (deregistered goes) es)) ≤ sum_by of-entry es
-  fewer-swept left goes es = omega (arith, fewer-kept (stays (kinds.Named names.Mq) left) (seen_as (deregistered goes) es), fewer-seen goes es)
-
   pub fewer-closed : (s : State) (pid fd : ℕ) → registrations (closed s pid fd) p ≤ registrations s p
-  fewer-closed s pid fd = fewer-swept (without_descriptor s pid fd).processes.entries (is_by (Some pid) (Some fd)) s.mq.entries
+  fewer-closed s pid fd = fewer-swept (own p) refl (without_descriptor s pid fd).processes.entries (is_by (Some pid) (Some fd)) s.mq.entries
 
   fewer-exited : (s : State) (gone : ℕ) → registrations (exit s gone) p ≤ registrations s p
-  fewer-exited s gone = fewer-swept (without_process s gone).processes.entries (is_by (Some gone) None) s.mq.entries
+  fewer-exited s gone = fewer-swept (own p) refl (without_process s gone).processes.entries (is_by (Some gone) None) s.mq.entries
 
   fewer-restarted : (s : State) → registrations (restart s) p ≤ registrations s p
-  fewer-restarted s = fewer-swept [] (is_by None None) s.mq.entries
+  fewer-restarted s = fewer-swept (own p) refl [] (is_by None None) s.mq.entries
 
   -- one with each queue at most
   few-registrations : (es : List (ℕ × NamedEntry Mq)) → sum_by of-entry es ≤ length es
@@ -140,10 +113,14 @@ module _ (p : ℕ) where
               absurd (let both : true ≡ false = sym is ∙ none in cc)
 
   pub fewer-unlinked : (s : State) (kind : NameKind) (n : ℕ) → registrations (unlinked s (kinds.Named kind) n) p ≤ registrations s p
-  fewer-unlinked s names.Psem n = fewer-kept (stays (kinds.Named names.Mq) s.processes.entries) s.mq.entries
-  fewer-unlinked s names.Pshm n = fewer-kept (stays (kinds.Named names.Mq) s.processes.entries) s.mq.entries
+  fewer-unlinked s names.Psem n = fewer-kept (own p) refl (stays (kinds.Named names.Mq) s.processes.entries) s.mq.entries
+  fewer-unlinked s names.Pshm n = fewer-kept (own p) refl (stays (kinds.Named names.Mq) s.processes.entries) s.mq.entries
   fewer-unlinked s names.Mq n =
-      omega (arith, fewer-kept (stays (kinds.Named names.Mq) s.processes.entries) (unbound (λ x. x) [] s.mq n).entries, by_entry (entry_of s.mq n) refl)
+      omega (
+        arith,
+        fewer-kept (own p) refl (stays (kinds.Named names.Mq) s.processes.entries) (unbound (λ x. x) [] s.mq n).entries,
+        by_entry (entry_of s.mq n) refl,
+      )
     where
       by_entry : (r : Option (NamedEntry Mq)) → entry_of s.mq n ≡ r → sum_by of-entry (without_bound (λ x. x) [] s.mq n r).entries ≤ registrations s p
       by_entry None is = omega arith
@@ -170,15 +147,6 @@ module _ (p : ℕ) where
   pub none-own : (r : Option Registration) → is_some r ≡ false → own p r ≡ 0
   none-own None is = refl
   none-own (Some r) is = cc
-
-  -- ---- objects of one process
-
-  -- other descriptors of another process
-  pub table-objects : (s : State) (pid : ℕ) (table : Table) → p ≢ pid → (on : Awaited) → object_of (with_descriptors s pid table) p on ≡ object_of s p on
-  table-objects s pid table other (awaited.MsgQueue id) = refl
-  table-objects s pid table other (awaited.Semset id) = refl
-  table-objects s pid table other (awaited.Descriptor fd) =
-      ap (option_map (λ (d : Descriptor). d.on)) (elsewhere-table s pid table p (awaited.Descriptor fd) other).0
 
   -- a call that makes one answers so
   pub made-one : (pid fd kind cookie : ℕ) → own p (Some (registration pid fd kind cookie)) ≤ may_make pid Empty p

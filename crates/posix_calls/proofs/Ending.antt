@@ -1,8 +1,8 @@
 -- What each call leaves and answers: from a sound state a sound one, with a body that fits; it changes no more than its own
 -- object, and makes no more debts than it may. And those that wait on nothing never wait.
 use Rattle.std.proofs.Common.{◌≡◌, ◌≢◌, ℕ, ℤ, ◌≤◌, Bool, true, false, not, List, [], ◌∷◌, length, Option, Some, None, refl, sym, ap, subst, ◌∙◌, arith}
-use Rattle.std.proofs.Common.{◌++◌, cond, drop, length-append, take}
-use Rattle.std.proofs.lemmas.List.{length-drop, length-replicate, length-take}
+use Rattle.std.proofs.Common.{cond, drop, length-append, take}
+use Rattle.std.proofs.lemmas.List.{length-replicate, length-take}
 use Rattle.ipc_base.specs.Table.{IsRising, keys_of, value_at}
 use Rattle.std.specs.Prelude.{◌-◌, nat_le, nat_lt, replicate, sum_by, ◌==◌, ◌+◌}
 use Rattle.std.specs.Prelude.{nat_eq, option_map, option_and_then, unwrap_or, is_some, slice_get, if◌then◌else◌}
@@ -52,13 +52,14 @@ use Rattle.ipc_state.specs.Named.{Named, NamedEntry, named}
 use Rattle.ipc_state.specs.Numbered.{Numbered, is_full, with_entry, with_new}
 use Rattle.ipc_state.specs.declared.processes.Process.{Process}
 use Rattle.posix_sem.specs.Semaphore.{post_answer, posted, sem_value_max, wait_answer, waited}
-use Rattle.shm_segment.specs.Segment.{Segment, empty_segment, is_within, part, truncated, written}
+use Rattle.shm_segment.specs.Segment.{Segment, empty_segment, part, truncated, written}
 use Rattle.ipc_state.specs.Sound.{segment_bytes}
 use Rattle.ipc_state.specs.State.{named_of, objects_in, with_psem, with_pshm}
-use Rattle.ipc_state.specs.Touching.{IsAsBefore, IsSameIn, closed_on, object_of}
+use Rattle.ipc_state.specs.Touching.{IsAsBefore, IsSameIn, closed_on, is_segment, object_of}
 use Rattle.ipc_state.specs.Waiting.{may_wait}
 use Rattle.ipc_state.proofs.CallerLemmas.{IsGood, as_before, same-but-table, same-objects, same-processes}
 use Rattle.ipc_state.proofs.CallerLemmas.{AtEnd, after, after-refuse, after-then, at-all, at-some, at-value, by-if_some, by-test}
+use Rattle.ipc_state.proofs.CallerLemmas.{table-objects, written-length}
 use Rattle.ipc_state.proofs.CallerLemmas.{closed-sound, unlinked-sound, with_descriptor-sound, with_descriptor_flags-sound}
 use Rattle.ipc_state.proofs.CallerLemmas.{descriptor-sound, mq-registered, received_mq-sound, sent_mq-sound}
 use Rattle.ipc_state.proofs.CallerLemmas.{MayJoin, content-sound, with_new-sound, with_object-sound}
@@ -75,7 +76,6 @@ use Rattle.posix_calls.specs.Pshm.{FoundPshm, asked_of_pshm, cut_as, ftruncate, 
 use Rattle.posix_calls.specs.Pshm.{shm_write, trunc}
 use Rattle.posix_calls.specs.Registrations.{may_make, own, registrations}
 use Rattle.posix_calls.proofs.Debts.{fewer-arrived, fewer-closed, fewer-given_up, fewer-unlinked, made-one, none-own, of-entry, put-mq}
-use Rattle.posix_calls.proofs.Debts.{table-objects}
 use Rattle.posix_calls.proofs.Reaching.{IsOpen, attributes-ends, has-entry, open-ends, proper-ends, queue-sound, receives, sends, sought-ends}
 use Rattle.posix_calls.proofs.Reaching.{unlinkable-ends, usable-ends}
 use Rattle.posix_calls.proofs.Reaching.{IsOpenPshm, IsOpenPsem, lowers, open_pshm-ends, open_psem-ends, passed-ends, writable-ends}
@@ -127,19 +127,6 @@ pub truncated-length : (x : Segment) (n : ℕ) → length (truncated n x).bytes 
 truncated-length x n =
     let more : ℕ = n - length x.bytes in
     omega (arith, length-append (take n x.bytes) (replicate more 0), length-take n x.bytes, length-replicate {A = ℕ} more 0)
-
-written-length : (x : Segment) (offset : ℕ) (bytes : List ℕ) → is_within offset (length bytes) x ≡ true
-    → length (written offset bytes x).bytes ≡ length x.bytes
-written-length x offset bytes within =
-    let inside : offset + length bytes ≤ length x.bytes = grind (arith, nat_tests) in
-    omega (
-      arith,
-      inside,
-      length-append (take offset x.bytes) (bytes ++ drop (offset + length bytes) x.bytes),
-      length-append bytes (drop (offset + length bytes) x.bytes),
-      length-take offset x.bytes,
-      length-drop (offset + length bytes) x.bytes,
-    )
 
 -- one of the segments has no more bytes than all
 pub fewer-of : (o : Named Segment) (n : ℕ) (e : NamedEntry Segment) → entry_of o n ≡ Some e → length e.object.bytes ≤ segment_bytes o
@@ -311,7 +298,7 @@ module _ (limits : Limits) where
               same = rest;
             };
             owes = λ p. omega (arith, owes p);
-            objects = λ p other on. same-objects (with_descriptors s pid table) t p on same ∙ table-objects p s pid table other on;
+            objects = λ p other on. same-objects (with_descriptors s pid table) t p on same ∙ table-objects s pid table p other on;
           })
 
     -- other flags with the access mode that it had
@@ -402,10 +389,10 @@ module _ (limits : Limits) where
 
       close-ends : (fd : ℕ) → AtEnd never (Leaves (closed_on s pid fd)) (close s pid fd)
       close-ends fd =
-          after (at-some EBADF (descriptor_at s.processes.entries pid fd)) (λ d _.
+          after (at-some EBADF (descriptor_at s.processes.entries pid fd)) (λ d _. after-refuse EBADF {b = is_segment d.on.kind} (λ _.
           table-ends (closed s pid fd) Empty _ refl refl refl (closed-sound limits s pid fd) (omega arith)
           (λ h p on other apart. elsewhere-closed limits s h pid fd p on other apart) (λ h this apart. same_in-closed s this limits h pid fd apart)
-          (λ p. fewer-closed p s pid fd))
+          (λ p. fewer-closed p s pid fd)))
 
       mq_setattr-ends : (fd flags : ℕ) → AtEnd never (Leaves None) (mq_setattr s pid fd flags)
       mq_setattr-ends fd flags =

@@ -18,7 +18,7 @@ use Rattle.posix_mq.specs.Queue.{received, received_message, registered, deregis
 use Rattle.posix_mq.specs.declared.queue.Registration.{Registration}
 use Rattle.ipc_state.specs.Opening.{opened_as}
 use Rattle.ipc_state.specs.State.{State, closed, has_all_descriptors, has_all_mqs, receiver_waits}
-use Rattle.ipc_state.specs.Touching.{mq_object}
+use Rattle.ipc_state.specs.Touching.{is_segment, mq_object}
 use Rattle.ipc_state.specs.State.{with_descriptor_flags, with_mq, with_new_mq}
 use Rattle.ipc_state.specs.Finish.{Halt, Fails, Blocks, Attempt, Done, answer, answer_firing, refuse, stop, if_some}
 use Rattle.ipc_state.specs.Finish.{◌orelse◌, ◌orstop◌, ◌>>◌, ◌>>=◌}
@@ -97,10 +97,11 @@ mq_open limits s cred pid flags mode attr maxmsg msgsize name = do
   found ← sought s.mq name flags
   if_some found (opened_mq s cred pid flags) (made_mq limits s cred pid flags mode attr maxmsg msgsize name)
 
--- close(2), and so mq_close(3)
+-- close(2), and so mq_close(3); an attachment of a System V segment is no such descriptor
 abbrev pub close : State → ℕ → ℕ → Attempt Done
 close s pid fd = do
   d ← described s pid fd
+  refuse EBADF (is_segment d.on.kind)
   answer (closed s pid fd) Empty
 
 -- ---- mq_send(3)

@@ -1,6 +1,6 @@
 //! The attempt of a call that never waits, which takes no memory; and which object a call may change.
 
-ghost use Rattle.std.specs.Prelude.{◌≡◌, ◌&&◌, true, false, Some, option_map};
+ghost use Rattle.std.specs.Prelude.{◌≡◌, true, false, Some, option_map};
 ghost use Rattle.ipc_wire.specs.Posix.{plain_posix};
 ghost use Rattle.ipc_wire.specs.Request.{Posix};
 ghost use Rattle.ipc_state.specs.Directory.{ArePositive};
@@ -10,7 +10,6 @@ ghost use Rattle.ipc_state.specs.Named.{named as named_in};
 ghost use Rattle.ipc_state.specs.Opening.{opened_as};
 ghost use Rattle.ipc_state.specs.Sound.{HasSoundParts};
 ghost use Rattle.ipc_state.specs.State.{is_process};
-ghost use Rattle.ipc_state.specs.Touching.{closed_on, is_made_by, is_queue, registration_of};
 ghost use Rattle.ipc_state.specs.Waiting.{may_wait};
 ghost use Rattle.posix_calls.specs.Calls as defined;
 ghost use Rattle.posix_calls.specs.Needs.{needs};
@@ -95,7 +94,7 @@ pub fn touched(state: &State, pid: Pid, call: &PosixCall<'_>) -> Option<Object>
     ensures { result ≡ defined.touched state.now.state pid.0 (plain_posix call.now) }
 {
     match call {
-        PosixCall::Close { fd } => closed_on(state, pid, *fd),
+        PosixCall::Close { fd } => state.closed_on(pid, *fd),
         PosixCall::MqOpen { name, .. } => made(NameKind::Mq, state.named_mqs(), name),
         PosixCall::SemOpen { name, .. } => made(NameKind::Psem, state.psems(), name),
         PosixCall::ShmOpen { flags, name, .. } => made_or_cut(state.pshms(), *flags, name),
@@ -115,35 +114,6 @@ pub fn touched(state: &State, pid: Pid, call: &PosixCall<'_>) -> Option<Object>
         | PosixCall::SemGetvalue { .. }
         | PosixCall::ShmRead { .. }
         | PosixCall::ShmStat { .. } => None,
-    }
-}
-
-/// The queue on which a descriptor is open, if the process is registered with it by that: a close takes this away.
-fn closed_on(state: &State, pid: Pid, fd: u32) -> Option<Object>
-    ensures { result ≡ closed_on state.now.state pid.0 fd }
-{
-    let on = state.object_of(pid, Awaited::Descriptor(fd))?;
-    if is_registered(state, pid, fd, on) {
-        Some(on)
-    } else {
-        None
-    }
-}
-
-/// Whether it is a queue with which the process is registered by this descriptor.
-fn is_registered(state: &State, pid: Pid, fd: u32, on: Object) -> bool
-    ensures { result ≡ (is_queue on.kind
-        && is_made_by (Some pid.0) (Some fd) (registration_of state.now.state on.number)) }
-{
-    let ObjectKind::Named(NameKind::Mq) = on.kind else {
-        return false;
-    };
-    let Some(entry) = state.mq(on.number) else {
-        return false;
-    };
-    match entry.object.registration() {
-        Some(registration) => registration.pid == pid && registration.descriptor == fd,
-        None => false,
     }
 }
 

@@ -23,7 +23,7 @@ ghost use Rattle.ipc_state.specs.Spare.{IsSpare, KeepsBuffer};
 use crate::access::{described, unlinkable};
 use ipc_base::{Cred, Errno, Field, OpenFlags, Pid};
 use ipc_keys::{NameKind, check_name};
-use ipc_state::{Answer, Object, ObjectKind, State, take_spare};
+use ipc_state::{Answer, Object, ObjectKind, State, is_segment, take_spare};
 use ipc_wire::{Body, push_fields};
 use posix_mq::{Mq, Registration};
 
@@ -60,13 +60,15 @@ pub(crate) fn open_mq(state: &State, pid: Pid, fd: u32) -> Result<Found<'_>, Err
     })
 }
 
-/// close(2), and so mq_close(3).
+/// close(2), and so mq_close(3). An attachment is detached by shmdt(2) alone.
 pub(crate) fn close(state: &mut State, pid: Pid, fd: u32) -> Answer
     ensures finish { Finishes (finish_of state.new.state result)
         ≡ ended state.old.state (defined.close state.old.state pid.0 fd) }
     ensures held { state.old.ready ≡ Ready.Nothing → state.new ≡ left state.old state.new.state }
 {
-    described(state, pid, fd)?;
+    if is_segment(described(state, pid, fd)?.on.kind) {
+        return Err(Errno::EBADF);
+    }
     state.close_descriptor(pid, fd);
     Ok(Body::Empty)
 }

@@ -29,6 +29,10 @@ new_segment size cpid moment =
       is_marked = false;
     }
 
+-- the segment as one that this process makes at this moment, of the bytes that it has
+abbrev pub renewed : SysSegment → Pid → ℕ → SysSegment
+renewed s cpid moment = record (new_segment 0 cpid moment) { memory = s.memory }
+
 -- the segment after this process attached it, or detached it, at this moment
 abbrev pub attached : SysSegment → Pid → ℕ → SysSegment
 attached s pid moment = record s { atime = moment; lpid = pid }

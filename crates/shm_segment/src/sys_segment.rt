@@ -5,6 +5,7 @@ ghost use Rattle.shm_segment.specs.Segment.{is_within, part};
 ghost use Rattle.shm_segment.specs.SysSegment.{
   SysSegment as Plain,
   new_segment,
+  renewed,
   attached,
   detached,
   marked,
@@ -92,6 +93,25 @@ impl SysSegment {
             lpid: stat.lpid,
             is_marked: stat.is_marked,
         })
+    }
+
+    /// Makes it one that a process makes now, of the bytes that it has.
+    pub fn renew(&mut self, cpid: Pid, now: Moment)
+        ensures { self.new ≡ renewed self.old cpid now.0 }
+    {
+        self.atime = Moment(0);
+        self.dtime = Moment(0);
+        self.ctime = now;
+        self.cpid = cpid;
+        self.lpid = Pid(0);
+        self.is_marked = false;
+    }
+
+    /// Whether it is destroyed when nobody has it attached.
+    pub fn is_marked(&self) -> bool
+        ensures { result ≡ self.now.is_marked }
+    {
+        self.is_marked
     }
 
     /// Notes that a process has attached it. See shmat(2).

@@ -1,6 +1,6 @@
 -- What is shown of what a System V call leaves and answers: it is good (from a sound state a sound one, with a body that fits,
 -- what others wait for and each object is as it was, but for its own), and all but queues, sets and adjustments is as it was.
-use Rattle.std.proofs.Common.{◌≡◌, ◌≢◌, ◌∙◌, ℕ, ℤ, Bool, List, Option, Some, None, refl, sym, ap, arith}
+use Rattle.std.proofs.Common.{◌≡◌, ◌≢◌, ◌∙◌, ℕ, ℤ, Bool, false, List, Option, Some, None, refl, sym, ap, arith}
 use Rattle.std.specs.Prelude.{if◌then◌else◌, is_some, nat_eq, unwrap_or}
 use Rattle.std.specs.FinMap as fin
 use Rattle.ipc_base.specs.declared.limits.Limits.{Limits}
@@ -17,24 +17,51 @@ use Rattle.ipc_state.specs.declared.parked.ObjectKind.{ObjectKind}
 use Rattle.ipc_state.specs.declared.parked.ObjectKind.TheVariants as kinds
 use Rattle.ipc_keys.specs.declared.check.NameKind.TheVariants as names
 use Rattle.sysv_calls.specs.Calls.{made_by, queue_at, set_at}
-use Rattle.ipc_state.specs.Finish.{Done, Finish, answer, done_firing}
+use Rattle.ipc_state.specs.Finish.{Attempt, Done, Finish, answer, done_firing}
 use Rattle.ipc_state.specs.Keyed.{Keyed, keyed}
 use Rattle.ipc_state.specs.Numbered.{entry_of}
 use Rattle.ipc_state.specs.Opening.{object_as}
 use Rattle.ipc_state.specs.Sound.{FitsBody, HasSoundParts}
-use Rattle.ipc_state.specs.State.{State}
+use Rattle.ipc_state.specs.State.{State, is_waiting}
 use Rattle.ipc_state.specs.Touching.{IsAsBefore, IsSameIn, object_of}
-use Rattle.ipc_state.proofs.CallerLemmas.{AtEnd, IsGood, at-value, same-awaited, same-processes}
+use Rattle.ipc_state.proofs.CallerLemmas.{AreFewer, AtEnd, IsGood, at-value, same-awaited, same-fewer, same-objects, same-processes}
 
 -- it leaves the processes and the POSIX queues as they are, and fires no registration
-pub record IsApart (s : State) (f : Finish) : Type 0 where
-  pub processes : f.state.processes ≡ s.processes
-  pub mq : f.state.mq ≡ s.mq
-  pub fired : f.fired ≡ None
+record IsAlone (s : State) (d : Done) : Type 0 where
+  processes : d.state.processes ≡ s.processes
+  mq : d.state.mq ≡ s.mq
+  fired : d.fired ≡ None
 
 pub record Leaves (limits : Limits) (s : State) (touches : Option Object) (d : Done) : Type 0 where
   pub good : IsGood limits s touches (done_firing d.state d.body d.fired)
-  pub apart : IsApart s (done_firing d.state d.body d.fired)
+  alone : IsAlone s d
+
+-- a call of a process leaves the objects of each other process; it fires no registration, and makes none
+pub record IsApart (s : State) (pid : ℕ) (f : Finish) : Type 0 where
+  pub objects : (p : ℕ) → p ≢ pid → (on : Awaited) → object_of f.state p on ≡ object_of s p on
+  pub mq : AreFewer s.mq f.state.mq
+  pub fired : f.fired ≡ None
+
+-- what holds of a call of a process that may change its descriptors, and so of every call, if the process does not wait
+pub record LeavesBy (limits : Limits) (s : State) (pid : ℕ) (touches : Option Object) (d : Done) : Type 0 where
+  pub good : is_waiting s pid ≡ false → IsGood limits s touches (done_firing d.state d.body d.fired)
+  pub apart : IsApart s pid (done_firing d.state d.body d.fired)
+
+-- of one that leaves the processes too
+pub by-alone : {limits : Limits} {s : State} {touches : Option Object} {never : Bool} {a : Attempt Done} (pid : ℕ)
+    → AtEnd never (Leaves limits s touches) a → AtEnd never (LeavesBy limits s pid touches) a
+by-alone {s = s} pid end =
+    record {
+      holds = λ d is. let left = end.holds d is in record {
+        good = λ free. left.good;
+        apart = record {
+          objects = λ p other on. same-objects s d.state p on left.alone.processes;
+          mq = same-fewer s.mq d.state.mq left.alone.mq;
+          fired = left.alone.fired;
+        };
+      };
+      runs = end.runs;
+    }
 
 -- a queue and a set by their identifier, as what a call may change
 abbrev pub queue : ℕ → Option Object
@@ -79,7 +106,7 @@ module _ {limits : Limits} {s : State} {never : Bool} where
             others = λ h pid on waits apart there. same pid on apart;
             same = λ h o apart. same_in o.kind o.number apart;
           };
-          apart = record { processes = refl; mq = refl; fired = refl };
+          alone = record { processes = refl; mq = refl; fired = refl };
         })
       where
         same_in : (kind : ObjectKind) (n : ℕ) → touches ≢ Some (object_as kind n)

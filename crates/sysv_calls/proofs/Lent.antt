@@ -1,9 +1,10 @@
 -- What is left of a state of which an object was lent, and what was reserved in it.
-use Rattle.std.proofs.Common.{◌≡◌, ◌∙◌, ℕ, ℤ, pos, List, Some, sym, ap}
+use Rattle.std.proofs.Common.{◌≡◌, ◌∙◌, ℕ, ℤ, pos, List, Some, length, sym, ap}
+use Rattle.std.proofs.lemmas.List.{length-replicate}
 use Rattle.ipc_base.proofs.CallerLemmas.{at-with, twice}
 use Rattle.ipc_perm.specs.declared.perm.Perm.{Perm}
-use Rattle.ipc_state.specs.Held.{Held, Ready}
-use Rattle.ipc_state.specs.Held.Ready.{MsgQueue, Semset}
+use Rattle.ipc_state.specs.Held.{Held, Ready, zero_bytes}
+use Rattle.ipc_state.specs.Held.Ready.{MsgQueue, Semset, Shm}
 use Rattle.ipc_state.specs.Bound.{holding, permitting}
 use Rattle.ipc_state.specs.Keyed.{Keyed, KeyedEntry}
 use Rattle.ipc_state.specs.Numbered.{entry_of, with_entry}
@@ -39,3 +40,11 @@ queue_in _ = pos 0
 abbrev pub set_in : Ready → ℤ × ℕ
 set_in (Semset key nsems) = (key, nsems)
 set_in _ = (pos 0, 0)
+
+-- the key and the size of a segment
+abbrev pub segment_in : Ready → ℤ × ℕ
+segment_in (Shm key zeros) = (key, length zeros.bytes)
+segment_in _ = (pos 0, 0)
+
+pub segment-in : (r : Ready) (key : ℤ) (size : ℕ) → r ≡ Shm key (zero_bytes size) → segment_in r ≡ (key, size)
+segment-in r key size is = ap segment_in is ∙ ap (λ (n : ℕ). let asked : ℤ × ℕ = (key, n) in asked) (length-replicate size 0)

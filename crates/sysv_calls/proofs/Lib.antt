@@ -11,6 +11,7 @@ mod Noting
 mod Reaching
 mod SemCalls
 mod SemopCalls
+mod ShmCalls
 mod Sparing
 mod Stopping
 mod Trying

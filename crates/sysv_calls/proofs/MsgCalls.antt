@@ -49,7 +49,8 @@ module _ (limits : Limits) (s : State) (cred : Cred) {never : Bool} where
 
   pub msgctl_stat-ends : (id : ℕ) → AtEnd never (Leaves limits s None) (msgctl_stat s cred id)
   msgctl_stat-ends id =
-      after (accessible-ends false s.msg cred id read) (λ e _. read-ends (Record (record_bytes (perm_fields e ++ queue_fields e.object))) (λ _. omega arith))
+      after (accessible-ends false s.msg cred id read)
+      (λ e _. read-ends (Record (record_bytes (perm_fields e e.perm.mode ++ queue_fields e.object))) (λ _. omega arith))
 
   pub msgctl_set-ends : (id uid gid mode qbytes : ℕ) → AtEnd never (Leaves limits s (queue id)) (msgctl_set limits s cred id uid gid mode qbytes)
   msgctl_set-ends id uid gid mode qbytes =

@@ -1,5 +1,5 @@
 -- What the steps of a call find, and what holds where its tests are passed.
-use Rattle.std.proofs.Common.{◌≡◌, ℕ, zero, suc, ℤ, pos, negsuc, ◌*◌, ◌<◌, Bool, true, false, List, [], ◌∷◌, length}
+use Rattle.std.proofs.Common.{◌≡◌, ℕ, zero, suc, ℤ, pos, negsuc, ◌*◌, ◌^◌, ◌<◌, Bool, true, false, List, [], ◌∷◌, length}
 use Rattle.std.proofs.Common.{map, arith, Option, Some, None, refl, sym, ap, ◌∙◌}
 use Rattle.std.specs.Prelude.{not, is_some, nat_le, nat_lt, int_lt, ◌≤◌, ◌==◌, slice_get, sum_by, All, if◌then◌else◌, Ok, Err}
 use Rattle.std.proofs.lemmas.Bool.{eqb-true, leb-true, lt-ltb, ltb-false, ltb-true, not-false}
@@ -23,7 +23,8 @@ use Rattle.sysv_sem.specs.declared.set.Semaphore.{Semaphore}
 use Rattle.sysv_sem.specs.declared.operation.Operation.{Operation}
 use Rattle.sysv_sem.specs.Operation.{Outcome, Done as IsDone, Blocks as Stops, Fails as IsRefused, most_value, outcome}
 use Rattle.sysv_sem.specs.Set.{Set, values_of}
-use Rattle.ipc_state.specs.Held.Ready.{Nothing, Semset}
+use Rattle.ipc_state.specs.Held.{zero_bytes}
+use Rattle.ipc_state.specs.Held.Ready.{Nothing, Semset, Shm}
 use Rattle.ipc_state.specs.State.{State, semset_of}
 use Rattle.ipc_state.specs.Finish.{Attempt, Halt}
 use Rattle.ipc_state.specs.Sound.{IsSoundMessage}
@@ -31,7 +32,7 @@ use Rattle.ipc_state.proofs.CallerLemmas.{AtEnd, after, after-orelse, after-orst
 use Rattle.ipc_state.proofs.CallerLemmas.{may-wait}
 use Rattle.sysv_calls.specs.Access.{read, write, has, gone, accessible, owned, removed, sought}
 use Rattle.sysv_calls.specs.Msg.{except, waits_or, sendable, receivable, is_too_long, message_at}
-use Rattle.sysv_calls.specs.Needs.{semset_place}
+use Rattle.sysv_calls.specs.Needs.{segment_place, semset_place}
 use Rattle.sysv_calls.specs.Sem.{count_of, semaphore, settable}
 use Rattle.sysv_calls.specs.Relations.{Passes}
 use Rattle.sysv_calls.specs.Semop.{decided, held_by, operable, performable, stopped_by}
@@ -219,3 +220,11 @@ place-reserved limits key (pos (suc k)) n most is some =
     let inside : nat_lt k 64 ≡ true = lt-ltb k 64 (omega (arith, few, most)) in
     ap (λ (b : Bool). if b then Semset key (suc k) else Nothing) inside ∙ ap (Semset key) (sym same)
 place-reserved limits key (negsuc k) n most is some = cc
+
+-- so is a segment of as many bytes
+pub segment-reserved : (limits : Limits) (key : ℤ) (size : ℕ) → limits.shmmax ≤ 2 ^ 20 → 0 < size → size ≤ limits.shmmax
+    → segment_place key size ≡ Shm key (zero_bytes size)
+segment-reserved limits key zero most some few = absurd (omega (arith, some))
+segment-reserved limits key (suc k) most some few =
+    let inside : nat_lt k (2 ^ 20) ≡ true = lt-ltb k (2 ^ 20) (omega (arith, few, most)) in
+    ap (λ (b : Bool). if b then Shm key (zero_bytes (suc k)) else Nothing) inside

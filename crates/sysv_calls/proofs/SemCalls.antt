@@ -122,7 +122,8 @@ module _ (limits : Limits) (s : State) (cred : Cred) {never : Bool} where
 
   pub semctl_stat-ends : (id : ℕ) → AtEnd never (Leaves limits s None) (semctl_stat s cred id)
   semctl_stat-ends id =
-      after (accessible-ends false s.semset cred id read) (λ e _. read-ends (Record (record_bytes (perm_fields e ++ set_fields e.object))) (λ _. omega arith))
+      after (accessible-ends false s.semset cred id read)
+      (λ e _. read-ends (Record (record_bytes (perm_fields e e.perm.mode ++ set_fields e.object))) (λ _. omega arith))
 
   pub semctl_set-ends : (id uid gid mode : ℕ) → AtEnd never (Leaves limits s (set id)) (semctl_set s cred id uid gid mode)
   semctl_set-ends id uid gid mode =

@@ -78,7 +78,7 @@ sought o key flags =
 abbrev pub listed : {X : Type 0} → State → Keyed X → Cred → ℕ → (X → List Field) → Attempt Done
 listed s o cred id fields = do
   e ← accessible false o cred id read
-  answer s (Record (record_bytes (perm_fields e ++ fields e.object)))
+  answer s (Record (record_bytes (perm_fields e e.perm.mode ++ fields e.object)))
 
 -- IPC_RMID of msgctl(2) and semctl(2)
 abbrev pub removed : {X : Type 0} → Keyed X → Cred → ℕ → Attempt (Keyed X)

@@ -3,6 +3,7 @@ pub mod Access
 pub mod Msg
 pub mod Sem
 pub mod Semop
+pub mod Shm
 pub mod Relations
 pub mod Calls
 pub mod Concern

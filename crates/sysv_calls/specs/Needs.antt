@@ -1,10 +1,11 @@
 -- What a System V request may need of memory. It is taken before the call is tried, so that nothing that is answered
 -- takes any: neither the call itself, nor one that waited.
-use Rattle.std.specs.Prelude.{◌≡◌, ℤ, pos, suc, nat_lt, Bool, true, false, ◌||◌, if◌then◌else◌, Option, None, Some}
+use Rattle.std.specs.Prelude.{◌≡◌, ◌^◌, ℕ, ℤ, pos, suc, nat_lt, Bool, true, false, ◌||◌, if◌then◌else◌, Option, None}
+use Rattle.std.specs.Prelude.{Some}
 use Rattle.ipc_wire.specs.Request.{PlainKind, PlainRequest, Sysv}
 use Rattle.ipc_wire.specs.Request as requests
-use Rattle.ipc_state.specs.Held.{Held, Ready}
-use Rattle.ipc_state.specs.Held.Ready.{Nothing, MsgQueue, Semset}
+use Rattle.ipc_state.specs.Held.{Held, Ready, zero_bytes}
+use Rattle.ipc_state.specs.Held.Ready.{Nothing, MsgQueue, Semset, Shm}
 use Rattle.ipc_state.specs.Waiting.{has_text, may_wait}
 
 -- a set of so many semaphores, if one may have as many under any limits: from 1 to 64
@@ -12,11 +13,17 @@ abbrev pub semset_place : ℤ → ℤ → Ready
 semset_place key (pos (suc n)) = if nat_lt n 64 then Semset key (suc n) else Nothing
 semset_place key _ = Nothing
 
+-- a segment of so many bytes, if one may have as many under any limits: from 1 to 2^20
+abbrev pub segment_place : ℤ → ℕ → Ready
+segment_place key (suc n) = if nat_lt n (2 ^ 20) then Shm key (zero_bytes (suc n)) else Nothing
+segment_place key _ = Nothing
+
 -- What is reserved for a request: an object more, where it may make one. What a POSIX request needs, the POSIX calls
 -- tell.
 abbrev pub needs : PlainKind → Ready
 needs (Sysv (requests.Msgget key flags)) = MsgQueue key
 needs (Sysv (requests.Semget key nsems flags)) = semset_place key nsems
+needs (Sysv (requests.Shmget key size flags)) = segment_place key size
 needs _ = Nothing
 
 abbrev pub is_something : Ready → Bool

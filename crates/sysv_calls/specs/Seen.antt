@@ -13,6 +13,8 @@ use Rattle.ipc_state.specs.declared.parked.ParkedSysv.{ParkedSysv}
 use Rattle.ipc_state.specs.declared.parked.ParkedSysv.TheVariants as parked
 use Rattle.sysv_calls.specs.Msg.{sendable, receivable}
 use Rattle.sysv_calls.specs.Semop.{operations_of, performable}
+use Rattle.sysv_calls.specs.Shm.{FoundShm as PlainSegment}
+use Rattle.sysv_calls.specs.declared.shm.FoundShm.{FoundShm}
 
 -- what a reference shows
 abbrev pub attempt_of : {X : Type 0} → Result (Bor X) Errno → Attempt X
@@ -27,6 +29,14 @@ shown (Err h) = Err (plain_halt h)
 abbrev pub sought_of : Result (Option Id) Errno → Attempt (Option ℕ)
 sought_of (Ok found) = Ok (option_map (λ id. id.0) found)
 sought_of (Err e) = Err (Fails e)
+
+-- a segment that is attached
+abbrev pub plain_segment : FoundShm → PlainSegment
+plain_segment f = record { id = f.id.0; entry = f.entry.now; flags = f.flags.0 }
+
+abbrev pub segment_of : Result FoundShm Errno → Attempt PlainSegment
+segment_of (Ok f) = Ok (plain_segment f)
+segment_of (Err e) = Err (Fails e)
 
 -- the tests of a call that may wait: if it may go on now, the place of the message that a receive takes, and 0 for any
 -- other

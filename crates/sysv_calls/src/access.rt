@@ -85,9 +85,9 @@ fn may_make(key: i32, flags: GetFlags) -> bool
 }
 
 /// Adds what is alike for the records of every kind to a body that has room for it.
-pub(crate) fn push_perm<T>(body: &mut Vec<u8>, entry: &KeyedEntry<T>)
+pub(crate) fn push_perm<T>(body: &mut Vec<u8>, entry: &KeyedEntry<T>, mode: u32)
     requires { vec_len body.old + 24 ≤ vec_capacity body.old }
-    ensures bytes { body.new.items ≡ body.old.items ++ record_bytes (perm_fields entry.now) }
+    ensures bytes { body.new.items ≡ body.old.items ++ record_bytes (perm_fields entry.now mode) }
     ensures room { vec_capacity body.old ≤ vec_capacity body.new }
 {
     let perm = &entry.perm;
@@ -99,7 +99,7 @@ pub(crate) fn push_perm<T>(body: &mut Vec<u8>, entry: &KeyedEntry<T>)
             Field::U32(perm.gid),
             Field::U32(perm.cuid),
             Field::U32(perm.cgid),
-            Field::U32(perm.mode),
+            Field::U32(mode),
         ],
     );
 }

@@ -21,8 +21,12 @@ use crate::sem::{
     semctl_setall, semctl_setval, semctl_stat, semget,
 };
 use crate::semop::semctl_getcnt;
+use crate::shm::{
+    attached_read, attached_write, reserve_segment, shmat, shmctl_rmid, shmctl_set, shmctl_stat,
+    shmdt, shmget,
+};
 use ipc_base::{Errno, Pid};
-use ipc_state::{Answer, Keyed, Object, ObjectKind, Parked, State};
+use ipc_state::{Answer, Awaited, Keyed, Object, ObjectKind, Parked, State};
 use ipc_wire::{Body, Request, RequestKind, SysvCall};
 use std::alloc::{AllocError, Global};
 
@@ -45,6 +49,10 @@ pub fn reserve(
         }
         RequestKind::Sysv(SysvCall::Semget { key, nsems, .. }) => {
             reserve_set(state, *key, *nsems)?;
+            Ok(None)
+        }
+        RequestKind::Sysv(SysvCall::Shmget { key, size, .. }) => {
+            reserve_segment(state, *key, *size)?;
             Ok(None)
         }
         RequestKind::Sysv(_) => {
@@ -98,6 +106,24 @@ pub fn attempt(state: &mut State, pid: Pid, call: &SysvCall<'_>, spare: &mut Vec
             semctl_set(state, cred, *id, *uid, *gid, *mode)
         }
         SysvCall::SemctlRmid { id } => semctl_rmid(state, cred, *id),
+        SysvCall::Shmget { key, size, flags } => shmget(state, cred, pid, *key, *size, *flags),
+        SysvCall::Shmat { id, flags } => shmat(state, cred, pid, *id, *flags),
+        SysvCall::Shmdt { attachment } => shmdt(state, pid, *attachment),
+        SysvCall::ShmctlStat { id } => shmctl_stat(state, cred, *id, spare),
+        SysvCall::ShmctlSet { id, uid, gid, mode } => {
+            shmctl_set(state, cred, *id, *uid, *gid, *mode)
+        }
+        SysvCall::ShmctlRmid { id } => shmctl_rmid(state, cred, *id),
+        SysvCall::AttachedRead {
+            attachment,
+            offset,
+            length,
+        } => attached_read(state, pid, *attachment, *offset, *length, spare),
+        SysvCall::AttachedWrite {
+            attachment,
+            offset,
+            bytes,
+        } => attached_write(state, pid, *attachment, *offset, bytes),
         SysvCall::Msgsnd { .. } | SysvCall::Msgrcv { .. } | SysvCall::Semop { .. } =>
             unreachable!(),
     }
@@ -105,9 +131,9 @@ pub fn attempt(state: &mut State, pid: Pid, call: &SysvCall<'_>, spare: &mut Vec
 
 /// The object that a call may leave otherwise, so that those that wait on it may go on: no other, and none if it is
 /// refused. A get that finds its object changes none; else it makes the one of the next number.
-pub fn touched(state: &State, call: &SysvCall<'_>) -> Option<Object>
+pub fn touched(state: &State, pid: Pid, call: &SysvCall<'_>) -> Option<Object>
     requires sound { HasSoundParts state.now.limits state.now.state }
-    ensures { result ≡ defined.touched state.now.state (plain_sysv call.now) }
+    ensures { result ≡ defined.touched state.now.state pid.0 (plain_sysv call.now) }
 {
     match call {
         SysvCall::Msgget { key, .. } => made_by(ObjectKind::MsgQueue, state.msg(), *key),
@@ -127,13 +153,26 @@ pub fn touched(state: &State, call: &SysvCall<'_>) -> Option<Object>
             kind: ObjectKind::Semset,
             number: id.0,
         }),
+        SysvCall::Shmget { key, .. } => made_by(ObjectKind::Shm, state.shm(), *key),
+        SysvCall::Shmat { id, .. } | SysvCall::ShmctlSet { id, .. } | SysvCall::ShmctlRmid { id } =>
+            Some(Object {
+                kind: ObjectKind::Shm,
+                number: id.0,
+            }),
+        SysvCall::Shmdt { attachment } => state.closed_on(pid, *attachment),
+        SysvCall::AttachedWrite { attachment, .. } => state.object_of(
+            pid,
+            Awaited::Descriptor(*attachment),
+        ),
         SysvCall::MsgctlStat { .. }
         | SysvCall::SemctlGetVal { .. }
         | SysvCall::SemctlGetPid { .. }
         | SysvCall::SemctlGetNcnt { .. }
         | SysvCall::SemctlGetZcnt { .. }
         | SysvCall::SemctlGetAll { .. }
-        | SysvCall::SemctlStat { .. } => None,
+        | SysvCall::SemctlStat { .. }
+        | SysvCall::ShmctlStat { .. }
+        | SysvCall::AttachedRead { .. } => None,
     }
 }
 

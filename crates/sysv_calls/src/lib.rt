@@ -8,6 +8,7 @@ mod concern;
 mod msg;
 mod sem;
 mod semop;
+mod shm;
 mod waiting;
 
 pub use calls::{attempt, reserve, touched};

@@ -186,7 +186,7 @@ pub(crate) fn msgctl_stat(state: &State, cred: Cred, id: Id, spare: &mut Vec<u8>
 {
     let entry = accessible(state.msg(), cred, false, id, Access::READ)?;
     let mut body = take_spare(spare);
-    push_perm(&mut body, entry);
+    push_perm(&mut body, entry, entry.perm.mode);
     push_queue(&mut body, &entry.object);
     Ok(Body::Record(body))
 }

@@ -295,7 +295,7 @@ pub(crate) fn semctl_stat(state: &State, cred: Cred, id: Id, spare: &mut Vec<u8>
 {
     let entry = accessible(state.semset(), cred, false, id, Access::READ)?;
     let mut body = take_spare(spare);
-    push_perm(&mut body, entry);
+    push_perm(&mut body, entry, entry.perm.mode);
     push_set(&mut body, &entry.object);
     Ok(Body::Record(body))
 }

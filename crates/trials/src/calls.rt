@@ -80,6 +80,22 @@ pub(crate) const SHM_WRITE: u8 = 0x40;
 
 pub(crate) const SHM_STAT: u8 = 0x41;
 
+pub(crate) const SHMGET: u8 = 0x46;
+
+pub(crate) const SHMAT: u8 = 0x47;
+
+pub(crate) const SHMDT: u8 = 0x48;
+
+pub(crate) const SHMCTL_STAT: u8 = 0x49;
+
+pub(crate) const SHMCTL_SET: u8 = 0x4a;
+
+pub(crate) const SHMCTL_RMID: u8 = 0x4b;
+
+pub(crate) const ATTACHED_READ: u8 = 0x4c;
+
+pub(crate) const ATTACHED_WRITE: u8 = 0x4d;
+
 /// The mode of every object: 0600.
 pub(crate) const MODE: u32 = 0x180;
 
@@ -89,6 +105,9 @@ pub(crate) const MAKE: u32 = 0x380;
 pub(crate) const IPC_NOWAIT: u32 = 0x800;
 
 pub(crate) const SEM_UNDO: u32 = 0x1000;
+
+/// What a mode has besides if the segment goes once nobody has it attached.
+pub(crate) const SHM_DEST: u32 = 0x200;
 
 pub(crate) const O_RDWR: u32 = 0x2;
 

@@ -1,17 +1,18 @@
 //! A request of each opcode, all of them good ones, and a server with an object of each kind on which they are tried.
 
 use crate::calls::{
-    CLOSE, FTRUNCATE, GETALL, GETNCNT, GETPID, GETVAL, GETZCNT, HELLO, INTERRUPT, IPC_NOWAIT, MAKE,
-    MODE, MQ_GETATTR, MQ_NOTIFY, MQ_OPEN, MQ_RECEIVE, MQ_SEND, MQ_SETATTR, MQ_UNLINK, MSG_RMID,
-    MSG_SET, MSG_STAT, MSGGET, MSGRCV, MSGSND, O_CREAT, O_MAKE, O_NONBLOCK, O_RDWR, O_TRUNC,
-    SEM_GETVALUE, SEM_OPEN, SEM_POST, SEM_RMID, SEM_SET, SEM_STAT, SEM_TRYWAIT, SEM_UNLINK,
-    SEM_WAIT, SEMGET, SEMOP, SETALL, SETVAL, SHM_OPEN, SHM_READ, SHM_STAT, SHM_UNLINK, SHM_WRITE,
+    ATTACHED_READ, ATTACHED_WRITE, CLOSE, FTRUNCATE, GETALL, GETNCNT, GETPID, GETVAL, GETZCNT,
+    HELLO, INTERRUPT, IPC_NOWAIT, MAKE, MODE, MQ_GETATTR, MQ_NOTIFY, MQ_OPEN, MQ_RECEIVE, MQ_SEND,
+    MQ_SETATTR, MQ_UNLINK, MSG_RMID, MSG_SET, MSG_STAT, MSGGET, MSGRCV, MSGSND, O_CREAT, O_MAKE,
+    O_NONBLOCK, O_RDWR, O_TRUNC, SEM_GETVALUE, SEM_OPEN, SEM_POST, SEM_RMID, SEM_SET, SEM_STAT,
+    SEM_TRYWAIT, SEM_UNLINK, SEM_WAIT, SEMGET, SEMOP, SETALL, SETVAL, SHM_OPEN, SHM_READ, SHM_STAT,
+    SHM_UNLINK, SHM_WRITE, SHMAT, SHMCTL_RMID, SHMCTL_SET, SHMCTL_STAT, SHMDT, SHMGET,
 };
 use crate::fault::Fault;
 use crate::host::{GROUP, Host, NOW, USER};
 use crate::request::Field::{Byte, Bytes, Long, Short, Word};
 use crate::request::{Field, NEVER};
-use crate::runs::device;
+use crate::runs::{furnished_limits, new_device};
 use std::alloc::Global;
 
 /// The client of a HELLO, which has said nothing before; the other clients are processes.
@@ -30,7 +31,7 @@ const TAKES: Field = Short(u16::MAX);
 
 /// By rising opcode. The one that waits for a message gets the first one sent, and the first list lets the one go on
 /// that waits for a semaphore.
-pub(crate) const CASES: [Case; 48] = [
+pub(crate) const CASES: [Case; 57] = [
     (HELLO, &[Word(USER), Word(GROUP)], false),
     (INTERRUPT, &[], false),
     (CLOSE, &[Word(0)], false),
@@ -142,11 +143,25 @@ pub(crate) const CASES: [Case; 48] = [
     (SHM_READ, &[Word(2), Long(1), Word(3)], false),
     (SHM_WRITE, &[Word(2), Long(2), Bytes(b"yz")], false),
     (SHM_STAT, &[Word(2)], false),
+    (SHMGET, &[Word(11), Long(4), Word(0)], false),
+    (SHMGET, &[Word(12), Long(8), Word(MAKE)], false),
+    (SHMAT, &[Word(1), Word(0)], false),
+    (SHMDT, &[Word(3)], false),
+    (SHMCTL_STAT, &[Word(1)], false),
+    (
+        SHMCTL_SET,
+        &[Word(1), Word(USER), Word(GROUP), Word(0x1a0)],
+        false,
+    ),
+    (SHMCTL_RMID, &[Word(1)], false),
+    (ATTACHED_READ, &[Word(3), Long(1), Word(3)], false),
+    (ATTACHED_WRITE, &[Word(3), Long(2), Bytes(b"yz")], false),
 ];
 
-/// What the first client asks before: a queue with a message, a set with an adjustment; and by descriptors 0, 1 and 2 a
-/// POSIX queue with a message, a named semaphore, and a segment. Each with the body of its answer.
-const READY: [(u8, &'static [Field], &'static [Field]); 10] = [
+/// What the first client asks before: a queue with a message, a set with an adjustment; by descriptors 0, 1 and 2 a
+/// POSIX queue with a message, a named semaphore, and a segment; and by attachment 3 a System V segment. Each with the
+/// body of its answer.
+const READY: [(u8, &'static [Field], &'static [Field]); 13] = [
     (MSGGET, &[Word(7), Word(MAKE)], &[Word(1)]),
     (MSGSND, &[Word(1), Word(0), Long(5), Bytes(b"hi")], &[]),
     (SEMGET, &[Word(9), Word(2), Word(MAKE)], &[Word(1)]),
@@ -176,12 +191,15 @@ const READY: [(u8, &'static [Field], &'static [Field]); 10] = [
     ),
     (FTRUNCATE, &[Word(2), Long(16)], &[]),
     (SHM_WRITE, &[Word(2), Long(0), Bytes(b"abcd")], &[]),
+    (SHMGET, &[Word(11), Long(16), Word(MAKE)], &[Word(1)]),
+    (SHMAT, &[Word(1), Word(0)], &[Word(3)]),
+    (ATTACHED_WRITE, &[Word(3), Long(0), Bytes(b"abcd")], &[]),
 ];
 
 /// A server whose first client has an object of each kind open, with something in it; the second waits for a message
 /// of type 9, the third for semaphore 1, and the guest says nothing.
 pub(crate) fn furnished(alloc: Global) -> Result<Host, Fault> {
-    let mut host = Host::open(alloc, device(alloc)?)?;
+    let mut host = Host::open(alloc, new_device(alloc, &furnished_limits())?)?;
     for client in 1..=GUEST {
         let connected = host.connect(client);
         host.note(connected);

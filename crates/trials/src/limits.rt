@@ -30,6 +30,8 @@ pub(crate) struct Count {
     pub(crate) sets: u64,
     pub(crate) semaphores: u64,
     pub(crate) adjustments: u64,
+    pub(crate) shared: u64,
+    pub(crate) shared_bytes: u64,
     pub(crate) posix_queues: u64,
     pub(crate) posix_messages: u64,
     pub(crate) named: u64,
@@ -49,6 +51,8 @@ const NONE: Count = Count {
     sets: 0,
     semaphores: 0,
     adjustments: 0,
+    shared: 0,
+    shared_bytes: 0,
     posix_queues: 0,
     posix_messages: 0,
     named: 0,
@@ -63,6 +67,7 @@ impl Count {
         Told::new(
             "# connections, # processes, # descriptors, # calls waited and # went on\n\
             # queues of # messages, # sets of # semaphores, # adjustments\n\
+            # System V segments of # bytes\n\
             # POSIX queues of # messages, # named semaphores, # segments of # bytes\n\
             # objects saved, listed and found again, # requests",
             &[
@@ -76,6 +81,8 @@ impl Count {
                 self.sets,
                 self.semaphores,
                 self.adjustments,
+                self.shared,
+                self.shared_bytes,
                 self.posix_queues,
                 self.posix_messages,
                 self.named,
@@ -141,11 +148,13 @@ impl Most {
         self.come(0);
         self.make_queues();
         self.make_sets();
+        self.make_shared();
         self.make_posix_queues();
         self.make_semaphores();
         self.make_segments();
         let made = self.named_objects();
         self.open_all(made);
+        self.remove_last();
         self.wait_all();
         self.go_on();
         self.adjust();
@@ -158,7 +167,9 @@ impl Most {
     /// room for one.
     fn find(&mut self, listed: Result<u64, Fault>) {
         let queues = self.count.queues.saturating_add(self.count.sets);
-        let wanted = queues.saturating_add(u64::from(self.named_objects()));
+        // One segment was removed, and has gone with its process.
+        let keyed = queues.saturating_add(self.count.shared.saturating_sub(1));
+        let wanted = keyed.saturating_add(u64::from(self.named_objects()));
         match listed {
             Ok(lines) if lines == wanted => self.count.lines = lines,
             Ok(lines) => {
@@ -170,6 +181,7 @@ impl Most {
         self.come(self.limits.processes);
         self.find_queues();
         self.find_sets();
+        self.find_shared();
         self.find_posix_queues();
         self.find_semaphores();
         self.find_segments();
@@ -203,6 +215,15 @@ impl Most {
             .saturating_add(semaphores)
             .saturating_add(self.limits.segments)
     }
+}
+
+/// How much of all one of so many has, by its number from 1 on: an equal part, and the last one what is left.
+pub(crate) fn share_of(all: u32, parts: u32, number: u32) -> u32 {
+    let part = all.checked_div(parts).unwrap_or(0);
+    if number < parts {
+        return part;
+    }
+    all.saturating_sub(part.saturating_mul(parts.saturating_sub(1)))
 }
 
 /// How many lines a listing has.

@@ -30,6 +30,7 @@ mod host;
 mod last_words;
 mod limits;
 mod most_posix;
+mod most_shared;
 mod most_sysv;
 mod most_waiting;
 mod openings;

@@ -7,7 +7,7 @@ use crate::calls::{
     SEM_UNLINK, SHM_OPEN, SHM_READ, SHM_STAT, SHM_UNLINK, SHM_WRITE,
 };
 use crate::host::{GROUP, USER};
-use crate::limits::Most;
+use crate::limits::{Most, share_of};
 use crate::request::Field::{Byte, Long, Name, Text, Word};
 use crate::request::{Field, NEVER};
 
@@ -216,52 +216,69 @@ impl Most {
             .ask(client, FTRUNCATE, &[Word(fd), more], ENOSPC, &[]);
     }
 
-    /// The bytes of a segment: an equal part of them all, and of the last one what is left.
+    /// The bytes of a segment.
     fn share(&self, number: u32) -> u32 {
-        let (all, segments) = (self.limits.segment_bytes, self.limits.segments);
-        let part = all.checked_div(segments).unwrap_or(0);
-        if number < segments {
-            return part;
-        }
-        all.saturating_sub(part.saturating_mul(segments.saturating_sub(1)))
+        share_of(self.limits.segment_bytes, self.limits.segments, number)
     }
 
-    /// Gives a segment its bytes, writes them by calls of the most bytes, and reads them.
+    /// Gives a segment its bytes, writes and reads them.
     fn fill_segment(&mut self, client: u32, fd: u32, number: u32) {
-        let (length, most) = (self.share(number), self.limits.call_bytes.max(1));
+        let length = self.share(number);
         let asks = [Word(fd), Long(u64::from(length))];
         self.host.ask(client, FTRUNCATE, &asks, 0, &[]);
-        for start in (0..length).step_by(most as usize) {
-            let piece = Text(number, start, length.saturating_sub(start).min(most));
-            let asks = [Word(fd), Long(u64::from(start)), piece];
-            self.host.ask(client, SHM_WRITE, &asks, 0, &[]);
-        }
+        self.write_bytes((client, fd), SHM_WRITE, (number, length));
         self.count.bytes = self.count.bytes.saturating_add(u64::from(length));
-        self.has_bytes(client, fd, number);
+        self.has_segment(client, fd, number);
         if number == self.limits.segments {
             self.no_more_bytes(client, fd, length);
         }
     }
 
-    fn has_bytes(&mut self, client: u32, fd: u32, number: u32) {
-        let (length, most) = (self.share(number), self.limits.call_bytes.max(1));
+    fn has_segment(&mut self, client: u32, fd: u32, number: u32) {
+        let length = self.share(number);
         let record = [Long(u64::from(length)), Word(USER), Word(GROUP), Word(MODE)];
         self.host.ask(client, SHM_STAT, &[Word(fd)], 0, &record);
+        self.has_bytes((client, fd), SHM_READ, (number, length));
+    }
+
+    /// Writes the bytes of a segment of either kind, by calls of the most bytes.
+    pub(crate) fn write_bytes(
+        &mut self,
+        (client, fd): (u32, u32),
+        opcode: u8,
+        (number, length): (u32, u32),
+    ) {
+        let most = self.limits.call_bytes.max(1);
+        for start in (0..length).step_by(most as usize) {
+            let piece = Text(number, start, length.saturating_sub(start).min(most));
+            let asks = [Word(fd), Long(u64::from(start)), piece];
+            self.host.ask(client, opcode, &asks, 0, &[]);
+        }
+    }
+
+    /// Reads them so. A call of one byte more is refused.
+    pub(crate) fn has_bytes(
+        &mut self,
+        (client, fd): (u32, u32),
+        opcode: u8,
+        (number, length): (u32, u32),
+    ) {
+        let most = self.limits.call_bytes.max(1);
         for start in (0..length).step_by(most as usize) {
             let size = length.saturating_sub(start).min(most);
             let asks = [Word(fd), Long(u64::from(start)), Word(size)];
             self.host
-                .ask(client, SHM_READ, &asks, 0, &[Text(number, start, size)]);
+                .ask(client, opcode, &asks, 0, &[Text(number, start, size)]);
         }
         let asks = [Word(fd), Long(0), Word(most.saturating_add(1))];
-        self.host.ask(client, SHM_READ, &asks, EINVAL, &[]);
+        self.host.ask(client, opcode, &asks, EINVAL, &[]);
     }
 
     /// Finds the segments and their bytes, and has room for one after one is unlinked.
     pub(crate) fn find_segments(&mut self) {
         for number in 1..=self.limits.segments {
             self.open_segment(1, number, Ok(0));
-            self.has_bytes(1, 0, number);
+            self.has_segment(1, 0, number);
             let length = self.share(number);
             self.no_more_bytes(1, 0, length);
             self.close_first();

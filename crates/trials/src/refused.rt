@@ -25,7 +25,7 @@ pub(crate) trait Subject: Drop {
 }
 
 /// Numbers that tell of something.
-pub(crate) type Seen = [u64; 15];
+pub(crate) type Seen = [u64; 17];
 
 /// What has been made is let go.
 pub(crate) fn done<T: Drop>(made: Result<T, AllocError>) -> Result<(), Fault> {

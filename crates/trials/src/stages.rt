@@ -24,11 +24,13 @@ pub(crate) struct Trial<'a> {
 /// The trial of a text: a script, a line `-`, and a probe.
 pub(crate) fn trial_of(alloc: Global, text: &[u8]) -> Result<Trial<'_>, Fault> {
     let (script, probe) = parts_of(alloc, text)?;
+    let stages = stages_of(alloc, script, probe)?;
+    saves_keep_all(script, &stages)?;
     Ok(Trial {
         alloc,
         script,
         probe,
-        stages: stages_of(alloc, script, probe)?,
+        stages,
     })
 }
 
@@ -69,6 +71,19 @@ fn stages_of(alloc: Global, script: &[u8], probe: &[u8]) -> Result<Vec<Stage>, F
         })?;
     }
     Ok(stages)
+}
+
+/// After a line `save` all is found as it was before it.
+fn saves_keep_all(script: &[u8], stages: &[Stage]) -> Result<(), Fault> {
+    let after = stages.iter().skip(1);
+    for (place, (before, after)) in stages.iter().zip(after).enumerate() {
+        let line = script.get(before.end..after.end).unwrap_or(&[]);
+        if line == b"save\n".as_slice() && before.found.as_slice() != after.found.as_slice() {
+            let words = "a save after # lines: then another state is found";
+            return Err(Fault::case(words, &[place as u64]));
+        }
+    }
+    Ok(())
 }
 
 /// Where what was found stands beside what was answered.

@@ -1,9 +1,10 @@
 -- The line of a listing, from the columns of the code.
 use Rattle.std.specs.Prelude.{ℕ, List}
-use Rattle.ipc_engine.specs.declared.listing.Row.TheVariants.{Msg, Sem, Pmq, Psm, Shm}
+use Rattle.ipc_engine.specs.declared.listing.Row.TheVariants.{Msg, Sem, Pmq, Psm, Shm, Seg}
 use Rattle.ipc_script.specs.declared.listing.MsgLine.{MsgLine}
 use Rattle.ipc_script.specs.declared.listing.PmqLine.{PmqLine}
 use Rattle.ipc_script.specs.declared.listing.PsmLine.{PsmLine}
+use Rattle.ipc_script.specs.declared.listing.SegLine.{SegLine}
 use Rattle.ipc_script.specs.declared.listing.SemLine.{SemLine}
 use Rattle.ipc_script.specs.declared.listing.ShmLine.{ShmLine}
 use Rattle.ipc_script.specs.Dump.{row_line}
@@ -24,3 +25,8 @@ psm_text line = row_line (Psm line.mode.0 line.uid.0 line.gid.0 line.value.0 lin
 
 abbrev pub shm_text : ShmLine → List ℕ
 shm_text line = row_line (Shm line.mode.0 line.uid.0 line.gid.0 line.length.0 line.name.0.now)
+
+abbrev pub seg_text : SegLine → List ℕ
+seg_text line =
+    row_line
+    (Seg (record { 0 = line.id.0 }) line.key.0 line.mode.0 line.uid.0 line.gid.0 line.length.0 line.attachments.0)

@@ -90,7 +90,7 @@ impl Subject for Device {
     fn tells(&self) -> Seen {
         match &self.disk {
             Some(disk) => filled(&[u64::from(disk.sectors()), disk.writes()]),
-            None => [0; 15],
+            None => [0; 17],
         }
     }
 }

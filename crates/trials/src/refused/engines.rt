@@ -2,15 +2,16 @@
 
 use crate::fault::Fault;
 use crate::refused::{Seen, Subject, done};
+use crate::runs::furnished_limits;
 use crate::told::filled;
-use ipc_base::{Cred, Limits, Moment, Objects, Pid};
+use ipc_base::{Cred, Moment, Objects, Pid};
 use ipc_engine::{Engine, Event};
 use ipc_image::objects_of;
 use ipc_wire::{RequestKind, read_request};
 use std::alloc::Global;
 
 /// The names of those that may be refused.
-pub(crate) const NAMES: [&str; 11] = [
+pub(crate) const NAMES: [&str; 12] = [
     "Engine::list",
     "Engine::step HELLO",
     "Engine::step msgget",
@@ -22,10 +23,11 @@ pub(crate) const NAMES: [&str; 11] = [
     "Engine::step sem_open",
     "Engine::step shm_open",
     "Engine::step ftruncate",
+    "Engine::step shmget",
 ];
 
 /// The names of those that take no memory.
-pub(crate) const PROMISED: [&str; 14] = [
+pub(crate) const PROMISED: [&str; 19] = [
     "Engine::step msgrcv",
     "Engine::step msgctl IPC_SET",
     "Engine::step msgctl IPC_RMID",
@@ -36,6 +38,11 @@ pub(crate) const PROMISED: [&str; 14] = [
     "Engine::step mq_unlink",
     "Engine::step sem_post",
     "Engine::step shm write",
+    "Engine::step shmat",
+    "Engine::step shmdt",
+    "Engine::step shmctl IPC_SET",
+    "Engine::step shmctl IPC_RMID",
+    "Engine::step attached write",
     "Engine::step INTERRUPT",
     "Engine::step tick",
     "Engine::step exit",
@@ -61,8 +68,8 @@ fn hello(moment: Moment) -> Event<'static> {
 }
 
 /// What a machine has: a queue of one message, a set of two semaphores of which one is adjusted, a POSIX queue of one
-/// message, a named semaphore and a segment, whose descriptors are 0 to 2.
-const READY: [&[u8]; 8] = [
+/// message, a named semaphore and a segment, whose descriptors are 0 to 2, and a System V segment that is attachment 3.
+const READY: [&[u8]; 10] = [
     b"\0\0\0\x01\x0a\0\0\0\x07\0\0\x03\x80",
     b"\0\0\0\x02\x0b\0\0\0\x01\0\0\0\0\0\0\0\0\0\0\0\x05hi",
     b"\0\0\0\x03\x14\0\0\0\x07\0\0\0\x02\0\0\x03\x80",
@@ -71,6 +78,8 @@ const READY: [&[u8]; 8] = [
     b"\0\0\0\x06\x2a\0\0\0\0\xff\xff\xff\xff\xff\xff\xff\xff\0\0\0\x01hi",
     b"\0\0\0\x07\x32\0\0\0\x42\0\0\x01\x80\0\0\0\x01/s",
     b"\0\0\0\x08\x3c\0\0\0\x42\0\0\x01\x80/m",
+    b"\0\0\0\x09\x46\0\0\0\x07\0\0\0\0\0\0\0\x0a\0\0\x03\x80",
+    b"\0\0\0\x0a\x47\0\0\0\x01\0\0\0\0",
 ];
 
 /// The request of a call, without its length.
@@ -91,6 +100,7 @@ fn request_of(name: &str) -> Option<&'static [u8]> {
         "Engine::step sem_open" => b"\0\0\0\x09\x32\0\0\0\x40\0\0\x01\x80\0\0\0\x01/t",
         "Engine::step shm_open" => b"\0\0\0\x09\x3c\0\0\0\x42\0\0\x01\x80/n",
         "Engine::step ftruncate" => b"\0\0\0\x09\x3e\0\0\0\x02\0\0\0\0\0\0\0\x40",
+        "Engine::step shmget" => b"\0\0\0\x09\x46\0\0\0\x08\0\0\0\0\0\0\0\x40\0\0\x03\x80",
         _ => return promised_request_of(name),
     })
 }
@@ -111,6 +121,13 @@ fn promised_request_of(name: &str) -> Option<&'static [u8]> {
         "Engine::step mq_unlink" => b"\0\0\0\x09\x29/q",
         "Engine::step sem_post" => b"\0\0\0\x09\x34\0\0\0\x01",
         "Engine::step shm write" => b"\0\0\0\x09\x40\0\0\0\x02\0\0\0\0\0\0\0\0",
+        "Engine::step shmat" => b"\0\0\0\x09\x47\0\0\0\x01\0\0\x10\0",
+        "Engine::step shmdt" => b"\0\0\0\x09\x48\0\0\0\x03",
+        "Engine::step shmctl IPC_SET" => {
+            b"\0\0\0\x09\x4a\0\0\0\x01\0\0\x03\xe8\0\0\0\x64\0\0\x01\x80"
+        }
+        "Engine::step shmctl IPC_RMID" => b"\0\0\0\x09\x4b\0\0\0\x01",
+        "Engine::step attached write" => b"\0\0\0\x09\x4d\0\0\0\x03\0\0\0\0\0\0\0\x02hi",
         "Engine::step INTERRUPT" => b"\0\0\0\x09\x02",
         _ => return None,
     })
@@ -118,7 +135,11 @@ fn promised_request_of(name: &str) -> Option<&'static [u8]> {
 
 /// A machine that has an object of each kind.
 pub(crate) fn engine_for(alloc: Global) -> Result<Engine, Fault> {
-    let mut engine = Engine::new(alloc, Limits::small())?;
+    let limits = furnished_limits();
+    if limits.check().is_err() {
+        return Err(Fault::Unready);
+    }
+    let mut engine = Engine::new(alloc, limits)?;
     take(&mut engine, hello(BEFORE))?;
     for text in READY {
         ask(&mut engine, text, BEFORE)?;

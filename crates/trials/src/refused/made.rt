@@ -12,13 +12,13 @@ use ipc_wait::{WaitList, Waiting};
 use ipc_wire::{Sixes, read_request};
 use posix_mq::Mq;
 use sem_undo::SemUndo;
-use shm_segment::Segment;
+use shm_segment::{Segment, ShmStat, SysSegment};
 use std::alloc::Global;
 use sysv_msg::{MsgQueue, QueueNumbers};
 use sysv_sem::SemSet;
 
 /// Their names.
-pub(crate) const NAMES: [&str; 20] = [
+pub(crate) const NAMES: [&str; 22] = [
     "sysv_msg::Message::new",
     "MsgQueue::new",
     "MsgQueue::restored",
@@ -29,6 +29,8 @@ pub(crate) const NAMES: [&str; 20] = [
     "Mq::restored",
     "Segment::zeroed",
     "Segment::of_bytes",
+    "SysSegment::new",
+    "SysSegment::restored",
     "Arrivals::with_places",
     "Name::new",
     "WaitList::from_calls",
@@ -62,6 +64,17 @@ const UNUSED: QueueNumbers = QueueNumbers {
     lrpid: Pid(0),
 };
 
+/// A segment that nobody has attached.
+const UNATTACHED: ShmStat = ShmStat {
+    size: 2,
+    atime: Moment(0),
+    dtime: Moment(0),
+    ctime: Moment(1),
+    cpid: Pid(1),
+    lpid: Pid(0),
+    is_marked: false,
+};
+
 /// What is there before: nothing.
 #[derive(Drop)]
 pub(crate) struct Nothing {
@@ -87,7 +100,7 @@ impl Subject for Nothing {
     }
 
     fn tells(&self) -> Seen {
-        [0; 15]
+        [0; 17]
     }
 }
 
@@ -104,6 +117,8 @@ fn make_object(alloc: Global, name: &str) -> Result<(), Fault> {
         "Mq::restored" => done(Mq::restored(alloc, 2, 64, None)),
         "Segment::zeroed" => done(Segment::zeroed(alloc, 10)),
         "Segment::of_bytes" => done(Segment::of_bytes(alloc, b"hi")),
+        "SysSegment::new" => done(SysSegment::new(alloc, 10, Pid(1), Moment(1))),
+        "SysSegment::restored" => done(SysSegment::restored(alloc, UNATTACHED, b"hi")),
         _ => make_call(alloc, name),
     }
 }

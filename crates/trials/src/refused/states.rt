@@ -10,16 +10,17 @@ use ipc_wire::read_request;
 use posix_mq::Mq;
 use posix_sem::NamedSem;
 use sem_undo::UndoRow;
-use shm_segment::Segment;
+use shm_segment::{Segment, SysSegment};
 use std::alloc::Global;
 use sysv_msg::MsgQueue;
 use sysv_sem::SemSet;
 
 /// Their names.
-pub(crate) const NAMES: [&str; 18] = [
+pub(crate) const NAMES: [&str; 20] = [
     "State::reserve_process",
     "State::reserve_msg_queue",
     "State::reserve_semset",
+    "State::reserve_shm",
     "State::reserve_mq",
     "State::reserve_psem",
     "State::reserve_pshm",
@@ -30,6 +31,7 @@ pub(crate) const NAMES: [&str; 18] = [
     "State::restore_adjustment",
     "State::restore_msg_queue",
     "State::restore_semset",
+    "State::restore_shm",
     "State::restore_mq",
     "State::restore_psem",
     "State::restore_pshm",
@@ -85,6 +87,7 @@ impl Subject for State {
             "State::reserve_process" => done(self.reserve_process()),
             "State::reserve_msg_queue" => done(self.reserve_msg_queue(7)),
             "State::reserve_semset" => done(self.reserve_semset(7, 4)),
+            "State::reserve_shm" => done(self.reserve_shm(7, 10)),
             "State::reserve_mq" => done(self.reserve_mq(b"/q")),
             "State::reserve_psem" => done(self.reserve_psem(b"/s")),
             "State::reserve_pshm" => done(self.reserve_pshm(b"/m")),
@@ -107,6 +110,7 @@ impl Subject for State {
             self.mqs().len() as u64,
             self.psems().items().len() as u64,
             self.pshms().items().len() as u64,
+            self.shms().len() as u64,
             self.clock().0,
             u64::from(self.next_pid()),
             u64::from(self.next_msg_queue()),
@@ -114,6 +118,7 @@ impl Subject for State {
             u64::from(self.next_mq()),
             u64::from(self.psems().next()),
             u64::from(self.pshms().next()),
+            u64::from(self.next_shm()),
         ]
     }
 }
@@ -145,6 +150,10 @@ fn restore(state: &mut State, name: &str) -> Result<(), Fault> {
         "State::restore_semset" => {
             let set = SemSet::new(alloc, 4, Moment(1))?;
             done(state.restore_semset(Id(1), keyed(set)))
+        }
+        "State::restore_shm" => {
+            let segment = SysSegment::new(alloc, 10, Pid(1), Moment(1))?;
+            done(state.restore_shm(Id(1), keyed(segment)))
         }
         _ => restore_named(state, name),
     }

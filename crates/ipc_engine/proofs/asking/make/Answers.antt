@@ -23,6 +23,7 @@ use Rattle.ipc_engine.proofs.asking.make.Goals as goal
 may-wait-needs : (kind : PlainKind) → may_wait kind ≡ true → needs kind ≡ Nothing
 may-wait-needs (Sysv (requests.Msgget key flags)) waits = cc
 may-wait-needs (Sysv (requests.Semget key nsems flags)) waits = cc
+may-wait-needs (Sysv (requests.Shmget key size flags)) waits = cc
 may-wait-needs (Posix (calls.MqOpen flags mode attr maxmsg msgsize name)) waits = cc
 may-wait-needs (Posix (calls.SemOpen flags mode value name)) waits = cc
 may-wait-needs (Posix (calls.ShmOpen flags mode name)) waits = cc

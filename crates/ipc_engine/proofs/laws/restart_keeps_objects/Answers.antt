@@ -14,7 +14,7 @@ use Rattle.ipc_state.specs.declared.parked.ObjectKind.TheVariants as kinds
 use Rattle.ipc_state.specs.Kinds.{EntryOf, Those}
 use Rattle.ipc_state.specs.Named.{NamedEntry, has_name}
 use Rattle.ipc_state.specs.Opening.{deregistered, is_by, stays, still_open, unless_so, without_registrations}
-use Rattle.ipc_state.proofs.CallerLemmas.{restart-sets}
+use Rattle.ipc_state.proofs.CallerLemmas.{restart-segments, restart-sets}
 use Rattle.ipc_engine.proofs.laws.restart_keeps_objects.Goals as goal
 
 pub returns-clause-sets : goal.returns-clause-sets
@@ -102,3 +102,6 @@ returns-clause-psems c limits s = named-kept names.Psem s.psem
 
 pub returns-clause-segments : goal.returns-clause-segments
 returns-clause-segments c limits s = named-kept names.Pshm s.pshm
+
+pub returns-clause-shared : goal.returns-clause-shared
+returns-clause-shared c limits s h = restart-segments limits s h.parts

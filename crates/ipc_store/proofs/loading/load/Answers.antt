@@ -76,7 +76,8 @@ durable-base g c honest =
 
 -- the objects
 kept : (g : Over) (c : In_ok-checkpoint g) → IsHonest (g.D.SectorDisk.medium c.args.disk.now)
-    → Kept format c.in_ok-superblock.superblock.limits c.in_ok-checkpoint.engine.state c.in_ok-checkpoint.checkpoint (g.D.SectorDisk.medium c.load_base.new.disk)
+    → Kept format c.in_ok-superblock.superblock.limits c.in_ok-checkpoint.engine.state c.in_ok-checkpoint.checkpoint
+    (g.D.SectorDisk.medium c.load_base.new.disk)
 kept g c honest =
     let h2 = (chain _ _ _ honest c.sync.ensures.medium c.load_superblock.ensures.reads.stays).time.honest.0 honest in
     let base = c.in_ok-checkpoint.ensures.base in

@@ -83,7 +83,8 @@ returns-clause-leads g c = λ honest durable.
     let journal = c.in_ok-journal.journal in
     let still = c.open.ensures.stays.time.honest.0 honest in
     let found = c.in_ok-replay.ensures.replays still in
-    let filled = subst (λ (x : Image). Replays (length c.args.room.now) c.args.engine.now.limits c.args.engine.now.state journal x found.0 c.replay.new.engine.state)
+    let filled = subst (λ (x : Image).
+    Replays (length c.args.room.now) c.args.engine.now.limits c.args.engine.now.state journal x found.0 c.replay.new.engine.state)
     (c.open.ensures.stays.contents honest) found.1 in
     let batches : List (List ℕ) = map batch_bytes found.0 in
     let stands : Holds journal_range c.epoch.result batches image =

@@ -71,13 +71,15 @@ reads_well g c found was = OnlyReads-ok (read-device c.next_batch.result found w
 
 -- it is the batch that stands there
 found_there : (g : Over) (c : In_ok-go_through g) → IsHonest (g.D.SectorDisk.medium c.args.disk.now)
-    → Found (length c.args.room.now) c.args.journal.now (g.D.SectorDisk.medium c.args.disk.now).contents c.loop-len.place.sector (take c.in-Some.len c.next_batch.new.into)
+    → Found (length c.args.room.now) c.args.journal.now (g.D.SectorDisk.medium c.args.disk.now).contents c.loop-len.place.sector
+    (take c.in-Some.len c.next_batch.new.into)
 found_there g c honest =
     let inv = c.loop-len.invariant in
     let e = c.in_ok-len.ensures in
     let len = c.in-Some.len in
     let is = c.in-Some.is in
-    found_batch (length c.args.room.now) c.args.journal.now (g.D.SectorDisk.medium c.args.disk.now) (g.D.SectorDisk.medium c.loop-len.disk) c.loop-len.place.sector
+    found_batch (length c.args.room.now) c.args.journal.now (g.D.SectorDisk.medium c.args.disk.now)
+    (g.D.SectorDisk.medium c.loop-len.disk) c.loop-len.place.sector
     c.next_batch.new.place.sector len (g.D.SectorDisk.size c.loop-len.disk) c.next_batch.new.into honest (inv.reads.stays honest)
     (g.met.D.SectorDisk.shaped c.loop-len.disk) (omega (arith, c.next_batch.auto.into, inv.room)) (e.least len is)
     (omega (arith, e.fits len is, inv.room)) (e.stands len is) (e.batch len is) (e.passes len is) (e.inside len is)
@@ -97,7 +99,8 @@ loop-len-init g c = record {
   within = omega arith;
   limits = refl;
   tracked = λ base is. is;
-  replayed = λ honest. replayed_none (length c.args.room.now) c.args.engine.now.limits c.args.engine.now.state c.args.journal.now (g.D.SectorDisk.medium c.args.disk.now).contents;
+  replayed = λ honest. replayed_none (length c.args.room.now) c.args.engine.now.limits c.args.engine.now.state c.args.journal.now
+      (g.D.SectorDisk.medium c.args.disk.now).contents;
   reads = OnlyReads-start c.args.disk.now;
 }
 
@@ -117,7 +120,8 @@ returns-in_err-len-clause-damaged g c = λ sector batches s is honest good.
       | inl lt ↦ lt
       | inr le ↦ absurd (not_none c.in_err-len.field-0.0 (c.in_err-len.ensures.end le))
     ] in
-    replayed_damaged (length c.args.room.now) c.requires.room c.args.engine.now.limits c.args.engine.now.state journal image place c.loop-len.engine.state (inv.replayed honest)
+    replayed_damaged (length c.args.room.now) c.requires.room c.args.engine.now.limits c.args.engine.now.state
+    journal image place c.loop-len.engine.state (inv.replayed honest)
     (length c.loop-len.room) _
     inv.room said more bad batches s good
 
@@ -209,9 +213,11 @@ loop-len-preserved g c =
       tracked = λ base is. c.go_through.ensures.tracked base (inv.tracked base is);
       replayed = λ honest.
           subst
-          (λ (n : ℕ). Replayed (length c.args.room.now) c.args.engine.now.limits c.args.engine.now.state c.args.journal.now (g.D.SectorDisk.medium c.args.disk.now).contents n t)
+          (λ (n : ℕ). Replayed (length c.args.room.now) c.args.engine.now.limits c.args.engine.now.state c.args.journal.now
+          (g.D.SectorDisk.medium c.args.disk.now).contents n t)
           next
-          (replayed_more _ c.requires.room _ _ _ _ _ s _ (inv.replayed honest) (found_there g here honest) events.0 t are (λ es to good. (only_there g here es to good).1));
+          (replayed_more _ c.requires.room _ _ _ _ _ s _ (inv.replayed honest) (found_there g here honest) events.0 t are
+          (λ es to good. (only_there g here es to good).1));
       reads = reads_well g (goal.at.loop-len-preserved g c).After-next_batch c.in_ok-len.field-0 c.in_ok-len.was;
     }
 

@@ -42,7 +42,8 @@ pub returns-in_err-load_journal-clause-damaged : goal.returns-in_err-load_journa
 returns-in_err-load_journal-clause-damaged g c = λ sector is honest durable has.
     let e = passed_on c.from_residual-in_err-load_journal.result c.in_err-load_journal.field-0.0 (errors.Damaged sector)
     c.from_residual-in_err-load_journal.ensures.1 is in
-    inl (c.in_err-load_journal.ensures.damaged format_one sector (inl refl) (sym (ap length c.deref_mut.ensures.value ∙ c.in_ok-room.ensures)) (ap Err e) honest has)
+    inl (c.in_err-load_journal.ensures.damaged format_one sector (inl refl) (sym (ap length c.deref_mut.ensures.value ∙ c.in_ok-room.ensures))
+    (ap Err e) honest has)
 
 pub returns-in_err-load_journal-clause-faults : goal.returns-in_err-load_journal-clause-faults
 returns-in_err-load_journal-clause-faults g c = λ found which.

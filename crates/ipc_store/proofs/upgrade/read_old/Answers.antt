@@ -73,7 +73,8 @@ returns-in_err-found-clause-counts g c =
 pub returns-in_err-superblock-clause-not_formatted : goal.returns-in_err-superblock-clause-not_formatted
 returns-in_err-superblock-clause-not_formatted g c = λ is honest.
     c.in_err-superblock.ensures.not_formatted
-    (ap Err (passed_on c.from_residual-in_err-superblock.result c.in_err-superblock.field-0.0 errors.NotFormatted c.from_residual-in_err-superblock.ensures.1 is))
+    (ap Err (passed_on c.from_residual-in_err-superblock.result c.in_err-superblock.field-0.0
+    errors.NotFormatted c.from_residual-in_err-superblock.ensures.1 is))
     honest
 
 pub returns-in_err-superblock-clause-below : goal.returns-in_err-superblock-clause-below

@@ -124,7 +124,8 @@ module _ (g : Over) (c : In_ok-checkpoint g) (honest : IsHonest (g.D.SectorDisk.
       (omega (arith, c.requires.there, c.load_base.ensures.reads.same.sectors)) (epoch_of first) its placed) seen in
       subst (λ (n : ℕ). Holds (layout_in format_one c.args.superblock.limits n) epoch objects old.contents) named.1
       (subst (λ (n : ℕ). Holds (layout_in format_one c.args.superblock.limits c.args.superblock.sectors) n objects old.contents) one.0
-      (subst (λ (o : PlainObjects). Holds (layout_in format_one c.args.superblock.limits c.args.superblock.sectors) (epoch_of first) o old.contents) one.1 placed))
+      (subst (λ (o : PlainObjects).
+      Holds (layout_in format_one c.args.superblock.limits c.args.superblock.sectors) (epoch_of first) o old.contents) one.1 placed))
 
   stand : StandForStateIn format_one c.args.superblock.limits c.in_ok-checkpoint.engine.state objects
   stand = c.in_ok-checkpoint.ensures.base.1
@@ -216,7 +217,8 @@ returns-in_err-go_through_journal-clause-damaged g c = λ sector is honest durab
     let Damage : Image → Type 0 = λ i. (IsDamagedIn format_one i × IsFirstFaultIn format_one i sector) ⊎ (HasNoNextEpoch i × (sector ≡ format_one.root)) in
     subst Damage same (c.in_err-go_through_journal.ensures.damaged sector (ap Err e) (honest-wide g here honest durable named)
     (durable-wide g here honest durable named)
-    (subst (λ (l : Limits). HasBaseIn format_one l at engine.state (g.D.SectorDisk.medium c.load_wide.new.disk).contents) (sym c.in_ok-checkpoint.ensures.limits)
+    (subst (λ (l : Limits). HasBaseIn format_one l at engine.state (g.D.SectorDisk.medium c.load_wide.new.disk).contents)
+    (sym c.in_ok-checkpoint.ensures.limits)
     (subst (λ (i : Image). HasBaseIn format_one c.args.superblock.limits at engine.state i) (sym same) (wide-base g here honest durable named))))
 
 pub returns-clause-spare : goal.returns-clause-spare

@@ -120,3 +120,53 @@ returns-in-Semop-clause-fields c = rw c.in-Semop.is (rw c.bytes.ensures.bytes at
 
 pub returns-in-Semop-clause-numbers : goal.returns-in-Semop-clause-numbers
 returns-in-Semop-clause-numbers c = rw c.in-Semop.is (search rules)
+
+pub returns-in-Shmget-clause-fields : goal.returns-in-Shmget-clause-fields
+returns-in-Shmget-clause-fields c =
+    let fits : FitsSigned w32 c.in-Shmget.key = search rules in
+    rw c.in-Shmget.is (rw (to_z-of_z w32 c.in-Shmget.key fits) at c.spelled-in-Shmget.ensures.fields)
+
+pub returns-in-Shmget-clause-numbers : goal.returns-in-Shmget-clause-numbers
+returns-in-Shmget-clause-numbers c = rw c.in-Shmget.is (search rules)
+
+pub returns-in-Shmat-clause-fields : goal.returns-in-Shmat-clause-fields
+returns-in-Shmat-clause-fields c = rw c.in-Shmat.is c.spelled-in-Shmat.ensures.fields
+
+pub returns-in-Shmat-clause-numbers : goal.returns-in-Shmat-clause-numbers
+returns-in-Shmat-clause-numbers c = rw c.in-Shmat.is (search rules)
+
+pub returns-in-Shmdt-clause-fields : goal.returns-in-Shmdt-clause-fields
+returns-in-Shmdt-clause-fields c = rw c.in-Shmdt.is c.spelled-in-Shmdt.ensures.fields
+
+pub returns-in-Shmdt-clause-numbers : goal.returns-in-Shmdt-clause-numbers
+returns-in-Shmdt-clause-numbers c = rw c.in-Shmdt.is (search rules)
+
+pub returns-in-ShmctlStat-clause-fields : goal.returns-in-ShmctlStat-clause-fields
+returns-in-ShmctlStat-clause-fields c = rw c.in-ShmctlStat.is c.spelled-in-ShmctlStat.ensures.fields
+
+pub returns-in-ShmctlStat-clause-numbers : goal.returns-in-ShmctlStat-clause-numbers
+returns-in-ShmctlStat-clause-numbers c = rw c.in-ShmctlStat.is (search rules)
+
+pub returns-in-ShmctlSet-clause-fields : goal.returns-in-ShmctlSet-clause-fields
+returns-in-ShmctlSet-clause-fields c = rw c.in-ShmctlSet.is c.spelled-in-ShmctlSet.ensures.fields
+
+pub returns-in-ShmctlSet-clause-numbers : goal.returns-in-ShmctlSet-clause-numbers
+returns-in-ShmctlSet-clause-numbers c = rw c.in-ShmctlSet.is (search rules)
+
+pub returns-in-ShmctlRmid-clause-fields : goal.returns-in-ShmctlRmid-clause-fields
+returns-in-ShmctlRmid-clause-fields c = rw c.in-ShmctlRmid.is c.spelled-in-ShmctlRmid.ensures.fields
+
+pub returns-in-ShmctlRmid-clause-numbers : goal.returns-in-ShmctlRmid-clause-numbers
+returns-in-ShmctlRmid-clause-numbers c = rw c.in-ShmctlRmid.is (search rules)
+
+pub returns-in-AttachedRead-clause-fields : goal.returns-in-AttachedRead-clause-fields
+returns-in-AttachedRead-clause-fields c = rw c.in-AttachedRead.is c.spelled-in-AttachedRead.ensures.fields
+
+pub returns-in-AttachedRead-clause-numbers : goal.returns-in-AttachedRead-clause-numbers
+returns-in-AttachedRead-clause-numbers c = rw c.in-AttachedRead.is (search rules)
+
+pub returns-in-AttachedWrite-clause-fields : goal.returns-in-AttachedWrite-clause-fields
+returns-in-AttachedWrite-clause-fields c = rw c.in-AttachedWrite.is c.spelled-in-AttachedWrite.ensures.fields
+
+pub returns-in-AttachedWrite-clause-numbers : goal.returns-in-AttachedWrite-clause-numbers
+returns-in-AttachedWrite-clause-numbers c = rw c.in-AttachedWrite.is (search rules)

@@ -6,3 +6,6 @@ made_by-requires c = held-positive c.msg.result.now c.args.state.now.state.msg c
 
 pub made_by-requires-in-Semget : goal.made_by-requires-in-Semget
 made_by-requires-in-Semget c = held-positive c.semset.result.now c.args.state.now.state.semset c.semset.ensures.sets c.requires.sound.semset.held.bound
+
+pub made_by-requires-in-Shmget : goal.made_by-requires-in-Shmget
+made_by-requires-in-Shmget c = held-positive c.shm.result.now c.args.state.now.state.shm c.shm.ensures.segments c.requires.sound.shm.held.bound

@@ -7,7 +7,13 @@ use Rattle.ipc_engine.proofs.changed.Changed.mark_leaving.Goals as goal
 pub mark_exit-requires : goal.mark_exit-requires
 mark_exit-requires c =
     let h = c.requires.parts in
-    omega (arith, c.make_room.ensures.room, h.semset.held.bound.numbered.count, (h.named names.Mq).held.bound.numbered.count)
+    omega (
+      arith,
+      c.make_room.ensures.room,
+      h.semset.held.bound.numbered.count,
+      h.shm.held.bound.numbered.count,
+      (h.named names.Mq).held.bound.numbered.count,
+    )
 
 pub returns-clause-marked : goal.returns-clause-marked
 returns-clause-marked c =

@@ -20,7 +20,8 @@ returns c =
     let fit : length bytes ≤ length xs - end = omega (arith, c.lengthen.ensures.long, c.reply_len.ensures, c.deref_mut.ensures.len) in
     let there : length bytes ≤ length free = omega (arith, fit, length-take-le (length xs - end) (drop end xs) (omega (arith, length-drop end xs))) in
     let done = c.write_reply.ensures.fits.1 (there, c.requires.length) in
-    let items = written c.lengthen.new.buffer xs c.write_reply.new.out bytes end c.deref_mut.ensures.value long fit (rw done at c.write_reply.ensures.written) in
+    let items = written c.lengthen.new.buffer xs c.write_reply.new.out bytes end c.deref_mut.ensures.value long fit
+    (rw done at c.write_reply.ensures.written) in
     let rest : List ℕ = drop (length bytes) free in
     let after : List ℕ = drop (length xs - end) (drop end xs) in
     same-outgoing _ _

@@ -22,8 +22,8 @@ returns-clause-ok c =
     on_ok_weaker c.reserve.result
     (λ is. (λ i. let h : Held = record v {
       state = record v.state { semset = (is i).objects };
-      ready = ready_of (none.process i) (none.msg_queue i) (option_map (λ r. (r.0, length r.1.semaphores)) (is i).ready) (none.mq i) (none.psem i)
-          (none.pshm i) (none.zeros i);
+      ready = ready_of (none.process i) (none.msg_queue i) (option_map (λ r. (r.0, length r.1.semaphores)) (is i).ready) (none.shm i) (none.mq i)
+          (none.psem i) (none.pshm i) (none.zeros i);
     } in h)
     ∙ (λ i. let h : Held = record v { ready = Semset (key i) (size i) } in h)
     ∙ ap (λ (m : Held). let h : Held = record m { ready = Semset c.args.key c.args.nsems } in h) released)

@@ -14,14 +14,16 @@ pub returns : goal.returns
 returns c =
     let t = c.self.inside in
     let state = (λ i. let s : State = record (state_in t) {
-      mq = (c.sweep.ensures i).objects;
-      psem = (c.sweep-2.ensures i).objects;
-      pshm = (c.sweep-3.ensures i).objects;
+      shm = (c.sweep.ensures i).objects;
+      mq = (c.sweep-2.ensures i).objects;
+      psem = (c.sweep-3.ensures i).objects;
+      pshm = (c.sweep-4.ensures i).objects;
     } in s)
     ∙ (λ i. let s : State = record (state_in t) {
-      mq = still_open (kinds.Named names.Mq) (map item_row (c.items.ensures i)) t.mq.objects;
-      psem = still_open (kinds.Named names.Psem) (map item_row (c.items-2.ensures i)) t.psem.objects;
-      pshm = still_open (kinds.Named names.Pshm) (map item_row (c.items-3.ensures i)) t.pshm.objects;
+      shm = still_open kinds.Shm (map item_row (c.items.ensures i)) t.shm.objects;
+      mq = still_open (kinds.Named names.Mq) (map item_row (c.items-2.ensures i)) t.mq.objects;
+      psem = still_open (kinds.Named names.Psem) (map item_row (c.items-3.ensures i)) t.psem.objects;
+      pshm = still_open (kinds.Named names.Pshm) (map item_row (c.items-4.ensures i)) t.pshm.objects;
     } in s)
     ∙ ap (λ (m : Held). swept m.state) c.self.view_is in
     let limits = ap (λ (m : Held). m.limits) c.self.view_is in

@@ -1,0 +1,10 @@
+use Rattle.std.proofs.Common.{ap, ◌∙◌}
+use Rattle.std.specs.List.{list_any}
+use Rattle.ipc_state.specs.Descriptors.{descriptor_row}
+use Rattle.ipc_state.specs.Touching.{is_segment}
+use Rattle.ipc_engine.proofs.Marks.{any-rows}
+use Rattle.ipc_engine.proofs.changed.has_attachment.Goals as goal
+
+pub returns : goal.returns
+returns c =
+    c.some_is_attachment.ensures ∙ any-rows descriptor_row (λ d. is_segment d.1.on.kind) c.rows.result.now ∙ ap (list_any (λ d. is_segment d.1.on.kind)) c.rows.ensures

@@ -1,0 +1,29 @@
+use Rattle.std.proofs.Common.{◌≡◌, ◌∙◌, ap}
+use Rattle.std.specs.Prelude.{option_map}
+use Rattle.std.specs.Int.{w32, cast_signed as to_z, cast_unsigned as of_z}
+use Rattle.std.proofs.lemmas.Int.{to_z-of_z}
+use Rattle.std.proofs.lemmas.Result.{on_ok_weaker}
+use Rattle.shm_segment.specs.SysSegment.{SysSegment}
+use Rattle.ipc_state.specs.contracts.state.State.{the_view}
+use Rattle.ipc_state.specs.Held.{Held, ready_of, zero_bytes}
+use Rattle.ipc_state.specs.Held.Ready.{Nothing, Shm}
+use Rattle.ipc_state.proofs.Inside.{ready-in}
+use Rattle.ipc_state.proofs.state.State.reserve_shm.Goals as goal
+
+pub returns-clause-ok : goal.returns-clause-ok
+returns-clause-ok c =
+    let t = c.self.inside in
+    let v = the_view t in
+    let released = c.self.view_is ∙ c.release.ensures in
+    let none = ready-in t Nothing (ap (λ (m : Held). m.ready) released) in
+    let bytes = ap (λ (s : SysSegment). s.memory) c.in_ok-segment.ensures in
+    let key : to_z w32 (of_z w32 c.args.key) ≡ c.args.key = to_z-of_z w32 c.args.key c.ranges.key in
+    on_ok_weaker c.reserve.result
+    (λ is. (λ i. let h : Held = record v {
+      state = record v.state { shm = (is i).objects };
+      ready = ready_of (none.process i) (none.msg_queue i) (none.semset i) (option_map (λ r. (r.0, r.1.memory)) (is i).ready) (none.mq i) (none.psem i)
+          (none.pshm i) (none.zeros i);
+    } in h)
+    ∙ (λ i. let h : Held = record v { ready = Shm (key i) (bytes i) } in h)
+    ∙ ap (λ (m : Held). let h : Held = record m { ready = Shm c.args.key (zero_bytes c.args.size) } in h) released)
+    c.reserve.ensures.ok
