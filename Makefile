@@ -3,15 +3,19 @@
 # and refuse calls of the system: without it these two say so, and refuse nothing. `runs` renders the manual page if
 # there is a man. `clients` says so without a C compiler, and tests only those in Python; its memcheck needs valgrind.
 
-.PHONY: help try run test edits imports runs serves clients memory trials program install peers bench bench-serve bench-clients
+.PHONY: help try run test edits imports runs serves clients memory trials program install dist peers bench bench-serve \
+	bench-clients bench-peers
 
 help:
 	@echo "make try    a first look, in two minutes at most: runs the sources on a script, with nothing proved"
 	@echo "make run    proves and builds what is needed, which takes an hour or more the first time, and says how"
 	@echo "            far it is; then it runs examples/device.sh: a message outlives the program. It may be stopped:"
 	@echo "            crates that are proved stay proved, and the next run goes on after them"
-	@echo "make install  puts the program, which 'make program' has built, its manual page and its unit for systemd below"
-	@echo "            PREFIX, which is /usr/local if it is not given, in the folder DESTDIR"
+	@echo "make install  puts the program, which 'make program' has built, its manual page, its unit for systemd and what"
+	@echo "            this starts it by below PREFIX, which is /usr/local if it is not given, in the folder DESTDIR"
+	@echo "make dist   packs what is built: out/ipcd-VERSION.tar.gz, with what 'make install' puts below PREFIX, documents,"
+	@echo "            examples, clients, and a MANIFEST of the commit, the toolchain's logic and sums, and of the last line"
+	@echo "            of the gate if 'make dist GATE=FILE' has what it printed. It needs git"
 	@echo "make test   what 'make imports' runs; whether the record of wrong bodies is of today's sources; the gate: every"
 	@echo "            proof, the wrong bodies that stand for a promise, the programs; and then what 'make trials', 'make runs',"
 	@echo "            'make serves', 'make clients' and 'make memory' run, on what the gate has built. Over an hour on four"
@@ -19,16 +23,17 @@ help:
 	@echo "make edits  the other wrong bodies, of all crates, or of those of 'make edits CRATE=\"ipc_wire ipc_hub\"', and"
 	@echo "            writes their records. Up to six take 15 to 90 seconds of a processor, if their crate is proved here"
 	@echo "make imports  that no crate names what is another's own, nor one that carries requests a call"
-	@echo "make runs   the program on scripts, also random ones beside a model of semaphore sets, command lines, a terminal"
-	@echo "            and devices: what it prints and says, its exit status, and what it leaves in the file; what"
-	@echo "            'make install' puts where, and the manual page"
+	@echo "make runs   the program on scripts, also random ones beside models of semaphore sets and of System V segments,"
+	@echo "            command lines, a terminal and devices: what it prints and says, its exit status, and what it leaves in"
+	@echo "            the file; what 'make install' puts where, what 'make dist' packs, and the manual page"
 	@echo "make serves the program as a server: clients by the dozen, crashes under load, what ends a connection, and what"
-	@echo "            docs/OPERATIONS.md says; the first sessions; examples/serve.sh, in which a message outlives a"
-	@echo "            crash; examples/users.sh, two users of a queue; examples/worker.sh, two who wait for jobs;"
+	@echo "            docs/OPERATIONS.md says, also of what tells systemd that it is ready; the first sessions;"
+	@echo "            examples/serve.sh, in which a message outlives a crash; examples/users.sh, two users of a queue;"
+	@echo "            examples/worker.sh, two who wait for jobs;"
 	@echo "            examples/lock.sh, a lock whose holder is killed; examples/notify.sh, one who is told of a message;"
 	@echo "            clients that wait by the dozen; how late deadlines are, and what an idle server does; semaphore sets;"
-	@echo "            POSIX queues, named semaphores and segments; and its calls of the system, watched, and each refused in"
-	@echo "            turn. Three minutes, once built"
+	@echo "            POSIX queues, named semaphores and segments of both kinds; and its calls of the system, watched, and each"
+	@echo "            refused in turn. Three minutes, once built"
 	@echo "make clients  builds the library for C and ipcd-run, which runs programs that nobody has changed, and tests them"
 	@echo "            and the Python package on the program: beside the system's own objects, over kills, by a false server."
 	@echo "            'make install' puts those in C below PREFIX, if they are built. Two minutes, once built"
@@ -49,6 +54,8 @@ help:
 	@echo "make bench-serve  sends and receives, locks, writes and reads of segments, and hand-overs by named semaphores"
 	@echo "            a second over the socket, beside the same, and their processor time; how many requests a sync puts on"
 	@echo "            the disk; and what calls that wait cost others. It ends with an error while one of them misses its bar"
+	@echo "make bench-peers  messages of ipcd beside those of redis, beanstalkd, PostgreSQL and SQLite, as far as they are"
+	@echo "            installed: rates and latencies on one disk, a table and a plot, out/peers.svg. A quarter of an hour"
 
 try:
 	@sh examples/try.sh
@@ -67,13 +74,22 @@ BUILT = crates/ipcd/out/ipcd
 
 install:
 	@[ -x $(BUILT) ] || { echo "there is no $(BUILT): 'make program' comes first" >&2; exit 1; }
-	install -d "$(DESTDIR)$(PREFIX)/bin" "$(DESTDIR)$(PREFIX)/share/man/man8" "$(DESTDIR)$(UNITS)"
+	install -d "$(DESTDIR)$(PREFIX)/bin" "$(DESTDIR)$(PREFIX)/libexec/ipcd" "$(DESTDIR)$(PREFIX)/share/man/man8" \
+		"$(DESTDIR)$(UNITS)"
 	install -m 0755 $(BUILT) "$(DESTDIR)$(PREFIX)/bin/ipcd"
+	install -m 0755 contrib/ipcd-notify "$(DESTDIR)$(PREFIX)/libexec/ipcd/ipcd-notify"
 	install -m 0644 docs/ipcd.8 "$(DESTDIR)$(PREFIX)/share/man/man8/ipcd.8"
 	install -m 0644 contrib/ipcd.service "$(DESTDIR)$(UNITS)/ipcd.service"
-	sed -i "s|/usr/local/bin/|$(PREFIX)/bin/|" "$(DESTDIR)$(UNITS)/ipcd.service"
+	sed -i "s|/usr/local/|$(PREFIX)/|g" "$(DESTDIR)$(UNITS)/ipcd.service"
 	@if [ -x clients/c/out/ipcd-run ]; then $(MAKE) -s -C clients/c install; \
 		else echo "the clients in C are not built, so they are not installed: 'make clients' builds them"; fi
+
+# What it packs is built before. GATE is a file with what `make test` has printed, if there is one.
+GATE =
+DIST = out
+
+dist:
+	@python3 tools/dist.py $(BUILT) $(DIST) $(GATE)
 
 REFUSE_EACH = python3 tests/refuse_each.py $(BUILT) crates/trials/out/trials
 
@@ -102,21 +118,22 @@ imports:
 
 RUNS = sh tests/runs.sh crates/ipcd/out/ipcd && python3 tests/terminal.py crates/ipcd/out/ipcd && \
 	python3 tests/words.py crates/ipcd/out/ipcd && python3 tests/scripts.py crates/ipcd/out/ipcd && \
-	python3 tests/sets.py crates/ipcd/out/ipcd && \
-	python3 tests/install.py crates/ipcd/out/ipcd && python3 tests/device.py crates/ipcd/out/ipcd && \
-	python3 tests/files.py crates/ipcd/out/ipcd && python3 tests/upgrade.py crates/ipcd/out/ipcd
+	python3 tests/sets.py crates/ipcd/out/ipcd && python3 tests/segments.py crates/ipcd/out/ipcd && \
+	python3 tests/install.py crates/ipcd/out/ipcd && python3 tests/dist.py crates/ipcd/out/ipcd && \
+	python3 tests/device.py crates/ipcd/out/ipcd && python3 tests/files.py crates/ipcd/out/ipcd && \
+	python3 tests/upgrade.py crates/ipcd/out/ipcd
 
 runs: program
 	@$(RUNS)
 
 SERVES = python3 tests/serve.py crates/ipcd/out/ipcd && python3 tests/operations.py crates/ipcd/out/ipcd && \
-	python3 tests/on_time.py crates/ipcd/out/ipcd && \
+	python3 tests/on_time.py crates/ipcd/out/ipcd && python3 tests/notify.py crates/ipcd/out/ipcd && \
 	python3 tests/session.py crates/ipcd/out/ipcd && sh examples/serve.sh crates/ipcd/out/ipcd && \
 	sh examples/users.sh crates/ipcd/out/ipcd && sh examples/worker.sh crates/ipcd/out/ipcd && \
 	sh examples/lock.sh crates/ipcd/out/ipcd && sh examples/notify.sh crates/ipcd/out/ipcd && \
 	python3 tests/waiting.py crates/ipcd/out/ipcd && python3 tests/waiting_load.py crates/ipcd/out/ipcd && \
 	python3 tests/semaphores.py crates/ipcd/out/ipcd && python3 tests/posix_queues.py crates/ipcd/out/ipcd && \
-	python3 tests/named_objects.py crates/ipcd/out/ipcd && \
+	python3 tests/named_objects.py crates/ipcd/out/ipcd && python3 tests/attachments.py crates/ipcd/out/ipcd && \
 	python3 tests/calls.py crates/ipcd/out/ipcd && python3 tests/sockets.py crates/ipcd/out/ipcd && \
 	python3 tests/script_calls.py crates/ipcd/out/ipcd && python3 tests/costs.py crates/ipcd/out/ipcd
 
@@ -155,6 +172,10 @@ bench: program
 	@sh bench/commits.sh $(BUILT)
 	@status=0; sh bench/replay.sh $(BUILT) || status=1; echo; python3 bench/queues.py $(BUILT) || status=1; \
 		echo; python3 bench/upgrade.py $(BUILT) || status=1; exit $$status
+
+# Eight loads on ipcd and on what else is installed. A plot of them comes into the folder `out`.
+bench-peers: program
+	@python3 bench/peers.py $(BUILT)
 
 # Nine turns of thirteen loads on a server, two loads of which the syncs are counted, and calls beside others that wait.
 # It needs Python and a C compiler.

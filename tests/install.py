@@ -21,7 +21,8 @@ PROGRAM = os.path.abspath(sys.argv[1])
 ROOT = Path(__file__).resolve().parent.parent
 PAGE = "share/man/man8/ipcd.8"
 UNIT = "lib/systemd/system/ipcd.service"
-FILES = {"bin/ipcd": 0o755, PAGE: 0o644, UNIT: 0o644}
+NOTIFY = "libexec/ipcd/ipcd-notify"
+FILES = {"bin/ipcd": 0o755, PAGE: 0o644, UNIT: 0o644, NOTIFY: 0o755}
 CLIENTS = {
     "bin/ipcd-run": 0o755,
     "include/ipcd.h": 0o644,
@@ -70,13 +71,20 @@ def program(top: Path) -> str:
 
 
 def unit(top: Path, prefix: str) -> None:
-    """The unit starts the program that is installed, and else it is the one that OPERATIONS.md shows."""
+    """The unit starts the program that is installed, by what is installed with it, and else it is the one that
+    OPERATIONS.md shows."""
     text = (top / UNIT).read_text()
-    start = f"ExecStart={prefix}/bin/ipcd serve /var/lib/ipcd/device /run/ipcd/socket\n"
+    start = f"ExecStart={prefix}/{NOTIFY} {prefix}/bin/ipcd serve /var/lib/ipcd/device /run/ipcd/socket\n"
     check(start in text, f"{prefix}: {text!r}")
     shown = "".join(f"    {line}" if line.strip() else line for line in text.splitlines(True))
-    pages = (ROOT / "docs/OPERATIONS.md").read_text().replace("/usr/local/bin/", f"{prefix}/bin/")
+    pages = (ROOT / "docs/OPERATIONS.md").read_text().replace("/usr/local/", f"{prefix}/")
     check(shown in pages, f"{prefix}: OPERATIONS.md shows another unit")
+
+
+def notify(top: Path) -> None:
+    """What the unit starts the program by is installed as one that can be run."""
+    ended = subprocess.run([top / NOTIFY, top / "bin/ipcd", "--version"], capture_output=True, text=True, timeout=60)
+    check(ended.returncode == 0 and ended.stdout.startswith("ipcd "), f"the program by {NOTIFY}: {ended}")
 
 
 def man(*words: str) -> subprocess.CompletedProcess[str]:
@@ -103,7 +111,8 @@ def main() -> None:
         top = installed(prefix)
         name = program(top)
         unit(top, prefix)
-    print(f"install: the program, its page and its unit, twice; {page(top, name)}")
+        notify(top)
+    print(f"install: the program, its page, its unit and what this starts it by, twice; {page(top, name)}")
 
 
 if __name__ == "__main__":
