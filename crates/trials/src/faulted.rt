@@ -19,6 +19,12 @@ struct Runs<'a> {
     ahead: u64,
 }
 
+/// Openings of a new device.
+#[derive(Clone, Copy)]
+struct FirstOpenings<'a> {
+    trial: &'a Trial<'a>,
+}
+
 /// Openings of what so many lines leave.
 #[derive(Clone, Copy)]
 struct Openings<'a> {
@@ -30,7 +36,7 @@ struct Openings<'a> {
 pub(crate) fn faulted(alloc: Global, text: &[u8], every: usize) -> Result<Told, Fault> {
     let trial = &trial_of(alloc, text)?;
     let words = &last_words_of(alloc, trial.script)?;
-    let opening = fail_each(&mut Openings { trial, lines: 0 }, 0, false)?;
+    let opening = fail_each(&mut FirstOpenings { trial }, 0, false)?;
     let [feeds, ticks, hangups, releases, saves] = halt_hubs(alloc, opening)?;
     let mut runs = Runs {
         trial,
@@ -104,8 +110,20 @@ fn line_of(trial: &Trial<'_>, words: &[String], output: &[u8], found: &[u8]) -> 
     place
 }
 
+impl Fails for FirstOpenings<'_> {
+    fn fail(&mut self, at: u64, done: bool) -> Result<bool, Fault> {
+        let Some(first) = self.trial.stages.first() else {
+            return Ok(false);
+        };
+        let disk = OnceDisk::new(device(self.trial.alloc)?, at, done);
+        match open_to(self.trial, disk, &first.found) {
+            Some(is_failed) => Ok(is_failed),
+            None => Err(untold_of_opening(0, at, done)),
+        }
+    }
+}
+
 impl Fails for Openings<'_> {
-    /// It is told, and the disk then opens to the state after these lines.
     fn fail(&mut self, at: u64, done: bool) -> Result<bool, Fault> {
         let Openings { trial, lines } = *self;
         let Some(stage) = trial.stages.get(lines) else {
@@ -113,16 +131,24 @@ impl Fails for Openings<'_> {
         };
         let script = trial.script.get(..stage.end).unwrap_or(trial.script);
         let used = run(trial.alloc, device(trial.alloc)?, script).disk;
-        let ran = run(trial.alloc, OnceDisk::new(used, at, done), &[]);
-        match (ran.outcome, ran.disk.has_failed()) {
-            (Ok(()), false) => return Ok(false),
-            (Err(Fault::Device), true) => {}
-            _ => return Err(untold_of_opening(lines, at, done)),
+        match open_to(trial, OnceDisk::new(used, at, done), &stage.found) {
+            Some(is_failed) => Ok(is_failed),
+            None => Err(untold_of_opening(lines, at, done)),
         }
-        match found_on(trial.alloc, ran.disk.into_disk(), trial.probe) {
-            Ok(found) if found.as_slice() == stage.found.as_slice() => Ok(true),
-            _ => Err(untold_of_opening(lines, at, done)),
-        }
+    }
+}
+
+/// Whether a call fails as a disk is opened, if it is told then, and the next opening finds this.
+fn open_to(trial: &Trial<'_>, disk: OnceDisk, wanted: &[u8]) -> Option<bool> {
+    let ran = run(trial.alloc, disk, &[]);
+    match (ran.outcome, ran.disk.has_failed()) {
+        (Ok(()), false) => return Some(false),
+        (Err(Fault::Device), true) => {}
+        _ => return None,
+    }
+    match found_on(trial.alloc, ran.disk.into_disk(), trial.probe) {
+        Ok(found) if found.as_slice() == wanted => Some(true),
+        _ => None,
     }
 }
 
