@@ -27,7 +27,7 @@ help:
 	@echo "            command lines, a terminal and devices: what it prints and says, its exit status, and what it leaves in"
 	@echo "            the file; what 'make install' puts where, what 'make dist' packs, and the manual page"
 	@echo "make serves the program as a server: clients by the dozen, crashes under load, what ends a connection, and what"
-	@echo "            docs/OPERATIONS.md says, also of what tells systemd that it is ready; the first sessions;"
+	@echo "            docs/OPERATIONS.md says, also of what tells systemd that it is ready; looks at its device; the first sessions;"
 	@echo "            examples/serve.sh, in which a message outlives a crash; examples/users.sh, two users of a queue;"
 	@echo "            examples/worker.sh, two who wait for jobs;"
 	@echo "            examples/lock.sh, a lock whose holder is killed; examples/notify.sh, one who is told of a message;"
@@ -128,6 +128,7 @@ runs: program
 
 SERVES = python3 tests/serve.py crates/ipcd/out/ipcd && python3 tests/operations.py crates/ipcd/out/ipcd && \
 	python3 tests/on_time.py crates/ipcd/out/ipcd && python3 tests/notify.py crates/ipcd/out/ipcd && \
+	python3 tests/looks.py crates/ipcd/out/ipcd && \
 	python3 tests/session.py crates/ipcd/out/ipcd && sh examples/serve.sh crates/ipcd/out/ipcd && \
 	sh examples/users.sh crates/ipcd/out/ipcd && sh examples/worker.sh crates/ipcd/out/ipcd && \
 	sh examples/lock.sh crates/ipcd/out/ipcd && sh examples/notify.sh crates/ipcd/out/ipcd && \

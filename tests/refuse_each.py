@@ -5,8 +5,8 @@
 The script of tests/refused.txt in memory, by `TRIALS script`: a run says that there is no memory, with status 1, after
 the answers to some first lines; or one request is answered ENOMEM, and all else as in the script without that request.
 Of that only the moment is left, as a tick. What a run is compared with is printed by another, of which nothing is
-refused. `IPCD dump`, and `IPCD run` of no line, on the device that the script leaves: they do all, or say that there is
-no memory, or that the device failed, where memory of the device itself was refused; and then the device still opens.
+refused. `IPCD dump` and `list`, and `run` of no line, on the device that the script leaves: they do all, or say that
+there is no memory, or that the device failed, where memory of the device itself was refused; and then it still opens.
 `IPCD upgrade` of a device of version 1: it is done, or refused, and then the file is as before. Each call of `TRIALS
 refused`, `Store::upgrade` of that device among them: it is refused, what it was made on is as before, and it is done
 when it is made again; those that take no memory are never refused.
@@ -60,6 +60,9 @@ psm 0600       1000        100 2147483647 /t
 shm 0600       1000        100         10 /m
 seg          2           6 0600       1000        100          3          0
 """
+
+# Commands on that device, and what they print. Without a restart the process that has the segment attached is there.
+DEVICE_COMMANDS = [("dump", LISTED), ("list", LISTED.removesuffix("0\n") + "1\n"), ("run", "")]
 
 
 class Ran(NamedTuple):
@@ -271,7 +274,8 @@ def main() -> None:
         )
         tried = [try_script(script, answers)]
         image = left_by(script)
-        tried += [try_device(image, "dump", LISTED), try_device(image, "run", ""), try_upgrade(), try_calls()]
+        tried += [try_device(image, command, wanted) for command, wanted in DEVICE_COMMANDS]
+        tried += [try_upgrade(), try_calls()]
     print(f"refuse_each: {', '.join(tried)}, each with one allocation refused")
 
 

@@ -287,14 +287,14 @@ fi
 
 name "no command"
 says "error: 'ipcd' requires a subcommand but one was not provided"
-says "  [subcommands: replay, format, upgrade, run, dump, serve, help]"
+says "  [subcommands: replay, format, upgrade, run, dump, list, serve, help]"
 says ""
 says "Usage: ipcd <COMMAND>"
 says ""
 says "For more information, try '--help'."
 run 2
 name "a command that is not there"
-refused "unrecognized subcommand 'listen'" "ipcd <COMMAND>" listen
+refused "unrecognized subcommand 'watch'" "ipcd <COMMAND>" watch
 name "a flag that is not there"
 refused "unexpected argument '--big' found" "ipcd replay [OPTIONS]" replay --big
 name "a word too many"

@@ -30,7 +30,9 @@ HELLO = b"0 open 1\n0 data 1 0000000d0000000101000003e800000064\n"
 REFUSED = [
     ("run", "queues", "--small"),
     ("dump",),
+    ("list",),
     ("dump", "queues", "more"),
+    ("list", "queues", "more"),
     ("format",),
     ("format", "queues", "--sectors"),
     ("format", "queues", "--sectors", "-1"),
@@ -40,7 +42,7 @@ REFUSED = [
     ("upgrade", "queues", "--sectors", "many"),
 ]
 
-HELPED = ["run", "dump", "serve", "upgrade"]
+HELPED = ["run", "dump", "list", "serve", "upgrade"]
 
 # Words that print something and do nothing else.
 TOLD = [("--help",), ("--version",), ("help",), ("serve", "--help"), ("help", "format")]
@@ -174,6 +176,7 @@ def names_with_spaces() -> None:
     check(os.path.getsize("a b") == 1366 * 512, "the file has not 1366 sectors")
     ends((0, b"1 0000000a00000001000000000001\n", b""), "run", "a b", script=HELLO)
     ends((0, b"", b""), "dump", "a b")
+    ends((0, b"", b""), "list", "a b")
     check(os.listdir() == ["a b"], f"other files are made: {os.listdir()}")
 
 

@@ -72,12 +72,15 @@ replay_command = with_rule (new_app (codes "replay")) small_rule
 abbrev pub sized_command : Text → App
 sized_command name = with_rule (with_rule (with_rule (new_app name) device_rule) small_rule) sectors_rule
 
--- `run` and `dump`, with a device
+-- `run`, `dump` and `list`, with a device
 abbrev pub run_command : App
 run_command = with_rule (new_app (codes "run")) device_rule
 
 abbrev pub dump_command : App
 dump_command = with_rule (new_app (codes "dump")) device_rule
+
+abbrev pub list_command : App
+list_command = with_rule (new_app (codes "list")) device_rule
 
 -- `serve`, with a device, a socket and the option
 abbrev pub serve_command : App
@@ -90,12 +93,12 @@ ipcd_command = record (new_app (codes "ipcd")) {
   top = record (new_app (codes "ipcd")).top { has_version = true; subcommand_required = true };
 }
 
--- the command line: `ipcd`, and below it the six commands
+-- the command line: `ipcd`, and below it the seven commands
 abbrev pub declared : App
 declared =
-    with_subcommand (with_subcommand (with_subcommand (with_subcommand (with_subcommand
+    with_subcommand (with_subcommand (with_subcommand (with_subcommand (with_subcommand (with_subcommand
     (with_subcommand ipcd_command replay_command.top) (sized_command (codes "format")).top)
-    (sized_command (codes "upgrade")).top) run_command.top) dump_command.top) serve_command.top
+    (sized_command (codes "upgrade")).top) run_command.top) dump_command.top) list_command.top) serve_command.top
 
 -- ---- what words that are taken ask for
 
@@ -106,6 +109,7 @@ pub data PlainRequest : Type 0 where
   Upgrade : (device : Text) → (small : Bool) → (sectors : Option ℕ) → PlainRequest
   Run : (device : Text) → PlainRequest
   Dump : (device : Text) → PlainRequest
+  Look : (device : Text) → PlainRequest
   Serve : (device socket : Text) → (turns : Option ℕ) → PlainRequest
 
 abbrev pub plain_request : Request → PlainRequest
@@ -114,6 +118,7 @@ plain_request (request.Format device small sectors) = Format (string_bytes devic
 plain_request (request.Upgrade device small sectors) = Upgrade (string_bytes device) small sectors
 plain_request (request.Run device) = Run (string_bytes device)
 plain_request (request.Dump device) = Dump (string_bytes device)
+plain_request (request.Look device) = Look (string_bytes device)
 plain_request (request.Serve device socket turns) =
     Serve (string_bytes device) (string_bytes socket) turns
 
@@ -145,9 +150,10 @@ asked_request name rows =
     then Upgrade device (asked_small rows) (asked_number (codes "sectors") rows)
     else (if bytes_eq name (codes "run") then Run device
     else (if bytes_eq name (codes "dump") then Dump device
+    else (if bytes_eq name (codes "list") then Look device
     else (if bytes_eq name (codes "serve")
     then Serve device (asked_text (codes "socket") rows) (asked_number (codes "turns") rows)
-    else Dump [])))))
+    else Dump []))))))
 
 -- the same, by the command that was found; the parser takes no words without one
 abbrev pub asked : Option (Text × List Row) → PlainRequest

@@ -7,13 +7,13 @@ ghost use Rattle.clap.specs.Words.{app_of, rule_of, fault_of, subcommand_of, sub
 ghost use Rattle.clap.specs.Words.{FailsBy, found_of, rows_of};
 ghost use Rattle.clap.specs.declared.builder.command.Command.TheViews.{out-Command};
 ghost use Rattle.ipc_command.specs.Command.{limits_asked, refusal_status, IsTakenAs, AsksFor, declared};
-ghost use Rattle.ipc_command.specs.Command.PlainRequest.{Format, Upgrade, Run, Dump, Serve};
+ghost use Rattle.ipc_command.specs.Command.PlainRequest.{Format, Upgrade, Run, Dump, Look, Serve};
 ghost use Rattle.ipc_command.specs.Command.{plain_request, asked, asked_small, asked_text};
 ghost use Rattle.ipc_command.specs.Command.{asked_number, parsed_number};
 ghost use Rattle.ipc_command.specs.Command.{is_no_flag, small_words, sectors_words, turns_words};
 ghost use Rattle.ipc_command.specs.Command.{small_rule, sectors_rule, device_rule, socket_rule, turns_rule};
 ghost use Rattle.ipc_command.specs.Command.{replay_command, sized_command, run_command, dump_command};
-ghost use Rattle.ipc_command.specs.Command.{serve_command};
+ghost use Rattle.ipc_command.specs.Command.{list_command, serve_command};
 
 use clap::error::ErrorKind;
 use clap::{Arg, ArgAction, ArgMatches, Command, Error, value_parser};
@@ -50,6 +50,10 @@ pub enum Request {
     },
     /// List the objects of the device in a file.
     Dump {
+        device: String,
+    },
+    /// List the objects of the device in a file, which may be in use, and leave it as it is.
+    Look {
         device: String,
     },
     /// Serve the device in a file to the clients of a socket, for so many turns if any are given.
@@ -137,6 +141,9 @@ pub fn parse<S: AsStr>(alloc: Global, words: &[S]) -> Result<Request, Error>
     ensures dump { (name device : List ℕ) → is_no_flag device ≡ true
         → map S.text words.now ≡ name ∷ codes "dump" ∷ device ∷ []
         → AsksFor (Dump device) result }
+    ensures list { (name device : List ℕ) → is_no_flag device ≡ true
+        → map S.text words.now ≡ name ∷ codes "list" ∷ device ∷ []
+        → AsksFor (Look device) result }
     ensures serve { (name device socket : List ℕ) (number : Option (List ℕ))
         → is_no_flag device ≡ true → is_no_flag socket ≡ true
         → IfSome number (λ text. IsSome (parsed_number text))
@@ -164,10 +171,11 @@ fn command_line<'a>(alloc: Global) -> Result<Command<'a>, AllocError>
         .subcommand(upgrade(alloc)?)?
         .subcommand(run(alloc)?)?
         .subcommand(dump(alloc)?)?
+        .subcommand(list(alloc)?)?
         .subcommand(serve(alloc)?)
 }
 
-// The command `replay`. None of the six has an argument for the commands below it.
+// The command `replay`. None of the seven has an argument for the commands below it.
 fn replay<'a>(alloc: Global) -> Result<Command<'a>, AllocError>
     ensures app { IfOk result (λ command. app_of command ≡ replay_command) }
     ensures local { IfOk result (λ command. (out-Command command).has_globals ≡ false) }
@@ -237,6 +245,16 @@ fn dump<'a>(alloc: Global) -> Result<Command<'a>, AllocError>
 {
     Command::new(alloc, "dump")
         .about("Lists the objects of the server whose device is in a file")
+        .arg(device_word(alloc))
+}
+
+// The command `list`.
+fn list<'a>(alloc: Global) -> Result<Command<'a>, AllocError>
+    ensures app { IfOk result (λ command. app_of command ≡ list_command) }
+    ensures local { IfOk result (λ command. (out-Command command).has_globals ≡ false) }
+{
+    Command::new(alloc, "list")
+        .about("Lists the objects that are on a device now, in use or not, and only reads it")
         .arg(device_word(alloc))
 }
 
@@ -338,6 +356,11 @@ fn request_in(alloc: Global, matches: &ArgMatches<'_>) -> Result<Request, AllocE
     if let Some(run) = matches.subcommand_matches("run") {
         return Ok(Request::Run {
             device: text_in(alloc, run, "device")?,
+        });
+    }
+    if let Some(list) = matches.subcommand_matches("list") {
+        return Ok(Request::Look {
+            device: text_in(alloc, list, "device")?,
         });
     }
     if let Some(serve) = matches.subcommand_matches("serve") {

@@ -6,7 +6,7 @@ use crate::progress::Silent;
 use crate::system::{FileRuns, offset};
 use crate::{DiskFault, JoinedDisk, Progress};
 use std::alloc::Global;
-use std::fs::{File, OpenOptions, Permissions};
+use std::fs::{File, OpenOptions, Permissions, metadata};
 use std::io;
 use std::os::unix::fs::{FileExt, OpenOptionsExt, PermissionsExt};
 use std::path::AsPath;
@@ -64,6 +64,15 @@ fn create_locked<R: Files<File = File>, P: AsPath>(rt: &R, path: P) -> io::Resul
     Ok(file)
 }
 
+// Opens a plain file that is there, to read it. A pipe is not opened: that would wait for one who writes it.
+fn open_plain<R: Files<File = File>, P: AsPath>(rt: &R, path: P) -> io::Result<File> {
+    let path = path.path_text();
+    if !metadata(rt, path)?.is_file() {
+        return Err(io::ErrorKind::InvalidInput.into());
+    }
+    File::open(rt, path)
+}
+
 // Locks a file, if it is a plain one.
 fn lock(file: &File) -> io::Result<()> {
     if !file.metadata()?.is_file() {
@@ -110,7 +119,7 @@ fn extend<P: Progress>(file: &File, from: u64, end: u64, progress: &mut P) -> io
 
 impl FileDisk {
     ghost use Rattle.ipc_disk.specs.Joined.{disk_under, IsUnused};
-    ghost use Rattle.ipc_disk.specs.File.{file_size};
+    ghost use Rattle.ipc_disk.specs.File.{file_size, file_syncs};
 
     /// A disk of so many sectors, in a new file or in one that is there. A new file has mode 0600.
     /// One that is there keeps its mode; a longer one is cut, a shorter one keeps its bytes and gets
@@ -145,7 +154,7 @@ impl FileDisk {
         if resize(&file, offset(sectors), progress).is_err() {
             return Err(DiskFault);
         }
-        FileDisk::over(rt.alloc(), file, sectors)
+        FileDisk::over(rt.alloc(), FileRuns::new(file, sectors, false))
     }
 
     /// The disk in a file that is there, with its whole sectors, at most 4294967295. `DiskFault` if
@@ -162,7 +171,27 @@ impl FileDisk {
         let Ok(metadata) = file.metadata() else {
             return Err(DiskFault);
         };
-        FileDisk::over(rt.alloc(), file, whole_sectors(metadata.len()))
+        let sectors = whole_sectors(metadata.len());
+        FileDisk::over(rt.alloc(), FileRuns::new(file, sectors, false))
+    }
+
+    /// The disk in a file that is there, to be read, with its whole sectors, at most 4294967295. It is not
+    /// locked: another may have it as a disk, and write it meanwhile. So each sector is read until two reads
+    /// agree, and a write fails. `DiskFault` if the system refuses a call or memory, or if it is no plain file.
+    pub fn open_to_read<R: Files<File = File> + AllocGlobal, P: AsPath>(
+        rt: &R,
+        path: P,
+    ) -> Result<FileDisk, DiskFault>
+        ensures unused { IfOk result (λ disk. IsUnused 0 disk) }
+    {
+        let Ok(file) = open_plain(rt, path) else {
+            return Err(DiskFault);
+        };
+        let Ok(metadata) = file.metadata() else {
+            return Err(DiskFault);
+        };
+        let sectors = whole_sectors(metadata.len());
+        FileDisk::over(rt.alloc(), FileRuns::new(file, sectors, true))
     }
 
     /// As `open`, but a file with fewer whole sectors gets so many: those that it has stay, and zeros
@@ -199,21 +228,21 @@ impl FileDisk {
         };
         let had = whole_sectors(metadata.len());
         if sectors <= had {
-            return FileDisk::over(rt.alloc(), file, had);
+            return FileDisk::over(rt.alloc(), FileRuns::new(file, had, false));
         }
         if extend(&file, offset(had), offset(sectors), progress).is_err() {
             let _cut = file.set_len(offset(had));
             return Err(DiskFault);
         }
-        FileDisk::over(rt.alloc(), file, sectors)
+        FileDisk::over(rt.alloc(), FileRuns::new(file, sectors, false))
     }
 
-    // A disk of so many sectors in an open file. `DiskFault` if there is no memory for what waits.
-    pub(crate) fn over(alloc: Global, file: File, sectors: u32) -> Result<FileDisk, DiskFault>
-        ensures size { IfOk result (λ disk. file_size (disk_under disk) ≡ sectors) }
-        ensures unused { IfOk result (λ disk. IsUnused 0 disk) }
+    // The disk over the sectors of a file. `DiskFault` if there is no memory for what waits.
+    pub(crate) fn over(alloc: Global, runs: FileRuns) -> Result<FileDisk, DiskFault>
+        ensures under { IfOk result (λ disk. disk_under disk ≡ runs) }
+        ensures unused { IfOk result (λ disk. IsUnused (file_syncs runs) disk) }
     {
-        let Ok(disk) = JoinedDisk::new(alloc, FileRuns::new(file, sectors)) else {
+        let Ok(disk) = JoinedDisk::new(alloc, runs) else {
             return Err(DiskFault);
         };
         Ok(disk)

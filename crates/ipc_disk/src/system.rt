@@ -14,9 +14,14 @@ pub struct FileRuns {
     file: File,
     sectors: u32,
     syncs: u64,
+    // Another may write them meanwhile.
+    shared: bool,
     ghost few: { sectors < 2 ^ 32 },
     ghost counted: { syncs < 2 ^ 64 },
 }
+
+// How often a sector is read that another writes, until two reads agree.
+const MOST_READS: u32 = 100;
 
 // The place of a sector in the file.
 pub(crate) fn offset(at: u32) -> u64
@@ -38,8 +43,8 @@ fn fault_of(done: io::Result<()>) -> Result<(), DiskFault>
 impl FileRuns {
     ghost use Rattle.ipc_disk.specs.File.{file_size, file_syncs};
 
-    // So many sectors of a file.
-    pub(crate) fn new(file: File, sectors: u32) -> FileRuns
+    // So many sectors of a file, which another may write meanwhile if it is shared.
+    pub(crate) fn new(file: File, sectors: u32, shared: bool) -> FileRuns
         ensures size { file_size result ≡ sectors }
         ensures unused { file_syncs result ≡ 0 }
     {
@@ -47,8 +52,23 @@ impl FileRuns {
             file,
             sectors,
             syncs: 0,
+            shared,
         }
     }
+}
+
+// Reads a sector until it reads the same twice: beside a write a read may give some bytes of before and some of after.
+fn read_steady(file: &File, at: u32, into: &mut [u8; 512]) -> io::Result<()> {
+    let mut last = [0; 512];
+    file.read_exact_at(&mut last, offset(at))?;
+    for _ in 0..MOST_READS {
+        file.read_exact_at(into, offset(at))?;
+        if *into == last {
+            return Ok(());
+        }
+        last = *into;
+    }
+    Err(io::ErrorKind::WouldBlock.into())
 }
 
 impl RunDisk for FileRuns {
@@ -73,6 +93,9 @@ impl RunDisk for FileRuns {
     }
 
     fn read(&mut self, at: u32, into: &mut [u8; 512]) -> Result<(), DiskFault> {
+        if self.shared {
+            return fault_of(read_steady(&self.file, at, into));
+        }
         fault_of(self.file.read_exact_at(into, offset(at)))
     }
 

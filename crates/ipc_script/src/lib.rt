@@ -13,5 +13,5 @@ mod script;
 
 pub use fault::ScriptFault;
 pub use laws::{a_stop_takes_nothing_back, lines_that_were_run_stay};
-pub use listing::{DumpError, dump};
+pub use listing::{DumpError, dump, list_objects};
 pub use script::run_script;

@@ -11,7 +11,7 @@ ghost use Rattle.ipc_script.specs.declared.listing.DumpError.TheVariants.{NoMemo
 
 use crate::report::write_all;
 use ipc_disk::SectorDisk;
-use ipc_engine::Row;
+use ipc_engine::{Engine, Row};
 use ipc_store::Store;
 use std::alloc::{AllocError, Global};
 use std::fmt;
@@ -37,15 +37,7 @@ impl From<AllocError> for DumpError {
     }
 }
 
-/// Writes a line for each object of the machine, as ipcs(1) lists them. First the message queues and then the
-/// semaphore sets, each by rising identifier: `msg` or `sem`, and then its identifier, key, mode, owner and
-/// group; of a queue its bytes of text and its messages, of a semaphore set how many semaphores it has. Then
-/// the POSIX queues, by name: `pmq`, its mode, owner and group, its messages, the most messages, the most bytes
-/// of one, and its name. Then the named semaphores and the segments, by name: `psm` or `shm`, and then its mode,
-/// owner and group, the value of a semaphore or the bytes of a segment, and its name. What was unlinked has none,
-/// so that its line ends with a space. A backslash of a name, and a byte that is no character from `!` to `~`, is
-/// written as `\x` and two hexadecimal digits. Last come the System V segments, by rising identifier: `seg`, and then
-/// its identifier, key, mode, owner and group, its bytes, and how many have it attached.
+/// Writes a line for each object of the machine of a store, as `list_objects` does.
 pub fn dump<D: SectorDisk, W: Write>(
     alloc: Global,
     store: &Store<D>,
@@ -56,7 +48,29 @@ pub fn dump<D: SectorDisk, W: Write>(
     ensures err { OnErr result (WritesPart (W.contents writer.old) (W.contents writer.new)
         (dump_text (rows_of store.now.machine.state))) }
 {
-    let rows = store.engine().list(alloc)?;
+    list_objects(alloc, store.engine(), writer)
+}
+
+/// Writes a line for each object of a machine, as ipcs(1) lists them. First the message queues and then the
+/// semaphore sets, each by rising identifier: `msg` or `sem`, and then its identifier, key, mode, owner and
+/// group; of a queue its bytes of text and its messages, of a semaphore set how many semaphores it has. Then
+/// the POSIX queues, by name: `pmq`, its mode, owner and group, its messages, the most messages, the most bytes
+/// of one, and its name. Then the named semaphores and the segments, by name: `psm` or `shm`, and then its mode,
+/// owner and group, the value of a semaphore or the bytes of a segment, and its name. What was unlinked has none,
+/// so that its line ends with a space. A backslash of a name, and a byte that is no character from `!` to `~`, is
+/// written as `\x` and two hexadecimal digits. Last come the System V segments, by rising identifier: `seg`, and then
+/// its identifier, key, mode, owner and group, its bytes, and how many have it attached.
+pub fn list_objects<W: Write>(
+    alloc: Global,
+    engine: &Engine,
+    writer: &mut W,
+) -> Result<(), DumpError>
+    ensures ok { OnOk result (Appends (W.contents writer.old) (W.contents writer.new)
+        (dump_text (rows_of engine.now.state))) }
+    ensures err { OnErr result (WritesPart (W.contents writer.old) (W.contents writer.new)
+        (dump_text (rows_of engine.now.state))) }
+{
+    let rows = engine.list(alloc)?;
     for row in rows.iter() {
         let line = line_of(alloc, row)?;
         if write_all(writer, line.as_bytes()).is_err() {

@@ -7,6 +7,7 @@ mod Faults
 mod Loaded
 mod Histories
 mod Lives
+mod Looks
 mod Opened
 mod Openings
 mod Superblocks

@@ -5,10 +5,9 @@ use Rattle.ipc_base.specs.declared.limits.Limits.{Limits}
 use Rattle.ipc_base.specs.Limits.{ArePassed}
 use Rattle.ipc_base.specs.Objects.{PlainObjects}
 use Rattle.ipc_checkpoint.specs.declared.layout.Layout.{Layout}
-use Rattle.ipc_checkpoint.specs.Checkpoint.{IsLaidOut, Holds as HoldsObjects}
+use Rattle.ipc_checkpoint.specs.Checkpoint.{IsLaidOut}
 use Rattle.ipc_checkpoint.specs.Matches.{CheckpointMatches}
 use Rattle.ipc_checkpoint.specs.View.{CheckpointView, epoch_of as saved_epoch, layout_of as saved_layout}
-use Rattle.ipc_checkpoint.proofs.CallerLemmas.{CheckpointMatches-holds}
 use Rattle.ipc_disk.specs.declared.range.Range.{Range}
 use Rattle.ipc_disk.specs.Medium.{Image, Medium, IsHonest, IsDurable, Stays}
 use Rattle.ipc_disk.specs.Range.{IsWithin}
@@ -27,7 +26,7 @@ use Rattle.ipc_image.specs.Format.{format}
 use Rattle.ipc_image.specs.Saved.{StandForStateIn}
 use Rattle.ipc_image.specs.Sizes.{area_of, need_of}
 use Rattle.ipc_store.specs.Batch.{batch_bytes}
-use Rattle.ipc_store.specs.Image.{journal_range, layout_in, layout_of, named_sectors, IsDevice, IsDeviceIn, HasBaseIn, LeadTo}
+use Rattle.ipc_store.specs.Image.{journal_range, layout_of, named_sectors, IsDevice, LeadTo}
 use Rattle.ipc_store.specs.Relations.Matches.{AreOnDisk, DeviceMatches, MachineMatches}
 use Rattle.ipc_store.proofs.Formatting.{laid-out}
 
@@ -72,19 +71,6 @@ Kept form limits from checkpoint medium =
 abbrev pub Led : Limits → State → State → Journal → Medium → Type 0
 Led limits from to journal medium =
     (batches : List (List PlainEvent)) × JournalMatches journal (map batch_bytes batches) medium × LeadTo limits from batches to
-
--- a device whose objects stand for a state
-pub has-base : (form : Format) (limits : Limits) (sectors : ℕ) (checkpoint : CheckpointView)
-    → saved_layout checkpoint ≡ layout_in form limits sectors
-    → (medium : Medium) (from : State) → IsHonest medium → IsDeviceIn form limits medium.contents → sectors ≡ named_sectors medium.contents
-    → Kept form limits from checkpoint medium → HasBaseIn form limits (saved_epoch checkpoint) from medium.contents
-has-base form limits sectors checkpoint layout medium from honest device count kept = record {
-  device = device;
-  objects = kept.0;
-  there = subst (λ (l : Layout). HoldsObjects l (saved_epoch checkpoint) kept.0 medium.contents)
-      (layout ∙ ap (layout_in form limits) count) (CheckpointMatches-holds checkpoint kept.0 medium kept.2 medium.contents honest.reads);
-  stand = kept.1;
-}
 
 module _ (limits : Limits) (sectors : ℕ) (checkpoint : CheckpointView) (layout : saved_layout checkpoint ≡ layout_of limits sectors) where
   module _ (journal : Journal) (range : range_of journal ≡ journal_range) (epoch : epoch_of journal ≡ saved_epoch checkpoint)

@@ -38,7 +38,7 @@ module _ (journal : Journal) (image : Image) (opened : IsOpened journal image) w
       subst (λ (n : ℕ). Fill (range_of journal) 0 n batches image) (sym (opened.current current.current)) current.filled
 
   -- what fills them are the batches of the image
-  pub holds : (batches : List (List ℕ)) → used_of journal < (range_of journal).count → Fill (range_of journal) 0 (used_of journal) batches image
+  holds : (batches : List (List ℕ)) → used_of journal < (range_of journal).count → Fill (range_of journal) 0 (used_of journal) batches image
       → Holds (range_of journal) (epoch_of journal) batches image
   holds batches room fill = ⊎_elim older current (cases_lt (header_epoch (range_of journal) image) (epoch_of journal))
     where
@@ -57,6 +57,14 @@ module _ (journal : Journal) (image : Image) (opened : IsOpened journal image) w
             within = subst (λ (n : ℕ). n < (range_of journal).count) used room;
             filled = subst (λ (n : ℕ). Fill (range_of journal) 0 n batches image) used fill;
           })
+
+-- what a replay went through are the batches of the image
+pub batches-hold : (journal : Journal) (image : Image) → IsOpened journal image → range_of journal ≡ journal_range
+    → (most : ℕ) (limits : Limits) (from : State) (batches : List (List PlainEvent)) (s : State)
+    → Replays most limits from journal image batches s → HasBatches (epoch_of journal) batches image
+batches-hold journal image opened range most limits from batches s found =
+    subst (λ (r : Range). Holds r (epoch_of journal) (map batch_bytes batches) image) range
+    (holds journal image opened (map batch_bytes batches) journal.room found.filled)
 
 -- such a header has no batches
 header-none : (epoch : ℕ) (image : Image) → HasNoHeader epoch image → (batches : List (List PlainEvent)) → HasBatches epoch batches image → ⊥

@@ -3,6 +3,7 @@ pub mod Batch
 pub mod Image
 pub mod Histories
 pub mod Lives
+pub mod Look
 pub mod Upgrade
 pub mod View
 pub mod Relations

@@ -2,6 +2,7 @@
 pub mod Batch
 pub mod Format
 pub mod Loading
+pub mod Look
 pub mod Matches
 pub mod Replay
 pub mod Upgrade

@@ -7,6 +7,7 @@ mod fault;
 mod format;
 mod laws;
 mod loading;
+mod looking;
 mod opening;
 mod places;
 mod replay;
@@ -20,6 +21,7 @@ pub use laws::{
     an_open_finds_what_stands_there, an_open_finds_what_was_acknowledged,
     an_upgrade_keeps_the_state,
 };
+pub use looking::look;
 pub use opening::Unopened;
 pub use store::Store;
 pub use upgrade::Unupgraded;

@@ -3,7 +3,7 @@
 ghost use Rattle.std.specs.Prelude.{◌≡◌, ◌⊎◌, ◌<◌, ◌≤◌, ◌+◌, ◌-◌, ℕ, [], length, map, List, IfOk, IsErrOf};
 ghost use Rattle.ipc_base.specs.Limits.{ArePassed};
 ghost use Rattle.ipc_base.specs.Objects.{PlainObjects};
-ghost use Rattle.ipc_checkpoint.specs.Checkpoint.{IsLaidOut};
+ghost use Rattle.ipc_checkpoint.specs.Checkpoint.{IsLaidOut, Holds as HoldsObjects};
 ghost use Rattle.ipc_checkpoint.specs.Matches.{CheckpointMatches, sectors_of};
 ghost use Rattle.ipc_checkpoint.specs.View.{epoch_of as saved_epoch, layout_of as saved_layout};
 ghost use Rattle.ipc_checkpoint.specs.View.{free_of, saved_root, HasSpare};
@@ -23,6 +23,7 @@ ghost use Rattle.ipc_engine.specs.Changes.{IsTracked};
 ghost use Rattle.ipc_engine.specs.Event.{PlainEvent};
 ghost use Rattle.ipc_store.specs.Batch.{most_bytes, batch_bytes};
 ghost use Rattle.ipc_store.specs.Image.{journal_range, layout_in, named_sectors, IsDeviceIn, HasBaseIn, LeadToBy};
+ghost use Rattle.ipc_store.specs.Image.{HasBatches, StandsFor};
 ghost use Rattle.ipc_store.specs.Image.{IsNotFormatted, HasVersion, IsDamaged, IsFirstFault};
 ghost use Rattle.ipc_store.specs.Image.{HasVersionBut, IsDamagedIn, IsFirstFaultIn};
 ghost use Rattle.ipc_store.specs.Relations.Loading.{HasNoObjects, HasOthers};
@@ -101,6 +102,10 @@ pub(crate) fn load_objects<D: SectorDisk>(
         × (free_of found.0 + sectors_of objects ≡ layout.range.count)
         × (IsHonest (D.medium disk.old) → IsDurable (D.medium disk.old)
         → CheckpointMatches found.0 objects (D.medium disk.new))) }
+    ensures there { IfOk result (λ found. (objects : PlainObjects)
+        × StandForStateIn form limits found.1.state objects
+        × (IsHonest (D.medium disk.old)
+        → HoldsObjects layout (saved_epoch found.0) objects (D.medium disk.old).contents)) }
     // Refusals: there are none, or they stand for no state.
     ensures damaged { (sector : ℕ) → IsErrOf result (OpenError.Damaged sector) → IsHonest (D.medium disk.old)
         → HasNoObjects layout (D.medium disk.old).contents sector
@@ -138,6 +143,10 @@ pub(crate) fn load_base<D: SectorDisk>(
         × (free_of found.0 + sectors_of objects ≡ superblock.sectors - objects_first)
         × (IsHonest (D.medium disk.old) → IsDurable (D.medium disk.old)
         → CheckpointMatches found.0 objects (D.medium disk.new))) }
+    ensures there { IfOk result (λ found. IsHonest (D.medium disk.old)
+        → IsDeviceIn form superblock.limits (D.medium disk.old).contents
+        → superblock.sectors ≡ named_sectors (D.medium disk.old).contents
+        → HasBaseIn form superblock.limits (saved_epoch found.0) found.1.state (D.medium disk.old).contents) }
     // Refusals.
     ensures damaged { (sector : ℕ) → IsErrOf result (OpenError.Damaged sector) → IsHonest (D.medium disk.old)
         → IsDeviceIn form superblock.limits (D.medium disk.old).contents
@@ -171,6 +180,9 @@ pub(crate) fn load_journal<D: SectorDisk>(
     ensures leads { IfOk result (λ journal. IsHonest (D.medium disk.old) → IsDurable (D.medium disk.old)
         → (batches : List (List PlainEvent)) × JournalMatches journal (map batch_bytes batches) (D.medium disk.new)
         × LeadToBy (length room.old) engine.old.limits engine.old.state batches engine.new.state) }
+    ensures stands { IfOk result (λ journal. IsHonest (D.medium disk.old) → (batches : List (List PlainEvent))
+        × HasBatches (saved_epoch checkpoint.now) batches (D.medium disk.old).contents
+        × LeadToBy (length room.old) engine.old.limits engine.old.state batches engine.new.state) }
     ensures used { IfOk result (λ journal. IsHonest (D.medium disk.old) → 0 < used_of journal
         → used_of journal ≡ header_used journal_range (D.medium disk.old).contents) }
     ensures current { IfOk result (λ journal. IsHonest (D.medium disk.old) → 0 < used_of journal
@@ -191,8 +203,42 @@ pub(crate) fn load_journal<D: SectorDisk>(
     Ok(journal)
 }
 
-/// Makes what stands on a device last, and reads it: its objects, its journal, and the machine after the events of the
-/// journal. Each batch is read into `room`.
+/// Reads what stands on a device: its objects, its journal, and the machine after the events of the journal. Each batch
+/// is read into `room`.
+pub(crate) fn read_all<D: SectorDisk>(
+    alloc: Global,
+    disk: &mut D,
+    room: &mut [u8],
+) -> Result<(Checkpoint, Journal, Engine), OpenError>
+    requires { length room.old ≡ most_bytes }
+    ensures on_disk { IfOk result (λ found. AreOnDisk (D.size disk.new) found.2.limits found.0 found.1) }
+    ensures spare { IfOk result (λ found. HasSpare found.0) }
+    ensures stands { IfOk result (λ found. IsHonest (D.medium disk.old)
+        → StandsFor found.2.limits found.2.state (D.medium disk.old).contents) }
+    ensures matches { IfOk result (λ found. IsHonest (D.medium disk.old) → IsDurable (D.medium disk.old)
+        → MachineMatches (D.medium disk.new) found.2 found.0 found.1) }
+    ensures used { IfOk result (λ found. IsHonest (D.medium disk.old) → 0 < used_of found.1
+        → used_of found.1 ≡ header_used journal_range (D.medium disk.old).contents) }
+    ensures current { IfOk result (λ found. IsHonest (D.medium disk.old) → 0 < used_of found.1
+        → header_epoch journal_range (D.medium disk.old).contents ≡ epoch_of found.1) }
+    ensures room { length room.new ≡ most_bytes }
+    // Refusals.
+    ensures not_formatted { IsErrOf result OpenError.NotFormatted → IsHonest (D.medium disk.old)
+        → IsNotFormatted (D.medium disk.old).contents }
+    ensures version { (found : ℕ) → IsErrOf result (OpenError.Version found) → IsHonest (D.medium disk.old)
+        → HasVersion found (D.medium disk.old).contents }
+    ensures damaged { (sector : ℕ) → IsErrOf result (OpenError.Damaged sector) → IsHonest (D.medium disk.old)
+        → IsDamaged (D.medium disk.old).contents × IsFirstFault (D.medium disk.old).contents sector }
+    // It only reads.
+    ensures reads { OnlyReads D.size D.medium D.counts (IsErrOf result OpenError.Device) disk.old disk.new }
+{
+    let superblock = load_superblock(FORMAT, disk)?;
+    let (checkpoint, mut engine) = load_base(alloc, disk, FORMAT, superblock)?;
+    let journal = load_journal(disk, &checkpoint, &mut engine, room)?;
+    Ok((checkpoint, journal, engine))
+}
+
+/// Makes what stands on a device last, and reads it, as `read_all` does.
 pub(crate) fn load<D: SectorDisk>(
     alloc: Global,
     disk: &mut D,
@@ -222,8 +268,5 @@ pub(crate) fn load<D: SectorDisk>(
     ensures no_write { (D.counts disk.new).writes ≡ (D.counts disk.old).writes }
 {
     disk.sync()?;
-    let superblock = load_superblock(FORMAT, disk)?;
-    let (checkpoint, mut engine) = load_base(alloc, disk, FORMAT, superblock)?;
-    let journal = load_journal(disk, &checkpoint, &mut engine, room)?;
-    Ok((checkpoint, journal, engine))
+    read_all(alloc, disk, room)
 }

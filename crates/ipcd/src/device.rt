@@ -29,9 +29,10 @@ use crate::ending::Fault;
 use crate::meter::Meter;
 use ipc_base::Limits;
 use ipc_disk::{DiskFault, FileDisk, MemoryDisk, SectorDisk};
+use ipc_engine::Engine;
 use ipc_image::{FORMAT, need};
 use ipc_script::ScriptFault;
-use ipc_store::{Store, an_open_finds_what_stands_there};
+use ipc_store::{Store, an_open_finds_what_stands_there, look};
 use std::alloc::Global;
 use std::fs::File;
 use std::io::IsTerminal;
@@ -184,6 +185,16 @@ fn grow_file<R: Files<File = File> + AllocGlobal, E: Eprint + IsTerminal>(
     let grown = FileDisk::grow_with(rt, path, sectors, &mut meter);
     meter.end();
     grown
+}
+
+/// The machine that the device in a file stands for now. The file is read alone, and may be in use.
+pub fn look_at_file<R: Files<File = File> + AllocGlobal>(
+    rt: &R,
+    path: &str,
+) -> Result<Engine, Fault>
+    ensures named { IfErr result (λ fault. (error : OpenError) × (fault ≡ of_open_error error)) }
+{
+    Ok(look(rt.alloc(), &mut FileDisk::open_to_read(rt, path)?)?)
 }
 
 /// The store of the device in a file.

@@ -7,11 +7,11 @@ mod ending;
 mod meter;
 mod serve;
 
-use device::{format_file, new_store, open_file, upgrade_file};
+use device::{format_file, look_at_file, new_store, open_file, upgrade_file};
 use ending::{Fault, exit_of};
 use ipc_command::{Refusal, Request, limits_of, request_of};
 use ipc_disk::SectorDisk;
-use ipc_script::{ScriptFault, dump, run_script};
+use ipc_script::{ScriptFault, dump, list_objects, run_script};
 use ipc_store::Store;
 use serve::serve;
 use std::fs::File;
@@ -66,7 +66,8 @@ fn answer(
     match request {
         Request::Replay { small } => replay(rt, *small),
         Request::Run { device } => run(rt, device),
-        Request::Dump { device } => list(rt, device),
+        Request::Dump { device } => dump_file(rt, device),
+        Request::Look { device } => list(rt, device),
         Request::Format {
             device,
             small,
@@ -107,13 +108,23 @@ fn run_on<D: SectorDisk + Drop>(
     Ok(())
 }
 
-/// Writes what is on the device in a file.
+/// Writes what is on the device in a file, after a restart.
+fn dump_file(
+    rt: &(impl Print + AllocGlobal + Files<File = File>),
+    device: &str,
+) -> Result<(), Fault> {
+    dump_of(rt, open_file(rt, device)?)
+}
+
+/// Writes what is on the device in a file now, which may be in use.
 fn list(rt: &(impl Print + AllocGlobal + Files<File = File>), device: &str) -> Result<(), Fault> {
-    list_of(rt, open_file(rt, device)?)
+    let engine = look_at_file(rt, device)?;
+    list_objects(rt.alloc(), &engine, &mut io::writer(rt))?;
+    Ok(())
 }
 
 /// Writes what is on the device of a store.
-fn list_of<D: SectorDisk + Drop>(
+fn dump_of<D: SectorDisk + Drop>(
     rt: &(impl Print + AllocGlobal),
     store: Store<D>,
 ) -> Result<(), Fault> {

@@ -1,5 +1,5 @@
 -- What an upgrade has read, and how it goes on.
-use Rattle.std.specs.Prelude.{◌≡◌, ◌<◌, ℕ, [], List}
+use Rattle.std.specs.Prelude.{◌≡◌, ℕ, List}
 use Rattle.ipc_base.specs.declared.limits.Limits.{Limits}
 use Rattle.ipc_base.specs.Objects.{PlainObjects}
 use Rattle.ipc_checkpoint.specs.declared.layout.Layout.{Layout}

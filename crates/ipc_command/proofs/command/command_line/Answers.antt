@@ -16,6 +16,7 @@ returns c =
     let three = c.in_ok-subcommand-3.ensures.shape c.in_ok-upgrade.ensures.local ∙ below _ _ _ _ two c.in_ok-upgrade.ensures.app in
     let four = c.in_ok-subcommand-4.ensures.shape c.in_ok-run.ensures.local ∙ below _ _ _ _ three c.in_ok-run.ensures.app in
     let five = c.in_ok-subcommand-5.ensures.shape c.in_ok-dump.ensures.local ∙ below _ _ _ _ four c.in_ok-dump.ensures.app in
-    IfOk-weaker c.subcommand-6.result _ _
-    (λ command added. added.shape c.in_ok-serve.ensures.local ∙ below _ _ _ _ five c.in_ok-serve.ensures.app)
-    c.subcommand-6.ensures
+    let six = c.in_ok-subcommand-6.ensures.shape c.in_ok-list.ensures.local ∙ below _ _ _ _ five c.in_ok-list.ensures.app in
+    IfOk-weaker c.subcommand-7.result _ _
+    (λ command added. added.shape c.in_ok-serve.ensures.local ∙ below _ _ _ _ six c.in_ok-serve.ensures.app)
+    c.subcommand-7.ensures

@@ -25,7 +25,7 @@ use Rattle.clap.specs.Simple.{HasMatchesOf}
 use Rattle.clap.proofs.OnLiterals.{clap_on_literals}
 use Rattle.ipc_command.specs.Command.{PlainRequest, plain_request, asked, declared, is_no_flag, parsed_number}
 use Rattle.ipc_command.specs.Command.{small_words, sectors_words, turns_words, AsksFor, IsTakenAs}
-use Rattle.ipc_command.specs.Command.PlainRequest.{Replay, Format, Upgrade, Run, Dump, Serve}
+use Rattle.ipc_command.specs.Command.PlainRequest.{Replay, Format, Upgrade, Run, Dump, Look, Serve}
 use Rattle.ipc_command.proofs.command.parse.Goals as goal
 
 abbrev standard_words : List ℕ → List Text
@@ -84,6 +84,14 @@ dump-read name device v = rw (v.dashes, v.long, v.short) refl
 dump-taken : (name device : List ℕ) → IsValue device → takes declared (name ∷ codes "dump" ∷ device ∷ []) ≡ true
 unfolding clap_on_literals
 dump-taken name device v = rw (v.dashes, v.long, v.short) refl
+
+list-read : (name device : List ℕ) → IsValue device → asked (subcommand_of declared (name ∷ codes "list" ∷ device ∷ [])) ≡ Look device
+unfolding clap_on_literals
+list-read name device v = rw (v.dashes, v.long, v.short) refl
+
+list-taken : (name device : List ℕ) → IsValue device → takes declared (name ∷ codes "list" ∷ device ∷ []) ≡ true
+unfolding clap_on_literals
+list-taken name device v = rw (v.dashes, v.long, v.short) refl
 
 -- the parser reads such a word as a number
 pub record IsNumber (word : Text) : Type 0 where
@@ -241,6 +249,7 @@ replay-only (request.Format device b sectors) small is = cc
 replay-only (request.Upgrade device b sectors) small is = cc
 replay-only (request.Run device) small is = cc
 replay-only (request.Dump device) small is = cc
+replay-only (request.Look device) small is = cc
 replay-only (request.Serve device socket turns) small is = cc
 
 pub returns-clause-refused : goal.returns-clause-refused
@@ -285,6 +294,11 @@ pub returns-in_err-matches-clause-dump : goal.returns-in_err-matches-clause-dump
 returns-in_err-matches-clause-dump g c = λ name device no_flag words.
     memory-only _ _ _ c.from_residual-in_err-matches.ensures.1
     (c.in_err-matches.ensures.passes (ap₂ takes c.in_ok-command_line.ensures words ∙ dump-taken name device (value-of device no_flag)))
+
+pub returns-in_err-matches-clause-list : goal.returns-in_err-matches-clause-list
+returns-in_err-matches-clause-list g c = λ name device no_flag words.
+    memory-only _ _ _ c.from_residual-in_err-matches.ensures.1
+    (c.in_err-matches.ensures.passes (ap₂ takes c.in_ok-command_line.ensures words ∙ list-taken name device (value-of device no_flag)))
 
 pub returns-in_err-matches-clause-serve : goal.returns-in_err-matches-clause-serve
 returns-in_err-matches-clause-serve g c = λ name device socket number no_flag no_option some words.
@@ -331,6 +345,13 @@ pub returns-clause-dump : goal.returns-clause-dump
 returns-clause-dump g c = λ name device no_flag words. record {
   ok = asks _ _ _ _ _ _ c.in_ok-command_line.ensures c.in_ok-matches.ensures.matches
       c.in_ok-request_in.ensures words (dump-read name device (value-of device no_flag));
+  err = tt;
+}
+
+pub returns-clause-list : goal.returns-clause-list
+returns-clause-list g c = λ name device no_flag words. record {
+  ok = asks _ _ _ _ _ _ c.in_ok-command_line.ensures c.in_ok-matches.ensures.matches
+      c.in_ok-request_in.ensures words (list-read name device (value-of device no_flag));
   err = tt;
 }
 

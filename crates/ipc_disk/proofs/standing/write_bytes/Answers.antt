@@ -1,5 +1,5 @@
 -- Each write adds a sector, and touches no other.
-use Rattle.std.proofs.Common.{◌≡◌, ℕ, List, ◌-◌, length, ◌+◌, ⊎_elim, ap, sym}
+use Rattle.std.proofs.Common.{◌≡◌, ℕ, List, length, ◌+◌, ⊎_elim, ap, sym}
 use Rattle.std.proofs.Common.{◌∙◌, subst, arith, length-take, drop, ◌*◌}
 use Rattle.std.specs.Prelude.{slice_set}
 use Rattle.ipc_disk.specs.Range.{IsOutside}

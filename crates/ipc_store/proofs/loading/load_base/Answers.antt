@@ -1,8 +1,10 @@
 -- What the objects are to the image.
 use Rattle.std.proofs.Common.{◌≡◌, inl, inr, sym, ap, subst, ◌∙◌}
+use Rattle.std.proofs.lemmas.Result.{IfOk-weaker}
 use Rattle.ipc_base.specs.Objects.{PlainObjects}
 use Rattle.ipc_checkpoint.specs.declared.layout.Layout.{Layout}
 use Rattle.ipc_checkpoint.specs.Checkpoint.{IsFirstDamage, IsLaidOut, Holds}
+use Rattle.ipc_checkpoint.specs.View.{epoch_of as saved_epoch}
 use Rattle.ipc_checkpoint.proofs.CallerLemmas.{Holds-one}
 use Rattle.ipc_disk.specs.Medium.{Image}
 use Rattle.ipc_image.specs.Saved.{StandForStateIn}
@@ -38,3 +40,19 @@ returns-clause-damaged g c = λ sector is honest device named.
             (subst (λ (l : Layout). Holds l others.epoch others.objects image) here others.there) others.none),
       )
     ]
+
+pub returns-clause-there : goal.returns-clause-there
+returns-clause-there g c =
+    IfOk-weaker c.load_objects.result _ _
+    (λ found there honest device named.
+    let form = c.args.form in
+    let limits = c.args.superblock.limits in
+    let image : Image = (g.D.SectorDisk.medium c.args.disk.now).contents in
+    record {
+      device = device;
+      objects = there.0;
+      there = subst (λ (l : Layout). Holds l (saved_epoch found.0) there.0 image)
+          (c.layout_in-layout.ensures.exact ∙ ap (layout_in form limits) named) (there.2 honest);
+      stand = there.1;
+    })
+    c.load_objects.ensures.there

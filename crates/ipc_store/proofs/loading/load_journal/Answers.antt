@@ -1,20 +1,18 @@
 -- Each exit: the journal that was opened, and what its batches lead to.
-use Rattle.std.proofs.Common.{inl, inr, ⊎_elim, ℕ, ◌<◌, ◌^◌, List, Err, length, refl, sym, ap, subst, ◌∙◌, arith}
+use Rattle.std.proofs.Common.{inl, inr, ⊎_elim, ℕ, ◌<◌, ◌^◌, Err, length, refl, sym, ap, subst, ◌∙◌, arith}
 use Rattle.std.specs.Prelude.{map}
-use Rattle.ipc_disk.specs.declared.range.Range.{Range}
 use Rattle.ipc_disk.specs.Medium.{Image, Medium, IsHonest}
 use Rattle.ipc_checkpoint.specs.View.{epoch_of as saved_epoch}
-use Rattle.ipc_journal.specs.Journal.{Holds}
-use Rattle.ipc_journal.specs.View.{epoch_of, used_of}
+use Rattle.ipc_journal.specs.View.{used_of}
 use Rattle.ipc_disk.proofs.CallerLemmas.{OnlyReads-as}
 use Rattle.ipc_journal.proofs.CallerLemmas.{JournalMatches-stays}
 use Rattle.ipc_store.specs.declared.fault.OpenError.TheVariants as errors
 use Rattle.ipc_store.specs.Batch.{batch_bytes}
-use Rattle.ipc_store.specs.Image.{journal_range, HasNoHeader}
+use Rattle.ipc_store.specs.Image.{HasBatches, HasNoHeader}
 use Rattle.ipc_store.specs.View.{of_journal_error}
 use Rattle.ipc_store.specs.Relations.Replay.{IsOpened, Replays, IsGoodUpTo}
 use Rattle.ipc_store.proofs.Faults.{passed_on, journal-fault, journal-device}
-use Rattle.ipc_store.proofs.Opened.{header-damaged, is_opened, batch-damaged, holds, current-is}
+use Rattle.ipc_store.proofs.Opened.{header-damaged, is_opened, batch-damaged, batches-hold, current-is}
 use Rattle.ipc_store.proofs.loading.load_journal.Given.{Over}
 use Rattle.ipc_store.proofs.loading.load_journal.Goals as goal
 use Rattle.ipc_store.proofs.loading.load_journal.Goals.{In_ok-journal}
@@ -75,26 +73,41 @@ returns-in_err-replay-clause-faults g c = λ found which.
     (λ is. inl (ap Err (went errors.NotFormatted c.from_residual-in_err-replay.ensures.1 is)))
     (λ is. inr (ap Err (went (errors.Version found) c.from_residual-in_err-replay.ensures.1 is))) which)
 
+pub returns-clause-stands : goal.returns-clause-stands
+returns-clause-stands g c = λ honest.
+    let here = (goal.at.returns-clause-stands g c).In_ok-journal in
+    let image : Image = (g.D.SectorDisk.medium c.args.disk.now).contents in
+    let journal = c.in_ok-journal.journal in
+    let limits = c.args.engine.now.limits in
+    let from = c.args.engine.now.state in
+    let found = c.in_ok-replay.ensures.replays (c.open.ensures.stays.time.honest.0 honest) in
+    let replays = subst (λ (x : Image). Replays (length c.args.room.now) limits from journal x found.0 c.replay.new.engine.state)
+    (c.open.ensures.stays.contents honest) found.1 in (
+      found.0,
+      subst (λ (n : ℕ). HasBatches n found.0 image) (c.in_ok-journal.ensures.epoch ∙ c.epoch.ensures)
+          (batches-hold journal image (opened_on g here honest) c.in_ok-journal.ensures.range (length c.args.room.now) limits from found.0 _ replays),
+      found.1.leads,
+    )
+
 pub returns-clause-leads : goal.returns-clause-leads
 returns-clause-leads g c = λ honest durable.
     let here = (goal.at.returns-clause-leads g c).In_ok-journal in
     let m : g.row.D.Denot → Medium = g.D.SectorDisk.medium in
     let image : Image = (m c.args.disk.now).contents in
     let journal = c.in_ok-journal.journal in
+    let limits = c.args.engine.now.limits in
+    let from = c.args.engine.now.state in
     let still = c.open.ensures.stays.time.honest.0 honest in
     let found = c.in_ok-replay.ensures.replays still in
-    let filled = subst (λ (x : Image).
-    Replays (length c.args.room.now) c.args.engine.now.limits c.args.engine.now.state journal x found.0 c.replay.new.engine.state)
+    let replays = subst (λ (x : Image). Replays (length c.args.room.now) limits from journal x found.0 c.replay.new.engine.state)
     (c.open.ensures.stays.contents honest) found.1 in
-    let batches : List (List ℕ) = map batch_bytes found.0 in
-    let stands : Holds journal_range c.epoch.result batches image =
-    subst (λ (n : ℕ). Holds journal_range n batches image) c.in_ok-journal.ensures.epoch
-    (subst (λ (r : Range). Holds r (epoch_of journal) batches image) c.in_ok-journal.ensures.range
-    (holds journal image (opened_on g here honest) batches journal.room filled.filled)) in (
+    let stands : HasBatches c.epoch.result found.0 image =
+    subst (λ (n : ℕ). HasBatches n found.0 image) c.in_ok-journal.ensures.epoch
+    (batches-hold journal image (opened_on g here honest) c.in_ok-journal.ensures.range (length c.args.room.now) limits from found.0 _ replays) in (
       found.0,
-      JournalMatches-stays journal batches (m c.open.new.disk) (m c.replay.new.disk) (c.replay.ensures.reads.stays still)
-          (c.in_ok-journal.ensures.stands honest batches
-          (λ now left. subst (Holds journal_range c.epoch.result batches) (sym (durable now left)) stands)),
+      JournalMatches-stays journal (map batch_bytes found.0) (m c.open.new.disk) (m c.replay.new.disk) (c.replay.ensures.reads.stays still)
+          (c.in_ok-journal.ensures.stands honest (map batch_bytes found.0)
+          (λ now left. subst (HasBatches c.epoch.result found.0) (sym (durable now left)) stands)),
       found.1.leads,
     )
 

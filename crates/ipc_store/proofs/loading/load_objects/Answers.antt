@@ -11,6 +11,9 @@ pub returns-in-Ok-clause-base : goal.returns-in-Ok-clause-base
 returns-in-Ok-clause-base g c =
     (c.in_ok-checkpoint.objects, c.in-Ok.ensures.stands, c.in_ok-checkpoint.ensures.free, c.in_ok-checkpoint.ensures.matches)
 
+pub returns-in-Ok-clause-there : goal.returns-in-Ok-clause-there
+returns-in-Ok-clause-there g c = (c.in_ok-checkpoint.objects, c.in-Ok.ensures.stands, c.in_ok-checkpoint.ensures.holds)
+
 pub returns-in_err-checkpoint-clause-damaged : goal.returns-in_err-checkpoint-clause-damaged
 returns-in_err-checkpoint-clause-damaged g c = λ sector is honest.
     let fault = load-fault c.in_err-checkpoint.field-0.0 sector

@@ -4,7 +4,7 @@ use Rattle.ipc_base.specs.Objects.{PlainObjects, OthersAreThere}
 use Rattle.ipc_checkpoint.specs.declared.layout.Layout.{Layout}
 use Rattle.ipc_checkpoint.specs.Checkpoint.{IsElsewhere, Holds}
 use Rattle.ipc_checkpoint.specs.Matches.{IsSavedUnder}
-use Rattle.ipc_checkpoint.specs.View.{CheckpointView, aimed, epoch_of, layout_of, layout_under}
+use Rattle.ipc_checkpoint.specs.View.{CheckpointView, epoch_of, layout_of, layout_under}
 use Rattle.ipc_checkpoint.proofs.CallerLemmas.{CheckpointMatches-holds, IsSavedUnder-aimed}
 use Rattle.ipc_disk.specs.declared.range.Range.{Range}
 use Rattle.ipc_disk.specs.Medium.{Medium}

@@ -7,7 +7,7 @@ use Rattle.ipc_script.specs.declared.fault.ScriptFault.{ScriptFault}
 use Rattle.ipc_script.specs.Relations.Faults.{WorldFailed}
 use Rattle.ipc_script.proofs.DumpText.{lines-plain, listed_some, listed_part, listed_more}
 use Rattle.ipc_script.proofs.FaultCases.{world_only}
-use Rattle.ipc_script.proofs.listing.dump.Goals as goal
+use Rattle.ipc_script.proofs.listing.list_objects.Goals as goal
 
 -- what holds of a call that failed, and of one that did not
 of_err : {P : Type 0} (result : Result ⊤ ScriptFault) → true ≡ is_err result → IfErr result (λ e. WorldFailed e P) → P
@@ -22,14 +22,14 @@ pub returns-in_err-line-clause-err : goal.returns-in_err-line-clause-err
 returns-in_err-line-clause-err g c =
     let q = err_from_is_err_and c.from_residual-in_err-line.result c.from_residual-in_err-line.ensures.1 in
     let rows = c.deref-row-items.result.now in
-    let same : map plain_row rows ≡ rows_of c.args.store.now.machine.state = search rules in
+    let same : map plain_row rows ≡ rows_of c.args.engine.now.state = search rules in
     rw (q.1, ← same, ← lines-plain rows) (listed_some rows c.loop-row.row-index _ _ c.loop-row.invariant)
 
 pub returns-then-is_err-clause-err : goal.returns-then-is_err-clause-err
 returns-then-is_err-clause-err g c =
     let rows = c.deref-row-items.result.now in
     let inside : c.loop-row.row-index < length rows = omega arith in
-    let same : map plain_row rows ≡ rows_of c.args.store.now.machine.state = search rules in
+    let same : map plain_row rows ≡ rows_of c.args.engine.now.state = search rules in
     let part = of_err c.write_all.result c.if-is_err.ensures.value c.write_all.ensures.err in
     rw (← same, ← lines-plain rows) (listed_part rows c.loop-row.row-index _ inside _ _ _ c.loop-row.invariant
     (rw (c.as_bytes.ensures.value ∙ c.in_ok-line.ensures) at part))
@@ -45,5 +45,5 @@ loop-row-preserved g c =
 pub returns-clause-ok : goal.returns-clause-ok
 returns-clause-ok g c =
     let rows = c.deref-row-items.result.now in
-    let same : map plain_row rows ≡ rows_of c.args.store.now.machine.state = search rules in
+    let same : map plain_row rows ≡ rows_of c.args.engine.now.state = search rules in
     rw (← same, ← lines-plain rows) (rw (take_all c.loop-row.row-index rows (omega arith)) at c.loop-row.invariant)

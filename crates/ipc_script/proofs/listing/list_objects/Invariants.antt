@@ -1,7 +1,7 @@
 use Rattle.std.proofs.Common.{take}
 use Rattle.std.specs.Io.KnownBytes.{Appends}
 use Rattle.ipc_script.proofs.DumpText.{lines_text}
-use Rattle.ipc_script.proofs.listing.dump.Given as goal
+use Rattle.ipc_script.proofs.listing.list_objects.Given as goal
 
 -- the lines of the rows before this one are written
 abbrev pub invariant-loop-row : goal.invariant-loop-row

@@ -1,0 +1,235 @@
+-- Each exit: what was read is what stood there before.
+use Rattle.std.proofs.Common.{◌≡◌, inl, inr, ℕ, ◌<◌, ◌^◌, Err, List, length, refl, sym, ap, subst, ◌∙◌, arith}
+use Rattle.ipc_base.specs.declared.limits.Limits.{Limits}
+use Rattle.ipc_base.specs.Objects.{PlainObjects, Fit}
+use Rattle.ipc_checkpoint.specs.View.{epoch_of as saved_epoch}
+use Rattle.ipc_checkpoint.proofs.CallerLemmas.{CheckpointMatches-stays}
+use Rattle.ipc_disk.proofs.CallerLemmas.{OnlyReads-as, OnlyReads-ok, OnlyReads-then}
+use Rattle.ipc_disk.specs.Calls.{OnlyReads}
+use Rattle.ipc_disk.specs.Medium.{Image, Medium, IsHonest, Stays}
+use Rattle.ipc_journal.specs.Journal.{header_epoch, header_used}
+use Rattle.ipc_journal.specs.View.{epoch_of, used_of}
+use Rattle.ipc_state.specs.declared.parked.Object.{Object}
+use Rattle.ipc_engine.specs.Changes.{IsTracked}
+use Rattle.ipc_store.specs.declared.fault.OpenError.TheVariants as errors
+use Rattle.ipc_image.specs.Format.{format}
+use Rattle.ipc_image.specs.Saved.{StandForState}
+use Rattle.ipc_image.specs.Sizes.{area_of}
+use Rattle.ipc_image.specs.declared.superblock.Superblock.{Superblock}
+use Rattle.ipc_image.proofs.CallerLemmas.{saved-fits}
+use Rattle.ipc_store.specs.Image.{journal_range, layout_of, named_sectors, IsDevice, HasBase, IsDamaged, IsFirstFault, LeadToBy}
+use Rattle.ipc_store.specs.Image.{StandsFor}
+use Rattle.ipc_store.proofs.Devices.{has-spare}
+use Rattle.ipc_store.proofs.Faults.{passed_on, passed-device}
+use Rattle.ipc_store.proofs.Loaded.{chain, stays-durable, Led, loaded, on-disk}
+use Rattle.ipc_store.proofs.Opened.{base-damaged}
+use Rattle.ipc_store.proofs.loading.read_all.Given.{Over}
+use Rattle.ipc_store.proofs.loading.read_all.Goals as goal
+use Rattle.ipc_store.proofs.loading.read_all.Goals.{In_ok-superblock, In_ok-checkpoint}
+
+-- ---- after the superblock
+
+-- it is that of an image
+abbrev Names : Superblock → Image → Type 0
+Names superblock image = IsDevice superblock.limits image × (superblock.sectors ≡ named_sectors image)
+
+device : (g : Over) (c : In_ok-superblock g) → IsHonest (g.D.SectorDisk.medium c.args.disk.now)
+    → Names c.in_ok-superblock.superblock (g.D.SectorDisk.medium c.load_superblock.new.disk).contents
+device g c honest =
+    subst (Names c.in_ok-superblock.superblock) (sym ((c.load_superblock.ensures.reads.stays honest).contents honest))
+    (c.in_ok-superblock.ensures.device honest)
+
+-- ---- after the objects
+
+reads-base : (g : Over) (c : In_ok-checkpoint g) → IsHonest (g.D.SectorDisk.medium c.args.disk.now)
+    → Stays (g.D.SectorDisk.medium c.args.disk.now) (g.D.SectorDisk.medium c.load_base.new.disk)
+reads-base g c honest = chain _ _ _ honest (c.load_superblock.ensures.reads.stays honest) c.load_base.ensures.reads.stays
+
+-- the calls until then have read, and went well
+read-base : (g : Over) (c : In_ok-checkpoint g)
+    → OnlyReads g.D.SectorDisk.size g.D.SectorDisk.medium g.D.SectorDisk.counts ⊥ c.args.disk.now c.load_base.new.disk
+read-base g c =
+    OnlyReads-then (OnlyReads-ok (λ failed. cc) c.in_ok-superblock.ensures.reads) (OnlyReads-ok (λ failed. cc) c.in_ok-checkpoint.ensures.reads)
+
+-- the superblock again
+device-base : (g : Over) (c : In_ok-checkpoint g) → IsHonest (g.D.SectorDisk.medium c.args.disk.now)
+    → Names c.in_ok-superblock.superblock (g.D.SectorDisk.medium c.load_base.new.disk).contents
+device-base g c honest =
+    subst (Names c.in_ok-superblock.superblock) (sym ((reads-base g c honest).contents honest)) (c.in_ok-superblock.ensures.device honest)
+
+-- the base, which the objects stand for
+has : (g : Over) (c : In_ok-checkpoint g) → IsHonest (g.D.SectorDisk.medium c.args.disk.now)
+    → HasBase c.in_ok-superblock.superblock.limits (saved_epoch c.in_ok-checkpoint.checkpoint) c.in_ok-checkpoint.engine.state
+    (g.D.SectorDisk.medium c.load_base.new.disk).contents
+has g c honest =
+    let h1 = (c.load_superblock.ensures.reads.stays honest).time.honest.0 honest in
+    let device1 = subst (Names c.in_ok-superblock.superblock) (sym ((c.load_superblock.ensures.reads.stays honest).contents honest))
+    (c.in_ok-superblock.ensures.device honest) in
+    subst (HasBase c.in_ok-superblock.superblock.limits (saved_epoch c.in_ok-checkpoint.checkpoint) c.in_ok-checkpoint.engine.state)
+    (sym ((c.load_base.ensures.reads.stays h1).contents h1)) (c.in_ok-checkpoint.ensures.there h1 device1.0 device1.1)
+
+-- ---- the exits
+
+pub returns-in_err-superblock-clause-damaged : goal.returns-in_err-superblock-clause-damaged
+returns-in_err-superblock-clause-damaged g c = λ sector is honest.
+    let e = passed_on c.from_residual.result c.in_err-superblock.field-0.0 (errors.Damaged sector) c.from_residual.ensures.1 is in
+    c.load_superblock.ensures.damaged sector (c.in_err-superblock.was ∙ ap Err e) honest
+
+pub returns-in_err-checkpoint-clause-not_formatted : goal.returns-in_err-checkpoint-clause-not_formatted
+returns-in_err-checkpoint-clause-not_formatted g c = λ is honest.
+    let e = passed_on c.from_residual-in_err-checkpoint.result c.in_err-checkpoint.field-0.0 errors.NotFormatted
+    c.from_residual-in_err-checkpoint.ensures.1 is in
+    absurd (c.in_err-checkpoint.ensures.faults 0 (inl (ap Err e)))
+
+pub returns-in_err-checkpoint-clause-version : goal.returns-in_err-checkpoint-clause-version
+returns-in_err-checkpoint-clause-version g c = λ found is honest.
+    let e = passed_on c.from_residual-in_err-checkpoint.result c.in_err-checkpoint.field-0.0 (errors.Version found)
+    c.from_residual-in_err-checkpoint.ensures.1 is in
+    absurd (c.in_err-checkpoint.ensures.faults found (inr (ap Err e)))
+
+pub returns-in_err-checkpoint-clause-damaged : goal.returns-in_err-checkpoint-clause-damaged
+returns-in_err-checkpoint-clause-damaged g c = λ sector is honest.
+    let here = (goal.at.returns-in_err-checkpoint-clause-damaged g c).In_ok-superblock in
+    let image : Image = (g.D.SectorDisk.medium c.load_superblock.new.disk).contents in
+    let s1 = c.load_superblock.ensures.reads.stays honest in
+    let h1 = s1.time.honest.0 honest in
+    let names = device g here honest in
+    let few : length image < 2 ^ 32 =
+    omega (arith, (g.met.D.SectorDisk.shaped c.load_superblock.new.disk image h1.reads).count, g.met.D.SectorDisk.fits c.load_superblock.new.disk) in
+    let e = ap Err (passed_on c.from_residual-in_err-checkpoint.result c.in_err-checkpoint.field-0.0 (errors.Damaged sector)
+    c.from_residual-in_err-checkpoint.ensures.1 is) in
+    let both = c.in_err-checkpoint.ensures.damaged sector e h1 names.0 names.1 in
+    subst (λ (i : Image). IsDamaged i × IsFirstFault i sector) (s1.contents honest)
+    (base-damaged format (inr refl) c.in_ok-superblock.superblock.limits image few names.0 both.0, both.1)
+
+pub returns-in_err-checkpoint-clause-reads : goal.returns-in_err-checkpoint-clause-reads
+returns-in_err-checkpoint-clause-reads g c =
+    let device = passed-device c.load_base.result c.from_residual-in_err-checkpoint.result c.in_err-checkpoint.field-0.0 c.in_err-checkpoint.was
+    c.from_residual-in_err-checkpoint.ensures.1 in
+    OnlyReads-then (OnlyReads-ok (λ failed. cc) c.in_ok-superblock.ensures.reads) (OnlyReads-as device.0 device.1 c.load_base.ensures.reads)
+
+pub returns-in_err-journal-clause-not_formatted : goal.returns-in_err-journal-clause-not_formatted
+returns-in_err-journal-clause-not_formatted g c = λ is honest.
+    let e = passed_on c.from_residual-in_err-journal.result c.in_err-journal.field-0.0 errors.NotFormatted c.from_residual-in_err-journal.ensures.1 is in
+    absurd (c.in_err-journal.ensures.faults 0 (inl (ap Err e)))
+
+pub returns-in_err-journal-clause-version : goal.returns-in_err-journal-clause-version
+returns-in_err-journal-clause-version g c = λ found is honest.
+    let e = passed_on c.from_residual-in_err-journal.result c.in_err-journal.field-0.0 (errors.Version found) c.from_residual-in_err-journal.ensures.1 is in
+    absurd (c.in_err-journal.ensures.faults found (inr (ap Err e)))
+
+pub returns-in_err-journal-clause-damaged : goal.returns-in_err-journal-clause-damaged
+returns-in_err-journal-clause-damaged g c = λ sector is honest.
+    let here = (goal.at.returns-in_err-journal-clause-damaged g c).In_ok-checkpoint in
+    let m2 : Medium = g.D.SectorDisk.medium c.load_base.new.disk in
+    let s2 = reads-base g here honest in
+    let h2 = s2.time.honest.0 honest in
+    let checkpoint = c.in_ok-checkpoint.checkpoint in
+    let from = c.in_ok-checkpoint.engine.state in
+    let e = ap Err (passed_on c.from_residual-in_err-journal.result c.in_err-journal.field-0.0 (errors.Damaged sector)
+    c.from_residual-in_err-journal.ensures.1 is) in
+    subst (λ (i : Image). IsDamaged i × IsFirstFault i sector) (s2.contents honest)
+    (c.in_err-journal.ensures.damaged format sector (inr refl) (sym c.requires) e h2
+    (subst (λ (l : Limits). HasBase l (saved_epoch checkpoint) from m2.contents) (sym c.in_ok-checkpoint.ensures.limits) (has g here honest)))
+
+pub returns-in_err-journal-clause-reads : goal.returns-in_err-journal-clause-reads
+returns-in_err-journal-clause-reads g c =
+    let device = passed-device c.load_journal.result c.from_residual-in_err-journal.result c.in_err-journal.field-0.0 c.in_err-journal.was
+    c.from_residual-in_err-journal.ensures.1 in
+    OnlyReads-then (read-base g (goal.at.returns-in_err-journal-clause-reads g c).In_ok-checkpoint)
+    (OnlyReads-as device.0 device.1 c.load_journal.ensures.reads)
+
+pub returns-clause-reads : goal.returns-clause-reads
+returns-clause-reads g c =
+    OnlyReads-as (λ never. absurd never) (λ failed. cc)
+    (OnlyReads-then (read-base g (goal.at.returns-clause-reads g c).In_ok-checkpoint) (OnlyReads-ok (λ failed. cc) c.in_ok-journal.ensures.reads))
+
+pub returns-clause-used : goal.returns-clause-used
+returns-clause-used g c = λ honest some.
+    let s2 = reads-base g (goal.at.returns-clause-used g c).In_ok-checkpoint honest in
+    subst (λ (i : Image). used_of c.in_ok-journal.journal ≡ header_used journal_range i) (s2.contents honest)
+    (c.in_ok-journal.ensures.used (s2.time.honest.0 honest) some)
+
+pub returns-clause-current : goal.returns-clause-current
+returns-clause-current g c = λ honest some.
+    let s2 = reads-base g (goal.at.returns-clause-current g c).In_ok-checkpoint honest in
+    subst (λ (i : Image). header_epoch journal_range i ≡ epoch_of c.in_ok-journal.journal) (s2.contents honest)
+    (c.in_ok-journal.ensures.current (s2.time.honest.0 honest) some)
+
+pub returns-clause-on_disk : goal.returns-clause-on_disk
+returns-clause-on_disk g c =
+    on-disk c.in_ok-superblock.superblock.limits c.in_ok-superblock.superblock.sectors c.in_ok-checkpoint.checkpoint c.in_ok-checkpoint.ensures.layout
+    c.in_ok-journal.journal c.in_ok-journal.ensures.range c.in_ok-journal.ensures.epoch c.load_journal.new.engine
+    (c.load_journal.ensures.limits ∙ c.in_ok-checkpoint.ensures.limits) (g.D.SectorDisk.size c.load_journal.new.disk)
+    (omega (
+      arith,
+      c.in_ok-superblock.ensures.there,
+      c.load_superblock.ensures.reads.same.sectors,
+      c.load_base.ensures.reads.same.sectors,
+      c.load_journal.ensures.reads.same.sectors,
+    ))
+    c.in_ok-superblock.ensures.limits.passed c.in_ok-superblock.ensures.room
+
+-- the image stands for the state after the batches
+pub returns-clause-stands : goal.returns-clause-stands
+returns-clause-stands g c = λ honest.
+    let here = (goal.at.returns-clause-stands g c).In_ok-checkpoint in
+    let image : Image = (g.D.SectorDisk.medium c.load_base.new.disk).contents in
+    let s2 = reads-base g here honest in
+    let h2 = s2.time.honest.0 honest in
+    let limits : Limits = c.in_ok-superblock.superblock.limits in
+    let s = c.load_journal.new.engine.state in
+    let engine = c.in_ok-checkpoint.engine in
+    let read = c.in_ok-journal.ensures.stands h2 in
+    let stands : StandsFor limits s image = record {
+      epoch = saved_epoch c.in_ok-checkpoint.checkpoint;
+      base = engine.state;
+      kept = has g here honest;
+      batches = read.0;
+      journal = read.1;
+      leads = subst (λ (l : Limits). LeadToBy format.batch l engine.state read.0 s) c.in_ok-checkpoint.ensures.limits
+          (subst (λ (n : ℕ). LeadToBy n engine.limits engine.state read.0 s) c.requires read.2);
+    } in
+    subst (StandsFor c.load_journal.new.engine.limits s) (s2.contents honest)
+    (subst (λ (l : Limits). StandsFor l s image) (sym (c.load_journal.ensures.limits ∙ c.in_ok-checkpoint.ensures.limits)) stands)
+
+pub returns-clause-matches : goal.returns-clause-matches
+returns-clause-matches g c = λ honest durable.
+    let here = (goal.at.returns-clause-matches g c).In_ok-checkpoint in
+    let m1 : Medium = g.D.SectorDisk.medium c.load_superblock.new.disk in
+    let m2 : Medium = g.D.SectorDisk.medium c.load_base.new.disk in
+    let m3 : Medium = g.D.SectorDisk.medium c.load_journal.new.disk in
+    let limits : Limits = c.in_ok-superblock.superblock.limits in
+    let s1 = c.load_superblock.ensures.reads.stays honest in
+    let h1 = s1.time.honest.0 honest in
+    let d1 = stays-durable _ m1 honest s1 durable in
+    let s12 = c.load_base.ensures.reads.stays h1 in
+    let h2 = s12.time.honest.0 h1 in
+    let d2 = stays-durable m1 m2 h1 s12 d1 in
+    let s23 = c.load_journal.ensures.reads.stays h2 in
+    let names = subst (Names c.in_ok-superblock.superblock) (sym (s23.contents h2)) (device-base g here honest) in
+    let from = c.in_ok-checkpoint.engine.state in
+    let base = c.in_ok-checkpoint.ensures.base in
+    let tracked : IsTracked c.load_journal.new.engine.changed from c.load_journal.new.engine.state =
+    c.load_journal.ensures.tracked from
+    (subst (λ (marks : List Object). IsTracked marks from from) (sym c.in_ok-checkpoint.ensures.changed) (λ o off e is. is)) in
+    let engine = c.in_ok-checkpoint.engine in
+    let read = c.in_ok-journal.ensures.leads h2 d2 in
+    let led : Led limits from c.load_journal.new.engine.state c.in_ok-journal.journal m3 =
+    subst (λ (l : Limits). Led l from c.load_journal.new.engine.state c.in_ok-journal.journal m3) c.in_ok-checkpoint.ensures.limits
+    (read.0, read.1, subst (λ (n : ℕ). LeadToBy n engine.limits engine.state read.0 c.load_journal.new.engine.state) c.requires read.2) in
+    loaded limits c.in_ok-superblock.superblock.sectors c.in_ok-checkpoint.checkpoint c.in_ok-checkpoint.ensures.layout
+    c.in_ok-journal.journal c.in_ok-journal.ensures.range c.in_ok-journal.ensures.epoch c.load_journal.new.engine
+    (c.load_journal.ensures.limits ∙ c.in_ok-checkpoint.ensures.limits) m3 from (s23.time.honest.0 h2)
+    (stays-durable m2 m3 h2 s23 d2) names.0 names.1
+    (base.0, base.1, CheckpointMatches-stays c.in_ok-checkpoint.checkpoint base.0 m2 m3 s23 (base.3 h1 d1)) led tracked
+
+-- all is free but an area
+pub returns-clause-spare : goal.returns-clause-spare
+returns-clause-spare g c =
+    let limits : Limits = c.in_ok-superblock.superblock.limits in
+    let base = c.in_ok-checkpoint.ensures.base in
+    let stand : StandForState limits c.in_ok-checkpoint.engine.state base.0 = base.1 in
+    let fit = subst (λ (o : PlainObjects). Fit (area_of limits) o) (sym stand.are)
+    (saved-fits limits c.in_ok-checkpoint.engine.state c.in_ok-superblock.ensures.limits.passed stand.sound) in
+    has-spare (layout_of limits c.in_ok-superblock.superblock.sectors) c.in_ok-checkpoint.checkpoint base.0 c.in_ok-checkpoint.ensures.layout fit base.2

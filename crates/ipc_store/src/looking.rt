@@ -1,0 +1,104 @@
+//! A look at a device that somebody else may have, and may write meanwhile.
+
+ghost use Rattle.std.specs.Prelude.{◌≡◌, ◌⊎◌, ◌≤◌, ℕ, IfOk, IfErr, IfSome, IsErrOf, length};
+ghost use Rattle.ipc_base.specs.declared.limits.Limits.{Limits};
+ghost use Rattle.ipc_disk.specs.Medium.{IsHonest};
+ghost use Rattle.ipc_state.specs.State.{State};
+ghost use Rattle.ipc_store.specs.Batch.{most_bytes};
+ghost use Rattle.ipc_store.specs.Image.{StandsFor, IsNotFormatted, HasVersion, IsDamaged, IsFirstFault};
+ghost use Rattle.ipc_store.specs.Look.{LeavesAlone};
+ghost use Rattle.ipc_store.specs.Relations.Look.{Tells};
+ghost use Rattle.ipc_store.specs.declared.fault.OpenError.TheVariants as errors;
+
+use crate::batch::MOST_BYTES;
+use crate::fault::OpenError;
+use crate::loading::read_all;
+use crate::opening::room_for;
+use ipc_disk::{DiskFault, SectorDisk};
+use ipc_engine::Engine;
+use ipc_image::{FORMAT, SUPERBLOCK};
+use std::alloc::{AllocError, Global};
+
+/// How often it is looked at a device that is written meanwhile.
+const MOST_LOOKS: u32 = 100;
+
+/// The machine that a device stands for as it is now, without a restart. Nothing but reads reaches the disk, so another
+/// may have the device, and may write it meanwhile. What is read counts if the superblock and the root are the same
+/// before and after: objects are saved where none are, and then a new root tells of them. Otherwise it is looked anew,
+/// a hundred times at most, and so if a read fails. `Device` if none of them counts.
+pub fn look<D: SectorDisk>(alloc: Global, disk: &mut D) -> Result<Engine, OpenError>
+    // The state for which the disk stands, if nobody writes it meanwhile.
+    ensures ok { IfOk result (λ engine. IsHonest (D.medium disk.old)
+        → StandsFor engine.limits engine.state (D.medium disk.old).contents) }
+    // Refusals.
+    ensures refusals { IfErr result (λ error. (limits : Limits) (s : State) → IsHonest (D.medium disk.old)
+        → StandsFor limits s (D.medium disk.old).contents → (error ≡ errors.Device) ⊎ (error ≡ errors.NoMemory)) }
+    ensures not_formatted { IsErrOf result OpenError.NotFormatted → IsHonest (D.medium disk.old)
+        → IsNotFormatted (D.medium disk.old).contents }
+    ensures version { (found : ℕ) → IsErrOf result (OpenError.Version found) → IsHonest (D.medium disk.old)
+        → HasVersion found (D.medium disk.old).contents }
+    ensures damaged { (sector : ℕ) → IsErrOf result (OpenError.Damaged sector) → IsHonest (D.medium disk.old)
+        → IsDamaged (D.medium disk.old).contents × IsFirstFault (D.medium disk.old).contents sector }
+    // It makes no write and no sync.
+    ensures alone { LeavesAlone D.size D.medium D.counts disk.old disk.new }
+{
+    let mut room = match room_for(alloc, MOST_BYTES) {
+        Ok(room) => room,
+        Err(AllocError) => return Err(OpenError::NoMemory),
+    };
+    for _ in 0..MOST_LOOKS {
+        if let Some(found) = look_once(alloc, disk, &mut room) {
+            return found;
+        }
+    }
+    Err(OpenError::Device)
+}
+
+// What a look finds, if it counts.
+fn look_once<D: SectorDisk>(
+    alloc: Global,
+    disk: &mut D,
+    room: &mut [u8],
+) -> Option<Result<Engine, OpenError>>
+    requires { length room.old ≡ most_bytes }
+    ensures tells { IfSome result (λ found. IsHonest (D.medium disk.old) → Tells found (D.medium disk.old).contents) }
+    ensures room { length room.new ≡ most_bytes }
+    ensures alone { LeavesAlone D.size D.medium D.counts disk.old disk.new }
+{
+    let before = read_heads(disk);
+    let found = read_all(alloc, disk, room);
+    let after = read_heads(disk);
+    let (Ok(before), Ok(after)) = (before, after) else {
+        return None;
+    };
+    if before.superblock != after.superblock || before.root != after.root {
+        return None;
+    }
+    match found {
+        Ok((_, _, engine)) => Some(Ok(engine)),
+        Err(OpenError::Device) => None,
+        Err(error) => Some(Err(error)),
+    }
+}
+
+/// What tells where all else lies.
+#[derive(Clone, Copy)]
+struct Heads {
+    superblock: [u8; 512],
+    root: [u8; 512],
+}
+
+// The superblock and the root; zeros, if the disk has no such sectors.
+fn read_heads<D: SectorDisk>(disk: &mut D) -> Result<Heads, DiskFault>
+    ensures alone { LeavesAlone D.size D.medium D.counts disk.old disk.new }
+{
+    let mut heads = Heads {
+        superblock: [0; 512],
+        root: [0; 512],
+    };
+    if FORMAT.root < disk.sectors() {
+        disk.read(SUPERBLOCK, &mut heads.superblock)?;
+        disk.read(FORMAT.root, &mut heads.root)?;
+    }
+    Ok(heads)
+}
