@@ -21,7 +21,9 @@ use Rattle.ipc_disk.proofs.CallerLemmas.{LeavesAlone-join, LeavesAlone-start}
 use Rattle.ipc_disk.proofs.CallerLemmas.{counts-calls}
 use Rattle.ipc_heap.specs.Heap.{Holds, object_on}
 use Rattle.ipc_heap.specs.Matches.{HeapMatches, IsKept, StaysSaved}
+use Rattle.ipc_heap.specs.Meanwhile.{EachLater, KeepsUsed}
 use Rattle.ipc_heap.specs.View.{ArePlaced, HeapView, StaysInPlace, free, map_of, sizes_of, with_object}
+use Rattle.ipc_heap.proofs.CallerLemmas.{EachLater-join, EachLater-start, KeepsUsed-refl, KeepsUsed-then, later-used}
 use Rattle.ipc_checkpoint.specs.Matches.{changed_sectors}
 use Rattle.ipc_checkpoint.specs.Saving.{AreThere, HasNoOthers}
 use Rattle.ipc_checkpoint.proofs.Loads.{keys-seen, seen-known}
@@ -101,6 +103,8 @@ module _ {D : Type 0} (size : D → ℕ) (medium : D → Medium) (counts : D →
         → (k : ℕ) (o : ℕ × List ℕ) → slice_get os k ≡ Some o → (k < i) ⊎ (differs k ≡ false) → value_at nat_eq (map_of now (medium disk)) o.0 ≡ Some o.1
     pub moment : (saved : PlainObjects) → HeapMatches begin saved (medium old)
         → StaysSaved begin.range begin.root begin.epoch saved (medium old) (medium disk)
+    pub meanwhile : (saved : PlainObjects) → HeapMatches begin saved (medium old)
+        → EachLater (KeepsUsed begin.range begin.root) (medium old) (medium disk)
     pub others : IsHonest (medium old) → LeavesAlone (IsOutside begin.range) (medium old) (medium disk)
     pub same : IsSameDisk size medium old disk
     pub spent : ℕ
@@ -122,6 +126,7 @@ module _ {D : Type 0} (size : D → ℕ) (medium : D → Medium) (counts : D →
     matches = λ saved at. at;
     map = λ saved at there k o is either. ⊎_elim (λ never. absurd (omega (arith, never))) (λ off. there k o is off) either;
     moment = λ saved at part within now. EachImageSince-start (medium old) (Holds part begin.root begin.epoch saved) law now;
+    meanwhile = λ saved at. EachLater-start (KeepsUsed begin.range begin.root) (medium old) law (KeepsUsed-refl begin.range begin.root);
     others = λ honest. LeavesAlone-start (IsOutside begin.range) (medium old) honest law;
     same = record { sectors = refl; honest = (λ h. h, λ h. h) };
     spent = 0;
@@ -167,6 +172,7 @@ module _ {D : Type 0} (size : D → ℕ) (medium : D → Medium) (counts : D →
           (λ (lt : k < i + 1). ⊎_elim (λ (here : k ≡ i). inr (ap differs here ∙ off)) (λ (other : k ≡ i → ⊥). inl (omega (arith, lt, other))) (cases_eq k i))
           inr either);
       moment = so_far.moment;
+      meanwhile = so_far.meanwhile;
       others = so_far.others;
       same = so_far.same;
       spent = so_far.spent;
@@ -204,6 +210,18 @@ module _ {D : Type 0} (size : D → ℕ) (medium : D → Medium) (counts : D →
           (subst (λ (r : Range). S r now.root now.epoch) stays.range (moment saved at))) in
           EachImageSince-join (medium old) (medium disk) (medium next) P before
           (more part within (EachImageSince-now (medium old) (medium disk) P before at.honest))
+
+      pub put-meanwhile : (saved : PlainObjects) → HeapMatches begin saved (medium old)
+          → EachLater (KeepsUsed begin.range begin.root) (medium old) (medium next)
+      put-meanwhile saved begins =
+          let at = so_far.matches saved begins in
+          let R : Image → Image → Type 0 = KeepsUsed begin.range begin.root in
+          let more : EachLater R (medium disk) (medium next) =
+          subst (λ (n : ℕ). EachLater (KeepsUsed begin.range n) (medium disk) (medium next)) so_far.stays.root
+          (subst (λ (r : Range). EachLater (KeepsUsed r now.root) (medium disk) (medium next)) so_far.stays.range
+          (later-used now saved (medium disk) at (medium next) (others at.honest))) in
+          EachLater-join R R (medium old) (medium disk) (medium next) (λ a b keeps. keeps)
+          (λ a b c first after. KeepsUsed-then begin.range begin.root begins.apart a b first c after) at.honest (so_far.meanwhile saved begins) more
 
       pub put-others : IsHonest (medium old) → LeavesAlone (IsOutside begin.range) (medium old) (medium next)
       put-others honest =
@@ -262,6 +280,7 @@ module _ {D : Type 0} (size : D → ℕ) (medium : D → Medium) (counts : D →
               (λ (other : p.0 ≡ o.0 → ⊥). with-other (map_of now (medium disk)) o.0 p.0 o.1 other
               ∙ so_far.map saved begins were k p there (⊎_elim (λ lt. inl (before k p lt there other)) inr either)) (cases_eq p.0 o.0);
           moment = put-moment;
+          meanwhile = put-meanwhile;
           others = put-others;
           same = IsSameDisk-then so_far.same same;
           spent = so_far.spent + sectors_for (length o.1);

@@ -18,10 +18,12 @@ use Rattle.ipc_disk.proofs.CallerLemmas.{EachImageSince-join, EachImageSince-now
 use Rattle.ipc_heap.specs.Heap.{Placed, table_sectors_for, table_words}
 use Rattle.ipc_heap.specs.Heap as heap
 use Rattle.ipc_heap.specs.Matches.{HeapMatches, IsKept, Keeps, StaysSaved}
+use Rattle.ipc_heap.specs.Meanwhile as heap-later
 use Rattle.ipc_heap.specs.View.{ArePlaced, HeapView, StaysInPlace, free, map_of, sizes_of, used_by}
-use Rattle.ipc_heap.proofs.CallerLemmas.{Keeps-map, Keeps-matches, Keeps-sizes, words_for-is}
+use Rattle.ipc_heap.proofs.CallerLemmas.{EachLater-join, Keeps-map, Keeps-matches, KeepsUsed-turns, Keeps-sizes, words_for-is}
 use Rattle.ipc_checkpoint.specs.Checkpoint.{Holds, IsElsewhere, IsLaidOut}
 use Rattle.ipc_checkpoint.specs.Matches.{CheckpointMatches, HoldsEither, IsSavedUnder, changed_sectors, sectors_of, table_sectors}
+use Rattle.ipc_checkpoint.specs.Meanwhile.{EachLater, KeepsUsed, KeepsUsedOrTurns}
 use Rattle.ipc_checkpoint.specs.Saving.{AreThere, HasNoOthers}
 use Rattle.ipc_checkpoint.specs.View.{CheckpointView, HasSpare, epoch_of, layout_of}
 use Rattle.ipc_checkpoint.proofs.CallerLemmas.{CheckpointMatches-holds}
@@ -141,6 +143,12 @@ module _ (size : ℕ) (c : CheckpointView) (os : PlainObjects) (differs : ℕ �
         EachImageSince-weaken old mid (Holds (layout_of c) (epoch_of c) saved) (HoldsEither (layout_of c) (epoch_of c) saved epoch os)
         (moment-saved saved at c.heap.range (λ i inside. inside) (CheckpointMatches-holds c saved old at)) (λ image holds. inl holds)
 
+    pub meanwhile-mid : ((saved : PlainObjects) → HeapMatches one saved old → EachLater (heap-later.KeepsUsed one.range one.root) old mid)
+        → (saved : PlainObjects) → CheckpointMatches c saved old → EachLater (KeepsUsed (layout_of c)) old mid
+    meanwhile-mid later saved at =
+        subst (λ (n : ℕ). EachLater (heap-later.KeepsUsed c.heap.range n) old mid) (keeps.stays.root ∙ at.under)
+        (subst (λ (r : Range). EachLater (heap-later.KeepsUsed r one.root) old mid) keeps.stays.range (later saved (matches-one old saved at)))
+
     pub others-mid : IsHonest old → LeavesAlone (IsElsewhere (layout_of c)) old mid
     others-mid honest =
         LeavesAlone-fewer (IsElsewhere (layout_of c)) (IsOutside one.range) old mid
@@ -180,6 +188,21 @@ module _ (size : ℕ) (c : CheckpointView) (os : PlainObjects) (differs : ℕ �
             (subst (λ (r : ℕ). E c.heap.range r two.epoch two.aim (map_of two mid)) (stays.root ∙ keeps.stays.root ∙ at.under)
             (subst (λ (r : Range). E r two.root two.epoch two.aim (map_of two mid)) range-two
             (flips saved (matches saved (matches-one old saved at))))))))
+
+        -- who reads meanwhile
+        pub meanwhile-new : ((saved : PlainObjects) → HeapMatches one saved old → EachLater (heap-later.KeepsUsed one.range one.root) old mid)
+            → (two.aim ≡ two.root → (saved : PlainObjects) → HeapMatches two saved mid
+            → EachLater (heap-later.KeepsUsedOrTurns two.range two.root) mid new)
+            → (saved : PlainObjects) → CheckpointMatches c saved old → EachLater (KeepsUsedOrTurns (layout_of c)) old new
+        meanwhile-new first flips saved at =
+            let from : two.root ≡ c.heap.aim = stays.root ∙ keeps.stays.root ∙ at.under in
+            let here = matches saved (matches-one old saved at) in
+            let more : EachLater (KeepsUsedOrTurns (layout_of c)) mid new =
+            subst (λ (n : ℕ). EachLater (heap-later.KeepsUsedOrTurns c.heap.range n) mid new) from
+            (subst (λ (r : Range). EachLater (heap-later.KeepsUsedOrTurns r two.root) mid new) range-two
+            (flips (stays.aim ∙ keeps.stays.aim ∙ sym from) saved here)) in
+            EachLater-join (KeepsUsed (layout_of c)) (KeepsUsedOrTurns (layout_of c)) old mid new (λ a b kept. inl kept)
+            (λ a b z kept after. KeepsUsed-turns c.heap.range c.heap.aim laid.apart a b kept z after) here.honest (meanwhile-mid first saved at) more
 
         -- what was saved under another root stays there
         pub kept-new : (two.aim ≢ two.root → (saved : PlainObjects) → HeapMatches two saved mid

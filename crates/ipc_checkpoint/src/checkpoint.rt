@@ -37,6 +37,7 @@ impl Checkpoint {
     ghost use Rattle.ipc_checkpoint.specs.Checkpoint.{Holds, IsLaidOut, IsElsewhere, IsOwn, IsFirstDamage};
     ghost use Rattle.ipc_checkpoint.specs.Matches.{CheckpointMatches, HoldsEither, IsSavedUnder};
     ghost use Rattle.ipc_checkpoint.specs.Matches.{sectors_of, table_sectors, changed_sectors};
+    ghost use Rattle.ipc_checkpoint.specs.Meanwhile.{EachLater, KeepsUsedOrTurns};
     ghost use Rattle.ipc_base.specs.Objects.{Fit, OthersAreThere};
     ghost use Rattle.ipc_heap.specs.Matches.{StaysSaved};
     ghost use Rattle.ipc_checkpoint.specs.View.{layout_of, saved_root, aimed, epoch_of, free_of, HasSpare};
@@ -145,6 +146,9 @@ impl Checkpoint {
         ensures any_moment { (saved : PlainObjects) → CheckpointMatches self.old saved (D.medium disk.old)
             → EachImageSince (D.medium disk.old) (D.medium disk.new)
             (HoldsEither (layout_of self.old) (epoch_of self.old) saved epoch (O.objects objects.now)) }
+        // Who reads it meanwhile finds the old objects where they stood, or a root of a later epoch.
+        ensures meanwhile { (saved : PlainObjects) → CheckpointMatches self.old saved (D.medium disk.old)
+            → EachLater (KeepsUsedOrTurns (layout_of self.old)) (D.medium disk.old) (D.medium disk.new) }
         // After `aim` the old objects stay under the old root, also once the new ones are there.
         ensures aimed { OnOk result ((root : ℕ) (saved : PlainObjects)
             → IsSavedUnder root self.old saved (D.medium disk.old)

@@ -11,6 +11,7 @@ ghost use Rattle.ipc_disk.specs.Range.{IsOutside};
 ghost use Rattle.ipc_disk.specs.Since.{LeavesAlone};
 ghost use Rattle.ipc_heap.specs.Heap.{IsLaidOut};
 ghost use Rattle.ipc_heap.specs.Matches.{HeapMatches, Keeps, StaysSaved};
+ghost use Rattle.ipc_heap.specs.Meanwhile.{EachLater, KeepsUsed};
 ghost use Rattle.ipc_heap.specs.View.{free, map_of, sizes_of, ArePlaced, StaysInPlace};
 ghost use Rattle.ipc_checkpoint.specs.Matches.{changed_sectors};
 ghost use Rattle.ipc_checkpoint.specs.Saving.{AreThere, HasNoOthers};
@@ -67,6 +68,8 @@ pub(crate) fn put_changed<D: SectorDisk, O: Objects>(
     // A crash at any moment of the call, also of one that fails.
     ensures any_moment { (saved : PlainObjects) → HeapMatches heap.old saved (D.medium disk.old)
         → StaysSaved heap.old.range heap.old.root heap.old.epoch saved (D.medium disk.old) (D.medium disk.new) }
+    ensures meanwhile { (saved : PlainObjects) → HeapMatches heap.old saved (D.medium disk.old)
+        → EachLater (KeepsUsed heap.old.range heap.old.root) (D.medium disk.old) (D.medium disk.new) }
     ensures others { IsHonest (D.medium disk.old)
         → LeavesAlone (IsOutside heap.old.range) (D.medium disk.old) (D.medium disk.new) }
     ensures stays { StaysInPlace heap.old heap.new }

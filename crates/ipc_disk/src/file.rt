@@ -52,10 +52,16 @@ fn create_locked<R: Files<File = File>, P: AsPath>(rt: &R, path: P) -> io::Resul
         Err(error) if error.kind() == io::ErrorKind::NotFound => {}
         opened => return opened,
     }
+    make_locked(rt, path, false)
+}
+
+// Makes a file, and locks it. If it has to be new, nothing may stand at its path, not even a link.
+fn make_locked<R: Files<File = File>, P: AsPath>(rt: &R, path: P, new: bool) -> io::Result<File> {
     let file = OpenOptions::new()
         .read(true)
         .write(true)
         .create(true)
+        .create_new(new)
         .mode(OWNERS)
         .open(rt, path)?;
     lock(&file)?;
@@ -151,10 +157,40 @@ impl FileDisk {
         let Ok(file) = create_locked(rt, path) else {
             return Err(DiskFault);
         };
+        FileDisk::resized(rt.alloc(), file, sectors, progress)
+    }
+
+    /// As `create_with`, but the file has to be new: `DiskFault` if anything stands at the path, and then
+    /// that stays as it is. If the system refuses a later call, the file stays as far as it was made.
+    pub fn create_new_with<R: Files<File = File> + AllocGlobal, P: AsPath, T: Progress>(
+        rt: &R,
+        path: P,
+        sectors: u32,
+        progress: &mut T,
+    ) -> Result<FileDisk, DiskFault>
+        ensures size { IfOk result (λ disk. file_size (disk_under disk) ≡ sectors) }
+        ensures unused { IfOk result (λ disk. IsUnused 0 disk) }
+    {
+        let Ok(file) = make_locked(rt, path, true) else {
+            return Err(DiskFault);
+        };
+        FileDisk::resized(rt.alloc(), file, sectors, progress)
+    }
+
+    // The disk of so many sectors in a file that is locked.
+    fn resized<T: Progress>(
+        alloc: Global,
+        file: File,
+        sectors: u32,
+        progress: &mut T,
+    ) -> Result<FileDisk, DiskFault>
+        ensures size { IfOk result (λ disk. file_size (disk_under disk) ≡ sectors) }
+        ensures unused { IfOk result (λ disk. IsUnused 0 disk) }
+    {
         if resize(&file, offset(sectors), progress).is_err() {
             return Err(DiskFault);
         }
-        FileDisk::over(rt.alloc(), FileRuns::new(file, sectors, false))
+        FileDisk::over(alloc, FileRuns::new(file, sectors, false))
     }
 
     /// The disk in a file that is there, with its whole sectors, at most 4294967295. `DiskFault` if

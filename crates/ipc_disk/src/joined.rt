@@ -72,6 +72,13 @@ impl<D: RunDisk> JoinedDisk<D> {
         self.failures
     }
 
+    /// The disk under it. What waits is not there yet.
+    pub fn disk(&self) -> &D
+        ensures { result.now ≡ disk_under self.now }
+    {
+        &self.disk
+    }
+
     /// The disk under it. What waits is let go.
     pub fn into_disk(self) -> D
         ensures { result ≡ disk_under self }

@@ -20,11 +20,14 @@ use Rattle.ipc_heap.specs.Heap.{Allocation, Holds, HoldsIn, IsOwn, Placed, objec
 use Rattle.ipc_heap.specs.Matches.{HeapMatches, Keeps}
 use Rattle.ipc_heap.specs.View.{HeapView, map_of, sizes_of}
 use Rattle.ipc_heap.proofs.Changes.{noted-from, noted-to}
-use Rattle.ipc_heap.proofs.Images.{HoldsIn-same, HoldsIn-sectors, objects-same}
+use Rattle.ipc_heap.proofs.Images.{HoldsIn-same, objects-same}
 use Rattle.ipc_heap.proofs.Sectors.{AreNoted}
-pub use Rattle.ipc_heap.proofs.Damages.{Holds-one}
+pub use Rattle.ipc_heap.proofs.Damages.{Holds-one, HoldsIn-one}
 pub use Rattle.ipc_heap.proofs.Saved.{Holds-wider}
 pub use Rattle.ipc_heap.proofs.Changes.{words_for-is}
+pub use Rattle.ipc_heap.proofs.Images.{HoldsIn-sectors}
+pub use Rattle.ipc_heap.proofs.Meanwhile.{EachLater-join, EachLater-start, EachLater-weaken}
+pub use Rattle.ipc_heap.proofs.Meanwhile.{KeepsUsed-holds, KeepsUsed-refl, KeepsUsed-then, KeepsUsed-turns, later-used}
 
 module _ (range : Range) (root : ℕ) (places : ℕ → Type 0) (own : (i : ℕ) → IsOwn range root i → places i) where
   -- the heap's sectors decide what is there

@@ -18,8 +18,10 @@ use Rattle.ipc_base.specs.Objects.{PlainObjects, AreObjects}
 use Rattle.ipc_base.specs.Table.{IsRising}
 use Rattle.ipc_disk.specs.declared.range.Range.{Range}
 use Rattle.ipc_heap.specs.declared.uses.Use.{Use}
-use Rattle.ipc_heap.specs.Heap.{HoldsEither, HoldsIn, IsLaidOut, next_in, object_on, object_sectors, table_sectors_for, table_words, used, words_in, words_at}
+use Rattle.ipc_heap.specs.Heap.{HoldsEither, HoldsIn, IsLaidOut, epoch_in, next_in, object_on, object_sectors, table_sectors_for, table_words, used}
+use Rattle.ipc_heap.specs.Heap.{words_in, words_at}
 use Rattle.ipc_heap.specs.Matches.{HeapMatches, StaysSaved}
+use Rattle.ipc_heap.specs.Meanwhile.{EachLater, KeepsUsedOrTurns}
 use Rattle.ipc_heap.specs.View.{HeapView, map_of}
 use Rattle.ipc_heap.specs.Relations.Flip.{IsEither, IsTurned, IsUnturned}
 use Rattle.ipc_heap.specs.Relations.Root.{IsRead}
@@ -27,6 +29,7 @@ use Rattle.ipc_heap.specs.Relations.Table.{IsTableOn}
 use Rattle.ipc_heap.specs.Relations.Uses.{IsNotFree, WasFree, saved_bits}
 use Rattle.ipc_heap.proofs.Changes.{HasSize, all-left, all-right, noted-to}
 use Rattle.ipc_heap.proofs.Images.{HoldsIn-same, flat_map-same, objects-same, saved-kept}
+use Rattle.ipc_heap.proofs.Meanwhile.{keeps-used}
 use Rattle.ipc_heap.proofs.Saved.{stays-saved}
 use Rattle.ipc_heap.proofs.Sectors.{AreNoted, distinct-apart}
 use Rattle.ipc_heap.proofs.Writes.{free-open}
@@ -203,6 +206,25 @@ module _ (heap : HeapView) (saved : PlainObjects) (old : Medium) (size : ℕ) (l
       stays-saved heap saved old new matches
       (EachImageSince-weaken old new (IsEither words table heap.aim epoch old) (HoldsIn heap.range heap.root heap.epoch matches.there saved) since
       (λ image either. ⊎_elim (λ is. unturned-holds image is) (λ is. kept-holds other image is) either))
+
+  -- who reads meanwhile finds what was saved where it stood, or a later root
+  pub flip-meanwhile : heap.aim ≡ heap.root → heap.epoch < epoch → (new : Medium) → EachImageSince old new (IsEither words table heap.aim epoch old)
+      → EachLater (KeepsUsedOrTurns heap.range heap.root) old new
+  flip-meanwhile same later new since =
+      EachImageSince-weaken old new (IsEither words table heap.aim epoch old)
+      (λ image. (earlier : Image) × old.images_now earlier × KeepsUsedOrTurns heap.range heap.root earlier image) since
+      (λ image either. ⊎_elim
+      (λ is. (
+        is.before,
+        is.now,
+        inl (keeps-used heap saved old matches (λ i. Contains table i → ⊥) (λ i kept there. table-open i there kept)
+            is.before image is.now is.others),
+      ))
+      (λ is.
+      let was = (matches.images old.contents matches.honest.reads).current in
+      let turned : epoch_in (sector_at image heap.root) ≡ epoch =
+      ap (λ (r : ℕ). epoch_in (sector_at image r)) (sym same) ∙ is.root_there.epoch in
+      (old.contents, matches.honest.reads, inr (omega (arith, later, was, turned)))) either)
 
   -- the map is what is saved
   pub flip-map : (new : Medium) → IsTurned words table heap.aim epoch old.contents new.contents → map (object_on new.contents) heap.placed ≡ map_of heap old

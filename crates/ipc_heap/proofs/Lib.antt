@@ -6,6 +6,7 @@ mod Distinct
 mod Edits
 mod Flips
 mod Images
+mod Meanwhile
 mod Opened
 mod Opens
 mod Parts

@@ -69,6 +69,7 @@ impl Heap {
     ghost use Rattle.ipc_heap.specs.Heap.{HoldsEither, table_words, table_sectors_for};
     ghost use Rattle.ipc_heap.specs.View.{free, map_of, with_object, used_by, sizes_of, ArePlaced, StaysInPlace};
     ghost use Rattle.ipc_heap.specs.Matches.{HeapMatches, IsKept, Removes, StaysSaved};
+    ghost use Rattle.ipc_heap.specs.Meanwhile.{EachLater, KeepsUsedOrTurns};
     ghost use Rattle.ipc_heap.specs.Damage.{IsFirstDamage};
 
     /// Makes the first heap, at epoch 1, with one sync. Until then, and after an `Err`, its sectors may be anything.
@@ -336,6 +337,9 @@ impl Heap {
         ensures kept { self.old.aim ≢ self.old.root
             → (saved : PlainObjects) → HeapMatches self.old saved (D.medium disk.old)
             → StaysSaved self.old.range self.old.root self.old.epoch saved (D.medium disk.old) (D.medium disk.new) }
+        ensures meanwhile { self.old.aim ≡ self.old.root
+            → (saved : PlainObjects) → HeapMatches self.old saved (D.medium disk.old)
+            → EachLater (KeepsUsedOrTurns self.old.range self.old.root) (D.medium disk.old) (D.medium disk.new) }
         ensures others { IsHonest (D.medium disk.old)
             → LeavesAlone (λ i. IsKept self.old i × (i ≢ self.old.aim)) (D.medium disk.old) (D.medium disk.new) }
         ensures range { self.new.range ≡ self.old.range }

@@ -1,8 +1,8 @@
--- What the crates above cite of a journal: which batches stand on a disk, and that a journal stays what it is over a
--- turn, over reads, and over calls that leave its sectors alone.
+-- What the crates above cite of a journal: which batches stand on a disk, that a journal stays what it is over a turn,
+-- over reads, and over calls that leave its sectors alone, and what is read of one that grows.
 use Rattle.std.specs.Prelude.{◌≡◌, ℕ, ◌+◌, ◌^◌, ◌<◌, ◌≤◌, List, [], ◌∷◌, ◌++◌, length, take, replicate, refl}
 use Rattle.std.proofs.Common.{inl, inr, sym, ◌∙◌, ap, subst, arith}
-use Rattle.std.proofs.lemmas.List.{drop_at}
+use Rattle.std.proofs.lemmas.List.{append-nil, append_assoc, drop_at}
 use Rattle.byteorder.specs.Endian.{big_bytes, big_number}
 use Rattle.byteorder.specs.Numbers.{big_from-take, big_number-reads_back, length-bytes_high_first}
 use Rattle.ipc_disk.specs.declared.range.Range.{Range}
@@ -16,7 +16,8 @@ use Rattle.ipc_journal.specs.Journal.{sectors_of, epoch_in, used_in, length_in}
 use Rattle.ipc_disk.specs.Standing.{piece, StandsAt}
 use Rattle.ipc_journal.specs.Journal.{header_bytes, header_used, IsBatch, Fill, Holds}
 use Rattle.ipc_journal.specs.View.{range_of, epoch_of, used_of}
-use Rattle.ipc_journal.specs.Matches.{JournalMatches}
+use Rattle.ipc_journal.specs.Matches.{HoldsOneMoreOrNot, JournalMatches}
+use Rattle.ipc_journal.specs.Meanwhile.{IsReadFrom, KeepsBatches, Stand}
 
 module _ (range : Range) where
   -- where the batches end
@@ -108,6 +109,14 @@ module _ (range : Range) (epoch : ℕ) (batches : List (List ℕ)) where
         filled = subst (λ (s : List ℕ). Fill range 0 (used_in s) batches b) header filled;
       })
 
+  -- the batches fill the body up to where they end
+  pub Holds-fill : (image : Image) → Holds range epoch batches image → Fill range 0 (sectors_of batches) batches image
+  Holds-fill image (inl older) = subst (λ (bs : List (List ℕ)). Fill range 0 (sectors_of bs) bs image) (sym older.1) refl
+  Holds-fill image (inr current) =
+      let end = Fill-end range 0 (header_used range image) batches image current.filled in
+      let same : header_used range image ≡ sectors_of batches = omega (arith, end) in
+      subst (λ (n : ℕ). Fill range 0 n batches image) same current.filled
+
 -- what stands in a header
 pub epoch_in-header : (epoch used : ℕ) → epoch < 2 ^ 64 → epoch_in (header_bytes epoch used) ≡ epoch
 unfolding epoch_in header_bytes
@@ -180,3 +189,84 @@ JournalMatches-turned old new batches medium range lt used at = record {
   images = λ image now. subst (λ (r : Range). Holds r (epoch_of new) [] image) (sym range)
       (Holds-turned (range_of old) (epoch_of old) (epoch_of new) batches image lt (at.images image now));
 }
+
+-- ---- a journal that is read while it grows
+
+-- the first ones of the batches stand where they stood
+Fill-front : (range : Range) (place end : ℕ) (batches more : List (List ℕ)) (image : Image) → Fill range place end (batches ++ more) image
+    → Fill range place (place + sectors_of batches) batches image
+Fill-front range place end [] more image fill = omega arith
+Fill-front range place end (batch ∷ batches) more image fill =
+    let next : ℕ = place + sectors_for (length batch) in
+    let rest = Fill-front range next end batches more image fill.2 in
+    (fill.0, fill.1, subst (λ (n : ℕ). Fill range next n batches image) (omega arith) rest)
+
+-- a sector that was read is that of an image in which these batches stand from a place on
+record Source (range : Range) (place : ℕ) (batches : List (List ℕ)) (read : Image) (i : ℕ) : Type 0 where
+  later : Image
+  end : ℕ
+  fill : Fill range place end batches later
+  same : sector_at read i ≡ sector_at later i
+
+Fill-read : (range : Range) (place end : ℕ) (batches : List (List ℕ)) (first read : Image) → Fill range place end batches first
+    → ((i : ℕ) → range.first + 1 + place ≤ i → i < range.first + 1 + end → Source range place batches read i) → Fill range place end batches read
+Fill-read range place end [] first read fill from = fill
+Fill-read range place end (batch ∷ batches) first read fill from =
+    let total = Fill-end range (place + sectors_for (length batch)) end batches first fill.2 in (
+      fill.0,
+      λ i lt. let source = from (range.first + 1 + place + i) (omega arith) (omega (arith, total, lt)) in
+          ap (λ (s : List ℕ). take (length (piece i batch)) s) source.same ∙ source.fill.1 i lt,
+      Fill-read range (place + sectors_for (length batch)) end batches first read fill.2
+          (λ i low high. let source = from i (omega (arith, low)) high in
+          record { later = source.later; end = source.end; fill = source.fill.2; same = source.same }),
+    )
+
+module _ (range : Range) (epoch : ℕ) where
+  -- what the header counts when it is read is read whole
+  pub Holds-read : (batches : List (List ℕ)) (first read : Image) → Holds range epoch batches first → IsReadFrom range epoch first read
+      → Holds range epoch batches read
+  Holds-read batches first read (inl older) is =
+      inl (record { older = subst (λ (s : List ℕ). epoch_in s < epoch) (sym is.header) older.0.older }, older.1)
+  Holds-read batches first read (inr current) is =
+      inr (record {
+        current = ap epoch_in is.header ∙ current.current;
+        within = subst (λ (s : List ℕ). used_in s < range.count) (sym is.header) current.within;
+        filled = subst (λ (s : List ℕ). Fill range 0 (used_in s) batches read) (sym is.header)
+            (Fill-read range 0 (header_used range first) batches first read current.filled
+            (λ i low high.
+            let from = is.body i (omega (arith, low)) (omega (arith, high, current.within)) in
+            record { later = from.0; end = sectors_of batches; fill = from.1 batches (inr current); same = from.2 }));
+      })
+
+  -- what is kept stands
+  pub KeepsBatches-stand : (a b : Image) → KeepsBatches range epoch a b → (batches : List (List ℕ)) → Holds range epoch batches a
+      → Stand range batches b
+  KeepsBatches-stand a b keeps batches here =
+      let more = keeps batches here in
+      subst (λ (n : ℕ). Fill range 0 n batches b) (omega arith)
+      (Fill-front range 0 (sectors_of (batches ++ more.0)) batches more.0 b (Holds-fill range epoch (batches ++ more.0) b more.1))
+
+  -- the same batches, and then more
+  pub KeepsBatches-same : (batches : List (List ℕ)) (a b : Image) → Holds range epoch batches a → Holds range epoch batches b → KeepsBatches range epoch a b
+  KeepsBatches-same batches a b before after xs here =
+      let same : batches ≡ xs ++ [] = Holds-one range epoch batches xs a before here ∙ sym (append-nil xs) in
+      ([], subst (λ (l : List (List ℕ)). Holds range epoch l b) same after)
+
+  pub KeepsBatches-refl : (image : Image) → KeepsBatches range epoch image image
+  KeepsBatches-refl image batches here = ([], subst (λ (l : List (List ℕ)). Holds range epoch l image) (sym (append-nil batches)) here)
+
+  pub KeepsBatches-then : (a b c : Image) → KeepsBatches range epoch a b → KeepsBatches range epoch b c → KeepsBatches range epoch a c
+  KeepsBatches-then a b c first next batches here =
+      let one = first batches here in
+      let two = next (batches ++ one.0) one.1 in
+      (one.0 ++ two.0, subst (λ (l : List (List ℕ)). Holds range epoch l c) (append_assoc batches one.0 two.0) two.1)
+
+-- while a batch is appended
+pub KeepsBatches-append : (journal : Journal) (batches : List (List ℕ)) (batch : List ℕ) (old : Medium) → JournalMatches journal batches old
+    → (earlier later : Image) → old.images_now earlier → HoldsOneMoreOrNot journal batches batch later
+    → KeepsBatches (range_of journal) (epoch_of journal) earlier later
+KeepsBatches-append journal batches batch old at earlier later now (inl same) =
+    KeepsBatches-same (range_of journal) (epoch_of journal) batches earlier later (at.images earlier now) same
+KeepsBatches-append journal batches batch old at earlier later now (inr more) = λ xs here.
+    let same : batches ≡ xs = Holds-one (range_of journal) (epoch_of journal) batches xs earlier (at.images earlier now) here in
+    (batch ∷ [], subst (λ (l : List (List ℕ)). Holds (range_of journal) (epoch_of journal) (l ++ batch ∷ []) later) same more)

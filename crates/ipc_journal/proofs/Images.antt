@@ -1,13 +1,13 @@
 -- What images hold: the batches' sectors, and what a written header adds.
 use Rattle.std.proofs.Common.{◌≡◌, ◌⊎◌, inl, inr, ℕ, ◌+◌, ◌^◌, ◌<◌, ◌≤◌, List, [], ◌∷◌, ◌++◌}
-use Rattle.std.proofs.Common.{length, refl, sym, ◌∙◌, ap, subst, arith}
+use Rattle.std.proofs.Common.{length, sym, ◌∙◌, ap, subst, arith}
 use Rattle.std.specs.Prelude.{slice_set}
 use Rattle.ipc_disk.specs.declared.range.Range.{Range}
 use Rattle.ipc_disk.specs.Medium.{Image, Medium, SetOrNot}
 use Rattle.ipc_disk.specs.Since.{EachImageSince}
 use Rattle.ipc_disk.specs.Standing.{sectors_for, StandsAt}
 use Rattle.ipc_journal.specs.Journal.{sectors_of, epoch_in, used_in, header_bytes, header_epoch, header_used, IsBatch, Fill, Holds}
-use Rattle.ipc_journal.proofs.CallerLemmas.{Fill-end, Fill-same, Fill-push, Holds-header}
+use Rattle.ipc_journal.proofs.CallerLemmas.{Fill-end, Fill-same, Fill-push, Holds-fill, Holds-header}
 use Rattle.ipc_disk.proofs.CallerLemmas.{EachImageSince-set, sector_at-set_same, sector_at-set_other}
 
 -- the sectors of one batch more
@@ -16,14 +16,6 @@ sectors_of-push [] batch = omega arith
 sectors_of-push (first ∷ batches) batch = omega (arith, sectors_of-push batches batch)
 
 module _ (range : Range) (epoch : ℕ) (batches : List (List ℕ)) where
-  -- the batches fill the body up to where they end
-  pub Holds-fill : (image : Image) → Holds range epoch batches image → Fill range 0 (sectors_of batches) batches image
-  Holds-fill image (inl older) = subst (λ (bs : List (List ℕ)). Fill range 0 (sectors_of bs) bs image) (sym older.1) refl
-  Holds-fill image (inr current) =
-      let end = Fill-end range 0 (header_used range image) batches image current.filled in
-      let same : header_used range image ≡ sectors_of batches = omega (arith, end) in
-      subst (λ (n : ℕ). Fill range 0 n batches image) same current.filled
-
   -- under an earlier header there are none
   pub used-older : (image : Image) → Holds range epoch batches image → header_epoch range image < epoch → 0 ≡ sectors_of batches
   used-older image (inl older) lt = ap sectors_of (sym older.1)

@@ -1,4 +1,5 @@
 -- What a journal on a disk means, what the value that stands for it shows, and when the two match.
 pub mod Journal
 pub mod Matches
+pub mod Meanwhile
 pub mod View

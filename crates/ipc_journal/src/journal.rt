@@ -39,6 +39,7 @@ impl Journal {
     ghost use Rattle.ipc_journal.specs.Journal.{header_bytes, length_in, IsBatch};
     ghost use Rattle.ipc_journal.specs.View.{range_of, epoch_of, used_of, Fits};
     ghost use Rattle.ipc_journal.specs.Matches.{JournalMatches, HoldsOneMoreOrNot};
+    ghost use Rattle.ipc_journal.specs.Meanwhile.{ComesInOrder};
 
     /// Writes the header of an empty journal of this epoch. It does not sync.
     pub fn put_header<D: SectorDisk>(
@@ -181,6 +182,13 @@ impl Journal {
         self.range
     }
 
+    /// How many of its sectors batches take, the header not among them.
+    pub fn used(&self) -> u32
+        ensures { result ≡ used_of self.now }
+    {
+        self.used
+    }
+
     /// A batch of so many bytes, with the four of its length, can be appended.
     pub fn fits(&self, len: usize) -> bool
         ensures { IsTrue result ↔ Fits self.now len }
@@ -219,6 +227,9 @@ impl Journal {
             → JournalMatches self.old batches (D.medium disk.old)
             → (D.medium disk.new).images_now image
             → HoldsOneMoreOrNot self.old batches batch.now image }
+        // Its sectors stand before a header counts it.
+        ensures stands_first { (batches : List (List ℕ)) → JournalMatches self.old batches (D.medium disk.old)
+            → ComesInOrder D.medium self.old batches batch.now disk.old disk.new }
         ensures others { IsHonest (D.medium disk.old)
             → LeavesAlone (IsOutside (range_of self.old)) (D.medium disk.old) (D.medium disk.new) }
         // Failures and counts.

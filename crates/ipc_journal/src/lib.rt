@@ -1,5 +1,42 @@
 //! A journal of batches of bytes in a range of sectors: after a crash at any moment an append is there whole or
 //! not at all.
+//!
+//! Where a rule stands (definition, code, proof):
+//!
+//! - The bytes of the journal: `specs/Journal.antt`, `src/header.rt`, `src/journal.rt`; docs/DEVICE.md
+//!
+//! What the clauses say:
+//!
+//! All of it holds over every disk that meets the trait and is honest.
+//!
+//! - `put_header` writes the header of an empty journal and does not sync (`header`); each image of a crash in the call
+//!   differs from one of before in the header at most (`header_or_not`). `create` makes an empty journal (`empty`). The
+//!   disk reads as before but for the header (`header`), and once it is Ok a crash leaves that (`durable`). Each image
+//!   of a crash in the call is one of before or holds the empty journal (`any_moment`), and differs from one of before
+//!   in the header at most (`header_or_not`).
+//! - `append`: at every moment of the call each image that a crash may leave holds the batches of before, with the new
+//!   one or without (`any_moment`, `left`). The sectors of the batch stand before a header counts it: up to some moment
+//!   each image has the batches of before, and from then on the sectors of the new one are there as well
+//!   (`stands_first`, `ComesInOrder` of `specs/Meanwhile.antt`). Once it is Ok every image has the new batch
+//!   (`acknowledged`), which stands on the disk to the byte (`written`), the header counts it (`header`), and a crash
+//!   leaves what is read (`durable`). It makes one write for each sector of the batch and one more, and two syncs
+//!   (`counts`). If it fails, the value is as it was (`kept`).
+//! - `open` finds the batches that every image holds (`stands`), and reads a header of an earlier epoch as empty
+//!   (`older`). It is `Damaged` only at a later epoch or at a count that is too large (`damaged`), with the header's
+//!   sector (`named`).
+//! - `next_batch` gives the batches in order (`in_order`), each of at least four bytes (`least`), and then `None`
+//!   (`end`). After `None` the place and the buffer are as they were (`none`); after a batch the bytes of the buffer
+//!   that follow it are (`behind`); after `Damaged` all of the buffer is (`untouched`). It is `Damaged` only if a batch
+//!   passes what is used or what the buffer holds (`damaged`), with the batch's first sector (`named`). After an error
+//!   the place is as it was (`kept`).
+//! - `fits` is exact, `used` is how many sectors batches take, and `range` are its sectors. `turn` empties the journal
+//!   without a write (`empty`).
+//! - No call writes outside the journal's range (`others`; `open` and `next_batch` only read: `reads`), and the disk is
+//!   the same after it (`same`). A failure is answered only if the disk counted one (`counts`, `reads`).
+//! - Laws:
+//!   - an image holds one list of batches at an epoch, and no two (`an_image_is_one_journal`).
+//!   - who reads the header, and then each sector of the body in an image in which the batches of that header stand, has
+//!     read those batches (`a_journal_that_grows_is_read_whole`).
 #![tactic(auto)]
 
 mod error;
@@ -9,4 +46,4 @@ mod laws;
 
 pub use error::JournalError;
 pub use journal::{Journal, Place};
-pub use laws::an_image_is_one_journal;
+pub use laws::{a_journal_that_grows_is_read_whole, an_image_is_one_journal};

@@ -77,7 +77,7 @@ module _ {D : Type 0} (medium : Medium) (store : StoreView D) (base : State) (pe
   }
 
   -- the bytes of what waits
-  bytes-are : big_bytes 4 (length store.records) ++ store.records ≡ batch_bytes pending
+  pub bytes-are : big_bytes 4 (length store.records) ++ store.records ≡ batch_bytes pending
   unfolding batch_bytes
   bytes-are = ap (λ (x : List ℕ). big_bytes 4 (length x) ++ x) at.waits.records
 

@@ -5,6 +5,7 @@ use Rattle.std.proofs.lemmas.List.{get_or-set_same, get_or-set_other, length-set
 use Rattle.std.proofs.lemmas.List.Elements.{All-nil}
 use Rattle.ipc_base.specs.declared.limits.Limits.{Limits}
 use Rattle.ipc_base.specs.Limits.{ArePassed}
+use Rattle.ipc_base.specs.Objects.{PlainObjects}
 use Rattle.ipc_disk.specs.Medium.{Image, Medium, IsHonest, SetOrNot}
 use Rattle.ipc_disk.specs.Since.{EachImageSince, SameAt, LeavesAlone}
 use Rattle.ipc_disk.proofs.CallerLemmas.{EachImageSince-join, EachImageSince-weaken, EachImageSince-now, EachImageSince-set}
@@ -15,13 +16,13 @@ use Rattle.ipc_journal.proofs.CallerLemmas.{Holds-header, Holds-same}
 use Rattle.ipc_checkpoint.specs.declared.layout.Layout.{Layout}
 use Rattle.ipc_checkpoint.specs.Checkpoint.{IsLaidOut, IsElsewhere, Holds as HoldsObjects}
 use Rattle.ipc_checkpoint.proofs.CallerLemmas.{Holds-alone}
-use Rattle.ipc_state.specs.State.{State, start}
-use Rattle.ipc_image.specs.Saved.{saved}
+use Rattle.ipc_state.specs.State.{State}
+use Rattle.ipc_image.specs.Saved.{StandForState}
 use Rattle.ipc_image.specs.declared.format.Format.{Format}
 use Rattle.ipc_image.specs.Format.{format, format_one, IsFormat}
 use Rattle.ipc_image.specs.Sizes.{area_in, area_of, need_in}
 use Rattle.ipc_image.specs.Superblock.{magic, IsFormatted, sectors_in, IsSuperblock}
-use Rattle.ipc_image.proofs.CallerLemmas.{area-counted, start-stands, superblock-sectors}
+use Rattle.ipc_image.proofs.CallerLemmas.{area-counted, superblock-sectors}
 use Rattle.ipc_store.specs.Image.{journal_range, first_epoch, layout_in, layout_of, named_sectors, StandsFor, IsNotFormatted}
 use Rattle.ipc_store.specs.Relations.Format.{EachNow, IsErased, IsPrepared}
 
@@ -84,17 +85,17 @@ stays-erased limits size layout old mid new there erased header kept objects =
     (λ a b same. subst (λ (s : List ℕ). ¬ IsFormatted s) (sector_at-same (IsElsewhere layout) a b 0 same elsewhere)))
 
 -- then both are there
-pub is-prepared : (limits : Limits) (old mid new : Image) → 3 < length old → mid ≡ slice_set old 3 (header_bytes first_epoch 0)
-    → SameAt (IsElsewhere (layout_of limits (length new))) mid new
-    → HoldsObjects (layout_of limits (length new)) first_epoch (saved start) new → IsPrepared limits start new
-is-prepared limits old mid new has header same objects =
+pub is-prepared : (limits : Limits) (s : State) (objects : PlainObjects) (old mid new : Image) → 3 < length old
+    → mid ≡ slice_set old 3 (header_bytes first_epoch 0) → SameAt (IsElsewhere (layout_of limits (length new))) mid new
+    → HoldsObjects (layout_of limits (length new)) first_epoch objects new → StandForState limits s objects → IsPrepared limits s new
+is-prepared limits s objects old mid new has header same there stand =
     let at : sector_at mid 3 ≡ header_bytes first_epoch 0 =
     ap (λ (image : Image). sector_at image 3) header ∙ sector_at-set_same old 3 (header_bytes first_epoch 0) has in
     record {
       epoch = first_epoch;
-      objects = saved start;
-      there = objects;
-      stand = start-stands limits;
+      objects = objects;
+      there = there;
+      stand = stand;
       journal = Holds-header journal_range first_epoch new (omega arith) (omega arith)
           (sym (sector_at-same (IsElsewhere (layout_of limits (length new))) mid new 3 same (λ is. absurd (omega (arith, is)), inl (omega arith)))
           ∙ at);
@@ -133,10 +134,10 @@ becomes-device limits s bytes image fits is prepared =
       leads = record { each = All-nil _; named = tt; state = refl };
     }
 
-module _ (limits : Limits) (old : Medium) where
+module _ (limits : Limits) (s : State) (old : Medium) where
   -- an image of then, or none of a device, or one of the new device
   abbrev OnTheWay : Image → Type 0
-  OnTheWay image = old.images_now image ⊎ IsNotFormatted image ⊎ StandsFor limits start image
+  OnTheWay image = old.images_now image ⊎ IsNotFormatted image ⊎ StandsFor limits s image
 
   -- the first call
   pub way-erase : (new : Medium) → EachImageSince old new (λ image. old.images_now image ⊎ IsErased image)
@@ -154,9 +155,9 @@ module _ (limits : Limits) (old : Medium) where
 
   -- the third
   pub way-superblock : (mid new : Medium) → EachImageSince old mid OnTheWay → EachNow mid IsErased
-      → EachImageSince mid new (λ image. mid.images_now image ⊎ StandsFor limits start image)
+      → EachImageSince mid new (λ image. mid.images_now image ⊎ StandsFor limits s image)
       → EachImageSince old new OnTheWay
   way-superblock mid new before erased run =
       EachImageSince-join old mid new OnTheWay before
-      (EachImageSince-weaken mid new (λ image. mid.images_now image ⊎ StandsFor limits start image) OnTheWay run
+      (EachImageSince-weaken mid new (λ image. mid.images_now image ⊎ StandsFor limits s image) OnTheWay run
       (λ image so. ⊎_elim (λ now. inr (inl (inr (erased image now)))) (λ stands. inr (inr stands)) so))

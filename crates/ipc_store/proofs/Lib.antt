@@ -8,6 +8,7 @@ mod Loaded
 mod Histories
 mod Lives
 mod Looks
+mod Meanwhile
 mod Opened
 mod Openings
 mod Superblocks

@@ -4,6 +4,7 @@ pub mod Image
 pub mod Histories
 pub mod Lives
 pub mod Look
+pub mod Meanwhile
 pub mod Upgrade
 pub mod View
 pub mod Relations

@@ -3,13 +3,15 @@
 ghost use Rattle.std.specs.Prelude.{◌≡◌, ◌⊎◌, ◌<◌, ◌≤◌, ◌↔◌, ℕ, Some, position, not};
 ghost use Rattle.std.specs.Prelude.{slice_set, OnOk, IsErrOf};
 ghost use Rattle.ipc_base.specs.Limits.{ArePassed, tests};
+ghost use Rattle.ipc_base.specs.Objects.{Fit};
 ghost use Rattle.ipc_base.specs.declared.limits.BadLimits.{BadLimits as BadLimit};
 ghost use Rattle.ipc_disk.specs.Calls.{IsSameDisk, CountsFault, CountsFaultIf};
 ghost use Rattle.ipc_disk.specs.Medium.{Image, IsHonest, IsDurable, SetOrNot};
 ghost use Rattle.ipc_disk.specs.Since.{EachImageSince};
 ghost use Rattle.ipc_state.specs.State.{State, start};
 ghost use Rattle.ipc_image.specs.Format.{objects_first};
-ghost use Rattle.ipc_image.specs.Sizes.{need_of};
+ghost use Rattle.ipc_image.specs.Saved.{StandForState};
+ghost use Rattle.ipc_image.specs.Sizes.{area_of, need_of};
 ghost use Rattle.ipc_image.specs.Superblock.{IsSuperblock};
 ghost use Rattle.ipc_store.specs.Image.{StandsFor, IsNotFormatted};
 ghost use Rattle.ipc_store.specs.Relations.Format.{EachNow, IsErased, IsPrepared};
@@ -17,7 +19,7 @@ ghost use Rattle.ipc_store.specs.Relations.Format.{EachNow, IsErased, IsPrepared
 use crate::fault::FormatError;
 use crate::places::{FIRST_EPOCH, JOURNAL_RANGE, layout_in};
 use crate::store::Store;
-use ipc_base::Limits;
+use ipc_base::{Limits, Objects};
 use ipc_checkpoint::Checkpoint;
 use ipc_disk::{DiskFault, SectorDisk, write_durably};
 use ipc_image::{FORMAT, SUPERBLOCK, need, start_objects, superblock_is_read, write_superblock};
@@ -54,29 +56,35 @@ impl<D: SectorDisk> Store<D> {
         if disk.sectors() < need {
             return Err(FormatError::TooSmall { need });
         }
-        make(disk, limits)?;
+        make(disk, limits, &start_objects())?;
         Ok(())
     }
 }
 
-// Makes a device of a disk that is large enough. The old superblock is gone before anything else is
-// written, and the new one comes once the journal and the objects last: no crash leaves a superblock
-// with what is not its own.
-fn make<D: SectorDisk>(disk: &mut D, limits: &Limits) -> Result<(), DiskFault>
+// Makes a device of a disk that is large enough: it stands for the state for which the objects do. The old superblock
+// is gone before anything else is written, and the new one comes once the journal and the objects last: no crash leaves
+// a superblock with what is not its own.
+pub(crate) fn make<D: SectorDisk, O: Objects>(
+    disk: &mut D,
+    limits: &Limits,
+    objects: &O,
+) -> Result<(), DiskFault>
     requires passed { ArePassed limits.now }
     requires room { need_of limits.now ≤ D.size disk.old }
-    ensures ok { OnOk result (IsHonest (D.medium disk.old)
-        → EachNow (D.medium disk.new) (StandsFor limits.now start)) }
+    requires fits { Fit (area_of limits.now) (O.objects objects.now) }
+    ensures ok { OnOk result ((s : State) → StandForState limits.now s (O.objects objects.now)
+        → IsHonest (D.medium disk.old) → EachNow (D.medium disk.new) (StandsFor limits.now s)) }
     ensures durable { OnOk result (IsDurable (D.medium disk.new)) }
-    ensures any_moment { IsHonest (D.medium disk.old)
+    ensures any_moment { (s : State) → StandForState limits.now s (O.objects objects.now)
+        → IsHonest (D.medium disk.old)
         → EachImageSince (D.medium disk.old) (D.medium disk.new)
         (λ image. (D.medium disk.old).images_now image ⊎ IsNotFormatted image
-        ⊎ StandsFor limits.now start image) }
+        ⊎ StandsFor limits.now s image) }
     ensures same { IsSameDisk D.size D.medium disk.old disk.new }
     ensures counts { CountsFault D.counts result disk.old disk.new }
 {
     erase(disk)?;
-    prepare(disk, limits)?;
+    prepare(disk, limits, objects)?;
     put_superblock(disk, limits)
 }
 
@@ -93,12 +101,18 @@ fn erase<D: SectorDisk>(disk: &mut D) -> Result<(), DiskFault>
     put_durably(disk, SUPERBLOCK, &[0; 512])
 }
 
-// Puts an empty journal and the objects of the first state where a device has them. The disk stays no device.
-fn prepare<D: SectorDisk>(disk: &mut D, limits: &Limits) -> Result<(), DiskFault>
+// Puts an empty journal and the objects where a device has them. The disk stays no device.
+fn prepare<D: SectorDisk, O: Objects>(
+    disk: &mut D,
+    limits: &Limits,
+    objects: &O,
+) -> Result<(), DiskFault>
     requires passed { ArePassed limits.now }
     requires room { need_of limits.now ≤ D.size disk.old }
-    ensures prepared { OnOk result (IsHonest (D.medium disk.old) → EachNow (D.medium disk.old) IsErased
-        → EachNow (D.medium disk.new) (λ image. IsErased image × IsPrepared limits.now start image)) }
+    requires fits { Fit (area_of limits.now) (O.objects objects.now) }
+    ensures prepared { OnOk result ((s : State) → StandForState limits.now s (O.objects objects.now)
+        → IsHonest (D.medium disk.old) → EachNow (D.medium disk.old) IsErased
+        → EachNow (D.medium disk.new) (λ image. IsErased image × IsPrepared limits.now s image)) }
     ensures any_moment { IsHonest (D.medium disk.old) → EachNow (D.medium disk.old) IsErased
         → EachImageSince (D.medium disk.old) (D.medium disk.new) IsErased }
     ensures same { IsSameDisk D.size D.medium disk.old disk.new }
@@ -106,7 +120,7 @@ fn prepare<D: SectorDisk>(disk: &mut D, limits: &Limits) -> Result<(), DiskFault
 {
     let layout = layout_in(FORMAT, limits, disk.sectors());
     Journal::put_header(disk, JOURNAL_RANGE, FIRST_EPOCH)?;
-    Checkpoint::create(disk, layout, &start_objects())?;
+    Checkpoint::create(disk, layout, objects)?;
     Ok(())
 }
 

@@ -9,6 +9,7 @@ ghost use Rattle.ipc_store.specs.Batch.{batch_bytes, AreBatch};
 ghost use Rattle.ipc_store.specs.Histories.{History, Past, past_of, reopened, Keeps, Takes, OpensOn};
 ghost use Rattle.ipc_store.specs.Image.{StandsFor};
 ghost use Rattle.ipc_store.specs.Lives.{IsLeft, StoppedOpens, StandsAfter, Rests, Found};
+ghost use Rattle.ipc_store.specs.Meanwhile.{GoesOn, IsRead};
 ghost use Rattle.ipc_store.specs.Upgrade.{IsUpgraded, RestsOldOrNew, StoppedUpgrades};
 ghost use Rattle.ipc_store.specs.View.{StoreView};
 
@@ -54,6 +55,18 @@ pub fn an_open_finds_what_stands_there<D: SectorDisk>()
     ensures keeps { (past : Past) (disk : D) (opened : StoreView D) → StandsAfter past (D.medium disk)
         → OpensOn (D.medium disk).contents (D.medium opened.disk) opened
         → Keeps (D.medium opened.disk) opened (reopened past) }
+{}
+
+/// What is read of a device while its server goes on, objects first, then the header of the journal and then its body,
+/// stands for the state for which the device stood when that header was read.
+pub fn a_look_is_of_one_image()
+    ensures { (limits : Limits) (was s : State) (first seen read : Image) → StandsFor limits was first
+        → StandsFor limits s seen → IsRead first seen read → StandsFor limits s read }
+{}
+
+/// What goes on over some calls of a store, and then over others, has gone on over all of them.
+pub fn what_goes_on_has_gone_on()
+    ensures { (first mid later : Image) → GoesOn first mid → GoesOn mid later → GoesOn first later }
 {}
 
 /// A device of the version before stays one that stands for its state, or becomes one of the version of today that

@@ -1,8 +1,117 @@
 //! The store: a machine whose events last. Each accepted event joins a batch, a commit appends the batch to the journal
 //! of a device, and an open leads the machine through what stands there.
+//!
+//! Where a rule stands (definition, code, proof):
+//!
+//! - What an image stands for: `specs/Image.antt`; the replay: `src/replay.rt`, `proofs/Replaying.antt`; the order of
+//!   an open's tests: `src/loading.rt`
+//! - When events are made to last: `src/store.rt`, `specs/Batch.antt`, `src/batch.rt`
+//! - What a call promises over crashes: `specs/Histories.antt`, `proofs/Committing.antt`, `proofs/Devices.antt`,
+//!   `proofs/Accepting.antt`, `proofs/Lives.antt`
+//! - What a stopped call leaves to the next open: `specs/Lives.antt`, `proofs/Leaving.antt`
+//! - How a device is made: `src/format.rt`, `specs/Relations/Format.antt`, `proofs/Formatting.antt`
+//! - How a device of version 1 is upgraded: `src/upgrade.rt`, `specs/Upgrade.antt`, `specs/Relations/Upgrade.antt`,
+//!   `proofs/Upgrading.antt`, `proofs/Upgrades.antt`
+//! - How a device is made of a machine's state: `src/copying.rt`
+//! - What is counted: `src/tally.rt`
+//! - How a device in use is looked at: `src/looking.rt`, `specs/Look.antt`; what is there for that while a store goes
+//!   on: `specs/Meanwhile.antt`; how its file is read: `src/file.rt` and `src/system.rt` of `ipc_disk`
+//!
+//! What the clauses say:
+//!
+//! All that is said of crashes holds over every disk that meets the trait and is honest. What an image stands for is
+//! `StandsFor` of `specs/Image.antt`, a definition by the format alone (`StandsForIn`, of each of two versions): its
+//! objects stand for a base, and the batches of its journal, at the same epoch, lead from there to the state. A store
+//! that has not stopped, on an honest disk, always matches what stands there, and what differs from the state that was
+//! saved there counts as changed: that is its invariant, which `close` shows (`matches`).
+//!
+//! - `Store::format` makes a device: every image that a crash may leave afterwards stands for the first state under the
+//!   limits (`ok`), and it is what is read (`durable`). During the call each image is one of before, or not formatted,
+//!   or stands for the first state (`any_moment`). It is refused for limits that `check` refuses (`limits`), then for
+//!   too few sectors (`small`), each exactly then and with the disk untouched (`untouched`), and by the disk
+//!   (`counts`).
+//! - `Store::copy_onto` does the same with the limits and the state of a machine: every image that a crash may leave
+//!   afterwards stands for that state (`ok`, `durable`), and during the call each is one of before, or not formatted,
+//!   or stands for that state (`any_moment`). Too few sectors are refused, exactly then and with the disk untouched
+//!   (`small`, `untouched`); limits are not, since those of a machine have passed (`passed`).
+//! - `Store::open` gives a store that goes on from the state for which the disk stood, after a restart, with no event
+//!   waiting (`ok`) and one confirmed (`confirmed`); its epoch is at most the one after that of the disk (`numbers`).
+//!   During the call each image is one of before, or stands for that state or for that state after a restart
+//!   (`any_moment`). A disk that stands for no state is never opened (`ok`), and nothing is written to it
+//!   (`unwritten`). `NotFormatted`, `Version` and `Damaged` say what the disk has (`not_formatted`, `version`,
+//!   `damaged`), and `Damaged` names the first sector in which it is seen, of the objects just that of the heap
+//!   (`IsFirstDamage`). `Damaged` with sector 2 also says that an open would have to save and that the epochs are at
+//!   their end: the device stands for a state, its objects and its journal are of the last epoch, and the journal has
+//!   no room for a batch (`IsAtEnd`). `Device` says that the disk counted a failure, which no other answer has seen
+//!   (`failure`, `no_failure`). So a disk that stands for a state is refused by the disk, for want of memory or at the
+//!   end of the epochs alone (`refusals`). With each refusal the disk is handed back.
+//! - `Store::upgrade` makes a device of version 1 one of version 2, where it lies. During the call each image is one of
+//!   before, or stands in version 1, under the limits of its superblock, for the state for which the disk stood, or in
+//!   version 2, under the limits of the upgrade, for that state after a restart (`any_moment`, `UpgradesTo` of
+//!   `specs/Upgrade.antt`). Once it is Ok each image stands for the latter (`ok`, `IsUpgraded`), and a crash leaves
+//!   what is read (`durable`). If limits and room are right, a disk that stands for a state in version 1 is refused by
+//!   the disk, for want of memory, or because its epoch is the last one (`refusals`). `BadLimits` by `check` comes
+//!   before any call on the disk, and leaves it as it is (`checked`); the other refusals say what the disk has:
+//!   `not_formatted`, `version`, `below` (a limit of the upgrade is below the device's), `small`, and `damaged` with
+//!   the first sector in which the damage is seen. If it is not refused by the disk, it has written nothing
+//!   (`unwritten`).
+//! - `Store::step` takes the machine's step (`state`, `outcomes`) and adds the event to those that wait (`matches`,
+//!   `records`, `waiting`). It makes no call on the disk (`disk`). It wants room in the batch for the event's record
+//!   and a connected process. It is `Stopped` after a failed commit and at the last number of events (`stopped`), it
+//!   may be refused for memory only where the machine may (`memory`), and after a refusal nothing has changed (`err`).
+//! - `tally` is what the store has done since it was opened: its events by what they are, the refusals among its replies
+//!   by their errors, its commits and saves. Nothing that a store does hangs on it, and the value that clauses speak of
+//!   has none: that it counts right is tested (`metrics.py` of `tests/`). `disk`, `journal_used` and `journal_sectors`
+//!   show parts of the store.
+//! - `Store::commit` makes what waits last (`matches`; `commits`, by `IsCommitted` of `specs/View.antt`, whose fields
+//!   are named in what follows: `confirmed`). If the batch fits into the journal, it makes one write for each sector of
+//!   the batch and one more, and two syncs (`counts`), and the machine stays as it is, also in what counts as changed
+//!   (`keeps`); if not, it saves the state, and the epoch rises by one, the journal is empty and nothing counts as
+//!   changed (`turned`). On an honest disk such a save writes the sectors of the first four objects and of those that
+//!   count as changed, the sectors of the table, and one, with two syncs (`writes`). With nothing waiting nothing
+//!   changes (`nothing`). Afterwards no record waits (`records`); after an error the same number of events waits
+//!   (`still_waits`). At every moment of the call, also of one that fails, each image stands for the state before or
+//!   after the events that wait (`any_moment`, `left`). After an error the store is stopped (`stops`), and a stopped
+//!   store changes nothing more (`kept`). It is `Stopped` if it was, or if it would have to save at the last epoch,
+//!   exactly then (`stopped`), and then the disk is as it was (`unwritten`). `Device` comes only if the disk counted a
+//!   failure, and the other answers only if it did not (`faults`); it uses one number at most, an epoch (`spends`).
+//! - `Store::save` promises the same by a save in every case, also if nothing waits: after Ok the epoch is the next
+//!   one, the journal is empty and nothing counts as changed (`turned`), and it writes as much (`writes`). Neither
+//!   takes memory: neither can answer `NoMemory`.
+//! - `step`, `commit` and `save` have one clause that says what they do to the history of the store over crashes
+//!   (`takes`; `Takes` of `specs/Histories.antt`), and `open` one that says how a history begins (`ok`; `OpensOn`).
+//! - Laws over these clauses, so that whoever meets them meets the laws. They speak of lives, of which the disk that is
+//!   left may have images that stand for different states (`specs/Lives.antt`): a call that is stopped leaves what was
+//!   acknowledged, and some of the other events, from the first on (`a_stop_leaves_what_was_acknowledged`); after any
+//!   number of opens that are stopped an open finds just that, and the store has it as its history, and a restart
+//!   (`an_open_finds_what_was_acknowledged`); opens that are stopped leave that as it is; and on a disk that stands for
+//!   the state after some events, from any base on, an open gives a store with these as its history
+//!   (`an_open_finds_what_stands_there`). Between opens that are stopped the disk may grow, or begin to
+//!   (`StoppedOpens`). A device of version 1 that stands for a state stays one, or becomes one of version 2 that stands
+//!   for it after a restart, over any number of upgrades that are stopped, and of growths; after one that is Ok the law
+//!   over lives begins with that state (`an_upgrade_keeps_the_state`).
+//! - `look` gives the machine that a disk stands for, without a restart (`ok`). A disk that stands for a state is
+//!   refused for a failed read or for want of memory alone (`refusals`), and what it is refused for is as of an open
+//!   (`not_formatted`, `version`, `damaged`). It makes no write and no sync, and what is read stays (`alone`,
+//!   `specs/Look.antt`). That is said of a disk that nobody else writes meanwhile.
+//! - Of a disk that a store writes there is a law over the clause `meanwhile` of `commit` and `save`: whoever reads the
+//!   disk in such a call finds images that go on from those of before, with the same superblock and root, the same
+//!   sectors of objects and table, and the batches that there were, or more after them; or else the root is of a later
+//!   epoch. And the sectors of a batch stand before a header counts it (`StaysReadable` of `specs/Meanwhile.antt`). The
+//!   law: sectors that were read one after another, each as some image has it that goes on from the first one under the
+//!   same root, the header of the journal before its body, stand for the state for which the device stood when that
+//!   header was read (`a_look_is_of_one_image`). What goes on over some calls, and then over others, has gone on over
+//!   all of them (`what_goes_on_has_gone_on`). No clause says that a look reads in this order, nor that between two
+//!   equal roots there was no other, since epochs only rise: the code of `look` does the one, and both are tested
+//!   (docs/PROMISES.md). Of an open, a format or an upgrade meanwhile the law does not speak.
+//! - An image stands for one state under one set of limits, and no two (`an_image_stands_for_one_state`); a batch is of
+//!   one list of events (`a_batch_is_of_one_list`).
+//! - `engine`, `confirmed`, `has_room`, `has_room_for`, `events_left` and `close` show the value, each by its one
+//!   clause.
 #![tactic(auto)]
 
 mod batch;
+mod copying;
 mod fault;
 mod format;
 mod laws;
@@ -12,16 +121,18 @@ mod opening;
 mod places;
 mod replay;
 mod store;
+mod tally;
 mod upgrade;
 
 pub use batch::{EXIT_RECORD, TICK_RECORD};
 pub use fault::{CommitError, FormatError, OpenError, StepError, UpgradeError};
 pub use laws::{
-    a_batch_is_of_one_list, a_stop_leaves_what_was_acknowledged, an_image_stands_for_one_state,
-    an_open_finds_what_stands_there, an_open_finds_what_was_acknowledged,
-    an_upgrade_keeps_the_state,
+    a_batch_is_of_one_list, a_look_is_of_one_image, a_stop_leaves_what_was_acknowledged,
+    an_image_stands_for_one_state, an_open_finds_what_stands_there,
+    an_open_finds_what_was_acknowledged, an_upgrade_keeps_the_state, what_goes_on_has_gone_on,
 };
 pub use looking::look;
 pub use opening::Unopened;
 pub use store::Store;
+pub use tally::Tally;
 pub use upgrade::Unupgraded;

@@ -5,7 +5,7 @@ ghost use Rattle.std.specs.Prelude.{length, true, false, IsOk, IsTrue, Ok, Err, 
 ghost use Rattle.ipc_checkpoint.specs.View.{HasSpare};
 ghost use Rattle.ipc_disk.specs.Calls.{IsSameDisk, CountsFaultIf};
 ghost use Rattle.ipc_disk.specs.Counts.{counted, with_calls};
-ghost use Rattle.ipc_disk.specs.Medium.{Image, IsHonest};
+ghost use Rattle.ipc_disk.specs.Medium.{Image, IsDurable, IsHonest};
 ghost use Rattle.ipc_disk.specs.Since.{EachImageSince};
 ghost use Rattle.ipc_disk.specs.Standing.{sectors_for};
 ghost use Rattle.ipc_base.specs.Limits.{ArePassed};
@@ -16,13 +16,17 @@ ghost use Rattle.ipc_engine.specs.Event.{PlainEvent};
 ghost use Rattle.ipc_engine.specs.Step.{step as step_on, run};
 ghost use Rattle.ipc_engine.specs.View.{plain_event};
 ghost use Rattle.ipc_image.specs.Records.{record_bytes};
+ghost use Rattle.ipc_journal.specs.View.{range_of, used_of};
 ghost use Rattle.ipc_store.specs.Histories.{Takes};
+ghost use Rattle.ipc_store.specs.Meanwhile.{StaysReadable};
 ghost use Rattle.ipc_store.specs.View.{HasRoom, HasRoomFor, HasPlace, HasTurned, IsStopped, IsAtLastEpoch};
 ghost use Rattle.ipc_store.specs.View.{events_left, save_sectors, store_view, IsCommitted, Spends};
 ghost use Rattle.ipc_store.specs.Relations.Matches.{AreOnDisk, MachineMatches, StoreMatches, StandsForEither};
 
 use crate::batch::Batch;
 use crate::fault::{CommitError, StepError};
+use crate::tally::Tally;
+use ipc_base::Errno;
 use ipc_checkpoint::Checkpoint;
 use ipc_disk::{DiskFault, SectorDisk};
 use ipc_engine::{Engine, Event};
@@ -43,6 +47,7 @@ pub struct Store<D: SectorDisk> {
     batch: Batch,
     confirmed: u64,
     stopped: bool,
+    tally: Tally,
 }
 
 impl<D: SectorDisk> Model for Store<D> {
@@ -89,6 +94,7 @@ impl<D: SectorDisk> Store<D> {
             batch,
             confirmed: 0,
             stopped: false,
+            tally: Tally::new(),
         }
     }
 
@@ -104,6 +110,39 @@ impl<D: SectorDisk> Store<D> {
         ensures { result ≡ self.now.confirmed }
     {
         self.confirmed
+    }
+
+    /// What it has done since it was opened.
+    pub fn tally(&self) -> &Tally {
+        &self.tally
+    }
+
+    /// One more refusal: a reply with this error, which its owner gave in its place.
+    pub fn count_refusal(&mut self, errno: Errno)
+        ensures { self.new ≡ self.old }
+    {
+        self.tally.count_refusal(errno);
+    }
+
+    /// Its disk.
+    pub fn disk(&self) -> &D
+        ensures { result.now ≡ self.now.disk }
+    {
+        &self.disk
+    }
+
+    /// How many sectors the batches of its journal take.
+    pub fn journal_used(&self) -> u32
+        ensures { result ≡ used_of self.now.journal }
+    {
+        self.journal.used()
+    }
+
+    /// How many sectors its journal has, the header among them.
+    pub fn journal_sectors(&self) -> u32
+        ensures { result ≡ (range_of self.now.journal).count }
+    {
+        self.journal.range().count
     }
 
     /// Whether the longest record still fits into what waits, and so that of any event.
@@ -171,6 +210,7 @@ impl<D: SectorDisk> Store<D> {
             return Err(StepError::NoMemory);
         }
         self.batch.push(&event);
+        self.tally.count(&event, self.engine.outcomes());
         Ok(())
     }
 
@@ -195,6 +235,10 @@ impl<D: SectorDisk> Store<D> {
             → StoreMatches (D.medium self.old.disk) self.old base pending
             → (D.medium self.new.disk).images_now image
             → StandsForEither self.old.machine.limits base (run self.old.machine.limits base pending).state image }
+        // Who reads the device meanwhile finds what was saved where it stood, and no batch less, or a later root.
+        ensures meanwhile { StaysReadable D.medium self.old self.new.disk }
+        // If a crash would have left what was read, it leaves what is read now.
+        ensures durable { OnOk result (IsDurable (D.medium self.old.disk) → IsDurable (D.medium self.new.disk)) }
         // Refusals, and counts.
         ensures stopped { (result ≡ Err CommitError.Stopped) ↔ (IsStopped self.old
             ⊎ (IsAtLastEpoch self.old × (0 < self.old.waiting) × ¬ HasPlace self.old)) }
@@ -247,6 +291,9 @@ impl<D: SectorDisk> Store<D> {
             → StoreMatches (D.medium self.old.disk) self.old base pending
             → (D.medium self.new.disk).images_now image
             → StandsForEither self.old.machine.limits base (run self.old.machine.limits base pending).state image }
+        // Who reads the device meanwhile finds what was saved where it stood, and no batch less, or a later root.
+        ensures meanwhile { StaysReadable D.medium self.old self.new.disk }
+        ensures durable { OnOk result (IsDurable (D.medium self.new.disk)) }
         // Refusals, and counts.
         ensures stopped { (result ≡ Err CommitError.Stopped) ↔ (IsStopped self.old ⊎ IsAtLastEpoch self.old) }
         ensures kept { IsStopped self.old → self.new ≡ self.old }
@@ -277,6 +324,8 @@ impl<D: SectorDisk> Store<D> {
             → StoreMatches (D.medium self.old.disk) self.old base pending
             → EachImageSince (D.medium self.old.disk) (D.medium self.new.disk)
             (StandsForEither self.old.machine.limits base (run self.old.machine.limits base pending).state) }
+        ensures meanwhile { StaysReadable D.medium self.old self.new.disk }
+        ensures durable { OnOk result (IsDurable (D.medium self.new.disk)) }
         ensures epoch { self.new.checkpoint ≡ self.old.checkpoint }
         ensures machine { self.new.machine ≡ self.old.machine }
         ensures stopped { result ≢ Err CommitError.Stopped }
@@ -292,6 +341,7 @@ impl<D: SectorDisk> Store<D> {
         }
         self.confirmed += self.batch.count();
         self.batch.clear();
+        self.tally.count_commit(false);
         Ok(())
     }
 
@@ -307,6 +357,8 @@ impl<D: SectorDisk> Store<D> {
             → StoreMatches (D.medium self.old.disk) self.old base pending
             → EachImageSince (D.medium self.old.disk) (D.medium self.new.disk)
             (StandsForEither self.old.machine.limits base (run self.old.machine.limits base pending).state) }
+        ensures meanwhile { StaysReadable D.medium self.old self.new.disk }
+        ensures durable { OnOk result (IsDurable (D.medium self.new.disk)) }
         ensures stopped { (result ≡ Err CommitError.Stopped) ↔ IsAtLastEpoch self.old }
         ensures unwritten { result ≡ Err CommitError.Stopped → self.new.disk ≡ self.old.disk }
         ensures faults { CountsFaultIf D.counts (result ≡ Err CommitError.Device) self.old.disk self.new.disk }
@@ -328,6 +380,7 @@ impl<D: SectorDisk> Store<D> {
         self.engine.mark_saved();
         self.confirmed += self.batch.count();
         self.batch.clear();
+        self.tally.count_commit(true);
         Ok(())
     }
 

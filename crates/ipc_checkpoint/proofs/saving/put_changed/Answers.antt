@@ -14,7 +14,7 @@ use Rattle.ipc_heap.specs.declared.error.HeapError.{HeapError}
 use Rattle.ipc_heap.specs.declared.error.HeapError.TheVariants.{Device, Full}
 use Rattle.ipc_heap.specs.View.{free, map_of, sizes_of, with_object}
 use Rattle.ipc_checkpoint.specs.Matches.{changed_sectors}
-use Rattle.ipc_checkpoint.proofs.Putting.{if-some, put-kept, put-map, put-moment, put-more, put-none, put-others, put-sizes}
+use Rattle.ipc_checkpoint.proofs.Putting.{if-some, put-kept, put-map, put-meanwhile, put-moment, put-more, put-none, put-others, put-sizes}
 use Rattle.ipc_checkpoint.proofs.saving.put_changed.Given.{Over}
 use Rattle.ipc_checkpoint.proofs.saving.put_changed.Goals as goal
 use Rattle.ipc_checkpoint.proofs.saving.put_changed.Goals.{In-loop-i, then-not-is_kept+in_default, else-not-is_kept}
@@ -86,6 +86,13 @@ returns-in-Err-clause-any_moment g c =
     let m = (goal.at.returns-in-Err-clause-any_moment g c).In-loop-i in
     put-moment g.D.SectorDisk.size g.D.SectorDisk.medium g.D.SectorDisk.counts (os g m) (g.O.Objects.differs c.args.objects.now) c.args.heap.now c.args.disk.now
     c.count-i-end.ensures.objects c.loop-i.i c.loop-i.heap c.loop-i.disk c.loop-i.invariant (object g m) (at g m) c.put.new.disk
+    c.put.ensures.any_moment c.put.ensures.others
+
+pub returns-in-Err-clause-meanwhile : goal.returns-in-Err-clause-meanwhile
+returns-in-Err-clause-meanwhile g c =
+    let m = (goal.at.returns-in-Err-clause-meanwhile g c).In-loop-i in
+    put-meanwhile g.D.SectorDisk.size g.D.SectorDisk.medium g.D.SectorDisk.counts (os g m) (g.O.Objects.differs c.args.objects.now) c.args.heap.now
+    c.args.disk.now c.count-i-end.ensures.objects c.loop-i.i c.loop-i.heap c.loop-i.disk c.loop-i.invariant (object g m) (at g m) c.put.new.disk
     c.put.ensures.any_moment c.put.ensures.others
 
 pub returns-in-Err-clause-others : goal.returns-in-Err-clause-others

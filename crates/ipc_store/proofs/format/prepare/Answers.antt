@@ -5,10 +5,7 @@ use Rattle.ipc_disk.specs.Medium.{Image}
 use Rattle.ipc_disk.specs.Since.{SameAt}
 use Rattle.ipc_checkpoint.specs.declared.layout.Layout.{Layout}
 use Rattle.ipc_checkpoint.specs.Checkpoint.{IsLaidOut, IsElsewhere, Holds}
-use Rattle.ipc_base.specs.Objects.{PlainObjects}
-use Rattle.ipc_state.specs.State.{start}
 use Rattle.ipc_image.specs.Format.{format}
-use Rattle.ipc_image.specs.Saved.{saved}
 use Rattle.ipc_store.specs.Image.{layout_of}
 use Rattle.ipc_store.specs.Relations.Format.{IsErased, IsPrepared}
 use Rattle.ipc_store.proofs.Formatting.{laid-out, header-erased, stays-erased, is-prepared}
@@ -41,7 +38,7 @@ returns-clause-any_moment g c = λ honest erased.
 
 -- a crash leaves what is read then, which has both
 pub returns-clause-prepared : goal.returns-clause-prepared
-returns-clause-prepared g c = λ honest erased image now.
+returns-clause-prepared g c = λ s stand honest erased image now.
     let old = (g.D.SectorDisk.medium c.args.disk.now).contents in
     let new = (g.D.SectorDisk.medium c.create.new.disk).contents in
     let kept = c.put_header.ensures.same.honest.0 honest in
@@ -51,12 +48,11 @@ returns-clause-prepared g c = λ honest erased image now.
     let there : c.layout_in-layout.result ≡ layout_of c.args.limits.now (length new) =
     c.layout_in-layout.ensures.exact
     ∙ ap (layout_of c.args.limits.now) (c.sectors.ensures ∙ sym (long ∙ c.create.ensures.same.sectors ∙ c.put_header.ensures.same.sectors)) in
-    subst (λ (i : Image). IsErased i × IsPrepared c.args.limits.now start i) (sym (c.in_ok-create.ensures.durable image now)) (
+    subst (λ (i : Image). IsErased i × IsPrepared c.args.limits.now s i) (sym (c.in_ok-create.ensures.durable image now)) (
       EachImageSince-now _ _ IsErased (returns-clause-any_moment g c honest erased) run.honest new run.honest.reads,
-      is-prepared c.args.limits.now old _ new (omega (arith, was, c.requires.room)) (c.in_ok-put_header.ensures.header honest)
+      is-prepared c.args.limits.now s _ old _ new (omega (arith, was, c.requires.room)) (c.in_ok-put_header.ensures.header honest)
           (subst (λ (l : Layout). SameAt (IsElsewhere l) (g.D.SectorDisk.medium c.put_header.new.disk).contents new) there run.contents)
-          (subst (λ (l : Layout). Holds l 1 (saved start) new) there
-          (subst (λ (o : PlainObjects). Holds c.layout_in-layout.result 1 o new) c.start_objects.ensures.objects (c.in_ok-create.ensures.holds kept))),
+          (subst (λ (l : Layout). Holds l 1 (g.O.Objects.objects c.args.objects.now) new) there (c.in_ok-create.ensures.holds kept)) stand,
     )
 
 pub returns-in_err-create-clause-same : goal.returns-in_err-create-clause-same

@@ -1,5 +1,5 @@
 -- What the objects lack is taken out, what has changed is put in, and the heap is turned over.
-use Rattle.std.proofs.Common.{◌≡◌, ℕ, ◌≤◌, refl, ap, subst, ◌∙◌}
+use Rattle.std.proofs.Common.{◌≡◌, inl, ℕ, ◌≤◌, refl, ap, subst, ◌∙◌}
 use Rattle.std.specs.Prelude.{Err, IsErrOf, is_some, nat_eq}
 use Rattle.std.proofs.lemmas.Result.{on_ok_weaker}
 use Rattle.ipc_base.specs.Objects.{OthersAreThere, PlainObjects}
@@ -9,10 +9,12 @@ use Rattle.ipc_heap.specs.declared.error.HeapError.{HeapError}
 use Rattle.ipc_heap.specs.declared.error.HeapError.TheVariants.{Device, Full}
 use Rattle.ipc_heap.specs.Matches.{Keeps}
 use Rattle.ipc_heap.specs.View.{HeapView, free}
+use Rattle.ipc_heap.proofs.CallerLemmas.{EachLater-weaken}
 use Rattle.ipc_checkpoint.specs.Matches.{CheckpointMatches, IsSavedUnder}
+use Rattle.ipc_checkpoint.specs.Meanwhile.{KeepsUsed, KeepsUsedOrTurns}
 use Rattle.ipc_checkpoint.specs.View.{CheckpointView, layout_of}
 use Rattle.ipc_checkpoint.proofs.Saves.{counted-two, free-new, kept-new, laid-one, matches-new, moment-mid, moment-new, moment-saved, not-full}
-use Rattle.ipc_checkpoint.proofs.Saves.{only-one, others-mid, others-new}
+use Rattle.ipc_checkpoint.proofs.Saves.{meanwhile-mid, meanwhile-new, only-one, others-mid, others-new}
 use Rattle.ipc_checkpoint.proofs.Saves.{room-one, writes-new}
 use Rattle.ipc_checkpoint.proofs.checkpoint.Checkpoint.save.Given.{Over}
 use Rattle.ipc_checkpoint.proofs.checkpoint.Checkpoint.save.Goals as goal
@@ -61,6 +63,16 @@ returns-in_err-put_changed-clause-any_moment g c = λ saved at.
     moment-mid (size g m) c.args.self.now (os g m) (g.O.Objects.differs c.args.objects.now) c.count-count.ensures.objects c.requires.laid_out c.requires.fits
     c.requires.old_fits (one g m) (keeps g m) (more g m) (g.D.SectorDisk.medium c.args.disk.now) (g.D.SectorDisk.medium c.put_changed.new.disk)
     c.put_changed.ensures.any_moment c.put_changed.ensures.others saved at c.args.epoch
+
+pub returns-in_err-put_changed-clause-meanwhile : goal.returns-in_err-put_changed-clause-meanwhile
+returns-in_err-put_changed-clause-meanwhile g c = λ saved at.
+    let m = (goal.at.returns-in_err-put_changed-clause-meanwhile g c).After-keep_those_of in
+    EachLater-weaken (KeepsUsed (layout_of c.args.self.now)) (KeepsUsedOrTurns (layout_of c.args.self.now)) (g.D.SectorDisk.medium c.args.disk.now)
+    (g.D.SectorDisk.medium c.put_changed.new.disk)
+    (meanwhile-mid (size g m) c.args.self.now (os g m) (g.O.Objects.differs c.args.objects.now) c.count-count.ensures.objects c.requires.laid_out
+    c.requires.fits c.requires.old_fits (one g m) (keeps g m) (more g m) (g.D.SectorDisk.medium c.args.disk.now)
+    (g.D.SectorDisk.medium c.put_changed.new.disk) c.put_changed.ensures.any_moment c.put_changed.ensures.others c.put_changed.ensures.meanwhile saved at)
+    (λ a b kept. inl kept)
 
 pub returns-in_err-put_changed-clause-others : goal.returns-in_err-put_changed-clause-others
 returns-in_err-put_changed-clause-others g c =
@@ -137,6 +149,17 @@ returns-clause-any_moment g c =
     c.in_ok-put_changed.ensures.placed c.in_ok-put_changed.ensures.sizes c.in_ok-put_changed.ensures.spends
     (g.D.SectorDisk.medium c.flip.new.disk) c.args.epoch c.flip.new.self
     c.in_ok-put_changed.ensures.matches c.in_ok-put_changed.ensures.map c.requires.unchanged c.flip.ensures.any_moment
+
+pub returns-clause-meanwhile : goal.returns-clause-meanwhile
+returns-clause-meanwhile g c =
+    let m = (goal.at.returns-clause-meanwhile g c).After-keep_those_of in
+    meanwhile-new (size g m) c.args.self.now (os g m) (g.O.Objects.differs c.args.objects.now) c.count-count.ensures.objects c.requires.laid_out
+    c.requires.fits c.requires.old_fits (one g m) (keeps g m) (more g m)
+    (g.D.SectorDisk.medium c.args.disk.now) (g.D.SectorDisk.medium c.put_changed.new.disk)
+    c.put_changed.ensures.any_moment c.put_changed.ensures.others c.put_changed.new.heap c.put_changed.ensures.stays
+    c.in_ok-put_changed.ensures.placed c.in_ok-put_changed.ensures.sizes c.in_ok-put_changed.ensures.spends
+    (g.D.SectorDisk.medium c.flip.new.disk) c.args.epoch c.flip.new.self
+    c.in_ok-put_changed.ensures.matches c.in_ok-put_changed.ensures.map c.requires.unchanged c.put_changed.ensures.meanwhile c.flip.ensures.meanwhile
 
 pub returns-in_err-put_changed-clause-kept : goal.returns-in_err-put_changed-clause-kept
 returns-in_err-put_changed-clause-kept g c = λ root saved at other part within now.

@@ -14,12 +14,14 @@ use Rattle.ipc_disk.proofs.CallerLemmas.{EachImageSince-start, LeavesAlone-start
 use Rattle.ipc_heap.specs.declared.uses.Use.{Use}
 use Rattle.ipc_heap.specs.Heap.{Holds, HoldsEither, IsLaidOut, object_sectors, table_sectors_for, table_words}
 use Rattle.ipc_heap.specs.Matches.{HeapMatches, IsKept, StaysSaved}
+use Rattle.ipc_heap.specs.Meanwhile.{EachLater, KeepsUsedOrTurns}
 use Rattle.ipc_heap.specs.View.{HeapView, free, map_of, turned}
 use Rattle.ipc_heap.specs.Relations.Flip.{IsEither, IsTurned}
 use Rattle.ipc_heap.specs.Relations.Uses.{AreGiven, AreTaken}
 use Rattle.ipc_heap.specs.Relations.Words.{IsHeap, placed_in}
 use Rattle.ipc_heap.proofs.Changes.{both-inside, both-once, flipped-free, flipped-heap, free-inside, saved-noted, seen, turned-next, words-room}
-use Rattle.ipc_heap.proofs.Flips.{flip-kept, flip-map, flip-matches, flip-moment, flip-others}
+use Rattle.ipc_heap.proofs.Flips.{flip-kept, flip-map, flip-matches, flip-meanwhile, flip-moment, flip-others}
+use Rattle.ipc_heap.proofs.Meanwhile.{EachLater-start, KeepsUsed-refl}
 use Rattle.ipc_heap.proofs.heap.Heap.flip.Given.{Over}
 use Rattle.ipc_heap.proofs.heap.Heap.flip.Goals as goal
 use Rattle.ipc_heap.proofs.heap.Heap.flip.Goals.{After-self-in-Ok-1, After-take_table}
@@ -109,6 +111,19 @@ module _ (g : Over) (c : After-take_table g) where
         (g.D.SectorDisk.size c.args.disk.now) laid matches c.self.inside.words.items c.take_table.new.table.items
         c.args.epoch c.self.invariant.is_table (omega (arith, later)) c.self.invariant.numbers c.self.invariant.sizes
         (long on) inside once taken.were_free other new (either since matches.honest))
+
+    meanwhile : (IsHonest (g.D.SectorDisk.medium c.args.disk.now) → EachImageSince (g.D.SectorDisk.medium c.args.disk.now) new
+        (IsEither words table c.self.inside.aim c.args.epoch (g.D.SectorDisk.medium c.args.disk.now)))
+        → c.args.self.now.aim ≡ c.args.self.now.root
+        → (saved : PlainObjects) → HeapMatches c.args.self.now saved (g.D.SectorDisk.medium c.args.disk.now)
+        → EachLater (KeepsUsedOrTurns c.args.self.now.range c.args.self.now.root) (g.D.SectorDisk.medium c.args.disk.now) new
+    meanwhile since =
+        subst (λ (v : HeapView). v.aim ≡ v.root → (saved : PlainObjects) → HeapMatches v saved (g.D.SectorDisk.medium c.args.disk.now)
+        → EachLater (KeepsUsedOrTurns v.range v.root) (g.D.SectorDisk.medium c.args.disk.now) new) c.self.view_is
+        (λ same saved matches. flip-meanwhile view saved (g.D.SectorDisk.medium c.args.disk.now)
+        (g.D.SectorDisk.size c.args.disk.now) laid matches c.self.inside.words.items c.take_table.new.table.items
+        c.args.epoch c.self.invariant.is_table (omega (arith, later)) c.self.invariant.numbers c.self.invariant.sizes
+        (long on) inside once taken.were_free same later new (either since matches.honest))
 
     others : (IsHonest (g.D.SectorDisk.medium c.args.disk.now)
         → LeavesAlone (λ i. (Contains table i → ⊥) × (i ≢ c.self.inside.aim)) (g.D.SectorDisk.medium c.args.disk.now) new)
@@ -211,6 +226,12 @@ returns-then-not-take_table-clause-kept g c = λ other saved matches part within
     EachImageSince-start (g.D.SectorDisk.medium c.args.disk.now) (Holds part c.args.self.now.root c.args.self.now.epoch saved)
     (λ image left. g.met.D.SectorDisk.only_now c.args.disk.now image left) now
 
+pub returns-then-not-take_table-clause-meanwhile : goal.returns-then-not-take_table-clause-meanwhile
+returns-then-not-take_table-clause-meanwhile g c = λ same saved matches.
+    EachLater-start (KeepsUsedOrTurns c.args.self.now.range c.args.self.now.root) (g.D.SectorDisk.medium c.args.disk.now)
+    (λ image left. g.met.D.SectorDisk.only_now c.args.disk.now image left)
+    (λ image. inl (KeepsUsed-refl c.args.self.now.range c.args.self.now.root image))
+
 pub returns-then-not-take_table-clause-others : goal.returns-then-not-take_table-clause-others
 returns-then-not-take_table-clause-others g c = λ honest.
     LeavesAlone-start (λ i. IsKept c.args.self.now i × (i ≢ c.args.self.now.aim)) (g.D.SectorDisk.medium c.args.disk.now) honest
@@ -274,6 +295,11 @@ returns-in-Err-clause-kept g c =
     kept g (goal.at.returns-in-Err-clause-kept g c).After-take_table (g.D.SectorDisk.medium c.turn.new.disk) c.if-not-take_table.false _ _
     c.deref-2.ensures.value c.deref-3.ensures.value c.turn.ensures.any_moment
 
+pub returns-in-Err-clause-meanwhile : goal.returns-in-Err-clause-meanwhile
+returns-in-Err-clause-meanwhile g c =
+    meanwhile g (goal.at.returns-in-Err-clause-meanwhile g c).After-take_table (g.D.SectorDisk.medium c.turn.new.disk) c.if-not-take_table.false _ _
+    c.deref-2.ensures.value c.deref-3.ensures.value c.turn.ensures.any_moment
+
 pub returns-in-Err-clause-others : goal.returns-in-Err-clause-others
 returns-in-Err-clause-others g c =
     others g (goal.at.returns-in-Err-clause-others g c).After-take_table (g.D.SectorDisk.medium c.turn.new.disk) c.if-not-take_table.false _ _
@@ -287,6 +313,11 @@ returns-in-Ok-clause-any_moment g c =
 pub returns-in-Ok-clause-kept : goal.returns-in-Ok-clause-kept
 returns-in-Ok-clause-kept g c =
     kept g (goal.at.returns-in-Ok-clause-kept g c).After-take_table (g.D.SectorDisk.medium c.turn.new.disk) c.if-not-take_table.false _ _
+    c.deref-2.ensures.value c.deref-3.ensures.value c.turn.ensures.any_moment
+
+pub returns-in-Ok-clause-meanwhile : goal.returns-in-Ok-clause-meanwhile
+returns-in-Ok-clause-meanwhile g c =
+    meanwhile g (goal.at.returns-in-Ok-clause-meanwhile g c).After-take_table (g.D.SectorDisk.medium c.turn.new.disk) c.if-not-take_table.false _ _
     c.deref-2.ensures.value c.deref-3.ensures.value c.turn.ensures.any_moment
 
 pub returns-in-Ok-clause-others : goal.returns-in-Ok-clause-others

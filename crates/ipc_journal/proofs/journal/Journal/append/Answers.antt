@@ -1,18 +1,22 @@
 -- Each exit: the images since the start, those of now, and the sectors that stay.
-use Rattle.std.proofs.Common.{[], ◌∷◌, ◌++◌, ◌+◌, sym, ◌∙◌, ap, subst, arith}
+use Rattle.std.proofs.Common.{inl, inr, [], ◌∷◌, ◌++◌, ◌+◌, sym, ◌∙◌, ap, subst, arith}
 use Rattle.ipc_disk.specs.Medium.{Image}
 use Rattle.ipc_disk.specs.Range.{IsOutside}
 use Rattle.ipc_disk.proofs.CallerLemmas.{EachImageSince-now, LeavesAlone-stays, LeavesAlone-join, counts-calls, sector_at-set_same, IsWrittenAt-under}
 use Rattle.ipc_disk.specs.Standing.{sector_at, IsWrittenAt}
 use Rattle.ipc_journal.specs.Journal.{Holds}
 use Rattle.ipc_journal.specs.Matches.{HoldsOneMoreOrNot}
-use Rattle.ipc_journal.proofs.Append.{moment-body, moment-sync, moment-header, pushed, others-body, others-header}
+use Rattle.ipc_journal.proofs.Append.{body-sync, body-write, moment-body, moment-sync, moment-header, pushed, others-body, others-header, stands-then}
 use Rattle.ipc_journal.proofs.Images.{sectors_of-push}
 use Rattle.ipc_journal.proofs.journal.Journal.append.Goals as goal
 
 pub returns-in_err-write_bytes-clause-any_moment : goal.returns-in_err-write_bytes-clause-any_moment
 returns-in_err-write_bytes-clause-any_moment g c = λ batches at.
     moment-body c.args.self.now c.args.batch.now c.requires.fits batches _ at _ (c.write_bytes.ensures.others at.honest)
+
+pub returns-in_err-write_bytes-clause-stands_first : goal.returns-in_err-write_bytes-clause-stands_first
+returns-in_err-write_bytes-clause-stands_first g c = λ batches at.
+    inl (body-write c.args.self.now c.args.batch.now c.requires.fits batches _ at _ (c.write_bytes.ensures.others at.honest))
 
 pub returns-in_err-write_bytes-clause-left : goal.returns-in_err-write_bytes-clause-left
 returns-in_err-write_bytes-clause-left g c = λ batches image at now.
@@ -22,6 +26,10 @@ returns-in_err-write_bytes-clause-left g c = λ batches image at now.
 pub returns-in_err-sync-clause-any_moment : goal.returns-in_err-sync-clause-any_moment
 returns-in_err-sync-clause-any_moment g c = λ batches at.
     moment-sync c.args.self.now c.args.batch.now c.requires.fits batches _ at _ _ (c.write_bytes.ensures.others at.honest) c.sync.ensures.medium
+
+pub returns-in_err-sync-clause-stands_first : goal.returns-in_err-sync-clause-stands_first
+returns-in_err-sync-clause-stands_first g c = λ batches at.
+    inl (body-sync c.args.self.now c.args.batch.now c.requires.fits batches _ at _ _ (c.write_bytes.ensures.others at.honest) c.sync.ensures.medium)
 
 pub returns-in_err-sync-clause-left : goal.returns-in_err-sync-clause-left
 returns-in_err-sync-clause-left g c = λ batches image at now.
@@ -43,6 +51,21 @@ returns-in_err-write_durably-clause-any_moment g c = λ batches at.
     c.header_sector.result c.header_sector.ensures.epoch (omega (arith, c.header_sector.ensures.used, c.sectors_for_len.ensures))
     (omega (arith, long, c.sync.ensures.call.sectors, c.write_bytes.ensures.same.sectors, c.requires.within, c.requires.fits))
     _ (c.write_durably.ensures.any_moment kept)
+
+pub returns-in_err-write_durably-clause-stands_first : goal.returns-in_err-write_durably-clause-stands_first
+returns-in_err-write_durably-clause-stands_first g c = λ batches at.
+    let run = c.write_bytes.ensures.others at.honest in
+    let kept = c.sync.ensures.medium.time.honest.0 run.honest in
+    let long = (g.met.D.SectorDisk.shaped c.sync.new.self _ kept.reads).count in
+    inr (
+      c.sync.new.self,
+      body-sync c.args.self.now c.args.batch.now c.requires.fits batches _ at _ _ run c.sync.ensures.medium,
+      stands-then c.args.self.now c.args.batch.now c.requires.fits batches _ at _ _ run c.sync.ensures.medium
+          c.in_ok-sync.ensures.durable c.requires.batch (c.in_ok-write_bytes.ensures.written at.honest)
+          c.header_sector.result c.header_sector.ensures.epoch (omega (arith, c.header_sector.ensures.used, c.sectors_for_len.ensures))
+          (omega (arith, long, c.sync.ensures.call.sectors, c.write_bytes.ensures.same.sectors, c.requires.within, c.requires.fits))
+          _ (c.write_durably.ensures.any_moment kept),
+    )
 
 pub returns-in_err-write_durably-clause-left : goal.returns-in_err-write_durably-clause-left
 returns-in_err-write_durably-clause-left g c = λ batches image at now.
@@ -69,6 +92,21 @@ returns-clause-any_moment g c = λ batches at.
     c.header_sector.result c.header_sector.ensures.epoch (omega (arith, c.header_sector.ensures.used, c.sectors_for_len.ensures))
     (omega (arith, long, c.sync.ensures.call.sectors, c.write_bytes.ensures.same.sectors, c.requires.within, c.requires.fits))
     _ (c.write_durably.ensures.any_moment kept)
+
+pub returns-clause-stands_first : goal.returns-clause-stands_first
+returns-clause-stands_first g c = λ batches at.
+    let run = c.write_bytes.ensures.others at.honest in
+    let kept = c.sync.ensures.medium.time.honest.0 run.honest in
+    let long = (g.met.D.SectorDisk.shaped c.sync.new.self _ kept.reads).count in
+    inr (
+      c.sync.new.self,
+      body-sync c.args.self.now c.args.batch.now c.requires.fits batches _ at _ _ run c.sync.ensures.medium,
+      stands-then c.args.self.now c.args.batch.now c.requires.fits batches _ at _ _ run c.sync.ensures.medium
+          c.in_ok-sync.ensures.durable c.requires.batch (c.in_ok-write_bytes.ensures.written at.honest)
+          c.header_sector.result c.header_sector.ensures.epoch (omega (arith, c.header_sector.ensures.used, c.sectors_for_len.ensures))
+          (omega (arith, long, c.sync.ensures.call.sectors, c.write_bytes.ensures.same.sectors, c.requires.within, c.requires.fits))
+          _ (c.write_durably.ensures.any_moment kept),
+    )
 
 pub returns-clause-left : goal.returns-clause-left
 returns-clause-left g c = λ batches image at now.

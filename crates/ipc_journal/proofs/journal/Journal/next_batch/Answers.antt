@@ -8,8 +8,8 @@ use Rattle.ipc_journal.specs.declared.journal.Journal.{Journal}
 use Rattle.ipc_disk.specs.Standing.{sector_at, StandsAt}
 use Rattle.ipc_journal.specs.Journal.{sectors_of, length_in}
 use Rattle.ipc_journal.specs.Matches.{JournalMatches}
-use Rattle.ipc_journal.proofs.Images.{Holds-fill, sectors_of-push}
-use Rattle.ipc_journal.proofs.CallerLemmas.{length-there}
+use Rattle.ipc_journal.proofs.Images.{sectors_of-push}
+use Rattle.ipc_journal.proofs.CallerLemmas.{Holds-fill, length-there}
 use Rattle.ipc_journal.proofs.Pieces.{IsThere, Fill-there, read-length, next_is}
 use Rattle.ipc_journal.proofs.journal.Journal.next_batch.Goals as goal
 use Rattle.ipc_journal.proofs.journal.Journal.next_batch.Goals.{then-taken-self-via-then-taken-self, then-taken-self-via-else-taken-self+then-len-into}

@@ -3,6 +3,7 @@ use Rattle.std.proofs.Common.{[], refl, sym, ap, ◌∙◌, arith}
 use Rattle.ipc_engine.specs.Step.{run}
 use Rattle.ipc_store.proofs.Committing.{is_batch, any_moment-append, committed}
 use Rattle.ipc_store.proofs.Devices.{stays-on-disk}
+use Rattle.ipc_store.proofs.Meanwhile.{readable-append}
 use Rattle.ipc_store.proofs.store.Store.append.Goals as goal
 
 pub append-requires-clause-batch : goal.append-requires-clause-batch
@@ -17,6 +18,14 @@ pub returns-clause-any_moment : goal.returns-clause-any_moment
 returns-clause-any_moment g c = rw (sym c.self.view_is) (λ base pending at.
     any_moment-append _ _ _ base pending at c.bytes.ensures.size _ c.bytes.ensures.bytes
     (c.append.ensures.others at.device.honest) c.append.ensures.any_moment)
+
+pub returns-in-Err-clause-meanwhile : goal.returns-in-Err-clause-meanwhile
+returns-in-Err-clause-meanwhile g c = rw (sym c.self.view_is)
+    (readable-append g.D.SectorDisk.medium _ _ _ c.bytes.ensures.bytes c.append.ensures.others c.append.ensures.any_moment c.append.ensures.stands_first)
+
+pub returns-clause-meanwhile : goal.returns-clause-meanwhile
+returns-clause-meanwhile g c = rw (sym c.self.view_is)
+    (readable-append g.D.SectorDisk.medium _ _ _ c.bytes.ensures.bytes c.append.ensures.others c.append.ensures.any_moment c.append.ensures.stands_first)
 
 pub returns-clause-matches : goal.returns-clause-matches
 returns-clause-matches g c = rw (sym c.self.view_is, c.clear.ensures) (λ base pending at.

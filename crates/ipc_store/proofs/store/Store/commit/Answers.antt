@@ -2,6 +2,7 @@
 use Rattle.std.proofs.Common.{inl, sym, ap, ◌∙◌}
 use Rattle.ipc_store.proofs.Committing.{stands_now, any_moment-none, append-counts, none-waits}
 use Rattle.ipc_store.proofs.Lives.{takes-none, takes-either, leaves-either}
+use Rattle.ipc_store.proofs.Meanwhile.{readable-none}
 use Rattle.ipc_store.proofs.store.Store.commit.Goals as goal
 
 pub returns-then-self-clause-takes : goal.returns-then-self-clause-takes
@@ -14,6 +15,12 @@ pub returns-then-count-eq0-clause-any_moment : goal.returns-then-count-eq0-claus
 returns-then-count-eq0-clause-any_moment g c = λ base pending at.
     let m = g.D.SectorDisk.medium in
     any_moment-none (m c.args.self.now.disk) (m c.args.self.now.disk) c.args.self.now base pending at (g.met.D.SectorDisk.only_now _)
+
+pub returns-then-self-clause-meanwhile : goal.returns-then-self-clause-meanwhile
+returns-then-self-clause-meanwhile g c = readable-none g.D.SectorDisk.medium c.args.self.now (g.met.D.SectorDisk.only_now _)
+
+pub returns-then-count-eq0-clause-meanwhile : goal.returns-then-count-eq0-clause-meanwhile
+returns-then-count-eq0-clause-meanwhile g c = readable-none g.D.SectorDisk.medium c.args.self.now (g.met.D.SectorDisk.only_now _)
 
 pub returns-then-count-eq0-clause-left : goal.returns-then-count-eq0-clause-left
 returns-then-count-eq0-clause-left g c = λ base pending image at now.

@@ -10,6 +10,7 @@ use Rattle.ipc_image.specs.Saved.{StandForState, saved as saved_objects}
 use Rattle.ipc_engine.specs.Step.{run}
 use Rattle.ipc_store.proofs.Committing.{any_moment-none, any_moment-save, saved, unchanged}
 use Rattle.ipc_store.proofs.Devices.{has-spare, stays-on-disk}
+use Rattle.ipc_store.proofs.Meanwhile.{readable-none, readable-save}
 use Rattle.ipc_store.proofs.store.Store.save_state.Goals as goal
 
 -- the objects that are saved are those of the state
@@ -32,6 +33,18 @@ returns-clause-any_moment g c = rw (sym c.self.view_is) (λ base pending at.
     any_moment-save _ _ _ base pending at _ (omega (arith, c.epoch.ensures, c.in-Some.ensures)) _
     (stands c.objects_of-objects.ensures.objects c.objects_of-objects.ensures.stand)
     (c.save.ensures.others at.device.honest) c.save.ensures.any_moment)
+
+pub returns-in_default-clause-meanwhile : goal.returns-in_default-clause-meanwhile
+returns-in_default-clause-meanwhile g c = rw (sym c.self.view_is)
+    (readable-none g.D.SectorDisk.medium _ (g.met.D.SectorDisk.only_now _))
+
+pub returns-in-Err-clause-meanwhile : goal.returns-in-Err-clause-meanwhile
+returns-in-Err-clause-meanwhile g c = rw (sym c.self.view_is)
+    (readable-save g.D.SectorDisk.medium _ _ c.save.ensures.others c.save.ensures.meanwhile)
+
+pub returns-clause-meanwhile : goal.returns-clause-meanwhile
+returns-clause-meanwhile g c = rw (sym c.self.view_is)
+    (readable-save g.D.SectorDisk.medium _ _ c.save.ensures.others c.save.ensures.meanwhile)
 
 pub save-requires-clause-old_fits : goal.save-requires-clause-old_fits
 save-requires-clause-old_fits g c = c.self.invariant.3 (ap (λ v. v.stopped) c.self.view_is ∙ c.requires.running)

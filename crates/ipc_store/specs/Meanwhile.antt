@@ -1,0 +1,51 @@
+-- What is there for one who reads a device while its server goes on. Objects are saved where none are, and once they
+-- stand the root is of a later epoch; until then the journal only grows.
+use Rattle.std.specs.Prelude.{◌≡◌, ◌⊎◌, ◌<◌, ℕ, List, length, map}
+use Rattle.ipc_checkpoint.specs.Meanwhile.{EachLater}
+use Rattle.ipc_disk.specs.Medium.{Image, Medium}
+use Rattle.ipc_disk.specs.Range.{IsOutside}
+use Rattle.ipc_disk.specs.Since.{SameAt}
+use Rattle.ipc_disk.specs.Standing.{sector_at}
+use Rattle.ipc_heap.specs.Meanwhile.{IsUsedIn}
+use Rattle.ipc_journal.specs.Meanwhile.{ComesInOrder, IsReadFrom, KeepsBatches}
+use Rattle.ipc_state.specs.State.{State}
+use Rattle.ipc_engine.specs.Event.{PlainEvent}
+use Rattle.ipc_image.specs.Format.{format}
+use Rattle.ipc_store.specs.Batch.{batch_bytes}
+use Rattle.ipc_store.specs.Image.{epoch_at, journal_range, named_sectors, objects_range}
+use Rattle.ipc_store.specs.Relations.Matches.{StoreMatches}
+use Rattle.ipc_store.specs.View.{StoreView}
+
+-- what is saved in an image needs this sector: it is the superblock, the root, or has a part of an object or the table
+abbrev pub IsNeeded : Image → ℕ → Type 0
+IsNeeded image sector =
+    (sector ≡ 0) ⊎ (sector ≡ format.root)
+    ⊎ IsUsedIn (objects_range (named_sectors image)) format.root image sector
+
+-- The later image is of the same save: it has the same sectors wherever the earlier one needs them, and the batches of
+-- the earlier one, and may have more after them.
+pub record IsOfSameSave (earlier later : Image) : Type 0 where
+  pub needed : SameAt (IsNeeded earlier) earlier later
+  pub journal : KeepsBatches journal_range (epoch_at earlier) earlier later
+
+-- so it is, or it is of a later save, whose root has a later epoch
+abbrev pub GoesOn : Image → Image → Type 0
+GoesOn earlier later = IsOfSameSave earlier later ⊎ (epoch_at earlier < epoch_at later)
+
+-- Who reads the disk of a store while it makes a call finds images that go on from those of before, and if what waits
+-- joins the journal, its batch stands before a header counts it.
+pub record StaysReadable {D : Type 0} (medium : D → Medium) (store : StoreView D) (new : D) : Type 0 where
+  pub goes_on : (base : State) (pending : List PlainEvent) → StoreMatches (medium store.disk) store base pending
+      → EachLater GoesOn (medium store.disk) (medium new)
+  pub stands_first : (base : State) (pending : List PlainEvent) (at : StoreMatches (medium store.disk) store base pending)
+      → ComesInOrder medium store.journal (map batch_bytes at.device.batches) (batch_bytes pending) store.disk new
+
+-- Sectors that were read one after another, each as some image has it that is of the save of the first one: those
+-- outside the journal, the header of the journal as it was seen in one image, and after it the body, in images in which
+-- the batches of that one stand.
+pub record IsRead (first seen read : Image) : Type 0 where
+  pub count : length read ≡ length first
+  pub outside : (i : ℕ) → IsOutside journal_range i
+      → (later : Image) × IsOfSameSave first later × (sector_at read i ≡ sector_at later i)
+  pub same : IsOfSameSave first seen
+  pub journal : IsReadFrom journal_range (epoch_at seen) seen read
