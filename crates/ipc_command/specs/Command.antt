@@ -1,7 +1,7 @@
 -- What the command line asks for, and the exit status if it asks for nothing.
 use Rattle.std.specs.Prelude.{◌≡◌, ◌==◌, ℕ, pos, Bool, true, false, not}
 use Rattle.std.specs.Prelude.{if◌then◌else◌, Result, IfOk, IfErr, List, [], ◌∷◌, Option, Some, None}
-use Rattle.std.specs.Prelude.{codes, option_and_then, string_bytes, unwrap_or}
+use Rattle.std.specs.Prelude.{codes, option_and_then, option_map, string_bytes, unwrap_or}
 use Rattle.std.specs.Option.{option_map_or}
 use Rattle.std.specs.Str.{bytes_eq}
 use Rattle.std.specs.Str.Parse.{digits_value, without_leading_plus}
@@ -53,7 +53,11 @@ sectors_rule = record (new_rule (codes "sectors")) {
 abbrev pub device_rule : Rule
 device_rule = record (new_rule (codes "device")) { value_names = 1; required = true }
 
--- the word that names a socket, and the option `--turns N`
+-- the word that names the file of a copy
+abbrev pub copy_rule : Rule
+copy_rule = record (new_rule (codes "copy")) { value_names = 1; required = true }
+
+-- the word that names a socket, and the options `--turns N` and `--metrics FILE`
 abbrev pub socket_rule : Rule
 socket_rule = record (new_rule (codes "socket")) { value_names = 1; required = true }
 
@@ -64,6 +68,9 @@ turns_rule = record (new_rule (codes "turns")) {
   parser = Some (Signed (pos 0) (pos 4294967295));
 }
 
+abbrev pub metrics_rule : Rule
+metrics_rule = record (new_rule (codes "metrics")) { long = Some (codes "metrics"); value_names = 1 }
+
 -- `replay`, with the flag
 abbrev pub replay_command : App
 replay_command = with_rule (new_app (codes "replay")) small_rule
@@ -72,20 +79,17 @@ replay_command = with_rule (new_app (codes "replay")) small_rule
 abbrev pub sized_command : Text → App
 sized_command name = with_rule (with_rule (with_rule (new_app name) device_rule) small_rule) sectors_rule
 
--- `run`, `dump` and `list`, with a device
-abbrev pub run_command : App
-run_command = with_rule (new_app (codes "run")) device_rule
+-- `run`, `dump`, `list` and `check`, with a device
+abbrev pub device_command : Text → App
+device_command name = with_rule (new_app name) device_rule
 
-abbrev pub dump_command : App
-dump_command = with_rule (new_app (codes "dump")) device_rule
+-- `backup`, with a device and the file of its copy
+abbrev pub backup_command : App
+backup_command = with_rule (device_command (codes "backup")) copy_rule
 
-abbrev pub list_command : App
-list_command = with_rule (new_app (codes "list")) device_rule
-
--- `serve`, with a device, a socket and the option
+-- `serve`, with a device, a socket and the options
 abbrev pub serve_command : App
-serve_command =
-    with_rule (with_rule (with_rule (new_app (codes "serve")) device_rule) socket_rule) turns_rule
+serve_command = with_rule (with_rule (with_rule (device_command (codes "serve")) socket_rule) turns_rule) metrics_rule
 
 -- `ipcd`, with a version; it needs a command below it
 abbrev pub ipcd_command : App
@@ -93,16 +97,18 @@ ipcd_command = record (new_app (codes "ipcd")) {
   top = record (new_app (codes "ipcd")).top { has_version = true; subcommand_required = true };
 }
 
--- the command line: `ipcd`, and below it the seven commands
+-- the command line: `ipcd`, and below it the nine commands
 abbrev pub declared : App
 declared =
     with_subcommand (with_subcommand (with_subcommand (with_subcommand (with_subcommand (with_subcommand
-    (with_subcommand ipcd_command replay_command.top) (sized_command (codes "format")).top)
-    (sized_command (codes "upgrade")).top) run_command.top) dump_command.top) list_command.top) serve_command.top
+    (with_subcommand (with_subcommand (with_subcommand ipcd_command replay_command.top)
+    (sized_command (codes "format")).top) (sized_command (codes "upgrade")).top) (device_command (codes "run")).top)
+    (device_command (codes "dump")).top) (device_command (codes "list")).top) backup_command.top)
+    (device_command (codes "check")).top) serve_command.top
 
 -- ---- what words that are taken ask for
 
--- a request, with the file of its device as text
+-- a request, with its files as text
 pub data PlainRequest : Type 0 where
   Replay : (small : Bool) → PlainRequest
   Format : (device : Text) → (small : Bool) → (sectors : Option ℕ) → PlainRequest
@@ -110,7 +116,9 @@ pub data PlainRequest : Type 0 where
   Run : (device : Text) → PlainRequest
   Dump : (device : Text) → PlainRequest
   Look : (device : Text) → PlainRequest
-  Serve : (device socket : Text) → (turns : Option ℕ) → PlainRequest
+  Backup : (device copy : Text) → PlainRequest
+  Check : (device : Text) → PlainRequest
+  Serve : (device socket : Text) → (turns : Option ℕ) → (metrics : Option Text) → PlainRequest
 
 abbrev pub plain_request : Request → PlainRequest
 plain_request (request.Replay small) = Replay small
@@ -119,8 +127,10 @@ plain_request (request.Upgrade device small sectors) = Upgrade (string_bytes dev
 plain_request (request.Run device) = Run (string_bytes device)
 plain_request (request.Dump device) = Dump (string_bytes device)
 plain_request (request.Look device) = Look (string_bytes device)
-plain_request (request.Serve device socket turns) =
-    Serve (string_bytes device) (string_bytes socket) turns
+plain_request (request.Backup device copy) = Backup (string_bytes device) (string_bytes copy)
+plain_request (request.Check device) = Check (string_bytes device)
+plain_request (request.Serve device socket turns metrics) =
+    Serve (string_bytes device) (string_bytes socket) turns (option_map string_bytes metrics)
 
 -- the number that a text of decimal digits writes, if it fits into 32 bits; a plus may stand first
 abbrev pub parsed_number : Text → Option ℕ
@@ -138,6 +148,12 @@ asked_text name rows = unwrap_or (first_of name rows) []
 abbrev pub asked_number : Text → List Row → Option ℕ
 asked_number name rows = option_and_then parsed_number (one_of name rows)
 
+-- what `serve` asks for, by what was found for its arguments
+abbrev pub asked_serve : List Row → PlainRequest
+asked_serve rows =
+    Serve (asked_text (codes "device") rows) (asked_text (codes "socket") rows)
+    (asked_number (codes "turns") rows) (first_of (codes "metrics") rows)
+
 -- what a command asks for, by its name and what was found for its arguments. The parser takes no
 -- other name; such a one would ask for a listing of no file
 abbrev pub asked_request : Text → List Row → PlainRequest
@@ -151,9 +167,10 @@ asked_request name rows =
     else (if bytes_eq name (codes "run") then Run device
     else (if bytes_eq name (codes "dump") then Dump device
     else (if bytes_eq name (codes "list") then Look device
-    else (if bytes_eq name (codes "serve")
-    then Serve device (asked_text (codes "socket") rows) (asked_number (codes "turns") rows)
-    else Dump []))))))
+    else (if bytes_eq name (codes "backup") then Backup device (asked_text (codes "copy") rows)
+    else (if bytes_eq name (codes "check") then Check device
+    else (if bytes_eq name (codes "serve") then asked_serve rows
+    else Dump []))))))))
 
 -- the same, by the command that was found; the parser takes no words without one
 abbrev pub asked : Option (Text × List Row) → PlainRequest
@@ -174,9 +191,14 @@ abbrev pub sectors_words : Option Text → List Text
 sectors_words None = []
 sectors_words (Some number) = codes "--sectors" ∷ number ∷ []
 
+-- `[--turns N] [--metrics FILE]`
 abbrev pub turns_words : Option Text → List Text
 turns_words None = []
 turns_words (Some number) = codes "--turns" ∷ number ∷ []
+
+abbrev pub metrics_words : Option Text → List Text
+metrics_words None = []
+metrics_words (Some file) = codes "--metrics" ∷ file ∷ []
 
 -- a command line that asks for this: it is refused for want of memory alone
 pub record AsksFor (wanted : PlainRequest) (result : Result Request Error) : Type 0 where

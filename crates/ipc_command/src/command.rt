@@ -1,19 +1,21 @@
 //! The command line.
 
 ghost use Rattle.std.specs.Prelude.{◌≡◌, ℕ, Bool, true, false, List, [], ◌∷◌, ◌++◌, map, codes};
-ghost use Rattle.std.specs.Prelude.{IfOk, IfSome, IsSome, Option, option_and_then, string_bytes};
+ghost use Rattle.std.specs.Prelude.{IfOk, IfSome, IsSome, Option, option_and_then, option_map, string_bytes};
 ghost use Rattle.ipc_base.specs.Limits.{ArePassed};
 ghost use Rattle.clap.specs.Words.{app_of, rule_of, fault_of, subcommand_of, subcommand_rows_of};
-ghost use Rattle.clap.specs.Words.{FailsBy, found_of, rows_of};
+ghost use Rattle.clap.specs.Words.{FailsBy, first_of, found_of, rows_of};
 ghost use Rattle.clap.specs.declared.builder.command.Command.TheViews.{out-Command};
 ghost use Rattle.ipc_command.specs.Command.{limits_asked, refusal_status, IsTakenAs, AsksFor, declared};
-ghost use Rattle.ipc_command.specs.Command.PlainRequest.{Format, Upgrade, Run, Dump, Look, Serve};
-ghost use Rattle.ipc_command.specs.Command.{plain_request, asked, asked_small, asked_text};
+ghost use Rattle.ipc_command.specs.Command.PlainRequest.{Format, Upgrade, Run, Dump, Look, Backup, Check};
+ghost use Rattle.ipc_command.specs.Command.PlainRequest.{Serve};
+ghost use Rattle.ipc_command.specs.Command.{plain_request, asked, asked_serve, asked_small, asked_text};
 ghost use Rattle.ipc_command.specs.Command.{asked_number, parsed_number};
-ghost use Rattle.ipc_command.specs.Command.{is_no_flag, small_words, sectors_words, turns_words};
-ghost use Rattle.ipc_command.specs.Command.{small_rule, sectors_rule, device_rule, socket_rule, turns_rule};
-ghost use Rattle.ipc_command.specs.Command.{replay_command, sized_command, run_command, dump_command};
-ghost use Rattle.ipc_command.specs.Command.{list_command, serve_command};
+ghost use Rattle.ipc_command.specs.Command.{is_no_flag, small_words, sectors_words, turns_words, metrics_words};
+ghost use Rattle.ipc_command.specs.Command.{small_rule, sectors_rule, device_rule, copy_rule, socket_rule};
+ghost use Rattle.ipc_command.specs.Command.{turns_rule, metrics_rule};
+ghost use Rattle.ipc_command.specs.Command.{replay_command, sized_command, device_command, backup_command};
+ghost use Rattle.ipc_command.specs.Command.{serve_command};
 
 use clap::error::ErrorKind;
 use clap::{Arg, ArgAction, ArgMatches, Command, Error, value_parser};
@@ -56,11 +58,22 @@ pub enum Request {
     Look {
         device: String,
     },
-    /// Serve the device in a file to the clients of a socket, for so many turns if any are given.
+    /// Copy the device in a file, which may be in use, to a new file, and leave it as it is.
+    Backup {
+        device: String,
+        copy: String,
+    },
+    /// Say whether the device in a file would be served, and why not.
+    Check {
+        device: String,
+    },
+    /// Serve the device in a file to the clients of a socket, for so many turns if any are given, and
+    /// write figures to a file if one is given.
     Serve {
         device: String,
         socket: String,
         turns: Option<u32>,
+        metrics: Option<String>,
     },
 }
 
@@ -144,12 +157,19 @@ pub fn parse<S: AsStr>(alloc: Global, words: &[S]) -> Result<Request, Error>
     ensures list { (name device : List ℕ) → is_no_flag device ≡ true
         → map S.text words.now ≡ name ∷ codes "list" ∷ device ∷ []
         → AsksFor (Look device) result }
-    ensures serve { (name device socket : List ℕ) (number : Option (List ℕ))
+    ensures backup { (name device copy : List ℕ) → is_no_flag device ≡ true → is_no_flag copy ≡ true
+        → map S.text words.now ≡ name ∷ codes "backup" ∷ device ∷ copy ∷ []
+        → AsksFor (Backup device copy) result }
+    ensures check { (name device : List ℕ) → is_no_flag device ≡ true
+        → map S.text words.now ≡ name ∷ codes "check" ∷ device ∷ []
+        → AsksFor (Check device) result }
+    ensures serve { (name device socket : List ℕ) (number metrics : Option (List ℕ))
         → is_no_flag device ≡ true → is_no_flag socket ≡ true
         → IfSome number (λ text. IsSome (parsed_number text))
+        → IfSome metrics (λ text. is_no_flag text ≡ true)
         → map S.text words.now
-        ≡ name ∷ codes "serve" ∷ device ∷ socket ∷ turns_words number
-        → AsksFor (Serve device socket (option_and_then parsed_number number)) result }
+        ≡ name ∷ codes "serve" ∷ device ∷ socket ∷ turns_words number ++ metrics_words metrics
+        → AsksFor (Serve device socket (option_and_then parsed_number number) metrics) result }
     // What any words ask for, if they are taken, by what the parser finds in them.
     ensures asked { IfOk result (λ request.
         plain_request request ≡ asked (subcommand_of declared (map S.text words.now))) }
@@ -172,10 +192,12 @@ fn command_line<'a>(alloc: Global) -> Result<Command<'a>, AllocError>
         .subcommand(run(alloc)?)?
         .subcommand(dump(alloc)?)?
         .subcommand(list(alloc)?)?
+        .subcommand(backup(alloc)?)?
+        .subcommand(check(alloc)?)?
         .subcommand(serve(alloc)?)
 }
 
-// The command `replay`. None of the seven has an argument for the commands below it.
+// The command `replay`. None of the nine has an argument for the commands below it.
 fn replay<'a>(alloc: Global) -> Result<Command<'a>, AllocError>
     ensures app { IfOk result (λ command. app_of command ≡ replay_command) }
     ensures local { IfOk result (λ command. (out-Command command).has_globals ≡ false) }
@@ -230,32 +252,75 @@ fn sized_command<'a>(
 
 // The command `run`.
 fn run<'a>(alloc: Global) -> Result<Command<'a>, AllocError>
-    ensures app { IfOk result (λ command. app_of command ≡ run_command) }
+    ensures app { IfOk result (λ command. app_of command ≡ device_command (codes "run")) }
     ensures local { IfOk result (λ command. (out-Command command).has_globals ≡ false) }
 {
-    Command::new(alloc, "run")
-        .about("Runs the script on standard input, on the server whose device is in a file")
-        .arg(device_word(alloc))
+    device_command(
+        alloc,
+        "run",
+        "Runs the script on standard input, on the server whose device is in a file",
+    )
 }
 
 // The command `dump`.
 fn dump<'a>(alloc: Global) -> Result<Command<'a>, AllocError>
-    ensures app { IfOk result (λ command. app_of command ≡ dump_command) }
+    ensures app { IfOk result (λ command. app_of command ≡ device_command (codes "dump")) }
     ensures local { IfOk result (λ command. (out-Command command).has_globals ≡ false) }
 {
-    Command::new(alloc, "dump")
-        .about("Lists the objects of the server whose device is in a file")
-        .arg(device_word(alloc))
+    device_command(
+        alloc,
+        "dump",
+        "Lists the objects of the server whose device is in a file",
+    )
 }
 
 // The command `list`.
 fn list<'a>(alloc: Global) -> Result<Command<'a>, AllocError>
-    ensures app { IfOk result (λ command. app_of command ≡ list_command) }
+    ensures app { IfOk result (λ command. app_of command ≡ device_command (codes "list")) }
     ensures local { IfOk result (λ command. (out-Command command).has_globals ≡ false) }
 {
-    Command::new(alloc, "list")
-        .about("Lists the objects that are on a device now, in use or not, and only reads it")
+    device_command(
+        alloc,
+        "list",
+        "Lists the objects that are on a device now, in use or not, and only reads it",
+    )
+}
+
+// The command `check`.
+fn check<'a>(alloc: Global) -> Result<Command<'a>, AllocError>
+    ensures app { IfOk result (λ command. app_of command ≡ device_command (codes "check")) }
+    ensures local { IfOk result (λ command. (out-Command command).has_globals ≡ false) }
+{
+    device_command(
+        alloc,
+        "check",
+        "Says whether a device would be served, or why not, and only reads it",
+    )
+}
+
+// A command of this name on a device, of which `about` tells.
+fn device_command<'a>(
+    alloc: Global,
+    name: &'a str,
+    about: &'a str,
+) -> Result<Command<'a>, AllocError>
+    ensures app { IfOk result (λ command. app_of command ≡ device_command name.entry.now) }
+    ensures local { IfOk result (λ command. (out-Command command).has_globals ≡ false) }
+{
+    Command::new(alloc, name)
+        .about(about)
         .arg(device_word(alloc))
+}
+
+// The command `backup`.
+fn backup<'a>(alloc: Global) -> Result<Command<'a>, AllocError>
+    ensures app { IfOk result (λ command. app_of command ≡ backup_command) }
+    ensures local { IfOk result (λ command. (out-Command command).has_globals ≡ false) }
+{
+    Command::new(alloc, "backup")
+        .about("Copies a device, in use or not, to a new file, and only reads it")
+        .arg(device_word(alloc))?
+        .arg(copy_word(alloc))
 }
 
 // The command `serve`.
@@ -267,7 +332,8 @@ fn serve<'a>(alloc: Global) -> Result<Command<'a>, AllocError>
         .about("Serves the device in a file to the clients of a Unix socket")
         .arg(device_word(alloc))?
         .arg(socket_word(alloc))?
-        .arg(turns_option(alloc))
+        .arg(turns_option(alloc))?
+        .arg(metrics_option(alloc))
 }
 
 // The flag `--small`.
@@ -304,6 +370,17 @@ fn device_word<'a>(alloc: Global) -> Arg<'a>
         .help("The file of the device")
 }
 
+// The word that names the file of a copy.
+fn copy_word<'a>(alloc: Global) -> Arg<'a>
+    ensures rule { rule_of result ≡ copy_rule }
+    ensures local { result.global ≡ false }
+{
+    Arg::new(alloc, "copy")
+        .value_name("COPY")
+        .required(true)
+        .help("The file of the copy. Nothing may stand there")
+}
+
 // The word that names a socket.
 fn socket_word<'a>(alloc: Global) -> Arg<'a>
     ensures rule { rule_of result ≡ socket_rule }
@@ -327,6 +404,17 @@ fn turns_option<'a>(alloc: Global) -> Arg<'a>
         .help(
             "How many turns of its loop the server makes before it ends: 4294967295 if none are given",
         )
+}
+
+// The option `--metrics FILE`.
+fn metrics_option<'a>(alloc: Global) -> Arg<'a>
+    ensures rule { rule_of result ≡ metrics_rule }
+    ensures local { result.global ≡ false }
+{
+    Arg::new(alloc, "metrics")
+        .long("metrics")
+        .value_name("FILE")
+        .help("A text file of figures for Prometheus, written anew at most once a second")
 }
 
 // What the matches ask for.
@@ -363,18 +451,37 @@ fn request_in(alloc: Global, matches: &ArgMatches<'_>) -> Result<Request, AllocE
             device: text_in(alloc, list, "device")?,
         });
     }
-    if let Some(serve) = matches.subcommand_matches("serve") {
-        return Ok(Request::Serve {
-            device: text_in(alloc, serve, "device")?,
-            socket: text_in(alloc, serve, "socket")?,
-            turns: number_in(serve, "turns"),
+    if let Some(backup) = matches.subcommand_matches("backup") {
+        return Ok(Request::Backup {
+            device: text_in(alloc, backup, "device")?,
+            copy: text_in(alloc, backup, "copy")?,
         });
+    }
+    if let Some(check) = matches.subcommand_matches("check") {
+        return Ok(Request::Check {
+            device: text_in(alloc, check, "device")?,
+        });
+    }
+    if let Some(serve) = matches.subcommand_matches("serve") {
+        return serve_in(alloc, serve);
     }
     let device = match matches.subcommand_matches("dump") {
         Some(dump) => text_in(alloc, dump, "device")?,
         None => String::new(alloc),
     };
     Ok(Request::Dump { device })
+}
+
+// What the command `serve` asks for.
+fn serve_in(alloc: Global, serve: &ArgMatches<'_>) -> Result<Request, AllocError>
+    ensures { IfOk result (λ request. plain_request request ≡ asked_serve (rows_of (found_of serve.now))) }
+{
+    Ok(Request::Serve {
+        device: text_in(alloc, serve, "device")?,
+        socket: text_in(alloc, serve, "socket")?,
+        turns: number_in(serve, "turns"),
+        metrics: optional_in(alloc, serve, "metrics")?,
+    })
 }
 
 // Whether a command has the flag `--small`.
@@ -391,6 +498,21 @@ fn text_in(alloc: Global, command: &ArgMatches<'_>, name: &str) -> Result<String
         string_bytes text ≡ asked_text name.now (rows_of (found_of command.now))) }
 {
     command.get_str(name).unwrap_or("").to_string(alloc)
+}
+
+// The text that a command has by this name, if it has one.
+fn optional_in(
+    alloc: Global,
+    command: &ArgMatches<'_>,
+    name: &str,
+) -> Result<Option<String>, AllocError>
+    ensures { IfOk result (λ text.
+        option_map string_bytes text ≡ first_of name.now (rows_of (found_of command.now))) }
+{
+    match command.get_str(name) {
+        Some(text) => Ok(Some(text.to_string(alloc)?)),
+        None => Ok(None),
+    }
 }
 
 // The number that a command has by this name.

@@ -43,6 +43,9 @@ pub struct Hub<D: SectorDisk> {
     alloc: Global,
     store: Store<D>,
     connections: Connections,
+    /// The bytes that it took from clients so far, and those that they took, at most 18446744073709551615 each.
+    received: u64,
+    sent: u64,
 }
 
 impl<D: SectorDisk> Model for Hub<D> {
@@ -79,6 +82,8 @@ impl<D: SectorDisk> Hub<D> {
             alloc,
             store,
             connections: Connections::new(alloc),
+            received: 0,
+            sent: 0,
         }
     }
 
@@ -151,7 +156,10 @@ impl<D: SectorDisk> Hub<D> {
             return Err(ServeError::from(error));
         }
         match self.serve(conn, piece, moment) {
-            Ok(taken) => Ok(taken),
+            Ok(taken) => {
+                self.received = self.received.saturating_add(taken as u64);
+                Ok(taken)
+            }
             Err(error) => Err(ServeError::from(error)),
         }
     }
@@ -377,6 +385,7 @@ impl<D: SectorDisk> Hub<D> {
         ensures store { self.new.store ≡ self.old.store }
     {
         self.connections.consume(conn, count);
+        self.sent = self.sent.saturating_add(count as u64);
     }
 
     /// Whether the server has ended a connection; not so where none has the number.
@@ -386,6 +395,23 @@ impl<D: SectorDisk> Hub<D> {
         ensures ended { result ≡ ended_of self.now.hub conn }
     {
         self.connections.ended(conn)
+    }
+
+    /// Its store.
+    pub fn store(&self) -> &Store<D>
+        ensures { result.now ≡ self.now.store }
+    {
+        &self.store
+    }
+
+    /// How many bytes it took from clients so far.
+    pub fn received(&self) -> u64 {
+        self.received
+    }
+
+    /// How many bytes clients have taken so far.
+    pub fn sent(&self) -> u64 {
+        self.sent
     }
 
     /// The store as it is; the connections, and frames that wait, are gone.

@@ -232,6 +232,7 @@ fn break_off<D: SectorDisk>(
     let process = close(connections, conn);
     leave(store, connections, process, moment);
     refuse(connections, conn, serial, Errno::EPROTO);
+    store.count_refusal(Errno::EPROTO);
 }
 
 /// Gives a connection bytes of a piece, up to the end of a frame at most, and asks the machine if it is whole. Answers
@@ -288,7 +289,10 @@ fn take<D: SectorDisk>(
     match asked {
         Asked::More => {}
         Asked::Served => answer(connections, conn, store.engine().outcomes()),
-        Asked::NoMemory { serial } => refuse(connections, conn, serial, Errno::ENOMEM),
+        Asked::NoMemory { serial } => {
+            refuse(connections, conn, serial, Errno::ENOMEM);
+            store.count_refusal(Errno::ENOMEM);
+        }
         Asked::Broken { serial } => break_off(store, connections, conn, serial, moment),
     }
     count

@@ -4,6 +4,7 @@ ghost use Rattle.std.specs.Prelude.{◌≡◌, ◌≤◌, ℕ, IfErr, IfOk, OnOk
 ghost use Rattle.ipc_server.specs.Served.{Served, StopsShort};
 
 use crate::fault::ServeFault;
+use crate::observer::Observer;
 use crate::rest::LONGEST_REST;
 use crate::server::Server;
 use ipc_base::Moment;
@@ -15,33 +16,47 @@ const MOST_WAITS: u64 = 60_000;
 
 impl<D: SectorDisk> Server<D> {
     /// Serves for so many turns, each at the moment that the clock then tells, or at the one of the
-    /// turn before if the clock has fallen. A turn that is broken off is the last.
-    pub fn serve(&mut self, clock: &impl Clock, turns: u32) -> Result<(), ServeFault>
+    /// turn before if the clock has fallen. A turn that is broken off is the last. The observer sees the
+    /// server after each turn.
+    pub fn serve<O: Observer<D>>(
+        &mut self,
+        clock: &impl Clock,
+        turns: u32,
+        observer: &mut O,
+    ) -> Result<(), ServeFault>
         ensures ok { OnOk result ((moment : ℕ)
             × Served D.medium 0 self.old.hub turns moment self.new.hub) }
         ensures err { IfErr result (λ fault.
             StopsShort D.medium D.counts 0 self.old.hub turns self.new.hub fault) }
     {
         let mut moment = Moment(0);
-        for _turn in 0..turns {
+        for count in 0..turns {
             moment = later(moment, clock);
             self.turn(moment)?;
+            observer.turned(self.hub(), u64::from(count) + 1);
         }
         Ok(())
     }
 
     /// The same, on demand: before each turn it waits until there is something to do, for a minute at
-    /// most, and only then takes the turn's moment.
-    pub fn serve_on_demand(&mut self, clock: &impl Clock, turns: u32) -> Result<(), ServeFault>
+    /// most, and only then takes the turn's moment. The observer also sees the server while it waits, as
+    /// often as it asks for.
+    pub fn serve_on_demand<O: Observer<D>>(
+        &mut self,
+        clock: &impl Clock,
+        turns: u32,
+        observer: &mut O,
+    ) -> Result<(), ServeFault>
         ensures ok { OnOk result ((moment : ℕ)
             × Served D.medium 0 self.old.hub turns moment self.new.hub) }
         ensures err { IfErr result (λ fault.
             StopsShort D.medium D.counts 0 self.old.hub turns self.new.hub fault) }
     {
         let mut moment = Moment(0);
-        for _round in 0..turns {
-            moment = self.rest(clock, moment)?;
+        for round in 0..turns {
+            moment = self.rest(clock, moment, observer)?;
             self.turn(moment)?;
+            observer.turned(self.hub(), u64::from(round) + 1);
         }
         Ok(())
     }
@@ -49,7 +64,12 @@ impl<D: SectorDisk> Server<D> {
     // Waits until there is something to do: a socket has told of something, the earliest deadline of a
     // call that waits has come, or a minute has passed. A wait that a signal has cut short is followed by
     // another. Gives the moment then, or the last one if the clock has fallen.
-    fn rest(&mut self, clock: &impl Clock, last: Moment) -> Result<Moment, ServeFault>
+    fn rest<O: Observer<D>>(
+        &mut self,
+        clock: &impl Clock,
+        last: Moment,
+        observer: &mut O,
+    ) -> Result<Moment, ServeFault>
         ensures same { self.new.hub ≡ self.old.hub }
         ensures later { IfOk result (λ moment. last.0 ≤ moment.0) }
         ensures err { IfErr result (λ fault. fault ≡ ServeFault.Socket) }
@@ -65,10 +85,11 @@ impl<D: SectorDisk> Server<D> {
             if longest == 0 {
                 break;
             }
-            let told = self.rest_for(now, longest)?;
+            let told = self.rest_for(now, longest.min(observer.patience()))?;
             if told {
                 break;
             }
+            observer.waited(self.hub());
         }
         Ok(later(last, clock))
     }

@@ -164,6 +164,13 @@ impl<D: SectorDisk> Server<D> {
         }
     }
 
+    /// Its hub.
+    pub fn hub(&self) -> &Hub<D>
+        ensures { result.now ≡ self.now.hub }
+    {
+        &self.hub
+    }
+
     /// One turn: waits for the sockets, lets time pass, takes new connections, feeds the hub what
     /// the clients have written, makes all of it last at once, writes what the clients may see, and
     /// parts with those that are gone.

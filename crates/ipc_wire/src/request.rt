@@ -23,6 +23,7 @@ pub struct Request<'a> {
 }
 
 impl<'a> Request<'a> {
+    ghost use Rattle.ipc_wire.specs.Spelling.{opcode_of};
     ghost use Rattle.ipc_wire.specs.View.{plain_request};
 
     /// The bytes of its frame after the length, from 5 to 65792.
@@ -30,6 +31,13 @@ impl<'a> Request<'a> {
         ensures { result.now ≡ request_bytes (plain_request self.now) }
     {
         self.bytes
+    }
+
+    /// Its opcode: the byte of its frame that says what it asks.
+    pub fn opcode(&self) -> u8
+        ensures { result ≡ opcode_of (plain_request self.now).kind }
+    {
+        self.bytes[4]
     }
 }
 

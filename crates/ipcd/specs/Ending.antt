@@ -18,7 +18,7 @@ use Rattle.ipc_server.specs.declared.fault.ServerError.TheVariants as server
 use Rattle.ipc_server.specs.declared.fault.ServeFault.{ServeFault}
 use Rattle.ipc_server.specs.declared.fault.ServeFault.TheVariants as serving
 use Rattle.ipcd.specs.declared.ending.Fault.{Fault}
-use Rattle.ipcd.specs.declared.ending.Fault.TheVariants.{Run, TooSmall, BadLimits, Socket}
+use Rattle.ipcd.specs.declared.ending.Fault.TheVariants.{Run, TooSmall, BadLimits, Socket, Unfit}
 
 -- ---- the status and the text
 
@@ -27,6 +27,7 @@ abbrev pub fault_status : Fault → ℕ
 fault_status (TooSmall need) = 1
 fault_status (BadLimits field) = 1
 fault_status Socket = 1
+fault_status Unfit = 1
 fault_status (Run NoMemory) = 1
 fault_status (Run Input) = 1
 fault_status (Run Output) = 1
@@ -48,6 +49,7 @@ exit_status (Err fault) = fault_status fault
 abbrev pub text_of : Fault → List ℕ
 text_of (Run fault) = fault_text fault
 text_of Socket = codes "socket fault"
+text_of Unfit = codes "not to be served"
 text_of (BadLimits field) = codes "bad limits " ++ decimal field
 text_of (TooSmall need) = codes "too small, " ++ decimal need ++ codes " sectors needed"
 

@@ -1,3 +1,4 @@
+pub mod Check
 pub mod Clock
 pub mod Device
 pub mod Ending

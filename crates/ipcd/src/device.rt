@@ -19,9 +19,10 @@ ghost use Rattle.ipc_store.specs.Lives.{StandsAfter};
 ghost use Rattle.ipc_store.specs.Upgrade.{HasNoNextEpoch, IsUpgraded};
 ghost use Rattle.ipc_script.specs.declared.fault.ScriptFault.TheVariants.{NotFormatted};
 ghost use Rattle.ipc_script.specs.declared.fault.ScriptFault.TheVariants.{Version, Damaged};
+ghost use Rattle.ipc_store.specs.declared.fault.FormatError.{FormatError};
 ghost use Rattle.ipc_store.specs.declared.fault.OpenError.{OpenError};
 ghost use Rattle.ipc_store.specs.declared.fault.UpgradeError.{UpgradeError};
-ghost use Rattle.ipcd.specs.Ending.{device_fault, of_open_error, of_upgrade_error};
+ghost use Rattle.ipcd.specs.Ending.{device_fault, of_format_error, of_open_error, of_upgrade_error};
 ghost use Rattle.ipcd.specs.declared.ending.Fault.TheVariants.{Run, TooSmall, BadLimits};
 ghost use Rattle.ipcd.specs.Device.{sectors_given};
 
@@ -34,7 +35,7 @@ use ipc_image::{FORMAT, need};
 use ipc_script::ScriptFault;
 use ipc_store::{Store, an_open_finds_what_stands_there, look};
 use std::alloc::Global;
-use std::fs::File;
+use std::fs::{File, symlink_metadata};
 use std::io::IsTerminal;
 use std::rt::Files;
 
@@ -187,14 +188,57 @@ fn grow_file<R: Files<File = File> + AllocGlobal, E: Eprint + IsTerminal>(
     grown
 }
 
-/// The machine that the device in a file stands for now. The file is read alone, and may be in use.
+/// The machine that the device in a file stands for now, and how many sectors the file has. The file is read alone,
+/// and may be in use.
 pub fn look_at_file<R: Files<File = File> + AllocGlobal>(
     rt: &R,
     path: &str,
-) -> Result<Engine, Fault>
+) -> Result<(Engine, u32), Fault>
     ensures named { IfErr result (λ fault. (error : OpenError) × (fault ≡ of_open_error error)) }
 {
-    Ok(look(rt.alloc(), &mut FileDisk::open_to_read(rt, path)?)?)
+    let mut disk = FileDisk::open_to_read(rt, path)?;
+    let engine = look(rt.alloc(), &mut disk)?;
+    Ok((engine, disk.sectors()))
+}
+
+/// Makes a device, in a new file of as many sectors, that stands for the state for which the device in a file stands
+/// now, and answers how many that are. The device is read alone, and may be in use. If anything stands where the copy is
+/// to be, nothing is read and nothing written. How far it is, is said on `errors` if that is a terminal.
+pub fn copy_file<R: Files<File = File> + AllocGlobal, E: Eprint + IsTerminal>(
+    rt: &R,
+    errors: &E,
+    path: &str,
+    copy: &str,
+) -> Result<u32, Fault>
+    ensures named { IfErr result (λ fault. ((error : OpenError) × (fault ≡ of_open_error error))
+        ⊎ ((error : FormatError) × (fault ≡ of_format_error error))) }
+{
+    if symlink_metadata(rt, copy).is_ok() {
+        return Err(Fault::from(DiskFault));
+    }
+    let (engine, sectors) = look_at_file(rt, path)?;
+    put_in_file(rt, errors, copy, &engine, sectors)?;
+    Ok(sectors)
+}
+
+/// Makes a device of so many sectors in a new file, which stands for the state of a machine.
+fn put_in_file<R: Files<File = File> + AllocGlobal, E: Eprint + IsTerminal>(
+    rt: &R,
+    errors: &E,
+    path: &str,
+    engine: &Engine,
+    sectors: u32,
+) -> Result<(), Fault>
+    ensures named { IfErr result (λ fault. (error : FormatError) × (fault ≡ of_format_error error)) }
+    // If there is room for the machine's device, it is the disk that refuses.
+    ensures err { IfErr result (λ fault. need_of engine.now.limits ≤ sectors → fault ≡ device_fault) }
+{
+    let mut meter = Meter::new(errors, sectors);
+    let made = FileDisk::create_new_with(rt, path, sectors, &mut meter);
+    meter.end();
+    let mut disk = made?;
+    Store::copy_onto(&mut disk, engine)?;
+    Ok(())
 }
 
 /// The store of the device in a file.

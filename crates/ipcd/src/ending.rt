@@ -25,6 +25,8 @@ pub enum Fault {
     BadLimits { field: u32 },
     /// The socket cannot be made, or cannot be waited for.
     Socket,
+    /// The device that is checked would not be served. Why, is said already.
+    Unfit,
 }
 
 /// The exit status: 0 without a fault, 1 if the world failed or the device is not fit for the command, 2
@@ -38,6 +40,7 @@ pub fn exit_of(outcome: &Result<(), Fault>) -> u8
             Fault::TooSmall { .. }
             | Fault::BadLimits { .. }
             | Fault::Socket
+            | Fault::Unfit
             | Fault::Run(
                 ScriptFault::NoMemory
                 | ScriptFault::Input
@@ -68,6 +71,7 @@ impl fmt::Display for Fault {
             Fault::TooSmall { need } => write!(f, "ipcd: too small, {need} sectors needed"),
             Fault::BadLimits { field } => write!(f, "ipcd: bad limits {field}"),
             Fault::Socket => write!(f, "ipcd: socket fault"),
+            Fault::Unfit => write!(f, "ipcd: not to be served"),
         }
     }
 }

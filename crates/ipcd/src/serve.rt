@@ -5,13 +5,16 @@ ghost use Rattle.ipcd.specs.Clock.{ahead_by};
 
 use crate::device::open_store;
 use crate::ending::Fault;
+use crate::metrics::Metrics;
+use crate::timed::{Timed, TimedRuns};
 use ipc_base::{Limits, Moment};
-use ipc_disk::{FileDisk, SectorDisk};
+use ipc_disk::{FileDisk, FileRuns, JoinedDisk, SectorDisk};
 use ipc_hub::Hub;
 use ipc_script::ScriptFault;
-use ipc_server::{Server, now};
+use ipc_server::{Observer, Server, Unobserved, now};
 use ipc_store::Store;
 use mio::net::UnixListener;
+use std::alloc::AllocError;
 use std::fs::File;
 use std::net::Net;
 use std::rt::Files;
@@ -24,19 +27,32 @@ const MOST_TURNS: u32 = u32::MAX;
 const MOST_AHEAD: u64 = 1_000;
 
 /// Opens the device in a file, then binds the socket, says so, and serves for so many turns, or on
-/// demand if none are given. On `errors` it says if the device's clock is ahead of the system's.
-pub fn serve(
-    rt: &(impl Print + AllocGlobal + Files<File = File> + Net + Clock),
+/// demand if none are given. On `errors` it says if the device's clock is ahead of the system's. If a
+/// file for figures is named, they are written there.
+pub fn serve<R: Print + AllocGlobal + Files<File = File> + Net + Clock>(
+    rt: &R,
     errors: &impl Eprint,
     device: &str,
     socket: &str,
     turns: Option<u32>,
+    metrics: Option<&str>,
 ) -> Result<(), Fault> {
-    let disk = FileDisk::open(rt, device)?;
+    let disk = timed(rt, FileDisk::open(rt, device)?)?;
     let sectors = disk.sectors();
     let store = open_store(rt.alloc(), disk)?;
     say_ahead(errors, store.engine().state().clock(), now(rt));
-    serve_store(rt, store, device, sectors, socket, turns)
+    serve_store(rt, store, device, sectors, socket, turns, metrics)
+}
+
+// The disk in a file, whose syncs are timed.
+fn timed<R: AllocGlobal + Clock>(
+    rt: &R,
+    disk: FileDisk,
+) -> Result<JoinedDisk<TimedRuns<'_, R, FileRuns>>, Fault> {
+    match JoinedDisk::new(rt.alloc(), TimedRuns::new(disk.into_disk(), rt)) {
+        Ok(disk) => Ok(disk),
+        Err(AllocError) => Err(Fault::Run(ScriptFault::NoMemory)),
+    }
 }
 
 // Says so if the clock of a device is ahead of the system's. It never falls: until the system's has
@@ -64,18 +80,25 @@ fn ahead_by(device: Moment, system: Moment) -> Option<u64>
 
 // Serves the store of a device of so many sectors. It is over any disk, so that its proof does not
 // meet the parts of one in a file.
-fn serve_store<D: SectorDisk + Drop>(
+fn serve_store<D: SectorDisk + Timed + Drop>(
     rt: &(impl Print + AllocGlobal + Files<File = File> + Net + Clock),
     store: Store<D>,
     device: &str,
     sectors: u32,
     socket: &str,
     turns: Option<u32>,
+    metrics: Option<&str>,
 ) -> Result<(), Fault> {
     let limits = limits_name(store.engine().limits());
     let server = start(rt, store, socket)?;
     say_serving(rt, device, sectors, socket, limits)?;
-    serve_turns(rt, server, turns)
+    let Some(path) = metrics else {
+        return serve_turns(rt, server, turns, &mut Unobserved);
+    };
+    match Metrics::new(rt, path) {
+        Ok(mut metrics) => serve_turns(rt, server, turns, &mut metrics),
+        Err(AllocError) => Err(Fault::Run(ScriptFault::NoMemory)),
+    }
 }
 
 // A server of a store, on a socket that is bound now.
@@ -101,15 +124,16 @@ fn server_of<D: SectorDisk + Drop>(
 }
 
 // Serves for so many turns, or on demand if none are given.
-fn serve_turns<D: SectorDisk + Drop>(
+fn serve_turns<D: SectorDisk + Drop, O: Observer<D>>(
     clock: &impl Clock,
     server: Server<D>,
     turns: Option<u32>,
+    observer: &mut O,
 ) -> Result<(), Fault> {
     let mut server = server;
     match turns {
-        Some(turns) => server.serve(clock, turns)?,
-        None => server.serve_on_demand(clock, MOST_TURNS)?,
+        Some(turns) => server.serve(clock, turns, observer)?,
+        None => server.serve_on_demand(clock, MOST_TURNS, observer)?,
     }
     Ok(())
 }

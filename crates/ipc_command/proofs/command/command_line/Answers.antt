@@ -17,6 +17,8 @@ returns c =
     let four = c.in_ok-subcommand-4.ensures.shape c.in_ok-run.ensures.local ∙ below _ _ _ _ three c.in_ok-run.ensures.app in
     let five = c.in_ok-subcommand-5.ensures.shape c.in_ok-dump.ensures.local ∙ below _ _ _ _ four c.in_ok-dump.ensures.app in
     let six = c.in_ok-subcommand-6.ensures.shape c.in_ok-list.ensures.local ∙ below _ _ _ _ five c.in_ok-list.ensures.app in
-    IfOk-weaker c.subcommand-7.result _ _
-    (λ command added. added.shape c.in_ok-serve.ensures.local ∙ below _ _ _ _ six c.in_ok-serve.ensures.app)
-    c.subcommand-7.ensures
+    let seven = c.in_ok-subcommand-7.ensures.shape c.in_ok-backup.ensures.local ∙ below _ _ _ _ six c.in_ok-backup.ensures.app in
+    let eight = c.in_ok-subcommand-8.ensures.shape c.in_ok-check.ensures.local ∙ below _ _ _ _ seven c.in_ok-check.ensures.app in
+    IfOk-weaker c.subcommand-9.result _ _
+    (λ command added. added.shape c.in_ok-serve.ensures.local ∙ below _ _ _ _ eight c.in_ok-serve.ensures.app)
+    c.subcommand-9.ensures

@@ -24,8 +24,8 @@ use Rattle.clap.specs.declared.parser.matches.ArgMatches.{ArgMatches}
 use Rattle.clap.specs.Simple.{HasMatchesOf}
 use Rattle.clap.proofs.OnLiterals.{clap_on_literals}
 use Rattle.ipc_command.specs.Command.{PlainRequest, plain_request, asked, declared, is_no_flag, parsed_number}
-use Rattle.ipc_command.specs.Command.{small_words, sectors_words, turns_words, AsksFor, IsTakenAs}
-use Rattle.ipc_command.specs.Command.PlainRequest.{Replay, Format, Upgrade, Run, Dump, Look, Serve}
+use Rattle.ipc_command.specs.Command.{small_words, sectors_words, turns_words, metrics_words, AsksFor, IsTakenAs}
+use Rattle.ipc_command.specs.Command.PlainRequest.{Replay, Format, Upgrade, Run, Dump, Look, Backup, Check, Serve}
 use Rattle.ipc_command.proofs.command.parse.Goals as goal
 
 abbrev standard_words : List ℕ → List Text
@@ -92,6 +92,24 @@ list-read name device v = rw (v.dashes, v.long, v.short) refl
 list-taken : (name device : List ℕ) → IsValue device → takes declared (name ∷ codes "list" ∷ device ∷ []) ≡ true
 unfolding clap_on_literals
 list-taken name device v = rw (v.dashes, v.long, v.short) refl
+
+check-read : (name device : List ℕ) → IsValue device → asked (subcommand_of declared (name ∷ codes "check" ∷ device ∷ [])) ≡ Check device
+unfolding clap_on_literals
+check-read name device v = rw (v.dashes, v.long, v.short) refl
+
+check-taken : (name device : List ℕ) → IsValue device → takes declared (name ∷ codes "check" ∷ device ∷ []) ≡ true
+unfolding clap_on_literals
+check-taken name device v = rw (v.dashes, v.long, v.short) refl
+
+backup-read : (name device copy : List ℕ) → IsValue device → IsValue copy
+    → asked (subcommand_of declared (name ∷ codes "backup" ∷ device ∷ copy ∷ [])) ≡ Backup device copy
+unfolding clap_on_literals
+backup-read name device copy v w = rw (v.dashes, v.long, v.short, w.dashes, w.long, w.short) refl
+
+backup-taken : (name device copy : List ℕ) → IsValue device → IsValue copy
+    → takes declared (name ∷ codes "backup" ∷ device ∷ copy ∷ []) ≡ true
+unfolding clap_on_literals
+backup-taken name device copy v w = rw (v.dashes, v.long, v.short, w.dashes, w.long, w.short) refl
 
 -- the parser reads such a word as a number
 pub record IsNumber (word : Text) : Type 0 where
@@ -187,23 +205,40 @@ upgrade-taken name device false (Some word) v n =
 upgrade-taken name device true (Some word) v n =
     rw (v.dashes, v.long, v.short, n.value.dashes, n.value.long, n.value.short) (ap passes_all n.passes)
 
-abbrev serve_line : List ℕ → List ℕ → List ℕ → Option Text → List Text
-serve_line name device socket number = name ∷ codes "serve" ∷ device ∷ socket ∷ turns_words number
+abbrev serve_line : List ℕ → List ℕ → List ℕ → Option Text → Option Text → List Text
+serve_line name device socket number metrics =
+    name ∷ codes "serve" ∷ device ∷ socket ∷ turns_words number ++ metrics_words metrics
 
-serve-read : (name device socket : List ℕ) (number : Option Text) → IsValue device → IsValue socket → IfSome number IsNumber
-    → asked (subcommand_of declared (serve_line name device socket number)) ≡ Serve device socket (option_and_then parsed_number number)
+serve-read : (name device socket : List ℕ) (number metrics : Option Text) → IsValue device → IsValue socket → IfSome number IsNumber
+    → IfSome metrics IsValue → asked (subcommand_of declared (serve_line name device socket number metrics))
+    ≡ Serve device socket (option_and_then parsed_number number) metrics
 unfolding clap_on_literals
-serve-read name device socket None v w n = rw (v.dashes, v.long, v.short, w.dashes, w.long, w.short) refl
-serve-read name device socket (Some word) v w n =
+serve-read name device socket None None v w n m = rw (v.dashes, v.long, v.short, w.dashes, w.long, w.short) refl
+serve-read name device socket None (Some file) v w n m =
+    rw (v.dashes, v.long, v.short, w.dashes, w.long, w.short, m.dashes, m.long, m.short) refl
+serve-read name device socket (Some word) None v w n m =
     rw (v.dashes, v.long, v.short, w.dashes, w.long, w.short, n.value.dashes, n.value.long, n.value.short)
-    (ap (λ (t : Text). Serve device socket (parsed_number t)) n.same)
+    (ap (λ (t : Text). Serve device socket (parsed_number t) None) n.same)
+serve-read name device socket (Some word) (Some file) v w n m =
+    rw (v.dashes, v.long, v.short, w.dashes, w.long, w.short, n.value.dashes, n.value.long, n.value.short, m.dashes, m.long, m.short)
+    (ap (λ (t : Text). Serve device socket (parsed_number t) (Some file)) n.same)
 
-serve-taken : (name device socket : List ℕ) (number : Option Text) → IsValue device → IsValue socket → IfSome number IsNumber
-    → takes declared (serve_line name device socket number) ≡ true
+serve-taken : (name device socket : List ℕ) (number metrics : Option Text) → IsValue device → IsValue socket → IfSome number IsNumber
+    → IfSome metrics IsValue → takes declared (serve_line name device socket number metrics) ≡ true
 unfolding clap_on_literals
-serve-taken name device socket None v w n = rw (v.dashes, v.long, v.short, w.dashes, w.long, w.short) refl
-serve-taken name device socket (Some word) v w n =
+serve-taken name device socket None None v w n m = rw (v.dashes, v.long, v.short, w.dashes, w.long, w.short) refl
+serve-taken name device socket None (Some file) v w n m =
+    rw (v.dashes, v.long, v.short, w.dashes, w.long, w.short, m.dashes, m.long, m.short) refl
+serve-taken name device socket (Some word) None v w n m =
     rw (v.dashes, v.long, v.short, w.dashes, w.long, w.short, n.value.dashes, n.value.long, n.value.short) (ap passes_all n.passes)
+serve-taken name device socket (Some word) (Some file) v w n m =
+    rw (v.dashes, v.long, v.short, w.dashes, w.long, w.short, n.value.dashes, n.value.long, n.value.short)
+    (rw n.passes (rw (m.dashes, m.long) (rw m.short refl)))
+
+-- the option's value, if there is one, is read as a value
+values-of : (metrics : Option Text) → IfSome metrics (λ word. is_no_flag word ≡ true) → IfSome metrics IsValue
+values-of None some = tt
+values-of (Some word) some = value-of word some
 
 -- what the parser finds in these words
 found-in : (command : Command) (words : List Text) (m : ArgMatches) → app_of command ≡ declared
@@ -250,7 +285,9 @@ replay-only (request.Upgrade device b sectors) small is = cc
 replay-only (request.Run device) small is = cc
 replay-only (request.Dump device) small is = cc
 replay-only (request.Look device) small is = cc
-replay-only (request.Serve device socket turns) small is = cc
+replay-only (request.Backup device copy) small is = cc
+replay-only (request.Check device) small is = cc
+replay-only (request.Serve device socket turns metrics) small is = cc
 
 pub returns-clause-refused : goal.returns-clause-refused
 returns-clause-refused g c = no-fault _ _ c.in_ok-command_line.ensures c.in_ok-matches.ensures.kinds
@@ -300,11 +337,22 @@ returns-in_err-matches-clause-list g c = λ name device no_flag words.
     memory-only _ _ _ c.from_residual-in_err-matches.ensures.1
     (c.in_err-matches.ensures.passes (ap₂ takes c.in_ok-command_line.ensures words ∙ list-taken name device (value-of device no_flag)))
 
-pub returns-in_err-matches-clause-serve : goal.returns-in_err-matches-clause-serve
-returns-in_err-matches-clause-serve g c = λ name device socket number no_flag no_option some words.
+pub returns-in_err-matches-clause-backup : goal.returns-in_err-matches-clause-backup
+returns-in_err-matches-clause-backup g c = λ name device copy no_flag no_option words.
     memory-only _ _ _ c.from_residual-in_err-matches.ensures.1
     (c.in_err-matches.ensures.passes (ap₂ takes c.in_ok-command_line.ensures words
-    ∙ serve-taken name device socket number (value-of device no_flag) (value-of socket no_option) (numbers-of number some)))
+    ∙ backup-taken name device copy (value-of device no_flag) (value-of copy no_option)))
+
+pub returns-in_err-matches-clause-check : goal.returns-in_err-matches-clause-check
+returns-in_err-matches-clause-check g c = λ name device no_flag words.
+    memory-only _ _ _ c.from_residual-in_err-matches.ensures.1
+    (c.in_err-matches.ensures.passes (ap₂ takes c.in_ok-command_line.ensures words ∙ check-taken name device (value-of device no_flag)))
+
+pub returns-in_err-matches-clause-serve : goal.returns-in_err-matches-clause-serve
+returns-in_err-matches-clause-serve g c = λ name device socket number metrics no_flag no_option some file words.
+    memory-only _ _ _ c.from_residual-in_err-matches.ensures.1
+    (c.in_err-matches.ensures.passes (ap₂ takes c.in_ok-command_line.ensures words ∙ serve-taken name device socket number metrics
+    (value-of device no_flag) (value-of socket no_option) (numbers-of number some) (values-of metrics file)))
 
 pub returns-clause-standard : goal.returns-clause-standard
 returns-clause-standard g c = λ name words. record {
@@ -355,9 +403,24 @@ returns-clause-list g c = λ name device no_flag words. record {
   err = tt;
 }
 
+pub returns-clause-backup : goal.returns-clause-backup
+returns-clause-backup g c = λ name device copy no_flag no_option words. record {
+  ok = asks _ _ _ _ _ _ c.in_ok-command_line.ensures c.in_ok-matches.ensures.matches
+      c.in_ok-request_in.ensures words (backup-read name device copy (value-of device no_flag) (value-of copy no_option));
+  err = tt;
+}
+
+pub returns-clause-check : goal.returns-clause-check
+returns-clause-check g c = λ name device no_flag words. record {
+  ok = asks _ _ _ _ _ _ c.in_ok-command_line.ensures c.in_ok-matches.ensures.matches
+      c.in_ok-request_in.ensures words (check-read name device (value-of device no_flag));
+  err = tt;
+}
+
 pub returns-clause-serve : goal.returns-clause-serve
-returns-clause-serve g c = λ name device socket number no_flag no_option some words. record {
+returns-clause-serve g c = λ name device socket number metrics no_flag no_option some file words. record {
   ok = asks _ _ _ _ _ _ c.in_ok-command_line.ensures c.in_ok-matches.ensures.matches c.in_ok-request_in.ensures words
-      (serve-read name device socket number (value-of device no_flag) (value-of socket no_option) (numbers-of number some));
+      (serve-read name device socket number metrics (value-of device no_flag) (value-of socket no_option) (numbers-of number some)
+      (values-of metrics file));
   err = tt;
 }

@@ -20,11 +20,11 @@ refuse-requires g c = search (rules, left-space)
 
 pub returns-clause-accepts : goal.returns-clause-accepts
 returns-clause-accepts g c = record {
-  continues = rw c.refuse.ensures
+  continues = rw (c.count_refusal.ensures, c.refuse.ensures)
       (last-goes-on c.args.store.now.machine c.args.connections.now c.args.conn c.requires.ready.invariant c.requires.live c.leave.new.store.machine
       c.close-process.new.connections c.leave.new.connections c.close-process.ensures.table c.leave.ensures.accepts.continues c.leave.ensures.others
       c.args.serial);
-  pends = rw c.close-process.ensures.process at c.leave.ensures.accepts.pends;
+  pends = rw c.count_refusal.ensures (rw c.close-process.ensures.process at c.leave.ensures.accepts.pends);
 }
 
 pub returns-clause-ends : goal.returns-clause-ends

@@ -1,4 +1,6 @@
-use Rattle.std.proofs.Common.{◌+◌, take, inl, inr, sym, ◌∙◌, arith}
+use Rattle.std.proofs.Common.{◌+◌, take, inl, inr, sym, subst, ◌∙◌, arith}
+use Rattle.ipc_hub.specs.View.{StoredHub}
+use Rattle.ipc_hub.specs.Relations.Matches.{ServesFeed}
 use Rattle.ipc_hub.proofs.Coming.{serves-fed}
 use Rattle.ipc_hub.proofs.Committing.{halts-feed, spends-then}
 use Rattle.ipc_hub.proofs.hub.Hub.feed.Goals as goal
@@ -9,8 +11,10 @@ serve-requires-clause-can g c =
 
 pub returns-in-Ok-clause-ok : goal.returns-in-Ok-clause-ok
 returns-in-Ok-clause-ok g c =
-    serves-fed g.D.SectorDisk.medium c.args.self.now c.advance.new.self c.serve.new.self c.args.conn (take c.in-Ok.taken c.args.piece.now)
-    c.args.moment.0 (rw c.seek.ensures.same at c.in_default.ensures.ok) c.in-Ok.ensures.ok
+    subst (λ (v : StoredHub g.row.D.Denot). ServesFeed g.D.SectorDisk.medium c.args.self.now v c.args.conn (take c.in-Ok.taken c.args.piece.now) c.args.moment.0)
+    (sym c.self.view_is)
+    (serves-fed g.D.SectorDisk.medium c.args.self.now c.advance.new.self c.serve.new.self c.args.conn (take c.in-Ok.taken c.args.piece.now)
+    c.args.moment.0 (rw c.seek.ensures.same at c.in_default.ensures.ok) c.in-Ok.ensures.ok)
 
 pub returns-in-Err-serve-clause-refused : goal.returns-in-Err-serve-clause-refused
 returns-in-Err-serve-clause-refused g c =

@@ -3,7 +3,7 @@ use Rattle.std.proofs.lemmas.Result.{IfOk-weaker}
 use Rattle.clap.specs.Words.{app_of, with_rule}
 use Rattle.clap.specs.declared.builder.command.Command.TheViews.{out-Command}
 use Rattle.ipc_command.proofs.Commands.{no_globals}
-use Rattle.ipc_command.proofs.command.list.Goals as goal
+use Rattle.ipc_command.proofs.command.device_command.Goals as goal
 
 pub returns : goal.returns
 returns c =
