@@ -26,7 +26,8 @@ ROOT = Path(__file__).resolve().parent.parent
 PREFIX = "/usr/local"
 # Files of the repository that are there to be read, or to be run as they are. They keep their places, and so do links.
 PYTHON = ["clients/python/README.md", "clients/python/pyproject.toml", "clients/python/ipcd"]
-PAGES = ["README.md", "docs/*.md", "examples", *PYTHON]
+PAGES = ["README.md", "CHANGELOG.md", "CONTRIBUTING.md", "docs/*.md", "docs/pictures", "bench/LOG.md", "examples"]
+PAGES += PYTHON
 DOC = "share/doc/ipcd"
 CLIENTS = "bin/ipcd-run"
 CHECK = "sha256sum --check --strict --quiet MANIFEST"

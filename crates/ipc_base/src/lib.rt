@@ -1,4 +1,33 @@
 //! What every crate of the server speaks of: error numbers, identities, flags, limits and fields of bytes.
+//!
+//! Where a rule stands (definition, code, proof):
+//!
+//! - An error number: `specs/Errno.antt`, `src/errno.rt`
+//! - A limit: 'A limit' in docs/CHANGING.md has its files
+//! - A field of another size or kind: `specs/Numbers.antt`, `src/field.rt`, `src/put.rt`, `src/cursor.rt`
+//! - How far an adjustment may go: `specs/Adjustment.antt`
+//! - The longest reply: `longest_body` in `specs/Limits.antt`, `longest_reply` in `src/limits.rt`
+//! - Laws of tables: `specs/Table.antt`, `proofs/CallerLemmas.antt`
+//!
+//! What the clauses say:
+//!
+//! - `Errno::number` is the number of Linux. `from_number` answers the error that has a number (`each`), and answers no
+//!   error with another number (`known`).
+//! - If `Limits::check` is Ok, each field passes (`ok`); if it is not, its error names the first field that fails
+//!   (`first`). `standard` and `small` are the limits of the definitions (`limits`), and pass their check (`passed`).
+//!   `longest_reply` is the length of the longest reply under limits that passed (`longest`), and is at most 65554
+//!   (`bounded`).
+//! - `Cursor` reads exactly the field at the front of its bytes and leaves the rest. If fewer bytes are there than the
+//!   field has, it answers `None` and takes nothing (`Reads`). `Put` puts exactly the field's bytes at its place. If
+//!   the buffer is too short, it answers `false` and changes nothing (`Puts`); `Put::field` puts a number in the field
+//!   that it knows, and `Field::to_bytes` is the bytes of it. `Cursor::units` gives what is left, if it is whole units
+//!   of so many bytes. `take_fields` takes the numbers of some sizes from the front: these and what is left are all the
+//!   bytes (`some`), and it answers `None` only if no such numbers stand there (`none`).
+//!
+//! - `ObjectMap` is a list of numbered objects: `push` adds one after the others (`ok`) or leaves them (`err`),
+//!   `is_next` says whether a number may come, `object` gives the bytes. It meets the trait `Objects`: how many there
+//!   are and that their numbers rise (`count`, `objects`), and of each its number, its length and 512 bytes from a
+//!   place on, whatever mark of it was brought along (`bytes`, `mark`). `window_of` is these 512 bytes of some bytes.
 #![tactic(auto)]
 
 mod cursor;

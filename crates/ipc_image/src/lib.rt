@@ -13,6 +13,55 @@
 //! | `Shape` | the form of a `Saved` one: the sizes of its numbers, and how many bytes come after these |
 //! | `Tree` | a value of a `Shape`: the numbers, and the bytes after them |
 //! | `Wide` | the trait of what is read before a save, so that each of its numbers is known to have its place |
+//!
+//! Where a rule stands (definition, code, proof):
+//!
+//! - The superblock, and the places on a device: `specs/Superblock.antt`, `src/superblock.rt`, `src/places.rt`;
+//!   docs/DEVICE.md
+//! - What a version fixes: `specs/Format.antt`, `src/format.rt`
+//! - How many sectors a device needs: `specs/Sizes.antt`, `src/sizes.rt`, `proofs/Bounds.antt`; docs/DEVICE.md
+//! - The record of an event: `specs/Records.antt`, `src/records.rt`, `proofs/EventRecords.antt`
+//! - The bytes of a saved object: `specs/Saved.antt`, `specs/Shape.antt`, and its file in `src/` (`src/clock.rt`,
+//!   `src/process.rt`, `src/waiting.rt`, ..); docs/DEVICE.md
+//! - Lists, objects with a key, objects of a kind: `src/saved.rt`, `src/entry.rt`, `src/kind.rt`, `src/stored.rt`
+//! - Which object is which, and in what order a state is rebuilt: `src/state_objects.rt`, `src/restoring.rt`
+//! - Which objects count as changed, by number: `specs/Changed.antt`, `src/engine_objects.rt`
+//!
+//! What the clauses say:
+//!
+//! - What a device says is read by its form (`Format`): version 1 or version 2, and no other (`specs/Format.antt`).
+//! - `area` and `need` are the numbers of sectors of the definitions (`specs/Sizes.antt`) for a device of a given form,
+//!   under limits that passed their check (`exact`): at most 126090 and 252440 (`bounded`). No sum or product on the
+//!   way overflows.
+//! - `write_superblock` makes the sector exactly the bytes of the definition (`specs/Superblock.antt`), zeros included.
+//! - `read_superblock` answers a number of sectors and limits only if the sector is the superblock of a device of the
+//!   given form, of so many with these limits (`ok`), of no more than the disk has (`room`), and answers them whenever
+//!   it is (`only`); the limits passed their check (`passed`), and one of which the version has no number is 1 (`of`).
+//!   Each fault is answered if, and only if, it is the first: `NotFormatted` if the sector does not begin as a
+//!   superblock (`not_formatted`), `Version` with the version that it names, if that is not the form's (`version`),
+//!   `Damaged` if the version is the form's and the sector is the superblock of no device of this form for which the
+//!   disk has room, with any limits (`damaged`).
+//! - `write_event` writes exactly the record of the event (`specs/Records.antt`) to the front of the buffer
+//!   (`written`), if it has room and the request is not too long for a length field (`fits`); if not, it answers
+//!   `false` and has changed nothing (`unchanged`). `record_len` is the number of these bytes (`exact`), at most 65809
+//!   (`bounded`). Each event has a record (`has`): its numbers fit, and its request has a frame.
+//! - `read_event` answers an event and a number of bytes only if the bytes begin with that event's record, which has
+//!   that many (`some`), and answers them whenever they do, whatever follows (`only`). It takes no memory.
+//! - Laws: what was written is read back (`superblock_is_read`); in each form a sector is the superblock of one device
+//!   with one set of limits, and no two (`a_sector_is_one_superblock`). A record that was written is read, whatever
+//!   follows it (`record_is_read`); bytes begin with the record of one event at most, so no record is the beginning of
+//!   another (`a_record_is_of_one_event`).
+//! - `objects_of` are the objects of a machine's state, `saved` of `specs/Saved.antt` (`objects`). The first four may
+//!   differ from what was saved, and each other one if the machine counts it as changed (`differs`, by `differs_in` of
+//!   `specs/Changed.antt`). They stand for that state (`stand`) and fit into an area with their table (`fit`).
+//!   `start_objects` are those of the first state. Both take no memory.
+//! - `engine_of` gives the machine whose state some objects of a device of the given form stand for (`stands`), under
+//!   these limits (`limits`), without replies (`outcomes`). It is `Unsound` only if they stand for no sound state
+//!   (`damaged`): also if one of them is of a kind that the version has not. Law: a sound state fits, as objects, into
+//!   an area under its limits (`a_saved_state_fits`), whose bytes can be counted in four (`an_area_can_be_counted`); in
+//!   each form objects stand for one state, and no two (`objects_stand_for_one_state`).
+//! - `first_below` is the first limit that is below another one, in the order of the limits, and none if each is at
+//!   least as great (`specs/Greater.antt`).
 #![tactic(auto)]
 
 mod adjustment_list;
