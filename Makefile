@@ -1,7 +1,8 @@
 # ipcd: the commands of this repository. They need the Rattle toolchain's `rt` on the path and Python, `runs`, `edits`
 # and `bench` also awk, `bench-serve` a C compiler, `memory` a C compiler to refuse allocations, and `serves` one to watch
-# and refuse calls of the system: without it these two say so, and refuse nothing. `runs` renders the manual page if
-# there is a man. `clients` says so without a C compiler, and tests only those in Python; its memcheck needs valgrind.
+# and refuse calls of the system: without it these two say so, and refuse nothing. `runs` renders the manual pages if
+# there are man and groff. `clients` says so without a C compiler, and tests only those in Python; its memcheck needs
+# valgrind.
 
 .PHONY: help try run test edits imports runs serves clients memory trials program install dist peers bench bench-serve \
 	bench-clients bench-peers
@@ -11,8 +12,8 @@ help:
 	@echo "make run    proves and builds what is needed, which takes an hour or more the first time, and says how"
 	@echo "            far it is; then it runs examples/device.sh: a message outlives the program. It may be stopped:"
 	@echo "            crates that are proved stay proved, and the next run goes on after them"
-	@echo "make install  puts the program, which 'make program' has built, its manual page, its unit for systemd and what"
-	@echo "            this starts it by below PREFIX, which is /usr/local if it is not given, in the folder DESTDIR"
+	@echo "make install  puts the program, which 'make program' has built, its manual pages, its unit for systemd, what this"
+	@echo "            starts it by, its user and its folder below PREFIX, /usr/local if it is not given, in DESTDIR"
 	@echo "make dist   packs what is built: out/ipcd-VERSION.tar.gz, with what 'make install' puts below PREFIX, documents,"
 	@echo "            examples, clients, and a MANIFEST of the commit, the toolchain's logic and sums, and of the last line"
 	@echo "            of the gate if 'make dist GATE=FILE' has what it printed. It needs git"
@@ -25,9 +26,11 @@ help:
 	@echo "make imports  that no crate names what is another's own, nor one that carries requests a call"
 	@echo "make runs   the program on scripts, also random ones beside models of semaphore sets and of System V segments,"
 	@echo "            command lines, a terminal and devices: what it prints and says, its exit status, and what it leaves in"
-	@echo "            the file; what 'make install' puts where, what 'make dist' packs, and the manual page"
+	@echo "            the file; what 'make install' puts where, what 'make dist' packs; and whether links, paths, manual"
+	@echo "            pages and pictures of the documents are right"
 	@echo "make serves the program as a server: clients by the dozen, crashes under load, what ends a connection, and what"
-	@echo "            docs/OPERATIONS.md says, also of what tells systemd that it is ready; looks at its device; the first sessions;"
+	@echo "            docs/OPERATIONS.md says, also of what tells systemd that it is ready; looks at its device, copies of it,"
+	@echo "            and what 'check' says of it; the first sessions;"
 	@echo "            examples/serve.sh, in which a message outlives a crash; examples/users.sh, two users of a queue;"
 	@echo "            examples/worker.sh, two who wait for jobs;"
 	@echo "            examples/lock.sh, a lock whose holder is killed; examples/notify.sh, one who is told of a message;"
@@ -38,8 +41,8 @@ help:
 	@echo "            and the Python package on the program: beside the system's own objects, over kills, by a false server."
 	@echo "            'make install' puts those in C below PREFIX, if they are built. Two minutes, once built"
 	@echo "make peers  other people's programs on the kernel's objects and through ipcd-run; as uid 0 it installs them"
-	@echo "make memory the programs, with each allocation of a script refused in turn, of a listing and an opening of what it"
-	@echo "            leaves, and of each public call that may need memory, by itself"
+	@echo "make memory the programs, with each allocation of a script refused in turn, of a listing, an opening and a copy of"
+	@echo "            what it leaves, and of each public call that may need memory, by itself"
 	@echo "make trials scripts that are stopped at each call on their disk, with each choice of what a crash keeps, or of which"
 	@echo "            one call fails, openings and formats too: what opens is what was answered, or one line more; an upgrade"
 	@echo "            that is stopped or fails so: what it leaves is of version 1 or 2, and has all that was there; devices"
@@ -75,10 +78,15 @@ BUILT = crates/ipcd/out/ipcd
 install:
 	@[ -x $(BUILT) ] || { echo "there is no $(BUILT): 'make program' comes first" >&2; exit 1; }
 	install -d "$(DESTDIR)$(PREFIX)/bin" "$(DESTDIR)$(PREFIX)/libexec/ipcd" "$(DESTDIR)$(PREFIX)/share/man/man8" \
-		"$(DESTDIR)$(UNITS)"
+		"$(DESTDIR)$(PREFIX)/share/man/man7" "$(DESTDIR)$(PREFIX)/share/man/man5" "$(DESTDIR)$(UNITS)" \
+		"$(DESTDIR)$(PREFIX)/lib/sysusers.d" "$(DESTDIR)$(PREFIX)/lib/tmpfiles.d"
 	install -m 0755 $(BUILT) "$(DESTDIR)$(PREFIX)/bin/ipcd"
 	install -m 0755 contrib/ipcd-notify "$(DESTDIR)$(PREFIX)/libexec/ipcd/ipcd-notify"
 	install -m 0644 docs/ipcd.8 "$(DESTDIR)$(PREFIX)/share/man/man8/ipcd.8"
+	install -m 0644 docs/ipcd-protocol.7 "$(DESTDIR)$(PREFIX)/share/man/man7/ipcd-protocol.7"
+	install -m 0644 docs/ipcd-device.5 "$(DESTDIR)$(PREFIX)/share/man/man5/ipcd-device.5"
+	install -m 0644 contrib/ipcd.sysusers "$(DESTDIR)$(PREFIX)/lib/sysusers.d/ipcd.conf"
+	install -m 0644 contrib/ipcd.tmpfiles "$(DESTDIR)$(PREFIX)/lib/tmpfiles.d/ipcd.conf"
 	install -m 0644 contrib/ipcd.service "$(DESTDIR)$(UNITS)/ipcd.service"
 	sed -i "s|/usr/local/|$(PREFIX)/|g" "$(DESTDIR)$(UNITS)/ipcd.service"
 	@if [ -x clients/c/out/ipcd-run ]; then $(MAKE) -s -C clients/c install; \
@@ -91,7 +99,7 @@ DIST = out
 dist:
 	@python3 tools/dist.py $(BUILT) $(DIST) $(GATE)
 
-REFUSE_EACH = python3 tests/refuse_each.py $(BUILT) crates/trials/out/trials
+REFUSE_EACH = python3 tests/scripts/refuse_each.py $(BUILT) crates/trials/out/trials
 
 memory: program
 	@python3 tools/build.py trials
@@ -103,8 +111,8 @@ memory: program
 TRIAL = crates/trials/out/trials
 EACH = 1
 TRIALS = $(TRIAL) stopped 1 < crates/trials/stdin && $(TRIAL) faulted 1 < crates/trials/stdin && \
-	python3 tests/upgraded.py $(TRIAL) $(EACH)0 && \
-	python3 tests/damaged.py $(BUILT) $(EACH) < tests/damaged.script && \
+	python3 tests/devices/upgraded.py $(TRIAL) $(EACH)0 && \
+	python3 tests/devices/damaged.py $(BUILT) $(EACH) < tests/devices/damaged.script && \
 	$(TRIAL) frames 1 && $(TRIAL) limits && $(TRIAL) limits small && \
 	test "$$($(TRIAL) batch)" = "a batch of 163 bytes, 2 writes, 2 syncs, 3 replies"
 
@@ -116,27 +124,28 @@ trials: program
 imports:
 	@sh tests/imports.sh
 
-RUNS = sh tests/runs.sh crates/ipcd/out/ipcd && python3 tests/terminal.py crates/ipcd/out/ipcd && \
-	python3 tests/words.py crates/ipcd/out/ipcd && python3 tests/scripts.py crates/ipcd/out/ipcd && \
-	python3 tests/sets.py crates/ipcd/out/ipcd && python3 tests/segments.py crates/ipcd/out/ipcd && \
-	python3 tests/install.py crates/ipcd/out/ipcd && python3 tests/dist.py crates/ipcd/out/ipcd && \
-	python3 tests/device.py crates/ipcd/out/ipcd && python3 tests/files.py crates/ipcd/out/ipcd && \
-	python3 tests/upgrade.py crates/ipcd/out/ipcd
+RUNS = sh tests/scripts/runs.sh crates/ipcd/out/ipcd && python3 tests/scripts/terminal.py crates/ipcd/out/ipcd && \
+	python3 tests/scripts/words.py crates/ipcd/out/ipcd && python3 tests/scripts/scripts.py crates/ipcd/out/ipcd && \
+	python3 tests/scripts/sets.py crates/ipcd/out/ipcd && python3 tests/scripts/segments.py crates/ipcd/out/ipcd && \
+	python3 tests/system/install.py crates/ipcd/out/ipcd && python3 tests/system/dist.py crates/ipcd/out/ipcd && \
+	python3 tests/devices/device.py crates/ipcd/out/ipcd && python3 tests/devices/files.py crates/ipcd/out/ipcd && \
+	python3 tests/devices/upgrade.py crates/ipcd/out/ipcd && python3 tests/system/documents.py
 
 runs: program
 	@$(RUNS)
 
-SERVES = python3 tests/serve.py crates/ipcd/out/ipcd && python3 tests/operations.py crates/ipcd/out/ipcd && \
-	python3 tests/on_time.py crates/ipcd/out/ipcd && python3 tests/notify.py crates/ipcd/out/ipcd && \
-	python3 tests/looks.py crates/ipcd/out/ipcd && \
-	python3 tests/session.py crates/ipcd/out/ipcd && sh examples/serve.sh crates/ipcd/out/ipcd && \
+SERVES = python3 tests/sockets/serve.py crates/ipcd/out/ipcd && python3 tests/system/operations.py crates/ipcd/out/ipcd && \
+	python3 tests/sockets/on_time.py crates/ipcd/out/ipcd && python3 tests/system/notify.py crates/ipcd/out/ipcd && \
+	python3 tests/devices/looks.py crates/ipcd/out/ipcd && python3 tests/devices/backups.py crates/ipcd/out/ipcd && \
+	python3 tests/devices/check.py crates/ipcd/out/ipcd && python3 tests/sockets/metrics.py crates/ipcd/out/ipcd && \
+	python3 tests/system/session.py crates/ipcd/out/ipcd && sh examples/serve.sh crates/ipcd/out/ipcd && \
 	sh examples/users.sh crates/ipcd/out/ipcd && sh examples/worker.sh crates/ipcd/out/ipcd && \
 	sh examples/lock.sh crates/ipcd/out/ipcd && sh examples/notify.sh crates/ipcd/out/ipcd && \
-	python3 tests/waiting.py crates/ipcd/out/ipcd && python3 tests/waiting_load.py crates/ipcd/out/ipcd && \
-	python3 tests/semaphores.py crates/ipcd/out/ipcd && python3 tests/posix_queues.py crates/ipcd/out/ipcd && \
-	python3 tests/named_objects.py crates/ipcd/out/ipcd && python3 tests/attachments.py crates/ipcd/out/ipcd && \
-	python3 tests/calls.py crates/ipcd/out/ipcd && python3 tests/sockets.py crates/ipcd/out/ipcd && \
-	python3 tests/script_calls.py crates/ipcd/out/ipcd && python3 tests/costs.py crates/ipcd/out/ipcd
+	python3 tests/sockets/waiting.py crates/ipcd/out/ipcd && python3 tests/sockets/waiting_load.py crates/ipcd/out/ipcd && \
+	python3 tests/sockets/semaphores.py crates/ipcd/out/ipcd && python3 tests/sockets/posix_queues.py crates/ipcd/out/ipcd && \
+	python3 tests/sockets/named_objects.py crates/ipcd/out/ipcd && python3 tests/sockets/attachments.py crates/ipcd/out/ipcd && \
+	python3 tests/system/calls.py crates/ipcd/out/ipcd && python3 tests/sockets/sockets.py crates/ipcd/out/ipcd && \
+	python3 tests/scripts/script_calls.py crates/ipcd/out/ipcd && python3 tests/system/costs.py crates/ipcd/out/ipcd
 
 serves: program
 	@$(SERVES)
@@ -182,4 +191,5 @@ bench-peers: program
 # It needs Python and a C compiler.
 bench-serve: program
 	@status=0; python3 bench/serve.py $(BUILT) || status=1; echo; python3 bench/syncs.py $(BUILT) || status=1; echo; \
-		python3 bench/waiters.py $(BUILT) || status=1; exit $$status
+		python3 bench/waiters.py $(BUILT) || status=1; echo; python3 bench/metrics.py $(BUILT) || status=1; \
+		exit $$status

@@ -41,9 +41,11 @@ def build(source: str, *flags: str) -> None:
 
 
 @contextmanager
-def serving(program: str, *before: str) -> Iterator[int]:
-    """A server of the device that is there, which is ready: its pid. Words before its command line run it."""
-    with subprocess.Popen([*before, program, "serve", "device", "socket"], stdout=subprocess.PIPE) as server:
+def serving(program: str, *before: str, words: tuple[str, ...] = ()) -> Iterator[int]:
+    """A server of the device that is there, which is ready: its pid. Words before its command line run it, and others
+    end it."""
+    line = [*before, program, "serve", "device", "socket", *words]
+    with subprocess.Popen(line, stdout=subprocess.PIPE) as server:
         try:
             server.stdout.readline()
             yield server.pid

@@ -4,7 +4,7 @@
 
 Two loads follow each other (bench/serve_load.c), in which each client makes a hundred requests, and so
 many more. What is told is the difference, so no client's start counts. The server's syncs are counted
-by tests/watch_calls.c. The status is 1 if a bar is missed.
+by tests/lib/watch_calls.c. The status is 1 if a bar is missed.
 """
 
 from __future__ import annotations
@@ -47,7 +47,7 @@ def main() -> int:
     print(f"{CLIENTS} clients with {AHEAD} requests in flight each:")
     with in_a_folder():
         build("serve_load.c")
-        build("../tests/watch_calls.c", "-shared", "-fPIC")
+        build("../tests/lib/watch_calls.c", "-shared", "-fPIC")
         ratios = [measure(program, what, more) for what in LOADS]
     return 0 if min(ratios) >= WANTED else 1
 

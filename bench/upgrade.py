@@ -2,7 +2,7 @@
 
     python3 bench/upgrade.py PROGRAM [TIMES]
 
-The device is of version 1, written by tests/device_layout.py, with as much as its limits allow: queues
+The device is of version 1, written by tests/lib/device_layout.py, with as much as its limits allow: queues
 full of messages of one byte, sets, an adjustment of each process at each semaphore, POSIX queues, named
 semaphores, segments, and a full journal. `upgrade` grows its file to what version 2 needs, so it writes
 all sectors that are new. The status is 1 if the median misses the bar. The files are in a new folder in
@@ -20,7 +20,7 @@ from pathlib import Path
 from statistics import median
 
 REPOSITORY = Path(__file__).resolve().parent.parent
-sys.path.insert(0, str(REPOSITORY / "tests"))
+sys.path.insert(0, str(REPOSITORY / "tests/lib"))
 sys.dont_write_bytecode = True
 
 from device_layout import (  # noqa: E402

@@ -28,7 +28,7 @@ HERE = Path(__file__).resolve().parent
 OUT = HERE.parent / "out"
 WANTED = sys.argv[2:]
 del sys.argv[2:]
-sys.path.insert(0, str(HERE.parents[2] / "tests"))
+sys.path.insert(0, str(HERE.parents[2] / "tests/lib"))
 sys.path.insert(0, str(HERE))
 
 from false_server import FAULTS, HALF_AFTER_INTERRUPT, INTERRUPTED, TORN, Fault, FalseServer  # noqa: E402

@@ -7,4 +7,4 @@ from pathlib import Path
 
 PACKAGE = Path(__file__).resolve().parent.parent
 sys.dont_write_bytecode = True
-sys.path[:0] = [str(PACKAGE), str(PACKAGE.parent.parent / "tests")]
+sys.path[:0] = [str(PACKAGE), str(PACKAGE.parent.parent / "tests/lib")]
