@@ -113,11 +113,15 @@ class Server:
         self.process.send_signal(number)
         self.ends(-number)
 
+    def stands_still(self) -> None:
+        """From now on it sees nothing of what its clients do, until it goes on or is killed."""
+        self.process.send_signal(signal.SIGSTOP)
+        os.waitid(os.P_PID, self.process.pid, os.WSTOPPED)
+
     @contextmanager
     def stopped(self) -> Iterator[None]:
         """It stands still meanwhile. What its clients do, it sees in one turn when it goes on."""
-        self.process.send_signal(signal.SIGSTOP)
-        os.waitid(os.P_PID, self.process.pid, os.WSTOPPED)
+        self.stands_still()
         yield
         self.process.send_signal(signal.SIGCONT)
 

@@ -298,7 +298,7 @@ def dies(other: Other) -> None:
 def kept() -> None:
     """A server that is killed gives all attachments up: those of the greatest pid last. What was removed is gone."""
     printed("format", "device", "--small")
-    with killed(), process() as client, process() as two:
+    with killed() as server, process() as client, process() as two:
         equals((client.shmget(-5, 1000, NEW), client.shmget(6, 10, NEW)), (1, 2))
         for shmid in (1, 2):
             two.shmat(shmid)
@@ -307,6 +307,8 @@ def kept() -> None:
         client.shmctl_rmid(2)
         equals(client.shmctl_stat(1)[9:12], (1, 1, 2))
         before = int(1000 * time.time())
+        # Both clients are there when it is killed.
+        server.stands_still()
     with killed(), process() as client:
         stat = client.shmctl_stat(1)
         # dtime is the server's clock as it was.
