@@ -368,7 +368,7 @@ A_BYTE, EIGHT_TIMES = 4, 10
 SPREAD = 0.05
 # Seconds of a save of the most adjustments that there may be.
 ADJUSTMENTS = 0.005
-ROUNDS = 6
+ROUNDS = 20
 
 
 def asks(connection: int, *requests: bytes) -> str:
