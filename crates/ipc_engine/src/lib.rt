@@ -43,43 +43,57 @@
 //!   one in which a call waits that could go on. `list` has a row for each object, message queues and sets by rising
 //!   identifier, then POSIX queues, named semaphores and segments, each kind by name, and last System V segments by
 //!   rising identifier (`specs/Listing.antt`).
-//! - Laws of waiting: after an event no call waits that could go on, and none whose deadline has come, the latter
-//!   whatever the state was before (`nobody_waits_who_could_go_on` `waits`, `early`). There are no more replies than
-//!   requests (`a_request_is_answered_once`): the replies that an event sends a process, and one if a call of it waits
-//!   then, are no more than one if a call of it waited before, and one if it makes a request by the event. So no call
-//!   is answered both by what it waits for and by its deadline, or twice. The law counts replies, and a notification,
-//!   which has serial 0, is none; that a reply has the serial of its request is said by `the_earliest_goes_on_first`
-//!   `answered` and `deadlines_end_calls`. The first in the list that can go on does so first
-//!   (`the_earliest_goes_on_first` `first`); its process is sent one reply, with its serial, and after it goes the
-//!   notification that it fires, if one (`answered`), and it has left the list (`left`). A call that waits has to wait
-//!   on when another process's call has come to its end, if what that changes does not concern it
-//!   (`calls_of_no_concern_wait_on`): so it is not tried, and `step` is that of the definitions all the same. A call
-//!   that cannot go on joins the end of the list (`call_that_cannot_go_on_waits` `joins`), or, if its deadline is at or
-//!   before the clock, is answered as if that had come (`ends`). A moment ends the calls whose deadline is at or before
-//!   it, in the order in which they came, and no other (`deadlines_end_calls`). One of a process of which a call waits
-//!   is EALREADY and changes nothing (`refused_call_changes_nothing` `waiting`). msgsnd and msgrcv have no deadline;
-//!   that of semop comes after its timeout, and mq_send, mq_receive and sem_wait name a moment (`deadline_of`). A
-//!   restart leaves no call (`restart_leaves_no_call`).
-//! - Laws: `step_keeps_soundness`; `replies_fit`; an event causes no more frames than two for each process that there
-//!   may be, and two (`replies_are_few`); what it sends a process, and what the process is owed then, are no more bytes
-//!   than what it was owed before, and the longest reply if it asked by the event (`replies_are_asked_for`); no process
-//!   is owed more than `most_owed`, and what is no process nothing (`debts_are_bounded`); of a process that asks and is
-//!   sent nothing no call waited, and one waits then (`unanswered_request_waits`); the notifications for which a
-//!   process is registered are among what it is owed, so each has its room from the reply to its mq_notify on; the last
-//!   reply of a HELLO is its own (`hello_is_answered_last`); if no call waits whose deadline has come, as after every
-//!   event and in every sound state, a tick at or before the clock does nothing (`late_tick_does_nothing`); a run is a
-//!   run of its parts (`run_of_parts`); every event sets the clock (`event_sets_clock`); a call that is refused leaves
-//!   what its moment leaves (`refused_call_changes_nothing`); a call whose request is INTERRUPT is the event of that
-//!   name (`interrupt_call_is_an_interrupt`); and which events change the processes (`connect_adds_one_process`,
-//!   `exit_removes_one_process`, `restart_leaves_no_process`, `call_interrupt_and_tick_keep_processes`,
-//!   `pid_is_below_next`). A restart keeps the queues of System V, the identifiers of the sets, and the next numbers of
-//!   a process, of a set and of a POSIX queue (`restart_keeps_objects`); POSIX queues with a name as they are, but for
-//!   a registration (`named`), and no other (`no_other`); named semaphores and segments with a name as they are, and no
-//!   other, with their next numbers (`psems`, `segments`); of the System V segments, each detached by every process
-//!   that had it attached, those that are not marked, if the state was sound (`shared`); it adds the adjustments of all
-//!   processes, of which none is left (`restart_adds_adjustments`); a process that has left has none
-//!   (`exit_leaves_no_adjustment`). A restart twice is once (`restart_twice_is_once`). Objects with a name are listed
-//!   by the bytes of their names, those of the same name as they stood, each once (`objects_are_listed_by_name`).
+//! - Laws of waiting:
+//!   - after an event no call waits that could go on, and none whose deadline has come, the latter whatever the state
+//!     was before (`nobody_waits_who_could_go_on` `waits`, `early`).
+//!   - There are no more replies than requests (`a_request_is_answered_once`): the replies that an event sends a
+//!     process, and one if a call of it waits then, are no more than one if a call of it waited before, and one if it
+//!     makes a request by the event. So no call is answered both by what it waits for and by its deadline, or twice.
+//!     The law counts replies, and a notification, which has serial 0, is none; that a reply has the serial of its
+//!     request is said by `the_earliest_goes_on_first` `answered` and `deadlines_end_calls`.
+//!   - The first in the list that can go on does so first (`the_earliest_goes_on_first` `first`); its process is sent
+//!     one reply, with its serial, and after it goes the notification that it fires, if one (`answered`), and it has
+//!     left the list (`left`).
+//!   - A call that waits has to wait on when another process's call has come to its end, if what that changes does not
+//!     concern it (`calls_of_no_concern_wait_on`): so it is not tried, and `step` is that of the definitions all the
+//!     same.
+//!   - A call that cannot go on joins the end of the list (`call_that_cannot_go_on_waits` `joins`), or, if its deadline
+//!     is at or before the clock, is answered as if that had come (`ends`).
+//!   - A moment ends the calls whose deadline is at or before it, in the order in which they came, and no other
+//!     (`deadlines_end_calls`). One of a process of which a call waits is EALREADY and changes nothing
+//!     (`refused_call_changes_nothing` `waiting`).
+//!   - msgsnd and msgrcv have no deadline; that of semop comes after its timeout, and mq_send, mq_receive and sem_wait
+//!     name a moment (`deadline_of`).
+//!   - A restart leaves no call (`restart_leaves_no_call`).
+//! - Laws:
+//!   - `step_keeps_soundness`.
+//!   - `replies_fit`.
+//!   - an event causes no more frames than two for each process that there may be, and two (`replies_are_few`).
+//!   - what it sends a process, and what the process is owed then, are no more bytes than what it was owed before, and
+//!     the longest reply if it asked by the event (`replies_are_asked_for`).
+//!   - no process is owed more than `most_owed`, and what is no process nothing (`debts_are_bounded`).
+//!   - of a process that asks and is sent nothing no call waited, and one waits then (`unanswered_request_waits`); the
+//!     notifications for which a process is registered are among what it is owed, so each has its room from the reply
+//!     to its mq_notify on.
+//!   - the last reply of a HELLO is its own (`hello_is_answered_last`).
+//!   - if no call waits whose deadline has come, as after every event and in every sound state, a tick at or before the
+//!     clock does nothing (`late_tick_does_nothing`).
+//!   - a run is a run of its parts (`run_of_parts`).
+//!   - every event sets the clock (`event_sets_clock`).
+//!   - a call that is refused leaves what its moment leaves (`refused_call_changes_nothing`).
+//!   - a call whose request is INTERRUPT is the event of that name (`interrupt_call_is_an_interrupt`).
+//!   - which events change the processes (`connect_adds_one_process`, `exit_removes_one_process`,
+//!     `restart_leaves_no_process`, `call_interrupt_and_tick_keep_processes`, `pid_is_below_next`).
+//!   - A restart keeps the queues of System V, the identifiers of the sets, and the next numbers of a process, of a set
+//!     and of a POSIX queue (`restart_keeps_objects`); POSIX queues with a name as they are, but for a registration
+//!     (`named`), and no other (`no_other`); named semaphores and segments with a name as they are, and no other, with
+//!     their next numbers (`psems`, `segments`); of the System V segments, each detached by every process that had it
+//!     attached, those that are not marked, if the state was sound (`shared`); it adds the adjustments of all
+//!     processes, of which none is left (`restart_adds_adjustments`); a process that has left has none
+//!     (`exit_leaves_no_adjustment`).
+//!   - A restart twice is once (`restart_twice_is_once`).
+//!   - Objects with a name are listed by the bytes of their names, those of the same name as they stood, each once
+//!     (`objects_are_listed_by_name`).
 #![tactic(auto)]
 
 mod asking;

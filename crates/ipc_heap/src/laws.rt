@@ -4,10 +4,11 @@ ghost use Rattle.std.specs.Prelude.{◌≡◌, ◌<◌, ℕ, length};
 ghost use Rattle.ipc_base.specs.Objects.{PlainObjects};
 ghost use Rattle.ipc_disk.specs.Growth.{with_zeros};
 ghost use Rattle.ipc_disk.specs.Medium.{Image};
-ghost use Rattle.ipc_disk.specs.Range.{IsInside, IsWithin};
+ghost use Rattle.ipc_disk.specs.Range.{IsInside, IsOutside, IsWithin};
 ghost use Rattle.ipc_disk.specs.declared.range.Range.{Range};
 ghost use Rattle.ipc_heap.specs.Damage.{IsFirstDamage};
 ghost use Rattle.ipc_heap.specs.Heap.{Holds};
+ghost use Rattle.ipc_heap.specs.Meanwhile.{KeepsUsed};
 
 /// An image of a disk is one heap, and no two.
 pub fn an_image_is_one_heap()
@@ -28,6 +29,13 @@ pub fn a_wider_range_has_the_same_heap()
     ensures { (range wide : Range) (root epoch : ℕ) (objects : PlainObjects) (image : Image)
         → ((i : ℕ) → IsInside range i → IsInside wide i)
         → Holds range root epoch objects image → Holds wide root epoch objects image }
+{}
+
+/// A later image that keeps what is used has the same heap.
+pub fn a_later_image_has_the_same_heap()
+    ensures { (range : Range) (root epoch : ℕ) (objects : PlainObjects) (earlier later : Image)
+        → IsOutside range root → KeepsUsed range root earlier later
+        → Holds range root epoch objects earlier → Holds range root epoch objects later }
 {}
 
 /// Where damage is seen, no heap stands.

@@ -40,9 +40,12 @@
 //!   counted: the sectors of an object by a put, those of the table and the root by a flip, with two syncs (`counts`).
 //!   `create` and `flip` ask that four bytes can count those of the table (`counted`), as they can in a range of at
 //!   most 2^27 sectors.
-//! - Laws: an image is one heap, and no two (`an_image_is_one_heap`); where damage is seen, no heap stands
-//!   (`a_damaged_image_is_no_heap`); a heap is there on a disk that has grown
-//!   (`a_disk_that_has_grown_has_the_same_heap`), and seen from a wider range (`a_wider_range_has_the_same_heap`).
+//! - Laws:
+//!   - an image is one heap, and no two (`an_image_is_one_heap`).
+//!   - where damage is seen, no heap stands (`a_damaged_image_is_no_heap`).
+//!   - a heap is there on a disk that has grown (`a_disk_that_has_grown_has_the_same_heap`), seen from a wider range
+//!     (`a_wider_range_has_the_same_heap`), and in an image that keeps what is used
+//!     (`a_later_image_has_the_same_heap`).
 #![tactic(auto)]
 
 mod error;
@@ -61,5 +64,5 @@ pub use error::{HeapError, OpenError};
 pub use heap::Heap;
 pub use laws::{
     a_damaged_image_is_no_heap, a_disk_that_has_grown_has_the_same_heap,
-    a_wider_range_has_the_same_heap, an_image_is_one_heap,
+    a_later_image_has_the_same_heap, a_wider_range_has_the_same_heap, an_image_is_one_heap,
 };

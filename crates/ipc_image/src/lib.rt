@@ -47,10 +47,12 @@
 //!   (`bounded`). Each event has a record (`has`): its numbers fit, and its request has a frame.
 //! - `read_event` answers an event and a number of bytes only if the bytes begin with that event's record, which has
 //!   that many (`some`), and answers them whenever they do, whatever follows (`only`). It takes no memory.
-//! - Laws: what was written is read back (`superblock_is_read`); in each form a sector is the superblock of one device
-//!   with one set of limits, and no two (`a_sector_is_one_superblock`). A record that was written is read, whatever
-//!   follows it (`record_is_read`); bytes begin with the record of one event at most, so no record is the beginning of
-//!   another (`a_record_is_of_one_event`).
+//! - Laws:
+//!   - what was written is read back (`superblock_is_read`).
+//!   - in each form a sector is the superblock of one device with one set of limits, and no two
+//!     (`a_sector_is_one_superblock`).
+//!   - A record that was written is read, whatever follows it (`record_is_read`); bytes begin with the record of one
+//!     event at most, so no record is the beginning of another (`a_record_is_of_one_event`).
 //! - `objects_of` are the objects of a machine's state, `saved` of `specs/Saved.antt` (`objects`). The first four may
 //!   differ from what was saved, and each other one if the machine counts it as changed (`differs`, by `differs_in` of
 //!   `specs/Changed.antt`). They stand for that state (`stand`) and fit into an area with their table (`fit`).

@@ -35,8 +35,8 @@
 //!   the same after it (`same`). A failure is answered only if the disk counted one (`counts`, `reads`).
 //! - Laws:
 //!   - an image holds one list of batches at an epoch, and no two (`an_image_is_one_journal`).
-//!   - who reads the header, and then each sector of the body in an image in which the batches of that header stand, has
-//!     read those batches (`a_journal_that_grows_is_read_whole`).
+//!   - who reads the header, and then each sector of the body in an image in which the batches of that header stand,
+//!     has read those batches (`a_journal_that_grows_is_read_whole`).
 #![tactic(auto)]
 
 mod error;

@@ -1,6 +1,6 @@
 //! The descriptors of one process.
 
-ghost use Rattle.std.specs.Prelude.{◌≡◌, ◌≢◌, ◌<◌, ◌≤◌, ◌==◌, ◌^◌, ◌+◌, ◌++◌, ◌∷◌, ◌↔◌, ℕ, [], None};
+ghost use Rattle.std.specs.Prelude.{◌≡◌, ◌≢◌, ◌<◌, ◌≤◌, ◌==◌, ◌^◌, ◌+◌, ◌++◌, ◌∷◌, ◌↔◌, ℕ, [], None, true};
 ghost use Rattle.std.specs.Prelude.{length, map, nat_eq, position, IfOk, OnOk, OnErr, IsTrue, IsSome};
 ghost use Rattle.ipc_base.specs.Table.{keys_of, value_at, without, IsRising};
 ghost use Rattle.ipc_state.specs.Descriptors.{Table, lowest_unused, opened, with_flags};
@@ -9,6 +9,7 @@ ghost use Rattle.ipc_state.specs.Descriptors.{most_descriptors, descriptor_row};
 use crate::numbered::{HasNumber, rise};
 use crate::parked::Object;
 use std::alloc::{AllocError, Global};
+use std::cell::Cell;
 use std::marker::Model;
 
 /// What a descriptor is open on, and the flags that still mean something after the open.
@@ -41,17 +42,23 @@ const MOST_DESCRIPTORS: usize = 32;
 #[derive(Drop)]
 pub struct Descriptors {
     rows: Vec<DescriptorRow>,
+    /// Not set unless the numbers rise: those that were read may stand in any order until they are tested.
+    rise: bool,
+    /// Where one was found last. There one is looked for first, so that a call finds its descriptor once.
+    recent: Cell<usize>,
 }
 
 impl Model for Descriptors {
-    ghost use Rattle.std.specs.Prelude.{◌≤◌, map, vec_capacity};
+    ghost use Rattle.std.specs.Prelude.{◌≡◌, ◌≤◌, ◌^◌, true, map, vec_capacity};
+    ghost use Rattle.ipc_base.specs.Table.{keys_of, IsRising};
     ghost use Rattle.ipc_state.specs.Descriptors.{Table, descriptor_row, most_descriptors};
 
     ghost Value = { Table };
 
     ghost view = { λ t. map descriptor_row t.rows.items };
 
-    ghost invariant = { λ t. most_descriptors ≤ vec_capacity t.rows };
+    ghost invariant = { λ t. (most_descriptors ≤ vec_capacity t.rows)
+        × (t.rise ≡ true → IsRising 0 (keys_of (map descriptor_row t.rows.items)) (2 ^ 32)) };
 }
 
 impl Descriptors {
@@ -61,6 +68,8 @@ impl Descriptors {
     {
         Ok(Descriptors {
             rows: Vec::with_capacity(alloc, MOST_DESCRIPTORS)?,
+            rise: true,
+            recent: Cell::new(0),
         })
     }
 
@@ -89,7 +98,8 @@ impl Descriptors {
     pub fn get(&self, fd: u32) -> Option<Descriptor>
         ensures { result ≡ value_at nat_eq self.now fd }
     {
-        let place = place_of(&self.rows, fd)?;
+        let place = place_of(&self.rows, fd, self.rise, self.recent.get())?;
+        self.recent.set(place);
         Some(self.rows[place].descriptor)
     }
 
@@ -113,7 +123,7 @@ impl Descriptors {
     pub fn set_flags(&mut self, fd: u32, flags: u32)
         ensures { self.new ≡ with_flags self.old fd flags }
     {
-        if let Some(place) = place_of(&self.rows, fd) {
+        if let Some(place) = place_of(&self.rows, fd, self.rise, self.recent.get()) {
             self.rows[place].descriptor.flags = flags;
         }
     }
@@ -123,7 +133,7 @@ impl Descriptors {
         ensures descriptor { result ≡ value_at nat_eq self.old fd }
         ensures others { self.new ≡ without nat_eq self.old fd }
     {
-        let place = place_of(&self.rows, fd)?;
+        let place = place_of(&self.rows, fd, self.rise, self.recent.get())?;
         Some(self.rows.remove(place).descriptor)
     }
 
@@ -139,6 +149,7 @@ impl Descriptors {
         ensures { self.new ≡ [] }
     {
         self.rows.clear();
+        self.rise = true;
     }
 
     /// Adds a descriptor that was read, at the end. Where there are more than there are places for, it grows. Refused
@@ -148,14 +159,19 @@ impl Descriptors {
         ensures err { OnErr result (self.new ≡ self.old) }
     {
         self.rows.push(DescriptorRow { fd, descriptor })?;
+        self.rise = false;
         Ok(())
     }
 }
 
-/// The place of the row that has a number.
-fn place_of(rows: &[DescriptorRow], fd: u32) -> Option<usize>
+/// The place of the first row that has a number. Where the numbers rise, there is no other.
+fn place_of(rows: &[DescriptorRow], fd: u32, rise: bool, recent: usize) -> Option<usize>
+    requires { rise ≡ true → IsRising 0 (keys_of (map descriptor_row rows.now)) (2 ^ 32) }
     ensures { result ≡ position (λ r. r.fd == fd) rows.now }
 {
+    if rise && recent < rows.len() && rows[recent].fd == fd {
+        return Some(recent);
+    }
     rows.iter().position(|row| row.fd == fd)
 }
 

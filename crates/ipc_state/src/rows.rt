@@ -12,6 +12,7 @@ ghost use Rattle.ipc_state.specs.Rows.{has_room, item_row};
 
 use crate::numbered::Item;
 use std::alloc::{AllocError, Global};
+use std::cell::Cell;
 use std::marker::Model;
 
 /// Items in the order in which they came; a contract sees the list. As long as their numbers rise, one is found by
@@ -22,6 +23,9 @@ pub(crate) struct Rows<T> {
     pub(crate) items: Vec<Item<T>>,
     /// Not set unless the numbers rise.
     rise: bool,
+    /// Where one was found last. There one is looked for first, so that a call which comes back to its object finds it
+    /// at once.
+    recent: Cell<usize>,
 }
 
 impl<T> Model for Rows<T> {
@@ -46,6 +50,7 @@ impl<T> Rows<T> {
         Rows {
             items: Vec::new(alloc),
             rise: true,
+            recent: Cell::new(0),
         }
     }
 
@@ -77,10 +82,14 @@ impl<T> Rows<T> {
     fn place(&self, number: u32) -> Option<usize>
         ensures { result ≡ position (λ e. e.number == number) self.now.items }
     {
-        if self.rise {
-            return place_of(&self.items, number);
+        if !self.rise {
+            return self.items.iter().position(|item| item.number == number);
         }
-        self.items.iter().position(|item| item.number == number)
+        let found = place_of(&self.items, number, self.recent.get());
+        if let Some(place) = found {
+            self.recent.set(place);
+        }
+        found
     }
 
     /// The one that has a number.
@@ -153,12 +162,16 @@ fn place_for<T>(items: &[Item<T>], number: u32) -> usize
     items.partition_point(|item| item.number < number)
 }
 
-/// The place of the one that has a number, where the numbers rise. As long as none was removed it stands as many places
-/// from the front as its number says, and the newest stands last: there it is looked for first.
-fn place_of<T>(items: &[Item<T>], number: u32) -> Option<usize>
+/// The place of the one that has a number, where the numbers rise. It is looked for first where one was found last, and
+/// then where it stands as long as none was removed: as many places from the front as its number says, and the newest
+/// last.
+fn place_of<T>(items: &[Item<T>], number: u32, recent: usize) -> Option<usize>
     requires { IsRising 0 (keys_of (map item_row items.now)) (2 ^ 32) }
     ensures { result ≡ position (λ e. e.number == number) items.now }
 {
+    if recent < items.len() && items[recent].number == number {
+        return Some(recent);
+    }
     let near = items.len().min(number as usize);
     if 0 < near && items[near - 1].number == number {
         return Some(near - 1);

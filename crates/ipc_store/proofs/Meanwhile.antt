@@ -32,7 +32,7 @@ use Rattle.ipc_image.specs.Format.{format}
 use Rattle.ipc_image.specs.Superblock.{IsSuperblockIn, sectors_in}
 use Rattle.ipc_store.specs.Batch.{batch_bytes}
 use Rattle.ipc_store.specs.Image.{HasBatches, StandsFor, epoch_at, journal_range, layout_of, named_sectors, objects_range}
-use Rattle.ipc_store.specs.Meanwhile.{GoesOn, IsNeeded, IsOfSameSave, IsRead, StaysReadable}
+use Rattle.ipc_store.specs.Meanwhile.{GoesOn, HasOneRoot, IsNeeded, IsOfSameSave, IsRead, StaysReadable}
 use Rattle.ipc_store.specs.Relations.Matches.{StoreMatches}
 use Rattle.ipc_store.specs.View.{StoreView}
 use Rattle.ipc_store.proofs.Committing.{bytes-are}
@@ -104,20 +104,28 @@ goes-on-then a b c (inl same) (inr turned) = inr (omega (arith, same-epoch a b s
 goes-on-then a b c (inr turned) (inl next) = inr (omega (arith, turned, same-epoch b c next))
 goes-on-then a b c (inr turned) (inr more) = inr (omega (arith, turned, more))
 
+-- under one root it is of the same save
+same-root : (a b : Image) → HasOneRoot a b → IsOfSameSave a b
+same-root a b (inl same, root) = same
+same-root a b (inr turned, root) = absurd (omega (arith, turned, ap epoch_in root))
+
 -- ---- what is read meanwhile
 
 module _ (first seen read : Image) (is : IsRead first seen read) where
+  seen-same : IsOfSameSave first seen
+  seen-same = same-root first seen is.one_root
+
   -- what is needed is as it is in each of the images
   read-sector : (i : ℕ) → IsNeeded first i → sector_at seen i ≡ sector_at read i
   read-sector i need =
       let from = is.outside i (needed-outside first i need) in
-      sym (same-sector first seen is.same i need) ∙ same-sector first from.0 from.1 i need ∙ sym from.2
+      sym (same-sector first seen seen-same i need) ∙ same-sector first from.0 (same-root first from.0 from.1) i need ∙ sym from.2
 
   pub read-stands : (limits : Limits) (was s : State) → StandsFor limits was first → StandsFor limits s seen → StandsFor limits s read
   read-stands limits was s began stands =
       let there = began.kept.there in
       let R : Range = its_range first in
-      let named : its_range seen ≡ R = sym (same-range first seen is.same) in
+      let named : its_range seen ≡ R = sym (same-range first seen seen-same) in
       let also : its_range seen ≡ its_range read = ap (λ (l : List ℕ). objects_range (sectors_in l)) (read-sector 0 (inl refl)) in
       let sector = read-sector 0 (inl refl) in
       let at = stands.kept.there in
@@ -126,7 +134,7 @@ module _ (first seen read : Image) (is : IsRead first seen read) where
       subst (λ (r : Range). HoldsIn r format.root stands.epoch a stands.kept.objects seen) named at.there in
       let one : there.allocation ≡ a =
       HoldsIn-one R format.root began.epoch stands.epoch there.allocation a began.kept.objects stands.kept.objects seen
-      (same-holds first seen is.same began.epoch there.allocation began.kept.objects there.there) holds in
+      (same-holds first seen seen-same began.epoch there.allocation began.kept.objects there.there) holds in
       let reads : HoldsIn R format.root stands.epoch a stands.kept.objects read =
       HoldsIn-sectors seen read R format.root stands.epoch a stands.kept.objects (read-sector format.root (inr (inl refl)))
       (λ i here. read-sector i (inr (inr (record {
@@ -142,7 +150,7 @@ module _ (first seen read : Image) (is : IsRead first seen read) where
         kept = record {
           device = record {
             superblock = subst (λ (l : List ℕ). IsSuperblockIn format (sectors_in l) limits l) sector stands.kept.device.superblock;
-            whole = omega (arith, stands.kept.device.whole, is.count, is.same.needed.count, ap sectors_in sector);
+            whole = omega (arith, stands.kept.device.whole, is.count, seen-same.needed.count, ap sectors_in sector);
           };
           objects = stands.kept.objects;
           there = record {

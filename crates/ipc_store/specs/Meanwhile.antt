@@ -37,15 +37,20 @@ GoesOn earlier later = IsOfSameSave earlier later ⊎ (epoch_at earlier < epoch_
 pub record StaysReadable {D : Type 0} (medium : D → Medium) (store : StoreView D) (new : D) : Type 0 where
   pub goes_on : (base : State) (pending : List PlainEvent) → StoreMatches (medium store.disk) store base pending
       → EachLater GoesOn (medium store.disk) (medium new)
-  pub stands_first : (base : State) (pending : List PlainEvent) (at : StoreMatches (medium store.disk) store base pending)
+  pub stands_first : (base : State) (pending : List PlainEvent)
+      (at : StoreMatches (medium store.disk) store base pending)
       → ComesInOrder medium store.journal (map batch_bytes at.device.batches) (batch_bytes pending) store.disk new
 
--- Sectors that were read one after another, each as some image has it that is of the save of the first one: those
--- outside the journal, the header of the journal as it was seen in one image, and after it the body, in images in which
--- the batches of that one stand.
+-- it goes on, and the root is the same
+abbrev pub HasOneRoot : Image → Image → Type 0
+HasOneRoot earlier later = GoesOn earlier later × (sector_at earlier format.root ≡ sector_at later format.root)
+
+-- Sectors that were read one after another, each as some image has it that goes on from the first one under the same
+-- root: those outside the journal, the header of the journal as it was seen in one of these images, and after it the
+-- body, in images in which the batches of that one stand.
 pub record IsRead (first seen read : Image) : Type 0 where
   pub count : length read ≡ length first
   pub outside : (i : ℕ) → IsOutside journal_range i
-      → (later : Image) × IsOfSameSave first later × (sector_at read i ≡ sector_at later i)
-  pub same : IsOfSameSave first seen
+      → (later : Image) × HasOneRoot first later × (sector_at read i ≡ sector_at later i)
+  pub one_root : HasOneRoot first seen
   pub journal : IsReadFrom journal_range (epoch_at seen) seen read

@@ -2,14 +2,15 @@
 
 ghost use Rattle.std.specs.Prelude.{◌≡◌, ◌<◌, ◌^◌, ◌++◌, List, [], length};
 ghost use Rattle.ipc_base.specs.declared.limits.Limits.{Limits};
-ghost use Rattle.ipc_disk.specs.Medium.{Image};
+ghost use Rattle.ipc_disk.specs.Medium.{Image, IsDurable};
 ghost use Rattle.ipc_state.specs.State.{State, restart};
 ghost use Rattle.ipc_engine.specs.Event.{PlainEvent};
 ghost use Rattle.ipc_store.specs.Batch.{batch_bytes, AreBatch};
 ghost use Rattle.ipc_store.specs.Histories.{History, Past, past_of, reopened, Keeps, Takes, OpensOn};
 ghost use Rattle.ipc_store.specs.Image.{StandsFor};
 ghost use Rattle.ipc_store.specs.Lives.{IsLeft, StoppedOpens, StandsAfter, Rests, Found};
-ghost use Rattle.ipc_store.specs.Meanwhile.{GoesOn, IsRead};
+ghost use Rattle.ipc_store.specs.Meanwhile.{GoesOn, IsRead, StaysReadable};
+ghost use Rattle.ipc_store.specs.Relations.Matches.{StoreMatches};
 ghost use Rattle.ipc_store.specs.Upgrade.{IsUpgraded, RestsOldOrNew, StoppedUpgrades};
 ghost use Rattle.ipc_store.specs.View.{StoreView};
 
@@ -64,9 +65,14 @@ pub fn a_look_is_of_one_image()
         → StandsFor limits s seen → IsRead first seen read → StandsFor limits s read }
 {}
 
-/// What goes on over some calls of a store, and then over others, has gone on over all of them.
-pub fn what_goes_on_has_gone_on()
-    ensures { (first mid later : Image) → GoesOn first mid → GoesOn mid later → GoesOn first later }
+/// Each image of a call on a store goes on from what was read before, if all of that was synced. What goes on over some
+/// calls, and then over others, has gone on over all of them.
+pub fn a_store_goes_on<D: SectorDisk>()
+    ensures call { (store : StoreView D) (new : D) (base : State) (pending : List PlainEvent)
+        → StoreMatches (D.medium store.disk) store base pending → IsDurable (D.medium store.disk)
+        → StaysReadable D.medium store new → (image : Image)
+        → (D.medium new).images_since (D.medium store.disk).moment image → GoesOn (D.medium store.disk).contents image }
+    ensures calls { (first mid later : Image) → GoesOn first mid → GoesOn mid later → GoesOn first later }
 {}
 
 /// A device of the version before stays one that stands for its state, or becomes one of the version of today that

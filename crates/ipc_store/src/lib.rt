@@ -59,10 +59,10 @@
 //!   `records`, `waiting`). It makes no call on the disk (`disk`). It wants room in the batch for the event's record
 //!   and a connected process. It is `Stopped` after a failed commit and at the last number of events (`stopped`), it
 //!   may be refused for memory only where the machine may (`memory`), and after a refusal nothing has changed (`err`).
-//! - `tally` is what the store has done since it was opened: its events by what they are, the refusals among its replies
-//!   by their errors, its commits and saves. Nothing that a store does hangs on it, and the value that clauses speak of
-//!   has none: that it counts right is tested (`metrics.py` of `tests/`). `disk`, `journal_used` and `journal_sectors`
-//!   show parts of the store.
+//! - `tally` is what the store has done since it was opened: its events by what they are, the refusals among its
+//!   replies by their errors, its commits and saves. Nothing that a store does hangs on it, and the value that clauses
+//!   speak of has none: that it counts right is tested (`metrics.py` of `tests/`). `disk`, `journal_used` and
+//!   `journal_sectors` show parts of the store.
 //! - `Store::commit` makes what waits last (`matches`; `commits`, by `IsCommitted` of `specs/View.antt`, whose fields
 //!   are named in what follows: `confirmed`). If the batch fits into the journal, it makes one write for each sector of
 //!   the batch and one more, and two syncs (`counts`), and the machine stays as it is, also in what counts as changed
@@ -100,10 +100,11 @@
 //!   epoch. And the sectors of a batch stand before a header counts it (`StaysReadable` of `specs/Meanwhile.antt`). The
 //!   law: sectors that were read one after another, each as some image has it that goes on from the first one under the
 //!   same root, the header of the journal before its body, stand for the state for which the device stood when that
-//!   header was read (`a_look_is_of_one_image`). What goes on over some calls, and then over others, has gone on over
-//!   all of them (`what_goes_on_has_gone_on`). No clause says that a look reads in this order, nor that between two
-//!   equal roots there was no other, since epochs only rise: the code of `look` does the one, and both are tested
-//!   (docs/PROMISES.md). Of an open, a format or an upgrade meanwhile the law does not speak.
+//!   header was read (`a_look_is_of_one_image`). Each image of a call goes on from what was read before it, if all of
+//!   that was synced, and what goes on over some calls, and then over others, has gone on over all of them
+//!   (`a_store_goes_on`). No clause says that a look reads in this order, nor that between two equal roots there was no
+//!   other, since epochs only rise: the code of `look` does the one, and both are tested (docs/PROMISES.md). Of an
+//!   open, a format or an upgrade meanwhile the law does not speak.
 //! - An image stands for one state under one set of limits, and no two (`an_image_stands_for_one_state`); a batch is of
 //!   one list of events (`a_batch_is_of_one_list`).
 //! - `engine`, `confirmed`, `has_room`, `has_room_for`, `events_left` and `close` show the value, each by its one
@@ -128,8 +129,8 @@ pub use batch::{EXIT_RECORD, TICK_RECORD};
 pub use fault::{CommitError, FormatError, OpenError, StepError, UpgradeError};
 pub use laws::{
     a_batch_is_of_one_list, a_look_is_of_one_image, a_stop_leaves_what_was_acknowledged,
-    an_image_stands_for_one_state, an_open_finds_what_stands_there,
-    an_open_finds_what_was_acknowledged, an_upgrade_keeps_the_state, what_goes_on_has_gone_on,
+    a_store_goes_on, an_image_stands_for_one_state, an_open_finds_what_stands_there,
+    an_open_finds_what_was_acknowledged, an_upgrade_keeps_the_state,
 };
 pub use looking::look;
 pub use opening::Unopened;

@@ -20,11 +20,14 @@
 //!   (`first`), and is none only if no call is due (`none`); the call is found by its process (`found`), and if it
 //!   leaves, the others that are due are left. `next_deadline` is the earliest deadline, which the list keeps. So
 //!   `first_due` looks at no call if none is due; no clause can say so, and no test does.
-//! - Laws. A call that enters is the last on its object, and the last that is due if it is; those on other objects stay
-//!   (`entered_is_last`). If a call leaves, each other process has what it had, and the others stay in order on each
-//!   object and among those that are due (`others_stay`). A call on an object is that of its process, and if it leaves,
-//!   those before it and after it are left (`others_on_its_object_stay`). What is due stays due, and one is due if and
-//!   only if the earliest deadline has come (`deadlines_come`).
+//! - Laws:
+//!   - A call that enters is the last on its object, and the last that is due if it is; those on other objects stay
+//!     (`entered_is_last`).
+//!   - If a call leaves, each other process has what it had, and the others stay in order on each object and among
+//!     those that are due (`others_stay`).
+//!   - A call on an object is that of its process, and if it leaves, those before it and after it are left
+//!     (`others_on_its_object_stay`).
+//!   - What is due stays due, and one is due if and only if the earliest deadline has come (`deadlines_come`).
 #![tactic(auto)]
 
 mod laws;

@@ -35,11 +35,14 @@
 //!   bytes that the table has.
 //! - `push_fields` adds the bytes of some fields to the body of a reply (`bytes`), in a buffer that has room for them,
 //!   and leaves at least that room (`room`): so it takes no memory. `Body::borrowed` is the same body.
-//! - Laws. A request or a fault at the front of some bytes is at the front of the whole stream, whatever bytes follow
-//!   (`found_frame_stays`). A frame becomes whole exactly with its last byte (`frame_is_bounded` `last`). Reading a
-//!   stream in two pieces gives the same requests, rest and fault as reading it at once (`stream_in_pieces`). The bytes
-//!   of a request are read as that request, whatever bytes follow (`spelled_request_is_read`), and no other bytes are
-//!   (`read_request_is_spelled`).
+//! - Laws:
+//!   - A request or a fault at the front of some bytes is at the front of the whole stream, whatever bytes follow
+//!     (`found_frame_stays`).
+//!   - A frame becomes whole exactly with its last byte (`frame_is_bounded` `last`).
+//!   - Reading a stream in two pieces gives the same requests, rest and fault as reading it at once
+//!     (`stream_in_pieces`).
+//!   - The bytes of a request are read as that request, whatever bytes follow (`spelled_request_is_read`), and no other
+//!     bytes are (`read_request_is_spelled`).
 #![tactic(auto)]
 
 mod fields;

@@ -3,7 +3,8 @@
 ghost use Rattle.std.specs.Prelude.{◌≡◌, Some};
 ghost use Rattle.ipc_disk.specs.Medium.{IsHonest};
 ghost use Rattle.ipc_store.specs.Look.{LeavesAlone};
-ghost use Rattle.ipcd.specs.Check.{finding_text, limits_text, form_text, place_text, refusal_of, verdict_of, IsFoundIn, IsOfMachine};
+ghost use Rattle.ipcd.specs.Check.{finding_text, limits_text, form_text, place_text, refusal_of, verdict_of};
+ghost use Rattle.ipcd.specs.Check.{IsFoundIn, IsOfMachine};
 
 use crate::ending::Fault;
 use crate::holder::{Holder, holder_of};
@@ -139,8 +140,8 @@ impl fmt::Display for Obstacle {
     }
 }
 
-/// Says what `serve` would say of the device in a file, and why. If something keeps `serve` from it, but it may be read,
-/// what is found there is said in a second line. `Unfit` if `serve` would not serve it.
+/// Says what `serve` would say of the device in a file, and why. If something keeps `serve` from it, but it may be
+/// read, what is found there is said in a second line. `Unfit` if `serve` would not serve it.
 pub fn check<R: Print + AllocGlobal + Files<File = File>>(rt: &R, path: &str) -> Result<(), Fault> {
     match obstacle_to(rt, path) {
         Some(obstacle) => say_obstacle(rt, path, &obstacle),

@@ -202,8 +202,8 @@ pub fn look_at_file<R: Files<File = File> + AllocGlobal>(
 }
 
 /// Makes a device, in a new file of as many sectors, that stands for the state for which the device in a file stands
-/// now, and answers how many that are. The device is read alone, and may be in use. If anything stands where the copy is
-/// to be, nothing is read and nothing written. How far it is, is said on `errors` if that is a terminal.
+/// now, and answers how many that are. The device is read alone, and may be in use. If anything stands where the copy
+/// is to be, nothing is read and nothing written. How far it is, is said on `errors` if that is a terminal.
 pub fn copy_file<R: Files<File = File> + AllocGlobal, E: Eprint + IsTerminal>(
     rt: &R,
     errors: &E,

@@ -26,8 +26,8 @@
 //! - What `check` finds on a disk is there (`find` `found`, `specs/Check.antt`): it is fit if the disk stands for the
 //!   state of a machine, of which it tells how many objects are listed, and otherwise it has the fault that is named;
 //!   and it is only read (`alone`). Its text is exact, with what stands in a damaged sector (`place_name`, the
-//!   `Display` of `Finding`), and so is the verdict (`verdict_of`). What the system says of a file, and who has its lock
-//!   (`src/holder.rt`), no clause can say: that is tested (`check.py` of `tests/`).
+//!   `Display` of `Finding`), and so is the verdict (`verdict_of`). What the system says of a file, and who has its
+//!   lock (`src/holder.rt`), no clause can say: that is tested (`check.py` of `tests/`).
 //! - `upgrade_disk` is `Store::upgrade` of a disk: what it leaves (`ok`, `size`), and the fault that is said of a disk
 //!   which is not upgraded (`not_formatted`, `version`, `below`, `small`, `damaged`). `upgrade_file` is that of a file,
 //!   which then has as many sectors as were asked for, or more (`ok`). Their faults are those of an upgrade (`named`).

@@ -23,10 +23,11 @@
 //!   and `take` take no memory: they have no error. `renew` makes any queue a new one, in the same memory. `allocator`
 //!   has no clause, since none can speak of where memory is from.
 //! - The buffer of a kept text has room for its bytes and no more (`take` `exact`, and a fact of every `Message`).
-//! - Laws: a receive takes the first message that its type allows (`picked_is_first_allowed`); after a send neither
-//!   bytes nor messages pass `qbytes` (`sent_is_within_qbytes`); a text that fits still fits after a receive
-//!   (`taken_still_fits`); where nothing can be picked, a receive leaves nothing that can
-//!   (`receive_leaves_nothing_to_pick`).
+//! - Laws:
+//!   - a receive takes the first message that its type allows (`picked_is_first_allowed`).
+//!   - after a send neither bytes nor messages pass `qbytes` (`sent_is_within_qbytes`).
+//!   - a text that fits still fits after a receive (`taken_still_fits`).
+//!   - where nothing can be picked, a receive leaves nothing that can (`receive_leaves_nothing_to_pick`).
 #![tactic(auto)]
 
 mod laws;

@@ -1,7 +1,7 @@
-use Rattle.std.proofs.Common.{◌≡◌, Some, None, map, sym, ap, ◌∙◌}
+use Rattle.std.proofs.Common.{◌≡◌, ◌^◌, Some, None, map, sym, ap, subst, ◌∙◌, arith}
 use Rattle.std.specs.Prelude.{nat_eq}
-use Rattle.ipc_base.specs.Table.{value_at, without}
-use Rattle.ipc_base.proofs.CallerLemmas.{value_at_place, value_nowhere, remove_at_place, without_nowhere}
+use Rattle.ipc_base.specs.Table.{keys_of, value_at, without, IsRising}
+use Rattle.ipc_base.proofs.CallerLemmas.{value_at_place, value_nowhere, remove_at_place, rising-without, without_nowhere}
 use Rattle.ipc_state.specs.Descriptors.{Table, descriptor_row}
 use Rattle.ipc_state.proofs.Opening.{place_in}
 use Rattle.ipc_state.proofs.descriptors.Descriptors.close.Goals.{After-result-1}
@@ -38,3 +38,10 @@ returns-clause-descriptor c =
 
 pub returns-clause-others : goal.returns-clause-others
 returns-clause-others c = left c ∙ ap (λ (t : Table). without nat_eq t c.args.fd) c.self.view_is
+
+pub invariant_of-self : goal.invariant_of-self
+invariant_of-self c = (
+  omega (arith, c.self.invariant.0, c.remove.ensures.capacity),
+  λ rises. subst (λ (t : Table). IsRising 0 (keys_of t) (2 ^ 32)) (sym (left c))
+      (rising-without 0 (map descriptor_row c.self.inside.rows.items) (2 ^ 32) c.args.fd (c.self.invariant.1 rises)),
+)

@@ -1,10 +1,11 @@
-use Rattle.std.proofs.Common.{◌≡◌, ◌^◌, map, arith, sym, ap, subst, ◌∙◌}
+use Rattle.std.proofs.Common.{◌≡◌, ◌<◌, ◌^◌, length, map, arith, sym, ap, subst, ◌∙◌}
 use Rattle.std.specs.Prelude.{if◌then◌else◌, is_ok}
 use Rattle.std.specs.List.{insert}
 use Rattle.ipc_base.specs.Table.{keys_of, with_entry, IsRising}
+use Rattle.ipc_base.proofs.CallerLemmas.{rising-entry}
 use Rattle.ipc_state.specs.declared.descriptors.DescriptorRow.{DescriptorRow}
-use Rattle.ipc_state.specs.Descriptors.{Table, lowest_unused, opened, descriptor_row}
-use Rattle.ipc_state.proofs.Opening.{put-in}
+use Rattle.ipc_state.specs.Descriptors.{Table, lowest_unused, most_descriptors, opened, descriptor_row}
+use Rattle.ipc_state.proofs.Opening.{put-in, few, unused}
 use Rattle.ipc_state.proofs.descriptors.Descriptors.open.Goals.{After-unwrap}
 use Rattle.ipc_state.proofs.descriptors.Descriptors.open.Goals as goal
 
@@ -23,3 +24,14 @@ put c =
 
 pub returns-clause-table : goal.returns-clause-table
 returns-clause-table c = put c ∙ ap (λ (t : Table). opened t c.args.descriptor) c.self.view_is
+
+pub invariant_of-self : goal.invariant_of-self
+invariant_of-self c =
+    let table = map descriptor_row c.self.inside.rows.items in
+    let rising = subst (λ (t : Table). IsRising 0 (keys_of t) (2 ^ 32)) (sym c.self.view_is) c.requires.rising in
+    let fewer = subst (λ (t : Table). length t < most_descriptors) (sym c.self.view_is) c.requires.few in
+    let below : lowest_unused table < 2 ^ 32 = omega (arith, few 0 table, fewer) in (
+      omega (arith, c.self.invariant.0, c.insert.ensures.capacity),
+      λ rises. subst (λ (t : Table). IsRising 0 (keys_of t) (2 ^ 32)) (sym (put c))
+          (rising-entry 0 table (2 ^ 32) (lowest_unused table) c.args.descriptor rising (omega arith) below (unused 0 table (2 ^ 32) rising)),
+    )

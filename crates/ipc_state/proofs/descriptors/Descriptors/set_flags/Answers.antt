@@ -1,7 +1,7 @@
-use Rattle.std.proofs.Common.{◌≡◌, Some, None, map, set, refl, sym, ap, ◌∙◌}
+use Rattle.std.proofs.Common.{◌≡◌, ◌^◌, ℕ, List, Some, None, map, set, refl, sym, ap, subst, ◌∙◌}
 use Rattle.std.specs.Prelude.{nat_eq}
-use Rattle.ipc_base.specs.Table.{value_at, with_value}
-use Rattle.ipc_base.proofs.CallerLemmas.{value_at_place, value_nowhere, set_at_place}
+use Rattle.ipc_base.specs.Table.{keys_of, value_at, with_value, IsRising}
+use Rattle.ipc_base.proofs.CallerLemmas.{value_at_place, value_nowhere, set_at_place, keys_of-with_value}
 use Rattle.ipc_state.specs.declared.descriptors.DescriptorRow.{DescriptorRow}
 use Rattle.ipc_state.specs.Descriptors.{Table, with_flags, descriptor_row}
 use Rattle.ipc_state.proofs.Opening.{place_in, flagged}
@@ -34,3 +34,9 @@ returns-in_default c =
     let none : value_at nat_eq c.args.self.now c.args.fd ≡ None =
     ap (λ (t : Table). value_at nat_eq t c.args.fd) (sym c.self.view_is) ∙ value_nowhere descriptor_row nat_eq c.args.fd rows nowhere in
     rw none refl
+
+pub invariant_of-self : goal.invariant_of-self
+invariant_of-self c = (
+  c.self.invariant.0,
+  λ rises. subst (λ (ks : List ℕ). IsRising 0 ks (2 ^ 32)) (sym (ap keys_of (put c))) (rw keys_of-with_value (c.self.invariant.1 rises)),
+)
