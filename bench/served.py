@@ -24,9 +24,9 @@ def run(*words: str) -> str:
 
 
 @contextmanager
-def in_a_folder() -> Iterator[None]:
-    """Works in a new folder of the repository, which should be on a real disk."""
-    with tempfile.TemporaryDirectory(prefix="bench-", dir=BENCH.parent) as folder:
+def in_a_folder(where: Path = BENCH.parent) -> Iterator[None]:
+    """Works in a new folder: of the repository, which should be on a real disk, or of another place."""
+    with tempfile.TemporaryDirectory(prefix="bench-", dir=where) as folder:
         os.chdir(folder)
         try:
             yield
