@@ -30,9 +30,9 @@
 //!   there is room and that the result is an adjustment. It wants its room reserved and takes no memory. `leave_due`
 //!   takes out the first call whose deadline has come (`first`, `state`), or says that none has (`none`).
 //! - `Rows`, below all tables of the state, is a list of what has numbers, and knows whether they rise, which is its
-//!   invariant. While they do, one is looked for at the place that its number says, where it is as long as none was
-//!   removed, and then by halving (`place_of`); else from the front. Each way finds the first that has the number
-//!   (`place`). No clause says what that costs (bench/LOG.md).
+//!   invariant. While they do, one is looked for where one was found last, at the place that its number says, where
+//!   it is as long as none was removed, and then by halving (`place_of`); else from the front. Each way finds the first
+//!   that has the number (`place`). No clause says what that costs (bench/LOG.md).
 //! - `ObjectTable` is the objects of one kind: by number, and by what they are bound to in a directory that agrees with
 //!   them, which is its invariant. What that is, a key or a name, is a type with `Bound`: which of its values are the
 //!   same, which one names nothing (IPC_PRIVATE, no bytes), and how a directory finds one. A contract sees the objects,
