@@ -56,7 +56,8 @@ help:
 	@echo "make bench-clients  what a call through the library costs beside frames by hand, and the kernel's queues"
 	@echo "make bench-serve  sends and receives, locks, writes and reads of segments, and hand-overs by named semaphores"
 	@echo "            a second over the socket, beside the same, and their processor time; how many requests a sync puts on"
-	@echo "            the disk; and what calls that wait cost others. It ends with an error while one of them misses its bar"
+	@echo "            the disk; what calls that wait cost others; and what a file of figures costs. It ends with an error while one"
+	@echo "            of them misses its bar"
 	@echo "make bench-peers  messages of ipcd beside those of redis, beanstalkd, PostgreSQL and SQLite, as far as they are"
 	@echo "            installed: rates and latencies on one disk, a table and a plot, out/peers.svg. A quarter of an hour"
 

@@ -1,5 +1,6 @@
 -- What `check` finds on a device, and says of it.
-use Rattle.std.specs.Prelude.{◌≡◌, ◌==◌, ℕ, Bool, true, nat_lt, if◌then◌else◌, List, length, ◌++◌, codes, Result, Ok, Err, ⊤}
+use Rattle.std.specs.Prelude.{◌≡◌, ◌==◌, ℕ, Bool, true, nat_lt, if◌then◌else◌, List, length, ◌++◌, codes}
+use Rattle.std.specs.Prelude.{Result, Ok, Err, ⊤}
 use Rattle.std.specs.Fmt.{decimal}
 use Rattle.ipc_base.specs.Limits.{small_limits}
 use Rattle.ipc_disk.specs.Medium.{Image}
