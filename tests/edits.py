@@ -6,11 +6,11 @@ crates/NAME/must-fail/, which have the same format (`rt help` says it); of these
 
 It tries them in a copy of the crate and of those below it, with what was proved of them in this folder: crates are best
 proved first, as by `make program`. Up to six are tried by one check, each of a function of its own, and what that says
-nothing of is tried alone. A record is a line of tests/edits.record, which only this program writes: the crate,
-the edit, two sums, the verdict, and the goal that could not be proved. The first sum is of the edit, of the crate's
-sources and line of crates.txt, and of the toolchain's logic; the second of the definitions and code of the crates below.
-Comments count in neither. If the first differs today, the record is stale and this fails. If only the second does, it
-says how many: what is below may have become stronger, and the body right. It needs `rt` to try them.
+nothing of is tried alone. A record is a line of tests/edits.record, which only this program writes: the crate, the edit,
+two sums, the verdict, and the goal that could not be proved. The sums are of what the check read: the first of the edit,
+the crate's code, definitions and line of crates.txt, and the toolchain's logic; the second of the definitions and public
+contracts of the crates below. Comments, proofs and private code of other crates count in neither. A record whose sums
+differ today is stale, and `--record` fails; of how many edits there is no record, it prints. It needs `rt` to try them.
 """
 
 from __future__ import annotations
@@ -118,6 +118,59 @@ def sources(crate: str, parts: tuple[str, ...]) -> list[str]:
     return [f"{crate} {file.relative_to(top)}\n{bare(file)}" for file in files]
 
 
+FUNCTION = re.compile(r"( *)(pub )?(?:pub\(crate\) )?(?:const )?fn \w")
+# Where functions are public without a word: in a trait, or in an `impl` of one.
+OF_TRAIT = re.compile(r"(?:pub )?trait |impl(?:<.*>)? .* for ")
+
+
+def depth(line: str) -> int:
+    """How many braces a line opens more than it closes, those in quotes left out."""
+    bare_line = re.sub(r'"(?:[^"\\]|\\.)*"|\'[{}]\'', "", line)
+    return bare_line.count("{") - bare_line.count("}")
+
+
+def contracts(text: str) -> list[str]:
+    """The lines of a file of code, laid out by `rt fmt`, that a crate above sees: no body, and no private function."""
+    found: list[str] = []
+    lines = text.splitlines()
+    of_trait = False
+    at = 0
+    while at < len(lines):
+        line = lines[at]
+        begin = FUNCTION.match(line)
+        if not begin:
+            if re.match(r"(?:pub |impl\b|trait )", line):
+                of_trait = bool(OF_TRAIT.match(line))
+            if not re.match(r" *(?:use |mod )", line):
+                found.append(line)
+            at += 1
+            continue
+        seen = begin[2] is not None or (of_trait and begin[1] != "")
+        open_braces = 0
+        while True:
+            line = lines[at]
+            at += 1
+            is_clause = re.match(r" *(?:ensures|requires)\b", line)
+            last = line == f"{begin[1]}{{" or (open_braces == 0 and line.endswith(" {") and not is_clause)
+            if seen:
+                found.append(line)
+            open_braces += depth(line)
+            if last or (open_braces == 0 and line.endswith(("{}", ";"))):
+                break
+        if last:
+            while lines[at] != f"{begin[1]}}}":
+                at += 1
+            at += 1
+    return found
+
+
+def seen_from_above(crate: str) -> list[str]:
+    """The definitions and public contracts of a crate."""
+    top = ROOT / "crates" / crate / "src"
+    code = ["\n".join([f"{crate} {file.relative_to(top)}", *contracts(bare(file))]) for file in sorted(top.rglob("*.rt"))]
+    return [*sources(crate, ("specs",)), *code]
+
+
 class Sums:
     """The two sums of each edit, as the sources are today."""
 
@@ -126,9 +179,9 @@ class Sums:
         self.logic = logic
         self.own: dict[str, str] = {}
         self.under: dict[str, str] = {}
-        lower = {crate: sources(crate, ("src", "specs")) for crate in self.all_of}
+        lower = {crate: seen_from_above(crate) for crate in self.all_of}
         for crate in self.all_of:
-            self.own[crate] = digest([*self.all_of[crate], *sources(crate, ("src", "specs", "proofs"))])
+            self.own[crate] = digest([*self.all_of[crate], *sources(crate, ("src", "specs"))])
             self.under[crate] = digest([text for name in sorted(below(self.all_of, crate)) for text in lower[name]])
 
     def of(self, edit: Path) -> tuple[str, str]:
@@ -157,9 +210,11 @@ def logic() -> str:
 
 
 def look() -> None:
-    """Whether each edit can be applied and has a record that is of today's sources."""
+    """Whether each edit can be applied, and each record is of today's sources."""
     sums, rows = Sums(logic()), records()
-    found, stale, older, missing = 0, [], 0, 0
+    found = 0
+    stale: list[tuple[str, str]] = []
+    missing: dict[str, int] = {}
     for crate in sums.all_of:
         for edit in (*edits_of(crate), *sorted((ROOT / "crates" / crate / "must-fail").glob("*.edit"))):
             edited(ROOT / "crates" / crate, edit, {})
@@ -168,16 +223,14 @@ def look() -> None:
                 continue
             row = rows.pop((crate, edit.stem), None)
             if row is None:
-                missing += 1
-            elif row[2] != "refused" or row[0] != sums.of(edit)[0]:
-                stale.append(f"{crate} {edit.stem}")
-            elif row[1] != sums.of(edit)[1]:
-                older += 1
+                missing[crate] = missing.get(crate, 0) + 1
+            elif row[2] != "refused" or tuple(row[:2]) != sums.of(edit):
+                stale.append((crate, edit.stem))
     if stale or rows:
-        gone = [" ".join(key) for key in rows]
-        fail("these records are of other sources; `make edits` with their crates:\n" + "\n".join(stale + gone))
-    print(f"edits: {found} wrong bodies, each can be applied; of those in edits/ {missing} have no record yet, and for")
-    print(f"edits: {older} a crate below has changed since it was tried")
+        wrong = "\n".join(" ".join(key) for key in (*stale, *rows))
+        fail(f"these records are of other sources; `make edits` with their crates:\n{wrong}")
+    print(f"edits: {found} mutants, each can be applied; {sum(missing.values())} of those in edits/ have no record of today's")
+    print("edits: sources: " + ", ".join(f"{number} of {crate}" for crate, number in missing.items()))
 
 
 def copied(all_of: dict[str, list[str]], crate: str, folder: Path) -> Path:

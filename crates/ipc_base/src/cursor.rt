@@ -1,7 +1,7 @@
 //! Fields read from the front of some bytes.
 
-ghost use Rattle.std.specs.Prelude.{◌≡◌, ◌==◌, ◌<◌, ◌%◌, if◌then◌else◌};
-ghost use Rattle.std.specs.Prelude.{List, ℕ, length, slice_index, option_map, Some, None};
+ghost use Rattle.std.specs.Prelude.{◌≡◌, ◌==◌};
+ghost use Rattle.std.specs.Prelude.{List, ℕ, length, slice_index, option_map};
 ghost use Rattle.std.specs.Int.{w16, w32, w64, from_be_bytes};
 ghost use Rattle.ipc_base.specs.Fields.{Reads, signed};
 
@@ -40,19 +40,6 @@ impl<'a> Cursor<'a> {
         ensures { result ≡ (length self.now == 0) }
     {
         self.rest.is_empty()
-    }
-
-    /// The bytes that are left, if they are whole units of `size` bytes.
-    pub fn units(&self, size: usize) -> Option<&'a [u8]>
-        requires { 0 < size }
-        ensures { option_map (λ rest. rest.now) result
-            ≡ if length self.now % size == 0 then Some self.now else None }
-    {
-        if self.rest.len() % size == 0 {
-            Some(self.rest)
-        } else {
-            None
-        }
     }
 
     /// One byte.

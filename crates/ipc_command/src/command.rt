@@ -183,7 +183,7 @@ fn command_line<'a>(alloc: Global) -> Result<Command<'a>, AllocError>
     ensures { IfOk result (λ command. app_of command ≡ declared) }
 {
     Command::new(alloc, "ipcd")
-        .about("System V and POSIX IPC objects that outlive the system")
+        .about("System V and POSIX IPC objects that survive crashes and reboots")
         .version("0.1.0, devices of version 2")
         .subcommand_required(true)
         .subcommand(replay(alloc)?)?
@@ -203,7 +203,7 @@ fn replay<'a>(alloc: Global) -> Result<Command<'a>, AllocError>
     ensures local { IfOk result (λ command. (out-Command command).has_globals ≡ false) }
 {
     Command::new(alloc, "replay")
-        .about("Runs the script on standard input, on a fresh server with a device in memory")
+        .about("Runs the script on standard input on a fresh device in memory")
         .arg(small_flag(alloc))
 }
 
@@ -215,8 +215,8 @@ fn format<'a>(alloc: Global) -> Result<Command<'a>, AllocError>
     sized_command(
         alloc,
         "format",
-        "Makes a device in a file. What stood there is lost. A terminal shows how far it is",
-        "How many sectors of 512 bytes it gets, in place of as many as it needs",
+        "Makes a device in a file and destroys what it held. A terminal shows progress",
+        "Number of sectors of 512 bytes, instead of what the limits need",
     )
 }
 
@@ -228,8 +228,8 @@ fn upgrade<'a>(alloc: Global) -> Result<Command<'a>, AllocError>
     sized_command(
         alloc,
         "upgrade",
-        "Makes a device of version 1 in a file one of version 2, with all that it keeps",
-        "How many sectors of 512 bytes the file has at least: it grows to so many first",
+        "Turns a device of version 1 into one of version 2, with all that it keeps",
+        "The file first grows to this number of sectors of 512 bytes",
     )
 }
 
@@ -258,7 +258,7 @@ fn run<'a>(alloc: Global) -> Result<Command<'a>, AllocError>
     device_command(
         alloc,
         "run",
-        "Runs the script on standard input, on the server whose device is in a file",
+        "Runs the script on standard input on a device",
     )
 }
 
@@ -270,7 +270,7 @@ fn dump<'a>(alloc: Global) -> Result<Command<'a>, AllocError>
     device_command(
         alloc,
         "dump",
-        "Lists the objects of the server whose device is in a file",
+        "Restarts the server on a device that is not in use, and lists its objects",
     )
 }
 
@@ -282,7 +282,7 @@ fn list<'a>(alloc: Global) -> Result<Command<'a>, AllocError>
     device_command(
         alloc,
         "list",
-        "Lists the objects that are on a device now, in use or not, and only reads it",
+        "Lists the objects on a device, in use or not, and only reads it",
     )
 }
 
@@ -294,7 +294,7 @@ fn check<'a>(alloc: Global) -> Result<Command<'a>, AllocError>
     device_command(
         alloc,
         "check",
-        "Says whether a device would be served, or why not, and only reads it",
+        "Prints whether serve would serve a device, and why not, and only reads it",
     )
 }
 
@@ -329,7 +329,7 @@ fn serve<'a>(alloc: Global) -> Result<Command<'a>, AllocError>
     ensures local { IfOk result (λ command. (out-Command command).has_globals ≡ false) }
 {
     Command::new(alloc, "serve")
-        .about("Serves the device in a file to the clients of a Unix socket")
+        .about("Serves a device to the clients of a Unix socket")
         .arg(device_word(alloc))?
         .arg(socket_word(alloc))?
         .arg(turns_option(alloc))?
@@ -344,7 +344,7 @@ fn small_flag<'a>(alloc: Global) -> Arg<'a>
     Arg::new(alloc, "small")
         .long("small")
         .action(ArgAction::SetTrue)
-        .help("Small limits, as for trials")
+        .help("Small limits, for trials")
 }
 
 // The option `--sectors N`.
@@ -378,7 +378,7 @@ fn copy_word<'a>(alloc: Global) -> Arg<'a>
     Arg::new(alloc, "copy")
         .value_name("COPY")
         .required(true)
-        .help("The file of the copy. Nothing may stand there")
+        .help("The file of the copy. Nothing may exist there")
 }
 
 // The word that names a socket.
@@ -389,7 +389,7 @@ fn socket_word<'a>(alloc: Global) -> Arg<'a>
     Arg::new(alloc, "socket")
         .value_name("SOCKET")
         .required(true)
-        .help("The file that the socket is made at. Nothing may stand there")
+        .help("The path of the socket. Nothing may exist there")
 }
 
 // The option `--turns N`.
@@ -401,9 +401,7 @@ fn turns_option<'a>(alloc: Global) -> Arg<'a>
         .long("turns")
         .value_name("N")
         .value_parser(value_parser!(u32))
-        .help(
-            "How many turns of its loop the server makes before it ends: 4294967295 if none are given",
-        )
+        .help("End after N turns of the server's loop (default 4294967295)")
 }
 
 // The option `--metrics FILE`.
@@ -414,7 +412,7 @@ fn metrics_option<'a>(alloc: Global) -> Arg<'a>
     Arg::new(alloc, "metrics")
         .long("metrics")
         .value_name("FILE")
-        .help("A text file of figures for Prometheus, written anew at most once a second")
+        .help("A text file of figures for Prometheus, replaced at most once a second")
 }
 
 // What the matches ask for.

@@ -61,9 +61,9 @@
 //!   `add_psem` and `add_pshm` are `with_new_mq`, `with_new_psem` and `with_new_pshm` of the name that is ready, and
 //!   `take_zeros` gives the zeros that are (`zeros`, `left`). `have_at_most_bytes` says whether all segments with a
 //!   name together have no more bytes than so many. `sweep` is `swept`. None but the four that reserve takes memory.
-//!   `mq_object_mut` lends a queue to be changed (`specs/LendsMq.antt`); `named_mqs`, `mq`, `mq_of_name`,
-//!   `has_all_mqs`, `has_all_descriptors` and `has_object` show what there is. `mq_receiver_waits` says whether a call
-//!   waits to receive from a queue (`receiver_waits`).
+//!   `mq_object_mut` lends a queue to be changed (`specs/LendsMq.antt`); `named_mqs`, `mq`, `has_all_mqs`,
+//!   `has_all_descriptors` and `has_object` show what there is. `mq_receiver_waits` says whether a call waits to
+//!   receive from a queue (`receiver_waits`).
 //! - `msg` shows the queues, and `msg_queue_mut` lends the one of an identifier: what is written to it is then that
 //!   queue of the state, and all else is as it was (`writes_back`, `specs/LendsMsgQueue.antt`). `set_msg_perm` replaces
 //!   who may use a queue, and `remove_msg_queue` takes one out. `ObjectTable::get_mut` lends the object of a number in
@@ -96,7 +96,7 @@
 //!   memory of its own: `new` makes it of a request whose call may wait (`some`), which is one of msgsnd, msgrcv,
 //!   semop, mq_send, mq_receive or sem_wait, and is none for any other, and for no other (`none`, `never`); only a text
 //!   or a list of operations may be refused for memory (`memory`). It has a frame by its type (`awaited` `frame`).
-//!   `request` lends it, `kind` is the call itself, which `into_kind` gives away, `awaited` is what it waits on as its
+//!   `lend` lends it, `kind` is the call itself, which `into_kind` gives away, `awaited` is what it waits on as its
 //!   request names it, of which `object_of` finds the object, `deadline` until when, and `expiry` what it is told then
 //!   (`specs/Waiting.antt`). An exit takes the call of its process out, and a restart all. `restore_waits` puts the
 //!   calls there that were read (`state`).

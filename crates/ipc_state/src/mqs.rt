@@ -12,7 +12,6 @@ ghost use Rattle.ipc_state.specs.declared.parked.ObjectKind.TheVariants as kinds
 ghost use Rattle.posix_mq.specs.Queue.{empty_queue, plain};
 ghost use Rattle.ipc_state.specs.Opening.{deregistered, is_by, is_or_any, unless_so, without_registrations};
 ghost use Rattle.ipc_state.specs.Opening.{is_registered};
-ghost use Rattle.ipc_state.specs.Directory.{ArePositive};
 ghost use Rattle.ipc_state.specs.Held.{Ready, left};
 ghost use Rattle.ipc_state.specs.LendsMq.{lends_mq};
 ghost use Rattle.ipc_state.specs.Named.{HaveNames, named};
@@ -66,13 +65,6 @@ impl State {
         ensures passed { ArePassed self.now.limits }
     {
         self.mq.get(number)
-    }
-
-    /// The number that a name names, if all numbers are above 0, as they are in a sound state; no bytes name none.
-    pub fn mq_of_name(&self, name: &[u8]) -> Option<u32>
-        ensures { ArePositive self.now.state.mq.entries → result ≡ named self.now.state.mq name.now }
-    {
-        self.mq.of_name(name)
     }
 
     /// Whether no queue can be added: there are as many as the limit says, or no number is left.

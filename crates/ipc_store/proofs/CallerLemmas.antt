@@ -28,6 +28,7 @@ use Rattle.ipc_store.proofs.Batches.{record-length, record-most}
 use Rattle.ipc_store.specs.Relations.Matches.{StoreMatches}
 use Rattle.ipc_store.proofs.Committing as committing
 use Rattle.ipc_store.proofs.Lives as lives
+pub use Rattle.ipc_store.proofs.Meanwhile.{read-same}
 
 -- if there is an event, there is a byte
 no_records : (e : PlainEvent) (events : List PlainEvent) → [] ≡ records_of (e ∷ events) → ⊥

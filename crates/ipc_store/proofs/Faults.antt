@@ -11,6 +11,7 @@ use Rattle.ipc_store.specs.declared.fault.OpenError.{OpenError}
 use Rattle.ipc_store.specs.declared.fault.OpenError.TheVariants as errors
 use Rattle.ipc_store.specs.declared.fault.UpgradeError.{UpgradeError}
 use Rattle.ipc_store.specs.declared.fault.UpgradeError.TheVariants as upgrades
+use Rattle.ipc_store.specs.Relations.Loading.{IsDamage}
 use Rattle.ipc_store.specs.View.{of_journal_error, of_load_error, of_open_error}
 
 pub err-same : {T E : Type 0} (r : Result T E) (a b : E) → r ≡ Err a → r ≡ Err b → a ≡ b
@@ -21,9 +22,9 @@ pub passed_on : {T E : Type 0} (r : Result T E) (came went : E) → IsErrAnd r (
 passed_on r came went is went-is = let q = err_from_is_err_and r is in sym q.2 ∙ err-same r q.0 went q.1 went-is
 
 -- which fault it was: of the journal
-pub journal-fault : (fault : JournalError) (sector : ℕ) → of_journal_error fault ≡ errors.Damaged sector → fault ≡ journals.Damaged sector
-journal-fault journals.Device sector is = cc
-journal-fault (journals.Damaged n) sector is = cc
+pub opened-damage : (fault : JournalError) (P : ℕ → Type 0) → ((sector : ℕ) → fault ≡ journals.Damaged sector → P sector) → IsDamage P (of_journal_error fault)
+opened-damage journals.Device P damaged = tt
+opened-damage (journals.Damaged sector) P damaged = damaged sector refl
 
 -- an error of the journal is passed on as the disk's just if it is that
 pub journal-device : {S T : Type 0} (r : Result S JournalError) (went : Result T OpenError) (fault : JournalError) → r ≡ Err fault
@@ -32,10 +33,10 @@ journal-device r went journals.Device was is = (λ bad. let q = err_from_is_err_
 journal-device r went (journals.Damaged n) was is = (λ bad. cc, λ bad. let q = err_from_is_err_and went is in cc)
 
 -- of the objects' sectors
-pub load-fault : (fault : LoadError) (sector : ℕ) → of_load_error fault ≡ errors.Damaged sector → fault ≡ loads.Damaged sector
-load-fault loads.Device sector is = cc
-load-fault (loads.Damaged n) sector is = cc
-load-fault loads.NoMemory sector is = cc
+pub loaded-damage : (fault : LoadError) (P : ℕ → Type 0) → ((sector : ℕ) → fault ≡ loads.Damaged sector → P sector) → IsDamage P (of_load_error fault)
+loaded-damage loads.Device P damaged = tt
+loaded-damage (loads.Damaged sector) P damaged = damaged sector refl
+loaded-damage loads.NoMemory P damaged = tt
 
 -- ---- answers that are no failure of the disk
 
@@ -70,13 +71,6 @@ passed-device r went fault was and = (
 
 -- ---- an upgrade that meets the fault of a load
 
-pub open-damaged : (fault : OpenError) (sector : ℕ) → of_open_error fault ≡ upgrades.Damaged sector → fault ≡ errors.Damaged sector
-open-damaged errors.Device sector is = cc
-open-damaged errors.NotFormatted sector is = cc
-open-damaged (errors.Version found) sector is = cc
-open-damaged (errors.Damaged n) sector is = let same : n ≡ sector = cc in ap errors.Damaged same
-open-damaged errors.NoMemory sector is = cc
-
 open-device : (fault : OpenError) → of_open_error fault ≡ upgrades.Device → fault ≡ errors.Device
 open-device errors.Device is = refl
 open-device errors.NotFormatted is = cc
@@ -91,20 +85,6 @@ upgrade-device r went fault was and = (
   λ device. let q = err_from_is_err_and went and in q.1 ∙ ap Err (q.2 ∙ ap of_open_error (err-same r fault errors.Device was device)),
   λ device. was ∙ ap Err (open-device fault (passed_on went (of_open_error fault) upgrades.Device and device)),
 )
-
-pub open-not_formatted : (fault : OpenError) → of_open_error fault ≡ upgrades.NotFormatted → fault ≡ errors.NotFormatted
-open-not_formatted errors.Device is = cc
-open-not_formatted errors.NotFormatted is = refl
-open-not_formatted (errors.Version found) is = cc
-open-not_formatted (errors.Damaged n) is = cc
-open-not_formatted errors.NoMemory is = cc
-
-pub open-found : (fault : OpenError) (found : ℕ) → of_open_error fault ≡ upgrades.Version found → fault ≡ errors.Version found
-open-found errors.Device found is = cc
-open-found errors.NotFormatted found is = cc
-open-found (errors.Version n) found is = let same : n ≡ found = cc in ap errors.Version same
-open-found (errors.Damaged n) found is = cc
-open-found errors.NoMemory found is = cc
 
 -- what is passed on as it came is a fault just if it was
 pub passed-same : {S T E : Type 0} (r : Result S E) (went : Result T E) (fault e : E) → r ≡ Err fault → IsErrAnd went (λ y. y ≡ fault)

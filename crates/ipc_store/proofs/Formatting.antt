@@ -23,7 +23,7 @@ use Rattle.ipc_image.specs.Format.{format, format_one, IsFormat}
 use Rattle.ipc_image.specs.Sizes.{area_in, area_of, need_in}
 use Rattle.ipc_image.specs.Superblock.{magic, IsFormatted, sectors_in, IsSuperblock}
 use Rattle.ipc_image.proofs.CallerLemmas.{area-counted, superblock-sectors}
-use Rattle.ipc_store.specs.Image.{journal_range, first_epoch, layout_in, layout_of, named_sectors, StandsFor, IsNotFormatted}
+use Rattle.ipc_store.specs.Image.{journal_range, first_epoch, layout_in, layout_of, named_sectors, NamesAll, StandsFor, IsNotFormatted}
 use Rattle.ipc_store.specs.Relations.Format.{EachNow, IsErased, IsPrepared}
 
 -- the root of each form lies before the journal
@@ -104,6 +104,13 @@ is-prepared limits s objects old mid new has header same there stand =
 -- a sector behind the first
 abbrev IsPast : ℕ → ℕ → Type 0
 IsPast first i = first < i
+
+-- a superblock that was written names all sectors
+pub names-all : (limits : Limits) (bytes : List ℕ) (image : Image) → length image < 2 ^ 32 → IsSuperblock (length image) limits bytes
+    → NamesAll (slice_set image 0 bytes)
+names-all limits bytes image fits is =
+    ap sectors_in (sector_at-set_same image 0 bytes (omega (arith, is.room)))
+    ∙ superblock-sectors format (inr refl) (length image) limits bytes is fits ∙ sym (length-set image 0 bytes)
 
 -- the superblock is written
 pub becomes-device : (limits : Limits) (s : State) (bytes : List ℕ) (image : Image) → length image < 2 ^ 32

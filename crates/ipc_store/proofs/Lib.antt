@@ -10,6 +10,7 @@ mod Lives
 mod Looks
 mod Meanwhile
 mod Opened
+mod Refusals
 mod Openings
 mod Superblocks
 mod Leaving

@@ -3,6 +3,7 @@ use Rattle.std.proofs.Common.{◌≡◌, inl, inr, ⊎_elim, ◌+◌, Bool, true
 use Rattle.std.specs.Prelude.{⊤, Result, Ok, Err, OnOk, OnErr}
 use Rattle.std.proofs.lemmas.List.{length-append, append_cancel_left}
 use Rattle.ipc_base.specs.declared.limits.Limits.{Limits}
+use Rattle.ipc_checkpoint.specs.Meanwhile.{EachLater}
 use Rattle.ipc_disk.specs.Medium.{Image, Medium, IsHonest}
 use Rattle.ipc_disk.specs.Since.{EachImageSince}
 use Rattle.ipc_disk.proofs.CallerLemmas.{EachImageSince-start, EachImageSince-join, EachImageSince-weaken, EachImageSince-now}
@@ -11,10 +12,13 @@ use Rattle.ipc_engine.specs.Event.{PlainEvent}
 use Rattle.ipc_engine.specs.Step.{run}
 use Rattle.ipc_engine.proofs.CallerLemmas.{run-parts}
 use Rattle.ipc_store.specs.Histories.{History, Past, acknowledged, accepted, past_of, state_after, StandsForPrefix, IsRunning, Keeps, Follows, Takes}
+use Rattle.ipc_heap.proofs.CallerLemmas.{EachLater-join, EachLater-start}
 use Rattle.ipc_store.specs.Image.{StandsFor}
+use Rattle.ipc_store.specs.Meanwhile.{GoesOn, StaysReadable}
 use Rattle.ipc_store.specs.View.{StoreView, IsStopped}
 use Rattle.ipc_store.specs.Relations.Matches.{StoreMatches, StandsForEither}
 use Rattle.ipc_store.proofs.Committing.{stands_now}
+use Rattle.ipc_store.proofs.Meanwhile.{goes-on-then, same-refl}
 
 -- nothing was accepted, and nothing confirmed
 follows-none : (before : History) → Follows before [] before
@@ -84,6 +88,10 @@ going medium store h keeps is = ⊎_elim (λ goes. goes) (λ halted. absurd (bot
     both : (b : Bool) → b ≡ true → b ≡ false → ⊥
     both b is-so is-not = cc
 
+-- the disk of a store with a history is honest
+keeps-honest : {D : Type 0} (medium : Medium) (store : StoreView D) (h : History) → Keeps medium store h → IsHonest medium
+keeps-honest medium store h keeps = ⊎_elim (λ goes. goes.device.honest) (λ halted. halted.honest) keeps.stands
+
 module _ {D : Type 0} (medium : D → Medium) (law : (d : D) (image : Image) → (medium d).images_since (medium d).moment image → (medium d).images_now image)
     (old : StoreView D) where
   -- each image now keeps what was acknowledged
@@ -95,11 +103,16 @@ module _ {D : Type 0} (medium : D → Medium) (law : (d : D) (image : Image) →
       (stands_now (medium old.disk) old (state_after (past_of old.machine.limits h)) h.waiting goes image now))
       (λ halted. keeps-more (past_of old.machine.limits h) h.waiting others image (halted.left image now)) keeps.stands
 
+  -- nothing is written
+  stays-later : EachLater GoesOn (medium old.disk) (medium old.disk)
+  stays-later = EachLater-start GoesOn (medium old.disk) (law old.disk) (λ image. inl (same-refl image))
+
   -- nothing has changed
   pub takes-none : Takes medium old [] old
   takes-none before keeps = record {
     crash = EachImageSince-start (medium old.disk) (StandsForPrefix (past_of old.machine.limits before) (before.waiting ++ [])) (law old.disk)
         (now-keeps before keeps []);
+    later = stays-later;
     limits = refl;
     after = before;
     follows = follows-none before;
@@ -120,6 +133,7 @@ module _ {D : Type 0} (medium : D → Medium) (law : (d : D) (image : Image) →
             (StandsForPrefix (past_of old.machine.limits before) (before.waiting ++ e ∷ []))) (sym disk)
             (EachImageSince-start (medium old.disk) (StandsForPrefix (past_of old.machine.limits before) (before.waiting ++ e ∷ []))
             (law old.disk) (now-keeps before keeps (e ∷ [])));
+        later = subst (λ (d : D). EachLater GoesOn (medium old.disk) (medium d)) (sym disk) stays-later;
         limits = limits;
         after = after;
         follows = follows-one before e;
@@ -153,8 +167,8 @@ module _ {D : Type 0} (medium : D → Medium) (law : (d : D) (image : Image) →
     pub takes-all : new.confirmed ≡ old.confirmed + old.waiting
         → ((base : State) (pending : List PlainEvent) → StoreMatches (medium old.disk) old base pending
         → StoreMatches (medium new.disk) new (run old.machine.limits base pending).state [])
-        → Takes medium old [] new
-    takes-all confirmed matches before keeps =
+        → StaysReadable medium old new.disk → Takes medium old [] new
+    takes-all confirmed matches readable before keeps =
         let goes = going (medium old.disk) old before keeps going-on in
         let base : State = state_after (past_of old.machine.limits before) in
         let state : (run old.machine.limits base before.waiting).state ≡ state_after (past_of old.machine.limits (confirmed-all before)) =
@@ -162,6 +176,7 @@ module _ {D : Type 0} (medium : D → Medium) (law : (d : D) (image : Image) →
         ∙ ap (λ (es : List PlainEvent). (run old.machine.limits before.base es).state) (sym (acknowledged-all before)) in
         record {
           crash = crash-since before goes;
+          later = readable.goes_on base before.waiting goes;
           limits = limits;
           after = confirmed-all before;
           follows = follows-all before;
@@ -174,11 +189,12 @@ module _ {D : Type 0} (medium : D → Medium) (law : (d : D) (image : Image) →
 
     -- a commit that failed
     pub takes-halted : new.confirmed ≡ old.confirmed → IsStopped new → (IsHonest (medium old.disk) → IsHonest (medium new.disk))
-        → Takes medium old [] new
-    takes-halted confirmed stopped honest before keeps =
+        → StaysReadable medium old new.disk → Takes medium old [] new
+    takes-halted confirmed stopped honest readable before keeps =
         let goes = going (medium old.disk) old before keeps going-on in
         record {
           crash = crash-since before goes;
+          later = readable.goes_on (state_after (past_of old.machine.limits before)) before.waiting goes;
           limits = limits;
           after = before;
           follows = follows-none before;
@@ -199,9 +215,9 @@ module _ {D : Type 0} (medium : D → Medium) (law : (d : D) (image : Image) →
         → OnOk result ((base : State) (pending : List PlainEvent) → StoreMatches (medium old.disk) old base pending
         → StoreMatches (medium new.disk) new (run old.machine.limits base pending).state [])
         → OnErr result (new.confirmed ≡ old.confirmed) → OnErr result (IsStopped new)
-        → (IsHonest (medium old.disk) → IsHonest (medium new.disk)) → Takes medium old [] new
-    takes-either (Ok _) confirmed matches none stopped honest = takes-all confirmed matches
-    takes-either (Err _) confirmed matches none stopped honest = takes-halted none stopped honest
+        → (IsHonest (medium old.disk) → IsHonest (medium new.disk)) → StaysReadable medium old new.disk → Takes medium old [] new
+    takes-either (Ok _) confirmed matches none stopped honest readable = takes-all confirmed matches readable
+    takes-either (Err _) confirmed matches none stopped honest readable = takes-halted none stopped honest readable
 
     -- what is left after it
     pub leaves-either : (IsHonest (medium old.disk) → IsHonest (medium new.disk)) → (base : State) (pending : List PlainEvent) (image : Image)
@@ -276,6 +292,8 @@ takes-both medium first mid last events others takes then before keeps =
           (EachImageSince-weaken (medium first.disk) (medium mid.disk) (StandsForPrefix past (before.waiting ++ events)) P one.crash front)
           (EachImageSince-weaken (medium mid.disk) (medium last.disk)
           (StandsForPrefix (past_of mid.machine.limits one.after) (one.after.waiting ++ others)) P two.crash back);
+      later = EachLater-join GoesOn GoesOn (medium first.disk) (medium mid.disk) (medium last.disk) (λ a b is. is) goes-on-then
+          (keeps-honest (medium mid.disk) mid one.after one.keeps) one.later two.later;
       limits = two.limits ∙ one.limits;
       after = two.after;
       follows = follows-both before one.after events others one.follows two.after two.follows;

@@ -1,5 +1,5 @@
 -- What was loaded, step by step, is the device.
-use Rattle.std.proofs.Common.{◌≡◌, ◌↔◌, inl, inr, ⊎_elim, ℕ, ◌≤◌, List, Ok, sym, ap, subst, refl, ◌∙◌, arith}
+use Rattle.std.proofs.Common.{◌≡◌, inl, inr, ⊎_elim, ℕ, ◌≤◌, List, Ok, sym, ap, subst, refl, ◌∙◌, arith}
 use Rattle.std.specs.Prelude.{map}
 use Rattle.ipc_base.specs.declared.limits.Limits.{Limits}
 use Rattle.ipc_base.specs.Limits.{ArePassed}
@@ -11,9 +11,9 @@ use Rattle.ipc_checkpoint.specs.View.{CheckpointView, epoch_of as saved_epoch, l
 use Rattle.ipc_disk.specs.declared.range.Range.{Range}
 use Rattle.ipc_disk.specs.Medium.{Image, Medium, IsHonest, IsDurable, Stays}
 use Rattle.ipc_disk.specs.Range.{IsWithin}
-use Rattle.ipc_disk.proofs.CallerLemmas.{Stays-join, IsSameDisk-call, OnlyReads-as}
-use Rattle.ipc_disk.specs.Calls.{IsOneCall, OnlyReads, CountsFaultIf}
-use Rattle.ipc_disk.specs.Counts.{Counts, counted}
+use Rattle.ipc_disk.proofs.CallerLemmas.{Stays-join, IsSameDisk-call, IsSameDisk-then, OnlyReads-as}
+use Rattle.ipc_disk.specs.Calls.{IsOneCall, OnlyReads}
+use Rattle.ipc_disk.specs.Counts.{Counts, counted, with_sync}
 use Rattle.ipc_journal.specs.declared.journal.Journal.{Journal}
 use Rattle.ipc_journal.specs.Matches.{JournalMatches}
 use Rattle.ipc_journal.specs.View.{range_of, epoch_of}
@@ -27,6 +27,7 @@ use Rattle.ipc_image.specs.Saved.{StandForStateIn}
 use Rattle.ipc_image.specs.Sizes.{area_of, need_of}
 use Rattle.ipc_store.specs.Batch.{batch_bytes}
 use Rattle.ipc_store.specs.Image.{journal_range, layout_of, named_sectors, IsDevice, LeadTo}
+use Rattle.ipc_store.specs.Relations.Loading.{OnlySyncs}
 use Rattle.ipc_store.specs.Relations.Matches.{AreOnDisk, DeviceMatches, MachineMatches}
 use Rattle.ipc_store.proofs.Formatting.{laid-out}
 
@@ -49,14 +50,51 @@ OnlyReads-call {D} {T} {E} {size} {medium} {counts} {x} {old} {new} one call = r
   no_failure = inr one.ok;
 }
 
--- what they have counted, after calls that counted no failure
-pub OnlyReads-counts : {D : Type 0} {size : D → ℕ} {medium : D → Medium} {counts : D → Counts} {failed other : Type 0} {old mid new : D}
-    → (counts mid).failures ≡ (counts old).failures → failed ↔ other → OnlyReads size medium counts failed mid new
-    → CountsFaultIf counts other old new
-OnlyReads-counts {D} {size} {medium} {counts} {failed} {other} {old} {mid} {new} before passed reads = record {
-  failure = λ bad. ap (λ n. n.failures) (reads.failure (passed.1 bad)) ∙ ap (λ n. counted n 1) before;
-  no_failure = ⊎_elim (λ bad. inl (passed.0 bad)) (λ same. inr (ap (λ n. n.failures) same ∙ before)) reads.no_failure;
-}
+module _ {D : Type 0} {size : D → ℕ} {medium : D → Medium} {counts : D → Counts} where
+  -- a sync that went well
+  pub OnlySyncs-call : {T E : Type 0} {x : T} {old new : D} → IsOneCall {T = T} {E = E} size counts (Ok x) with_sync old new
+      → Stays (medium old) (medium new) → OnlySyncs size medium counts ⊥ old new
+  OnlySyncs-call {T} {E} {x} {old} {new} one call = record {
+    same = IsSameDisk-call one call.time;
+    stays = λ honest. call;
+    writes = ap (λ n. n.writes) one.ok;
+    failure = λ never. absurd never;
+    no_failure = inr (ap (λ n. n.failures) one.ok);
+  }
+
+  -- the same calls, where failed means the same
+  pub OnlySyncs-as : {failed other : Type 0} {old new : D} → (failed → other) → (other → failed) → OnlySyncs size medium counts failed old new
+      → OnlySyncs size medium counts other old new
+  OnlySyncs-as {failed} {other} {old} {new} to from syncs = record {
+    same = syncs.same;
+    stays = syncs.stays;
+    writes = syncs.writes;
+    failure = λ bad. syncs.failure (from bad);
+    no_failure = ⊎_elim (λ bad. inl (to bad)) inr syncs.no_failure;
+  }
+
+  -- calls that went well
+  pub OnlySyncs-ok : {failed : Type 0} {old new : D} → (failed → ⊥) → OnlySyncs size medium counts failed old new
+      → OnlySyncs size medium counts ⊥ old new
+  OnlySyncs-ok not syncs = OnlySyncs-as not (λ never. absurd never) syncs
+
+  -- whatever is called a failure that cannot be
+  pub OnlySyncs-never : {other : Type 0} {old new : D} → (other → ⊥) → OnlySyncs size medium counts ⊥ old new
+      → OnlySyncs size medium counts other old new
+  OnlySyncs-never not syncs = OnlySyncs-as (λ never. absurd never) not syncs
+
+  -- calls none of which failed, and then reads
+  pub OnlySyncs-then : {failed : Type 0} {old mid new : D} → OnlySyncs size medium counts ⊥ old mid → OnlyReads size medium counts failed mid new
+      → OnlySyncs size medium counts failed old new
+  OnlySyncs-then {failed} {old} {mid} {new} first reads =
+      let before : (counts mid).failures ≡ (counts old).failures = ⊎_elim (λ never. absurd never) (λ same. same) first.no_failure in
+      record {
+        same = IsSameDisk-then first.same reads.same;
+        stays = λ honest. chain (medium old) (medium mid) (medium new) honest (first.stays honest) reads.stays;
+        writes = ⊎_elim (λ bad. ap (λ n. n.writes) (reads.failure bad)) (λ same. ap (λ n. n.writes) same) reads.no_failure ∙ first.writes;
+        failure = λ bad. ap (λ n. n.failures) (reads.failure bad) ∙ ap (λ n. counted n 1) before;
+        no_failure = ⊎_elim inl (λ same. inr (ap (λ n. n.failures) same ∙ before)) reads.no_failure;
+      }
 
 -- what lasted before lasts after such calls
 pub stays-durable : (m0 m1 : Medium) → IsHonest m0 → Stays m0 m1 → IsDurable m0 → IsDurable m1

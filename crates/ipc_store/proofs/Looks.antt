@@ -13,6 +13,7 @@ use Rattle.ipc_store.specs.declared.fault.OpenError.{OpenError}
 use Rattle.ipc_store.specs.declared.fault.OpenError.TheVariants as errors
 use Rattle.ipc_store.specs.Image.{StandsFor}
 use Rattle.ipc_store.specs.Look.{LeavesAlone}
+use Rattle.ipc_store.specs.Refusals.{IsRefusal}
 use Rattle.ipc_store.specs.Relations.Look.{Tells}
 use Rattle.ipc_store.proofs.Loaded.{chain}
 use Rattle.ipc_store.proofs.Opened.{device-begins}
@@ -74,3 +75,8 @@ told-refusals (Err (errors.Version found)) image tells = λ limits s honest stan
 told-refusals (Err (errors.Damaged sector)) image tells = λ limits s honest stands.
     absurd ((tells honest).0.stands_for_none limits s stands)
 told-refusals (Err errors.NoMemory) image tells = λ limits s honest stands. inr refl
+
+pub told-refused : {H : Type 0} (r : Result Machine OpenError) (image : Image) → (H → Tells r image)
+    → IfErr r (λ error. H → IsRefusal format image error)
+told-refused (Ok machine) image tells = tt
+told-refused (Err error) image tells = tells

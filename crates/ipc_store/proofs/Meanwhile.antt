@@ -24,7 +24,7 @@ use Rattle.ipc_journal.specs.Journal.{Holds}
 use Rattle.ipc_journal.specs.Matches.{HoldsOneMoreOrNot, JournalMatches}
 use Rattle.ipc_journal.specs.Meanwhile.{ComesInOrder, IsReadFrom, KeepsBatches}
 use Rattle.ipc_journal.specs.View.{epoch_of, range_of}
-use Rattle.ipc_journal.proofs.CallerLemmas.{EachImageSince-alone, Holds-read}
+use Rattle.ipc_journal.proofs.CallerLemmas.{EachImageSince-alone, Holds-fill, Holds-read}
 use Rattle.ipc_journal.proofs.CallerLemmas.{KeepsBatches-append, KeepsBatches-refl, KeepsBatches-same, KeepsBatches-then}
 use Rattle.ipc_state.specs.State.{State}
 use Rattle.ipc_engine.specs.Event.{PlainEvent}
@@ -110,6 +110,20 @@ same-root a b (inl same, root) = same
 same-root a b (inr turned, root) = absurd (omega (arith, turned, ap epoch_in root))
 
 -- ---- what is read meanwhile
+
+-- what is read if nobody writes
+pub read-same : (image : Image) → IsRead image image image
+read-same image =
+    let one : HasOneRoot image image = (inl (same-refl image), refl) in
+    record {
+      count = refl;
+      outside = λ i out. (image, one, refl);
+      one_root = one;
+      journal = record {
+        header = refl;
+        body = λ i low high. (image, (λ batches holds. Holds-fill journal_range (epoch_at image) batches image holds), refl);
+      };
+    }
 
 module _ (first seen read : Image) (is : IsRead first seen read) where
   seen-same : IsOfSameSave first seen

@@ -6,6 +6,8 @@ use Rattle.ipc_base.specs.declared.limits.Limits.{Limits}
 use Rattle.ipc_disk.specs.Medium.{Image, Medium, IsHonest, Stays}
 use Rattle.ipc_disk.specs.Since.{EachImageSince}
 use Rattle.ipc_disk.proofs.CallerLemmas.{EachImageSince-weaken, EachImageSince-join}
+use Rattle.ipc_checkpoint.specs.Meanwhile.{EachLater}
+use Rattle.ipc_heap.proofs.CallerLemmas.{EachLater-join}
 use Rattle.ipc_checkpoint.specs.View.{CheckpointView}
 use Rattle.ipc_disk.specs.declared.range.Range.{Range}
 use Rattle.ipc_journal.specs.declared.journal.Journal.{Journal}
@@ -20,11 +22,14 @@ use Rattle.ipc_store.specs.declared.fault.OpenError.{OpenError}
 use Rattle.ipc_store.specs.declared.fault.OpenError.TheVariants as errors
 use Rattle.ipc_store.proofs.Opened.{device-begins}
 use Rattle.ipc_image.specs.Format.{format}
-use Rattle.ipc_store.specs.Image.{journal_range, last_epoch, IsNotFormatted, HasVersion, IsDamaged, IsFirstFault, epoch_at, IsAtEnd, StandsFor}
+use Rattle.ipc_store.specs.Image.{journal_range, last_epoch, epoch_at, IsAtEnd, StandsFor}
+use Rattle.ipc_store.specs.Meanwhile.{GoesOn}
+use Rattle.ipc_store.specs.Refusals.{IsRefusal}
 use Rattle.ipc_store.specs.View.{StoreView, IsAtLastEpoch, store_view}
 use Rattle.ipc_store.specs.Relations.Matches.{MachineMatches, StoreMatches, StandsForEither, OpensTo}
 use Rattle.ipc_store.proofs.Batches.{record-length}
 use Rattle.ipc_store.proofs.Committing.{stands_now, root-epoch}
+use Rattle.ipc_store.proofs.Meanwhile.{goes-on-then, same-refl}
 
 -- calls that only read leave what was there before
 pub only_read : (old new : Medium) → Stays old new
@@ -33,6 +38,18 @@ only_read old new call law = record {
   later = call.time.later;
   each = λ image left. inl (⊎_elim (law image) (call.images image) (call.time.nothing_else old.moment image (omega arith) left));
   earlier = λ t image le left. ⊎_elim inl (λ now. inr (inl (call.images image now))) (call.time.nothing_else t image le left);
+}
+
+-- and who reads meanwhile finds what was there
+pub read-later : (old new : Medium) → Stays old new → ((image : Image) → old.images_since old.moment image → old.images_now image)
+    → EachLater GoesOn old new
+read-later old new call law = record {
+  later = call.time.later;
+  each = λ image left.
+      let now = ⊎_elim (law image) (call.images image) (call.time.nothing_else old.moment image (omega arith) left) in
+      (image, now, inl (same-refl image));
+  earlier = λ t image le left. ⊎_elim inl (λ now. inr (image, call.images image now, inl (same-refl image)))
+      (call.time.nothing_else t image le left);
 }
 
 -- the store over what was loaded
@@ -77,6 +94,14 @@ module _ {D : Type 0} (m : D → Medium) (disk : D) (checkpoint : CheckpointView
       (ap (λ v. v.disk) over) (restarted begins))
       (λ image either. inr (store.machine.limits, machine.state, stood old (reads.contents honest), either)))
 
+  -- and go on from what was there
+  pub restart-later : (old new : Medium) → IsHonest old → Stays old (m disk)
+      → ((image : Image) → old.images_since old.moment image → old.images_now image)
+      → (StoreMatches (m store.disk) store machine.state [] → EachLater GoesOn (m store.disk) new) → EachLater GoesOn old new
+  restart-later old new honest reads law restarted =
+      EachLater-join GoesOn GoesOn old (m disk) new (λ a b is. is) goes-on-then (reads.time.honest.0 honest) (read-later old (m disk) reads law)
+      (subst (λ (d : D). EachLater GoesOn (m d) new) (ap (λ v. v.disk) over) (restarted begins))
+
 -- an event that is taken makes no call on the disk
 pub taken : {D : Type 0} (m : D → Medium) (before after : StoreView D) (new : Medium) (base : State)
     → after.disk ≡ before.disk → after.machine.limits ≡ before.machine.limits
@@ -114,15 +139,11 @@ at_end medium store base image matches same last full used current =
     }
 
 -- a disk that stands for a state has no fault of its own
-pub refused_by : (image : Image) (limits : Limits) (s : State) (error : OpenError) → StandsFor limits s image
-    → (error ≡ errors.NotFormatted → IsNotFormatted image) → ((found : ℕ) → error ≡ errors.Version found → HasVersion found image)
-    → ((sector : ℕ) → error ≡ errors.Damaged sector → IsDamaged image × IsFirstFault image sector)
+pub refused_by : (image : Image) (limits : Limits) (s : State) (error : OpenError) → StandsFor limits s image → IsRefusal format image error
     → (error ≡ errors.Device) ⊎ (error ≡ errors.NoMemory) ⊎ IsAtEnd image
-refused_by image limits s errors.Device stands not version damaged = inl refl
-refused_by image limits s errors.NotFormatted stands not version damaged =
-    absurd ((device-begins format (inr refl) limits image stands.kept.device).0 (not refl))
-refused_by image limits s (errors.Version found) stands not version damaged =
-    let other = version found refl in
-    absurd (other.other (sym other.version ∙ (device-begins format (inr refl) limits image stands.kept.device).1))
-refused_by image limits s (errors.Damaged sector) stands not version damaged = absurd ((damaged sector refl).0.stands_for_none limits s stands)
-refused_by image limits s errors.NoMemory stands not version damaged = inr (inl refl)
+refused_by image limits s errors.Device stands is = inl refl
+refused_by image limits s errors.NotFormatted stands is = absurd ((device-begins format (inr refl) limits image stands.kept.device).0 is)
+refused_by image limits s (errors.Version found) stands is =
+    absurd (is.other (sym is.version ∙ (device-begins format (inr refl) limits image stands.kept.device).1))
+refused_by image limits s (errors.Damaged sector) stands is = absurd (is.0.stands_for_none limits s stands)
+refused_by image limits s errors.NoMemory stands is = inr (inl refl)

@@ -1,5 +1,5 @@
 -- What a superblock that was read says of the image.
-use Rattle.std.proofs.Common.{◌≡◌, ◌≢◌, inl, inr, ℕ, ◌<◌, ◌≤◌, ◌^◌, List, [], length, sym, ap, subst, ◌∙◌, arith}
+use Rattle.std.proofs.Common.{◌≡◌, ◌≢◌, inl, inr, ℕ, ◌<◌, ◌≤◌, ◌^◌, List, [], length, refl, sym, ap, subst, ◌∙◌, arith}
 use Rattle.std.specs.Prelude.{Option, Some, slice_get}
 use Rattle.std.specs.Option.{unwrap_or}
 use Rattle.std.proofs.lemmas.Option.{unwrap_or-slice_get}
@@ -11,7 +11,8 @@ use Rattle.ipc_image.specs.Format.{IsFormat}
 use Rattle.ipc_image.specs.Superblock.{IsFormatted, version_in, sectors_in, IsSuperblockIn}
 use Rattle.ipc_image.specs.declared.superblock.Superblock.{Superblock}
 use Rattle.ipc_image.proofs.CallerLemmas.{superblock-sectors}
-use Rattle.ipc_store.specs.Image.{named_sectors, IsDeviceIn, IsNotFormatted, HasVersionBut, IsDamagedIn, IsFirstFaultIn}
+use Rattle.ipc_store.specs.Image.{named_sectors, IsDeviceIn, IsNotFormatted, HasVersionBut}
+use Rattle.ipc_store.specs.Refusals.{IsNoSuperblock}
 
 -- a sector that was read
 pub sector-read : (image : Image) (i : ℕ) (sector : List ℕ) → slice_get image i ≡ Some sector → sector_at image i ≡ sector
@@ -51,12 +52,13 @@ module _ (form : Format) (image : Image) (size : ℕ) (sector : List ℕ) (whole
 
   pub is_damaged : IsFormatted sector × (version_in sector ≡ form.version)
       × ((named : ℕ) (limits : Limits) → named ≤ size → ¬ IsSuperblockIn form named limits sector)
-      → IsDamagedIn form image × IsFirstFaultIn form image 0
-  is_damaged (formatted, version, none) = (
-    record {
+      → IsNoSuperblock form image 0
+  is_damaged (formatted, version, none) = record {
+    damaged = record {
       formatted = begins formatted;
       version = ap version_in read ∙ version;
       stands_for_none = λ limits s stands. no_device none limits stands.kept.device;
-    },
-    IsFirstFaultIn.Superblock (no_device none),
-  )
+    };
+    none = no_device none;
+    first = refl;
+  }

@@ -1,7 +1,8 @@
 -- What upgrades leave that are stopped, and one that is not.
 use Rattle.std.proofs.Common.{◌≡◌, ◌⊎◌, inl, inr, ⊎_elim, ℕ, ◌<◌, ◌≤◌, ◌^◌, [], length, refl, sym, ap, subst, ◌∙◌, arith}
-use Rattle.std.specs.Prelude.{Some, position, not as is_not}
+use Rattle.std.specs.Prelude.{position, not as is_not}
 use Rattle.std.proofs.lemmas.Option.{none-some}
+use Rattle.ipc_base.specs.Limits.{ArePassed}
 use Rattle.ipc_base.specs.declared.limits.Limits.{Limits}
 use Rattle.ipc_disk.specs.Growth.{HasGrown}
 use Rattle.ipc_disk.specs.Medium.{Image, Medium, IsHonest, Stays}
@@ -12,7 +13,8 @@ use Rattle.ipc_image.specs.Greater.{AreAtLeast, at_least}
 use Rattle.ipc_image.specs.Sizes.{need_of}
 use Rattle.ipc_store.specs.declared.fault.UpgradeError.{UpgradeError}
 use Rattle.ipc_store.specs.declared.fault.UpgradeError.TheVariants as errors
-use Rattle.ipc_store.specs.Image.{HasVersionBut, IsDamagedIn, IsDeviceIn, IsFirstFaultIn, IsNotFormatted, StandsFor, StandsForIn}
+use Rattle.ipc_store.specs.Image.{StandsFor, StandsForIn}
+use Rattle.ipc_store.specs.Refusals.{IsUpgradeRefusal}
 use Rattle.ipc_store.specs.Lives.{StandsAfter}
 use Rattle.ipc_store.specs.Upgrade.{HasNoNextEpoch, IsUpgraded, RestsOldOrNew, StandsForOldOrNew, StoppedUpgrades, UpgradesTo}
 use Rattle.ipc_store.specs.Upgrade.StoppedUpgrades.{None, More, Larger}
@@ -83,28 +85,20 @@ only-read limits old new call law = record {
 }
 
 -- a disk that stands for a state has no fault of its own, and limits and room that do are not refused
-pub refused-by : (limits own : Limits) (s : State) (size : ℕ) (image : Image) (error : UpgradeError) → length image < 2 ^ 32
-    → StandsForIn format_one own s image → AreAtLeast limits own → need_of limits ≤ size
-    → (error ≡ errors.NotFormatted → IsNotFormatted image) → ((found : ℕ) → error ≡ errors.Version found → HasVersionBut format_one found image)
-    → ((field : ℕ) → error ≡ errors.BadLimits (record { field = field }) → (other : Limits) × IsDeviceIn format_one other image
-    × (position is_not (at_least limits other) ≡ Some field))
-    → ((need : ℕ) → error ≡ errors.TooSmall need → (need ≡ need_of limits) × (size < need))
-    → ((sector : ℕ) → error ≡ errors.Damaged sector → (IsDamagedIn format_one image × IsFirstFaultIn format_one image sector)
-    ⊎ (HasNoNextEpoch image × (sector ≡ format_one.root)))
-    → (error ≡ errors.Device) ⊎ (error ≡ errors.NoMemory) ⊎ HasNoNextEpoch image
-refused-by limits own s size image errors.Device fits stands greater room not version below small damaged = inl refl
-refused-by limits own s size image errors.NoMemory fits stands greater room not version below small damaged = inr (inl refl)
-refused-by limits own s size image errors.NotFormatted fits stands greater room not version below small damaged =
-    absurd ((device-begins format_one (inl refl) own image stands.kept.device).0 (not refl))
-refused-by limits own s size image (errors.Version found) fits stands greater room not version below small damaged =
-    let other = version found refl in
-    absurd (other.other (sym other.version ∙ (device-begins format_one (inl refl) own image stands.kept.device).1))
-refused-by limits own s size image (errors.BadLimits fault) fits stands greater room not version below small damaged =
-    let found = below fault.field refl in
-    let same = IsDevice-one format_one (inl refl) own found.0 image fits stands.kept.device found.1 in
-    absurd (none-some fault.field (sym greater ∙ ap (λ (l : Limits). position is_not (at_least limits l)) same ∙ found.2))
-refused-by limits own s size image (errors.TooSmall need) fits stands greater room not version below small damaged =
-    let is = small need refl in
-    absurd (omega (arith, is.0, is.1, room))
-refused-by limits own s size image (errors.Damaged sector) fits stands greater room not version below small damaged =
-    ⊎_elim (λ is. absurd (is.0.stands_for_none own s stands)) (λ end. inr (inr end.0)) (damaged sector refl)
+module _ (limits own : Limits) (s : State) (size : ℕ) (image : Image) where
+  pub refused-by : (error : UpgradeError) → length image < 2 ^ 32 → StandsForIn format_one own s image → ArePassed limits → AreAtLeast limits own
+      → need_of limits ≤ size → IsUpgradeRefusal limits size image error → (error ≡ errors.Device) ⊎ (error ≡ errors.NoMemory) ⊎ HasNoNextEpoch image
+  refused-by errors.Device fits stands passed greater room is = inl refl
+  refused-by errors.NoMemory fits stands passed greater room is = inr (inl refl)
+  refused-by errors.NotFormatted fits stands passed greater room is =
+      absurd ((device-begins format_one (inl refl) own image stands.kept.device).0 is.1)
+  refused-by (errors.Version found) fits stands passed greater room is =
+      absurd (is.1.other (sym is.1.version ∙ (device-begins format_one (inl refl) own image stands.kept.device).1))
+  refused-by (errors.BadLimits bad) fits stands passed greater room (inl untold) = absurd (none-some bad.field (sym passed ∙ untold))
+  refused-by (errors.BadLimits bad) fits stands passed greater room (inr below) =
+      let same = IsDevice-one format_one (inl refl) own below.1 image fits stands.kept.device below.2 in
+      absurd (none-some bad.field (sym greater ∙ ap (λ (l : Limits). position is_not (at_least limits l)) same ∙ below.3))
+  refused-by (errors.TooSmall need) fits stands passed greater room is = absurd (omega (arith, is.1, is.2, room))
+  refused-by (errors.Damaged sector) fits stands passed greater room is =
+      ⊎_elim (λ none. absurd (none.none own stands.kept.device))
+      (λ damage. ⊎_elim (λ found. absurd (found.0.stands_for_none own s stands)) (λ end. inr (inr end.0)) damage.1) is.1

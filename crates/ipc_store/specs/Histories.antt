@@ -5,12 +5,14 @@
 -- to what was left.
 use Rattle.std.specs.Prelude.{◌≡◌, ◌⊎◌, List, [], ◌∷◌, ◌++◌, length}
 use Rattle.ipc_base.specs.declared.limits.Limits.{Limits}
+use Rattle.ipc_checkpoint.specs.Meanwhile.{EachLater}
 use Rattle.ipc_disk.specs.Medium.{Image, Medium, IsHonest}
 use Rattle.ipc_disk.specs.Since.{EachImageSince}
 use Rattle.ipc_state.specs.State.{State, start, restart}
 use Rattle.ipc_engine.specs.Event.{PlainEvent, Restart}
 use Rattle.ipc_engine.specs.Step.{run}
 use Rattle.ipc_store.specs.Image.{StandsFor}
+use Rattle.ipc_store.specs.Meanwhile.{GoesOn}
 use Rattle.ipc_store.specs.View.{StoreView, IsStopped}
 use Rattle.ipc_store.specs.Relations.Matches.{StoreMatches}
 
@@ -92,11 +94,13 @@ pub record Follows (before : History) (events : List PlainEvent) (after : Histor
   pub confirms : after.confirmed ≡ before.confirmed ++ more
 
 -- What a call does that accepts these events. A crash at any moment of it leaves what was
--- acknowledged before it, and some of the other events; and the history goes on.
+-- acknowledged before it, and some of the other events; and the history goes on. Each image since
+-- goes on from one of before, for who reads the device meanwhile.
 pub record Moves {D : Type 0} (medium : D → Medium) (old new : StoreView D) (before : History)
     (events : List PlainEvent) : Type 0 where
   pub crash : EachImageSince (medium old.disk) (medium new.disk)
       (StandsForPrefix (past_of old.machine.limits before) (before.waiting ++ events))
+  pub later : EachLater GoesOn (medium old.disk) (medium new.disk)
   pub limits : new.machine.limits ≡ old.machine.limits
   pub after : History
   pub follows : Follows before events after

@@ -67,6 +67,10 @@ LeadTo = LeadToBy most_bytes
 abbrev pub named_sectors : Image → ℕ
 named_sectors image = sectors_in (sector_at image 0)
 
+-- it names all sectors that there are
+abbrev pub NamesAll : Image → Type 0
+NamesAll image = named_sectors image ≡ length image
+
 -- the image is of a device with these limits: its first sector is their superblock, and it has the sectors that this
 -- names
 pub record IsDeviceIn (form : Format) (limits : Limits) (image : Image) : Type 0 where

@@ -5,6 +5,8 @@ pub mod Histories
 pub mod Lives
 pub mod Look
 pub mod Meanwhile
+pub mod Refusals
+pub mod Results
 pub mod Upgrade
 pub mod View
 pub mod Relations

@@ -8,7 +8,7 @@ use Rattle.ipc_disk.specs.Since.{EachImageSince}
 use Rattle.ipc_image.specs.Format.{format_one}
 use Rattle.ipc_image.specs.Greater.{AreAtLeast}
 use Rattle.ipc_state.specs.State.{State, restart}
-use Rattle.ipc_store.specs.Image.{epoch_at_in, last_epoch, StandsFor, StandsForIn}
+use Rattle.ipc_store.specs.Image.{epoch_at_in, last_epoch, NamesAll, StandsFor, StandsForIn}
 use Rattle.ipc_store.specs.Lives.{IsLeft}
 
 -- the image stands for the state in the old version, under the limits that its superblock names, or, in the version of
@@ -22,7 +22,8 @@ UpgradesTo limits old image = old.images_now image
     ⊎ ((own : Limits) × (s : State) × StandsForIn format_one own s old.contents × StandsForOldOrNew own limits s image)
 
 -- What an upgrade gives: the disk stood for a state in the old version, under limits that were no greater, and from
--- then on each image that a crash may leave stands for it after a restart, in the version of today.
+-- then on each image that a crash may leave stands for it after a restart, in the version of today, and names all
+-- sectors of the disk.
 pub record IsUpgraded (limits : Limits) (old new : Medium) : Type 0 where
   pub own : Limits
   pub greater : AreAtLeast limits own
@@ -30,6 +31,7 @@ pub record IsUpgraded (limits : Limits) (old new : Medium) : Type 0 where
   pub stood : StandsForIn format_one own state old.contents
   pub honest : IsHonest new
   pub stands : (image : Image) → new.images_now image → StandsFor limits (restart state) image
+  pub whole : (image : Image) → new.images_now image → NamesAll image
 
 -- it stands for a state in the old version, and its objects are of the last epoch
 pub record HasNoNextEpoch (image : Image) : Type 0 where

@@ -5,7 +5,8 @@ ghost use Rattle.ipc_disk.specs.Calls.{IsSameDisk, CountsFaultIf};
 ghost use Rattle.ipc_disk.specs.Medium.{Image, IsHonest, IsDurable};
 ghost use Rattle.ipc_disk.specs.Since.{EachImageSince};
 ghost use Rattle.ipc_image.specs.Sizes.{need_of};
-ghost use Rattle.ipc_store.specs.Image.{StandsFor, IsNotFormatted};
+ghost use Rattle.ipc_store.specs.Image.{StandsFor, IsNotFormatted, NamesAll};
+ghost use Rattle.ipc_store.specs.Relations.Format.{EachNow};
 
 use crate::fault::FormatError;
 use crate::format::make;
@@ -22,6 +23,7 @@ impl<D: SectorDisk> Store<D> {
         // Each image that a crash may leave from then on stands for that state.
         ensures ok { OnOk result (IsHonest (D.medium disk.old) → (image : Image)
             → (D.medium disk.new).images_now image → StandsFor engine.now.limits engine.now.state image) }
+        ensures whole { OnOk result (IsHonest (D.medium disk.old) → EachNow (D.medium disk.new) NamesAll) }
         ensures durable { OnOk result (IsDurable (D.medium disk.new)) }
         // A crash at any moment of the call, also of one that fails.
         ensures any_moment { IsHonest (D.medium disk.old)

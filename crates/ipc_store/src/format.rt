@@ -13,7 +13,7 @@ ghost use Rattle.ipc_image.specs.Format.{objects_first};
 ghost use Rattle.ipc_image.specs.Saved.{StandForState};
 ghost use Rattle.ipc_image.specs.Sizes.{area_of, need_of};
 ghost use Rattle.ipc_image.specs.Superblock.{IsSuperblock};
-ghost use Rattle.ipc_store.specs.Image.{StandsFor, IsNotFormatted};
+ghost use Rattle.ipc_store.specs.Image.{StandsFor, IsNotFormatted, NamesAll};
 ghost use Rattle.ipc_store.specs.Relations.Format.{EachNow, IsErased, IsPrepared};
 
 use crate::fault::FormatError;
@@ -33,6 +33,7 @@ impl<D: SectorDisk> Store<D> {
         // Each image that a crash may leave from then on stands for the first state.
         ensures ok { OnOk result (IsHonest (D.medium disk.old) → (image : Image)
             → (D.medium disk.new).images_now image → StandsFor limits.now start image) }
+        ensures whole { OnOk result (IsHonest (D.medium disk.old) → EachNow (D.medium disk.new) NamesAll) }
         ensures durable { OnOk result (IsDurable (D.medium disk.new)) }
         // A crash at any moment of the call, also of one that fails.
         ensures any_moment { IsHonest (D.medium disk.old)
@@ -74,6 +75,7 @@ pub(crate) fn make<D: SectorDisk, O: Objects>(
     requires fits { Fit (area_of limits.now) (O.objects objects.now) }
     ensures ok { OnOk result ((s : State) → StandForState limits.now s (O.objects objects.now)
         → IsHonest (D.medium disk.old) → EachNow (D.medium disk.new) (StandsFor limits.now s)) }
+    ensures whole { OnOk result (IsHonest (D.medium disk.old) → EachNow (D.medium disk.new) NamesAll) }
     ensures durable { OnOk result (IsDurable (D.medium disk.new)) }
     ensures any_moment { (s : State) → StandForState limits.now s (O.objects objects.now)
         → IsHonest (D.medium disk.old)
@@ -131,6 +133,7 @@ pub(crate) fn put_superblock<D: SectorDisk>(disk: &mut D, limits: &Limits) -> Re
     ensures ok { OnOk result ((s : State) → IsHonest (D.medium disk.old)
         → EachNow (D.medium disk.old) (IsPrepared limits.now s)
         → EachNow (D.medium disk.new) (StandsFor limits.now s)) }
+    ensures whole { OnOk result (IsHonest (D.medium disk.old) → EachNow (D.medium disk.new) NamesAll) }
     ensures durable { OnOk result (IsDurable (D.medium disk.new)) }
     ensures any_moment { (s : State) → IsHonest (D.medium disk.old)
         → EachNow (D.medium disk.old) (IsPrepared limits.now s)

@@ -2,6 +2,7 @@
 
 ghost use Rattle.std.specs.Prelude.{◌≡◌, ◌<◌, ◌^◌, ◌++◌, List, [], length};
 ghost use Rattle.ipc_base.specs.declared.limits.Limits.{Limits};
+ghost use Rattle.ipc_checkpoint.specs.Meanwhile.{EachLater};
 ghost use Rattle.ipc_disk.specs.Medium.{Image, IsDurable};
 ghost use Rattle.ipc_state.specs.State.{State, restart};
 ghost use Rattle.ipc_engine.specs.Event.{PlainEvent};
@@ -65,13 +66,23 @@ pub fn a_look_is_of_one_image()
         → StandsFor limits s seen → IsRead first seen read → StandsFor limits s read }
 {}
 
-/// Each image of a call on a store goes on from what was read before, if all of that was synced. What goes on over some
-/// calls, and then over others, has gone on over all of them.
+/// Each image of a call on a store goes on from what was read before, if all of that was synced, and so does each image
+/// of any calls that the history of the store has. What goes on over some calls, and then over others, has gone on over
+/// all of them: also over a life that ends, and the opens after it.
 pub fn a_store_goes_on<D: SectorDisk>()
     ensures call { (store : StoreView D) (new : D) (base : State) (pending : List PlainEvent)
         → StoreMatches (D.medium store.disk) store base pending → IsDurable (D.medium store.disk)
         → StaysReadable D.medium store new → (image : Image)
         → (D.medium new).images_since (D.medium store.disk).moment image → GoesOn (D.medium store.disk).contents image }
+    ensures life { (store next : StoreView D) (before : History) (events : List PlainEvent)
+        → Keeps (D.medium store.disk) store before → IsDurable (D.medium store.disk)
+        → Takes D.medium store events next → (image : Image)
+        → (D.medium next.disk).images_since (D.medium store.disk).moment image
+        → GoesOn (D.medium store.disk).contents image }
+    ensures next { (disk new : D) (first : Image)
+        → ((image : Image) → (D.medium disk).images_now image → GoesOn first image)
+        → EachLater GoesOn (D.medium disk) (D.medium new) → (image : Image)
+        → (D.medium new).images_since (D.medium disk).moment image → GoesOn first image }
     ensures calls { (first mid later : Image) → GoesOn first mid → GoesOn mid later → GoesOn first later }
 {}
 

@@ -29,36 +29,38 @@
 //!   limits (`ok`), and it is what is read (`durable`). During the call each image is one of before, or not formatted,
 //!   or stands for the first state (`any_moment`). It is refused for limits that `check` refuses (`limits`), then for
 //!   too few sectors (`small`), each exactly then and with the disk untouched (`untouched`), and by the disk
-//!   (`counts`).
+//!   (`counts`). The superblock names all sectors of the disk (`whole`).
 //! - `Store::copy_onto` does the same with the limits and the state of a machine: every image that a crash may leave
 //!   afterwards stands for that state (`ok`, `durable`), and during the call each is one of before, or not formatted,
 //!   or stands for that state (`any_moment`). Too few sectors are refused, exactly then and with the disk untouched
-//!   (`small`, `untouched`); limits are not, since those of a machine have passed (`passed`).
+//!   (`small`, `untouched`); limits are not, since those of a machine have passed (`passed`). The superblock names all
+//!   sectors of the disk (`whole`).
 //! - `Store::open` gives a store that goes on from the state for which the disk stood, after a restart, with no event
 //!   waiting (`ok`) and one confirmed (`confirmed`); its epoch is at most the one after that of the disk (`numbers`).
 //!   During the call each image is one of before, or stands for that state or for that state after a restart
-//!   (`any_moment`). A disk that stands for no state is never opened (`ok`), and nothing is written to it
-//!   (`unwritten`). `NotFormatted`, `Version` and `Damaged` say what the disk has (`not_formatted`, `version`,
-//!   `damaged`), and `Damaged` names the first sector in which it is seen, of the objects just that of the heap
-//!   (`IsFirstDamage`). `Damaged` with sector 2 also says that an open would have to save and that the epochs are at
-//!   their end: the device stands for a state, its objects and its journal are of the last epoch, and the journal has
-//!   no room for a batch (`IsAtEnd`). `Device` says that the disk counted a failure, which no other answer has seen
-//!   (`failure`, `no_failure`). So a disk that stands for a state is refused by the disk, for want of memory or at the
-//!   end of the epochs alone (`refusals`). With each refusal the disk is handed back.
+//!   (`any_moment`), and whoever reads the disk meanwhile finds what was saved, as beside a commit (`meanwhile`). A
+//!   disk that stands for no state is never opened (`ok`), and nothing is written to it (`untouched`). No other refusal
+//!   but the disk's writes anything either (`unwritten`). What each error says of the disk is one relation (`refused`;
+//!   `IsRefusal` of `specs/Refusals.antt`). `Damaged` names the first sector in which a damage is seen, of the objects
+//!   just that of the heap (`IsFirstDamage`). `Damaged` with sector 2 also says that an open would have to save and
+//!   that the epochs are at their end: the device stands for a state, its objects and its journal are of the last
+//!   epoch, and the journal has no room for a batch (`IsAtEnd`). `Device` says that the disk counted a failure, which
+//!   no other answer has seen (`counts`). So a disk that stands for a state is refused by the disk, for want of memory
+//!   or at the end of the epochs alone (`refusals`). With each refusal the disk is handed back.
 //! - `Store::upgrade` makes a device of version 1 one of version 2, where it lies. During the call each image is one of
 //!   before, or stands in version 1, under the limits of its superblock, for the state for which the disk stood, or in
 //!   version 2, under the limits of the upgrade, for that state after a restart (`any_moment`, `UpgradesTo` of
 //!   `specs/Upgrade.antt`). Once it is Ok each image stands for the latter (`ok`, `IsUpgraded`), and a crash leaves
 //!   what is read (`durable`). If limits and room are right, a disk that stands for a state in version 1 is refused by
 //!   the disk, for want of memory, or because its epoch is the last one (`refusals`). `BadLimits` by `check` comes
-//!   before any call on the disk, and leaves it as it is (`checked`); the other refusals say what the disk has:
-//!   `not_formatted`, `version`, `below` (a limit of the upgrade is below the device's), `small`, and `damaged` with
-//!   the first sector in which the damage is seen. If it is not refused by the disk, it has written nothing
-//!   (`unwritten`).
+//!   before any call on the disk, and leaves it as it is (`checked`). What each error says of the disk is one relation,
+//!   which also has the order of the tests (`refused`, `small`; `IsUpgradeRefusal` of `specs/Refusals.antt`). If it is
+//!   not refused by the disk, it has written nothing (`unwritten`).
 //! - `Store::step` takes the machine's step (`state`, `outcomes`) and adds the event to those that wait (`matches`,
-//!   `records`, `waiting`). It makes no call on the disk (`disk`). It wants room in the batch for the event's record
-//!   and a connected process. It is `Stopped` after a failed commit and at the last number of events (`stopped`), it
-//!   may be refused for memory only where the machine may (`memory`), and after a refusal nothing has changed (`err`).
+//!   `records`, `waiting`). What a save has to write grows by no more than what the event changes (`only`). It makes no
+//!   call on the disk (`disk`). It wants room in the batch for the event's record and a connected process. It is
+//!   `Stopped` after a failed commit and at the last number of events (`stopped`), it may be refused for memory only
+//!   where the machine may (`memory`), and after a refusal nothing has changed (`err`).
 //! - `tally` is what the store has done since it was opened: its events by what they are, the refusals among its
 //!   replies by their errors, its commits and saves. Nothing that a store does hangs on it, and the value that clauses
 //!   speak of has none: that it counts right is tested (`metrics.py` of `tests/`). `disk`, `journal_used` and
@@ -92,19 +94,20 @@
 //!   over lives begins with that state (`an_upgrade_keeps_the_state`).
 //! - `look` gives the machine that a disk stands for, without a restart (`ok`). A disk that stands for a state is
 //!   refused for a failed read or for want of memory alone (`refusals`), and what it is refused for is as of an open
-//!   (`not_formatted`, `version`, `damaged`). It makes no write and no sync, and what is read stays (`alone`,
-//!   `specs/Look.antt`). That is said of a disk that nobody else writes meanwhile.
-//! - Of a disk that a store writes there is a law over the clause `meanwhile` of `commit` and `save`: whoever reads the
-//!   disk in such a call finds images that go on from those of before, with the same superblock and root, the same
-//!   sectors of objects and table, and the batches that there were, or more after them; or else the root is of a later
-//!   epoch. And the sectors of a batch stand before a header counts it (`StaysReadable` of `specs/Meanwhile.antt`). The
-//!   law: sectors that were read one after another, each as some image has it that goes on from the first one under the
-//!   same root, the header of the journal before its body, stand for the state for which the device stood when that
-//!   header was read (`a_look_is_of_one_image`). Each image of a call goes on from what was read before it, if all of
-//!   that was synced, and what goes on over some calls, and then over others, has gone on over all of them
-//!   (`a_store_goes_on`). No clause says that a look reads in this order, nor that between two equal roots there was no
-//!   other, since epochs only rise: the code of `look` does the one, and both are tested (docs/PROMISES.md). Of an
-//!   open, a format or an upgrade meanwhile the law does not speak.
+//!   (`refused`). It makes no write and no sync, and what is read stays (`alone`, `specs/Look.antt`). That is said of a
+//!   disk that nobody else writes meanwhile.
+//! - Of a disk that a store writes there is a law over the clause `meanwhile` of `open`, `commit` and `save`, which all
+//!   calls that the history of a store has keep too (`Moves` `later`): whoever reads the disk in such a call finds
+//!   images that go on from those of before, with the same superblock and root, the same sectors of objects and table,
+//!   and the batches that there were, or more after them; or else the root is of a later epoch. And the sectors of a
+//!   batch stand before a header counts it (`StaysReadable` of `specs/Meanwhile.antt`). The law: sectors that were read
+//!   one after another, each as some image has it that goes on from the first one under the same root, the header of
+//!   the journal before its body, stand for the state for which the device stood when that header was read
+//!   (`a_look_is_of_one_image`). Each image of a call goes on from what was read before it, if all of that was synced,
+//!   and what goes on over some calls, and then over others, has gone on over all of them (`a_store_goes_on`). No
+//!   clause says that a look reads in this order, nor that between two equal roots there was no other, since epochs
+//!   only rise: the code of `look` does the one, and both are tested (docs/PROMISES.md). Of a format or an upgrade
+//!   meanwhile the law does not speak.
 //! - An image stands for one state under one set of limits, and no two (`an_image_stands_for_one_state`); a batch is of
 //!   one list of events (`a_batch_is_of_one_list`).
 //! - `engine`, `confirmed`, `has_room`, `has_room_for`, `events_left` and `close` show the value, each by its one

@@ -1,20 +1,20 @@
 //! The loading of a device: its superblock, its objects, its journal, and the machine that they lead to.
 
-ghost use Rattle.std.specs.Prelude.{◌≡◌, ◌⊎◌, ◌<◌, ◌≤◌, ◌+◌, ◌-◌, ℕ, [], length, map, List, IfOk, IsErrOf};
+ghost use Rattle.std.specs.Prelude.{◌≡◌, ◌<◌, ◌≤◌, ◌+◌, ◌-◌, [], length, map, List, IfOk, IfErr, IsErrOf};
 ghost use Rattle.ipc_base.specs.Limits.{ArePassed};
 ghost use Rattle.ipc_base.specs.Objects.{PlainObjects};
 ghost use Rattle.ipc_checkpoint.specs.Checkpoint.{IsLaidOut, Holds as HoldsObjects};
 ghost use Rattle.ipc_checkpoint.specs.Matches.{CheckpointMatches, sectors_of};
 ghost use Rattle.ipc_checkpoint.specs.View.{epoch_of as saved_epoch, layout_of as saved_layout};
 ghost use Rattle.ipc_checkpoint.specs.View.{free_of, saved_root, HasSpare};
-ghost use Rattle.ipc_disk.specs.Calls.{IsSameDisk, CountsFaultIf, OnlyReads};
-ghost use Rattle.ipc_disk.specs.Medium.{IsHonest, IsDurable, Stays};
+ghost use Rattle.ipc_disk.specs.Calls.{OnlyReads};
+ghost use Rattle.ipc_disk.specs.Medium.{IsHonest, IsDurable};
 ghost use Rattle.ipc_disk.specs.Range.{IsWithin};
 ghost use Rattle.ipc_journal.specs.Journal.{header_epoch, header_used};
 ghost use Rattle.ipc_journal.specs.Matches.{JournalMatches};
 ghost use Rattle.ipc_journal.specs.View.{range_of, epoch_of, used_of};
 ghost use Rattle.ipc_state.specs.State.{State};
-ghost use Rattle.ipc_image.specs.Format.{objects_first, IsFormat};
+ghost use Rattle.ipc_image.specs.Format.{format, objects_first, IsFormat};
 ghost use Rattle.ipc_image.specs.Saved.{StandForStateIn};
 ghost use Rattle.ipc_image.specs.Sizes.{need_in};
 ghost use Rattle.ipc_image.specs.Superblock.{AreOf};
@@ -24,9 +24,9 @@ ghost use Rattle.ipc_engine.specs.Event.{PlainEvent};
 ghost use Rattle.ipc_store.specs.Batch.{most_bytes, batch_bytes};
 ghost use Rattle.ipc_store.specs.Image.{journal_range, layout_in, named_sectors, IsDeviceIn, HasBaseIn, LeadToBy};
 ghost use Rattle.ipc_store.specs.Image.{HasBatches, StandsFor};
-ghost use Rattle.ipc_store.specs.Image.{IsNotFormatted, HasVersion, IsDamaged, IsFirstFault};
-ghost use Rattle.ipc_store.specs.Image.{HasVersionBut, IsDamagedIn, IsFirstFaultIn};
-ghost use Rattle.ipc_store.specs.Relations.Loading.{HasNoObjects, HasOthers};
+ghost use Rattle.ipc_store.specs.Refusals.{IsRefusal};
+ghost use Rattle.ipc_store.specs.Relations.Loading.{HasNoBase, IsDamage, IsFoundDamaged, IsObjectDamage};
+ghost use Rattle.ipc_store.specs.Relations.Loading.{IsSuperblockRefusal, OnlySyncs};
 ghost use Rattle.ipc_store.specs.Relations.Matches.{AreOnDisk, MachineMatches};
 
 use crate::fault::OpenError;
@@ -58,13 +58,8 @@ pub(crate) fn load_superblock<D: SectorDisk>(
     ensures room { IfOk result (λ found. need_in form found.limits ≤ found.sectors) }
     ensures there { IfOk result (λ found. found.sectors ≤ D.size disk.old) }
     // Refusals.
-    ensures not_formatted { IsErrOf result OpenError.NotFormatted → IsHonest (D.medium disk.old)
-        → IsNotFormatted (D.medium disk.old).contents }
-    ensures version { (found : ℕ) → IsErrOf result (OpenError.Version found) → IsHonest (D.medium disk.old)
-        → HasVersionBut form found (D.medium disk.old).contents }
-    ensures damaged { (sector : ℕ) → IsErrOf result (OpenError.Damaged sector) → IsHonest (D.medium disk.old)
-        → IsDamagedIn form (D.medium disk.old).contents × IsFirstFaultIn form (D.medium disk.old).contents sector }
-    ensures faults { IsErrOf result OpenError.NoMemory → ⊥ }
+    ensures refused { IfErr result (λ error. IsHonest (D.medium disk.old)
+        → IsSuperblockRefusal form (D.medium disk.old).contents error) }
     // It only reads.
     ensures reads { OnlyReads D.size D.medium D.counts (IsErrOf result OpenError.Device) disk.old disk.new }
 {
@@ -107,11 +102,8 @@ pub(crate) fn load_objects<D: SectorDisk>(
         × (IsHonest (D.medium disk.old)
         → HoldsObjects layout (saved_epoch found.0) objects (D.medium disk.old).contents)) }
     // Refusals: there are none, or they stand for no state.
-    ensures damaged { (sector : ℕ) → IsErrOf result (OpenError.Damaged sector) → IsHonest (D.medium disk.old)
-        → HasNoObjects layout (D.medium disk.old).contents sector
-        ⊎ HasOthers form limits layout (D.medium disk.old).contents sector }
-    ensures faults { (found : ℕ) → IsErrOf result OpenError.NotFormatted
-        ⊎ IsErrOf result (OpenError.Version found) → ⊥ }
+    ensures refused { IfErr result (λ error. IsHonest (D.medium disk.old)
+        → IsDamage (IsObjectDamage form limits layout (D.medium disk.old).contents) error) }
     // It only reads.
     ensures reads { OnlyReads D.size D.medium D.counts (IsErrOf result OpenError.Device) disk.old disk.new }
 {
@@ -148,13 +140,10 @@ pub(crate) fn load_base<D: SectorDisk>(
         → superblock.sectors ≡ named_sectors (D.medium disk.old).contents
         → HasBaseIn form superblock.limits (saved_epoch found.0) found.1.state (D.medium disk.old).contents) }
     // Refusals.
-    ensures damaged { (sector : ℕ) → IsErrOf result (OpenError.Damaged sector) → IsHonest (D.medium disk.old)
+    ensures refused { IfErr result (λ error. IsHonest (D.medium disk.old)
         → IsDeviceIn form superblock.limits (D.medium disk.old).contents
         → superblock.sectors ≡ named_sectors (D.medium disk.old).contents
-        → ((epoch : ℕ) (base : State) → ¬ HasBaseIn form superblock.limits epoch base (D.medium disk.old).contents)
-        × IsFirstFaultIn form (D.medium disk.old).contents sector }
-    ensures faults { (found : ℕ) → IsErrOf result OpenError.NotFormatted
-        ⊎ IsErrOf result (OpenError.Version found) → ⊥ }
+        → IsDamage (HasNoBase form superblock.limits (D.medium disk.old).contents) error) }
     // It only reads.
     ensures reads { OnlyReads D.size D.medium D.counts (IsErrOf result OpenError.Device) disk.old disk.new }
 {
@@ -189,12 +178,10 @@ pub(crate) fn load_journal<D: SectorDisk>(
         → header_epoch journal_range (D.medium disk.old).contents ≡ epoch_of journal) }
     ensures room { length room.new ≡ length room.old }
     // Refusals.
-    ensures damaged { (form : AnyForm) (sector : ℕ) → IsFormat form → form.batch ≡ length room.old
-        → IsErrOf result (OpenError.Damaged sector) → IsHonest (D.medium disk.old)
+    ensures refused { IfErr result (λ error. (form : AnyForm) → IsFormat form → form.batch ≡ length room.old
+        → IsHonest (D.medium disk.old)
         → HasBaseIn form engine.old.limits (saved_epoch checkpoint.now) engine.old.state (D.medium disk.old).contents
-        → IsDamagedIn form (D.medium disk.old).contents × IsFirstFaultIn form (D.medium disk.old).contents sector }
-    ensures faults { (found : ℕ) → IsErrOf result OpenError.NotFormatted
-        ⊎ IsErrOf result (OpenError.Version found) → ⊥ }
+        → IsDamage (IsFoundDamaged form (D.medium disk.old).contents) error) }
     // It only reads.
     ensures reads { OnlyReads D.size D.medium D.counts (IsErrOf result OpenError.Device) disk.old disk.new }
 {
@@ -223,12 +210,8 @@ pub(crate) fn read_all<D: SectorDisk>(
         → header_epoch journal_range (D.medium disk.old).contents ≡ epoch_of found.1) }
     ensures room { length room.new ≡ most_bytes }
     // Refusals.
-    ensures not_formatted { IsErrOf result OpenError.NotFormatted → IsHonest (D.medium disk.old)
-        → IsNotFormatted (D.medium disk.old).contents }
-    ensures version { (found : ℕ) → IsErrOf result (OpenError.Version found) → IsHonest (D.medium disk.old)
-        → HasVersion found (D.medium disk.old).contents }
-    ensures damaged { (sector : ℕ) → IsErrOf result (OpenError.Damaged sector) → IsHonest (D.medium disk.old)
-        → IsDamaged (D.medium disk.old).contents × IsFirstFault (D.medium disk.old).contents sector }
+    ensures refused { IfErr result (λ error. IsHonest (D.medium disk.old)
+        → IsRefusal format (D.medium disk.old).contents error) }
     // It only reads.
     ensures reads { OnlyReads D.size D.medium D.counts (IsErrOf result OpenError.Device) disk.old disk.new }
 {
@@ -255,17 +238,10 @@ pub(crate) fn load<D: SectorDisk>(
         → header_epoch journal_range (D.medium disk.old).contents ≡ epoch_of found.1) }
     ensures room { length room.new ≡ most_bytes }
     // Refusals.
-    ensures not_formatted { IsErrOf result OpenError.NotFormatted → IsHonest (D.medium disk.old)
-        → IsNotFormatted (D.medium disk.old).contents }
-    ensures version { (found : ℕ) → IsErrOf result (OpenError.Version found) → IsHonest (D.medium disk.old)
-        → HasVersion found (D.medium disk.old).contents }
-    ensures damaged { (sector : ℕ) → IsErrOf result (OpenError.Damaged sector) → IsHonest (D.medium disk.old)
-        → IsDamaged (D.medium disk.old).contents × IsFirstFault (D.medium disk.old).contents sector }
+    ensures refused { IfErr result (λ error. IsHonest (D.medium disk.old)
+        → IsRefusal format (D.medium disk.old).contents error) }
     // It only reads.
-    ensures reads { IsHonest (D.medium disk.old) → Stays (D.medium disk.old) (D.medium disk.new) }
-    ensures same { IsSameDisk D.size D.medium disk.old disk.new }
-    ensures counts { CountsFaultIf D.counts (IsErrOf result OpenError.Device) disk.old disk.new }
-    ensures no_write { (D.counts disk.new).writes ≡ (D.counts disk.old).writes }
+    ensures reads { OnlySyncs D.size D.medium D.counts (IsErrOf result OpenError.Device) disk.old disk.new }
 {
     disk.sync()?;
     read_all(alloc, disk, room)

@@ -1,12 +1,14 @@
 //! A look at a device that somebody else may have, and may write meanwhile.
 
-ghost use Rattle.std.specs.Prelude.{◌≡◌, ◌⊎◌, ◌≤◌, ℕ, IfOk, IfErr, IfSome, IsErrOf, length};
+ghost use Rattle.std.specs.Prelude.{◌≡◌, ◌⊎◌, IfOk, IfErr, IfSome, length};
 ghost use Rattle.ipc_base.specs.declared.limits.Limits.{Limits};
 ghost use Rattle.ipc_disk.specs.Medium.{IsHonest};
+ghost use Rattle.ipc_image.specs.Format.{format};
 ghost use Rattle.ipc_state.specs.State.{State};
 ghost use Rattle.ipc_store.specs.Batch.{most_bytes};
-ghost use Rattle.ipc_store.specs.Image.{StandsFor, IsNotFormatted, HasVersion, IsDamaged, IsFirstFault};
+ghost use Rattle.ipc_store.specs.Image.{StandsFor};
 ghost use Rattle.ipc_store.specs.Look.{LeavesAlone};
+ghost use Rattle.ipc_store.specs.Refusals.{IsRefusal};
 ghost use Rattle.ipc_store.specs.Relations.Look.{Tells};
 ghost use Rattle.ipc_store.specs.declared.fault.OpenError.TheVariants as errors;
 
@@ -33,12 +35,8 @@ pub fn look<D: SectorDisk>(alloc: Global, disk: &mut D) -> Result<Engine, OpenEr
     // Refusals.
     ensures refusals { IfErr result (λ error. (limits : Limits) (s : State) → IsHonest (D.medium disk.old)
         → StandsFor limits s (D.medium disk.old).contents → (error ≡ errors.Device) ⊎ (error ≡ errors.NoMemory)) }
-    ensures not_formatted { IsErrOf result OpenError.NotFormatted → IsHonest (D.medium disk.old)
-        → IsNotFormatted (D.medium disk.old).contents }
-    ensures version { (found : ℕ) → IsErrOf result (OpenError.Version found) → IsHonest (D.medium disk.old)
-        → HasVersion found (D.medium disk.old).contents }
-    ensures damaged { (sector : ℕ) → IsErrOf result (OpenError.Damaged sector) → IsHonest (D.medium disk.old)
-        → IsDamaged (D.medium disk.old).contents × IsFirstFault (D.medium disk.old).contents sector }
+    ensures refused { IfErr result (λ error. IsHonest (D.medium disk.old)
+        → IsRefusal format (D.medium disk.old).contents error) }
     // It makes no write and no sync.
     ensures alone { LeavesAlone D.size D.medium D.counts disk.old disk.new }
 {

@@ -1,12 +1,13 @@
 //! The opening of a device.
 
-ghost use Rattle.std.specs.Prelude.{◌≡◌, ◌⊎◌, ◌<◌, ◌≤◌, ◌+◌, ℕ, false, [], length};
-ghost use Rattle.std.specs.Prelude.{Err, IfOk, IfErr, OnOk, OnErr};
+ghost use Rattle.std.specs.Prelude.{◌≡◌, ◌⊎◌, ◌<◌, ◌≤◌, ◌+◌, false, [], length};
+ghost use Rattle.std.specs.Prelude.{Err, IfOk, IfErr, IsErrOf, OnOk, OnErr};
+ghost use Rattle.std.specs.Result.{IsErrAnd};
 ghost use Rattle.ipc_base.specs.declared.limits.Limits.{Limits};
+ghost use Rattle.ipc_checkpoint.specs.Meanwhile.{EachLater};
 ghost use Rattle.ipc_checkpoint.specs.View.{HasSpare};
-ghost use Rattle.ipc_disk.specs.Calls.{IsSameDisk, CountsFaultIf};
-ghost use Rattle.ipc_disk.specs.Counts.{counted};
-ghost use Rattle.ipc_disk.specs.Medium.{IsHonest, Stays};
+ghost use Rattle.ipc_disk.specs.Calls.{CountsFaultIf};
+ghost use Rattle.ipc_disk.specs.Medium.{IsHonest};
 ghost use Rattle.ipc_disk.specs.Since.{EachImageSince};
 ghost use Rattle.ipc_journal.specs.Journal.{header_epoch, header_used};
 ghost use Rattle.ipc_journal.specs.View.{range_of, epoch_of, used_of};
@@ -16,15 +17,15 @@ ghost use Rattle.ipc_store.specs.Image.{
   journal_range,
   StandsFor,
   HasNoState,
-  IsNotFormatted,
-  HasVersion,
-  IsDamaged,
-  IsFirstFault,
   IsAtEnd,
   epoch_at,
 };
+ghost use Rattle.ipc_store.specs.Refusals.{IsRefusal};
+ghost use Rattle.ipc_store.specs.Relations.Loading.{OnlySyncs};
+ghost use Rattle.ipc_store.specs.Results.{opened_disk};
 ghost use Rattle.ipc_store.specs.View.{IsAtLastEpoch, numbers_used};
 ghost use Rattle.ipc_store.specs.Histories.{OpensOn};
+ghost use Rattle.ipc_store.specs.Meanwhile.{GoesOn};
 ghost use Rattle.ipc_store.specs.Relations.Matches.{AreOnDisk, MachineMatches, StoreMatches};
 ghost use Rattle.ipc_store.specs.Relations.Matches.{StandsForEither, OpensTo};
 ghost use Rattle.ipc_store.specs.declared.fault.OpenError.TheVariants as errors;
@@ -61,33 +62,28 @@ impl<D: SectorDisk> Store<D> {
             → numbers_used store ≤ epoch_at (D.medium disk).contents + 2) }
         // A crash at any moment of the call, also of one that fails.
         ensures any_moment { IsHonest (D.medium disk)
-            → (IfOk result (λ store. EachImageSince (D.medium disk) (D.medium store.disk) (OpensTo (D.medium disk))))
-            × (IfErr result (λ fault. EachImageSince (D.medium disk) (D.medium fault.disk)
-            (OpensTo (D.medium disk)))) }
+            → EachImageSince (D.medium disk) (D.medium (opened_disk result)) (OpensTo (D.medium disk)) }
+        // Who reads the device meanwhile finds what was saved where it stood, and no batch less, or a later root.
+        ensures meanwhile { IsHonest (D.medium disk)
+            → EachLater GoesOn (D.medium disk) (D.medium (opened_disk result)) }
         // Refusals. A disk that stands for a state is refused by the disk, for want of memory, or because it would have
         // to save and has no next epoch.
         ensures refusals { IfErr result (λ fault. (limits : Limits) (s : State) → IsHonest (D.medium disk)
             → StandsFor limits s (D.medium disk).contents
             → (fault.error ≡ errors.Device) ⊎ (fault.error ≡ errors.NoMemory)
             ⊎ IsAtEnd (D.medium disk).contents) }
-        ensures not_formatted { IfErr result (λ fault. fault.error ≡ errors.NotFormatted → IsHonest (D.medium disk)
-            → IsNotFormatted (D.medium disk).contents) }
-        ensures version { IfErr result (λ fault. (found : ℕ) → fault.error ≡ errors.Version found
-            → IsHonest (D.medium disk) → HasVersion found (D.medium disk).contents) }
-        ensures damaged { IfErr result (λ fault. (sector : ℕ) → fault.error ≡ errors.Damaged sector
-            → IsHonest (D.medium disk)
-            → (IsDamaged (D.medium disk).contents × IsFirstFault (D.medium disk).contents sector)
-            ⊎ (IsAtEnd (D.medium disk).contents × (sector ≡ format.root))) }
-        ensures unwritten { IfErr result (λ fault. IsHonest (D.medium disk) → HasNoState (D.medium disk).contents
+        ensures refused { IfErr result (λ fault. IsHonest (D.medium disk)
+            → IsRefusal format (D.medium disk).contents fault.error
+            ⊎ (IsAtEnd (D.medium disk).contents × (fault.error ≡ errors.Damaged format.root))) }
+        // Nothing is written before a refusal but the disk's, and nothing at all on a disk that has no state.
+        ensures unwritten { IfErr result (λ fault. (fault.error ≡ errors.Device)
+            ⊎ ((D.counts fault.disk).writes ≡ (D.counts disk).writes)) }
+        ensures untouched { IfErr result (λ fault. IsHonest (D.medium disk) → HasNoState (D.medium disk).contents
             → (D.counts fault.disk).writes ≡ (D.counts disk).writes) }
         // Failures and counts.
-        ensures size { (IfOk result (λ store. D.size store.disk ≡ D.size disk))
-            × (IfErr result (λ fault. D.size fault.disk ≡ D.size disk)) }
-        ensures failure { IfErr result (λ fault. fault.error ≡ errors.Device
-            → (D.counts fault.disk).failures ≡ counted (D.counts disk).failures 1) }
-        ensures no_failure { (IfOk result (λ store. (D.counts store.disk).failures ≡ (D.counts disk).failures))
-            × (IfErr result (λ fault. (fault.error ≡ errors.Device)
-            ⊎ ((D.counts fault.disk).failures ≡ (D.counts disk).failures))) }
+        ensures size { D.size (opened_disk result) ≡ D.size disk }
+        ensures counts { CountsFaultIf D.counts (IsErrAnd result (λ fault. fault.error ≡ errors.Device))
+            disk (opened_disk result) }
     {
         let mut disk = disk;
         let (checkpoint, journal, engine, batch) = match read_device(alloc, &mut disk) {
@@ -118,10 +114,13 @@ impl<D: SectorDisk> Store<D> {
         ensures any_moment { (base : State) → StoreMatches (D.medium self.old.disk) self.old base []
             → EachImageSince (D.medium self.old.disk) (D.medium self.new.disk)
             (StandsForEither self.old.machine.limits base (restart base)) }
+        ensures meanwhile { (base : State) → StoreMatches (D.medium self.old.disk) self.old base []
+            → EachLater GoesOn (D.medium self.old.disk) (D.medium self.new.disk) }
         ensures faults { OnErr result ((result ≡ Err OpenError.Device)
             ⊎ (result ≡ Err (OpenError.Damaged format.root))) }
         ensures at_end { result ≡ Err (OpenError.Damaged format.root) → IsAtLastEpoch self.old
             × (used_of self.old.journal + 1 ≡ (range_of self.old.journal).count) }
+        ensures unwritten { (result ≡ Err OpenError.Device) ⊎ OnErr result (self.new.disk ≡ self.old.disk) }
         ensures size { D.size self.new.disk ≡ D.size self.old.disk }
         ensures counts { CountsFaultIf D.counts (result ≡ Err OpenError.Device) self.old.disk self.new.disk }
     {
@@ -152,16 +151,9 @@ fn read_device<D: SectorDisk>(
     ensures current { IfOk result (λ found. IsHonest (D.medium disk.old) → 0 < used_of found.1
         → header_epoch journal_range (D.medium disk.old).contents ≡ epoch_of found.1) }
     ensures batch { IfOk result (λ found. found.3 ≡ record { records = []; count = 0 }) }
-    ensures not_formatted { result ≡ Err OpenError.NotFormatted → IsHonest (D.medium disk.old)
-        → IsNotFormatted (D.medium disk.old).contents }
-    ensures version { (found : ℕ) → result ≡ Err (OpenError.Version found) → IsHonest (D.medium disk.old)
-        → HasVersion found (D.medium disk.old).contents }
-    ensures damaged { (sector : ℕ) → result ≡ Err (OpenError.Damaged sector) → IsHonest (D.medium disk.old)
-        → IsDamaged (D.medium disk.old).contents × IsFirstFault (D.medium disk.old).contents sector }
-    ensures reads { IsHonest (D.medium disk.old) → Stays (D.medium disk.old) (D.medium disk.new) }
-    ensures same { IsSameDisk D.size D.medium disk.old disk.new }
-    ensures counts { CountsFaultIf D.counts (result ≡ Err OpenError.Device) disk.old disk.new }
-    ensures no_write { (D.counts disk.new).writes ≡ (D.counts disk.old).writes }
+    ensures refused { IfErr result (λ error. IsHonest (D.medium disk.old)
+        → IsRefusal format (D.medium disk.old).contents error) }
+    ensures reads { OnlySyncs D.size D.medium D.counts (IsErrOf result OpenError.Device) disk.old disk.new }
 {
     let mut room = match room_for(alloc, MOST_BYTES) {
         Ok(room) => room,

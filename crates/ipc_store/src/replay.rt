@@ -1,7 +1,7 @@
 //! The replay of a journal: a machine goes through the events of its batches.
 
-ghost use Rattle.std.specs.Prelude.{◌≡◌, ◌⊎◌, ◌≤◌, ℕ, true, List, length, OnOk};
-ghost use Rattle.std.specs.Prelude.{IfOk, IsErrOf, Err};
+ghost use Rattle.std.specs.Prelude.{◌≡◌, ◌≤◌, true, List, length, OnOk};
+ghost use Rattle.std.specs.Prelude.{IfOk, IfErr, IsErrOf};
 ghost use Rattle.ipc_disk.specs.Calls.{OnlyReads};
 ghost use Rattle.ipc_disk.specs.Medium.{IsHonest};
 ghost use Rattle.ipc_disk.specs.Range.{IsWithin};
@@ -10,7 +10,8 @@ ghost use Rattle.ipc_state.specs.State.{State};
 ghost use Rattle.ipc_engine.specs.Changes.{IsTracked};
 ghost use Rattle.ipc_engine.specs.Event.{PlainEvent};
 ghost use Rattle.ipc_store.specs.Batch.{most_bytes};
-ghost use Rattle.ipc_store.specs.Relations.Replay.{Replays, IsGoodUpTo, AreRecords};
+ghost use Rattle.ipc_store.specs.Relations.Loading.{IsDamage};
+ghost use Rattle.ipc_store.specs.Relations.Replay.{Replays, IsBadAt, AreRecords};
 
 use crate::fault::OpenError;
 use ipc_disk::SectorDisk;
@@ -37,16 +38,9 @@ pub(crate) fn replay<D: SectorDisk>(
         × Replays (length room.old) engine.old.limits engine.old.state journal.now (D.medium disk.old).contents
         batches engine.new.state) }
     // Some bytes are no such batches; the fault is in the first batch that goes wrong.
-    ensures damaged { (sector : ℕ) (batches : List (List PlainEvent)) (s : State)
-        → IsErrOf result (OpenError.Damaged sector) → IsHonest (D.medium disk.old)
-        → ¬ Replays (length room.old) engine.old.limits engine.old.state journal.now (D.medium disk.old).contents
-        batches s }
-    ensures named { (sector : ℕ) → IsErrOf result (OpenError.Damaged sector)
-        → IsHonest (D.medium disk.old)
-        → IsGoodUpTo (length room.old) engine.old.limits engine.old.state journal.now (D.medium disk.old).contents
-        sector }
-    ensures faults { (sector : ℕ)
-        → IsErrOf result OpenError.NotFormatted ⊎ IsErrOf result (OpenError.Version sector) → ⊥ }
+    ensures refused { IfErr result (λ error. IsHonest (D.medium disk.old)
+        → IsDamage (IsBadAt (length room.old) engine.old.limits engine.old.state journal.now
+        (D.medium disk.old).contents) error) }
     // It only reads.
     ensures reads { OnlyReads D.size D.medium D.counts (IsErrOf result OpenError.Device) disk.old disk.new }
     ensures room { length room.new ≡ length room.old }

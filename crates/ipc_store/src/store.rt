@@ -1,6 +1,6 @@
 //! The store: its value, and the calls on it while it is open.
 
-ghost use Rattle.std.specs.Prelude.{◌≡◌, ◌⊎◌, ◌<◌, ◌+◌, ◌-◌, ◌^◌, ◌↔◌, ◌++◌, ◌∷◌, ◌≢◌, [], List};
+ghost use Rattle.std.specs.Prelude.{◌≡◌, ◌⊎◌, ◌<◌, ◌+◌, ◌-◌, ◌^◌, ◌↔◌, ◌++◌, ◌∷◌, ◌≢◌, ◌||◌, [], List};
 ghost use Rattle.std.specs.Prelude.{length, true, false, IsOk, IsTrue, Ok, Err, OnOk, OnErr};
 ghost use Rattle.ipc_checkpoint.specs.View.{HasSpare};
 ghost use Rattle.ipc_disk.specs.Calls.{IsSameDisk, CountsFaultIf};
@@ -9,8 +9,10 @@ ghost use Rattle.ipc_disk.specs.Medium.{Image, IsDurable, IsHonest};
 ghost use Rattle.ipc_disk.specs.Since.{EachImageSince};
 ghost use Rattle.ipc_disk.specs.Standing.{sectors_for};
 ghost use Rattle.ipc_base.specs.Limits.{ArePassed};
+ghost use Rattle.ipc_engine.specs.Changes.{changes, is_marked};
 ghost use Rattle.ipc_engine.specs.Sound.{IsSound};
 ghost use Rattle.ipc_state.specs.State.{State};
+ghost use Rattle.ipc_state.specs.declared.parked.Object.{Object as AnyObject};
 ghost use Rattle.ipc_engine.specs.Engine.{IsForProcess, event_takes_memory};
 ghost use Rattle.ipc_engine.specs.Event.{PlainEvent};
 ghost use Rattle.ipc_engine.specs.Step.{step as step_on, run};
@@ -191,6 +193,10 @@ impl<D: SectorDisk> Store<D> {
             → StoreMatches (D.medium self.new.disk) self.new base (pending ++ plain_event event.entry ∷ [])) }
         ensures takes { (OnOk result (Takes D.medium self.old (plain_event event.entry ∷ []) self.new))
             × (OnErr result (Takes D.medium self.old [] self.new)) }
+        // What a save has to write: what it had to before, and what the event changes.
+        ensures only { OnOk result ((o : AnyObject) → is_marked self.new.machine.changed o ≡ true
+            → (is_marked self.old.machine.changed o
+            || changes self.old.machine.limits self.old.machine.state (plain_event event.entry) o) ≡ true) }
         ensures disk { self.new.disk ≡ self.old.disk }
         ensures checkpoint { self.new.checkpoint ≡ self.old.checkpoint }
         ensures journal { self.new.journal ≡ self.old.journal }

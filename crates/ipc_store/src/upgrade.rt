@@ -1,7 +1,8 @@
 //! The upgrade of a device of the version before.
 
-ghost use Rattle.std.specs.Prelude.{◌≡◌, ◌≢◌, ◌⊎◌, ◌<◌, ◌≤◌, ◌+◌, ℕ, List, [], Some, position, not};
+ghost use Rattle.std.specs.Prelude.{◌≡◌, ◌⊎◌, ◌<◌, ◌≤◌, ◌+◌, ℕ, List, [], Some, position, not};
 ghost use Rattle.std.specs.Prelude.{Ok, Err, IfOk, IfErr, OnOk, IsErrOf};
+ghost use Rattle.std.specs.Result.{IsErrAnd};
 ghost use Rattle.ipc_base.specs.Limits.{ArePassed, tests};
 ghost use Rattle.ipc_base.specs.Objects.{Fit, PlainObjects};
 ghost use Rattle.ipc_base.specs.declared.limits.Limits.{Limits as AnyLimits};
@@ -10,8 +11,7 @@ ghost use Rattle.ipc_checkpoint.specs.Matches.{CheckpointMatches, sectors_of};
 ghost use Rattle.ipc_checkpoint.specs.View.{epoch_of, free_of, layout_of as saved_layout, layout_under, saved_root};
 ghost use Rattle.ipc_checkpoint.specs.View.{HasSpare};
 ghost use Rattle.ipc_disk.specs.Calls.{IsSameDisk, CountsFault, CountsFaultIf, OnlyReads};
-ghost use Rattle.ipc_disk.specs.Counts.{counted};
-ghost use Rattle.ipc_disk.specs.Medium.{Image, IsHonest, IsDurable, Stays};
+ghost use Rattle.ipc_disk.specs.Medium.{Image, IsHonest, IsDurable};
 ghost use Rattle.ipc_disk.specs.Range.{IsWithin};
 ghost use Rattle.ipc_disk.specs.Since.{EachImageSince};
 ghost use Rattle.ipc_state.specs.State.{State, restart};
@@ -19,16 +19,18 @@ ghost use Rattle.ipc_engine.specs.Changes.{IsTracked};
 ghost use Rattle.ipc_engine.specs.Event.{PlainEvent};
 ghost use Rattle.ipc_engine.specs.Sound.{IsSound};
 ghost use Rattle.ipc_image.specs.Format.{format, format_one};
-ghost use Rattle.ipc_image.specs.Greater.{AreAtLeast, at_least};
+ghost use Rattle.ipc_image.specs.Greater.{AreAtLeast};
 ghost use Rattle.ipc_image.specs.Saved.{saved, StandForState, StandForStateIn};
 ghost use Rattle.ipc_image.specs.Sizes.{need_in, need_of};
 ghost use Rattle.ipc_image.specs.Superblock.{AreOf};
 ghost use Rattle.ipc_store.specs.Image.{journal_range, last_epoch, objects_range};
-ghost use Rattle.ipc_store.specs.Image.{HasBaseIn, HasBatches, IsDeviceIn, LeadToBy};
-ghost use Rattle.ipc_store.specs.Image.{IsNotFormatted, HasVersionBut, IsDamagedIn, IsFirstFaultIn};
-ghost use Rattle.ipc_store.specs.Image.{StandsFor, StandsForIn};
+ghost use Rattle.ipc_store.specs.Image.{HasBaseIn, HasBatches, LeadToBy};
+ghost use Rattle.ipc_store.specs.Refusals.{IsOldDamage, IsUpgradeRefusal};
+ghost use Rattle.ipc_store.specs.Image.{NamesAll, StandsFor, StandsForIn};
 ghost use Rattle.ipc_store.specs.Relations.Format.{EachNow};
-ghost use Rattle.ipc_store.specs.Relations.Upgrade.{wide_layout, HasOld, IsNamed, IsReadOld};
+ghost use Rattle.ipc_store.specs.Relations.Loading.{IsDamage, OnlySyncs};
+ghost use Rattle.ipc_store.specs.Results.{upgraded_disk};
+ghost use Rattle.ipc_store.specs.Relations.Upgrade.{wide_layout, HasOld, IsNamed, IsReadOld, IsRoomRefusal};
 ghost use Rattle.ipc_store.specs.Upgrade.{HasNoNextEpoch, IsUpgraded, UpgradesTo};
 ghost use Rattle.ipc_store.specs.declared.fault.UpgradeError.TheVariants as errors;
 
@@ -68,10 +70,8 @@ impl<D: SectorDisk> Store<D> {
         ensures durable { IfOk result (λ new. IsDurable (D.medium new)) }
         // A crash at any moment of the call, also of one that fails.
         ensures any_moment { IsHonest (D.medium disk)
-            → (IfOk result (λ new. EachImageSince (D.medium disk) (D.medium new)
-            (UpgradesTo limits.now (D.medium disk))))
-            × (IfErr result (λ fault. EachImageSince (D.medium disk) (D.medium fault.disk)
-            (UpgradesTo limits.now (D.medium disk)))) }
+            → EachImageSince (D.medium disk) (D.medium (upgraded_disk result))
+            (UpgradesTo limits.now (D.medium disk)) }
         // Refusals. Where limits and room are right, a disk that stands for a state is refused by the disk, for want of
         // memory, or because there is no next epoch.
         ensures refusals { IfErr result (λ fault. (own : AnyLimits) (s : State) → IsHonest (D.medium disk)
@@ -82,32 +82,16 @@ impl<D: SectorDisk> Store<D> {
         ensures checked { (field : ℕ) → position not (tests limits.now) ≡ Some field
             → IfErr result (λ fault. (fault.error ≡ errors.BadLimits (record { field = field }))
             × (fault.disk ≡ disk)) }
-        ensures not_formatted { IfErr result (λ fault. fault.error ≡ errors.NotFormatted → IsHonest (D.medium disk)
-            → IsNotFormatted (D.medium disk).contents) }
-        ensures version { IfErr result (λ fault. (found : ℕ) → fault.error ≡ errors.Version found
-            → IsHonest (D.medium disk) → HasVersionBut format_one found (D.medium disk).contents) }
-        ensures below { IfErr result (λ fault. (field : ℕ) → fault.error ≡ errors.BadLimits (record { field = field })
-            → ArePassed limits.now → IsHonest (D.medium disk) → (own : AnyLimits)
-            × IsDeviceIn format_one own (D.medium disk).contents
-            × (position not (at_least limits.now own) ≡ Some field)) }
+        ensures refused { IfErr result (λ fault. IsHonest (D.medium disk)
+            → IsUpgradeRefusal limits.now (D.size disk) (D.medium disk).contents fault.error) }
         ensures small { IfErr result (λ fault. (need : ℕ) → fault.error ≡ errors.TooSmall need
-            → (need ≡ need_of limits.now) × (D.size disk < need) × (IsHonest (D.medium disk) → (own : AnyLimits)
-            × IsDeviceIn format_one own (D.medium disk).contents × AreAtLeast limits.now own)) }
-        ensures damaged { IfErr result (λ fault. (sector : ℕ) → fault.error ≡ errors.Damaged sector
-            → IsHonest (D.medium disk)
-            → (IsDamagedIn format_one (D.medium disk).contents
-            × IsFirstFaultIn format_one (D.medium disk).contents sector)
-            ⊎ (HasNoNextEpoch (D.medium disk).contents × (sector ≡ format_one.root))) }
+            → (need ≡ need_of limits.now) × (D.size disk < need)) }
         ensures unwritten { IfErr result (λ fault. (fault.error ≡ errors.Device)
             ⊎ ((D.counts fault.disk).writes ≡ (D.counts disk).writes)) }
         // Failures and counts.
-        ensures size { (IfOk result (λ new. D.size new ≡ D.size disk))
-            × (IfErr result (λ fault. D.size fault.disk ≡ D.size disk)) }
-        ensures failure { IfErr result (λ fault. fault.error ≡ errors.Device
-            → (D.counts fault.disk).failures ≡ counted (D.counts disk).failures 1) }
-        ensures no_failure { (IfOk result (λ new. (D.counts new).failures ≡ (D.counts disk).failures))
-            × (IfErr result (λ fault. (fault.error ≡ errors.Device)
-            ⊎ ((D.counts fault.disk).failures ≡ (D.counts disk).failures))) }
+        ensures size { D.size (upgraded_disk result) ≡ D.size disk }
+        ensures counts { CountsFaultIf D.counts (IsErrAnd result (λ fault. fault.error ≡ errors.Device))
+            disk (upgraded_disk result) }
     {
         let mut disk = disk;
         let (checkpoint, engine) = match read_old(alloc, &mut disk, limits) {
@@ -145,26 +129,12 @@ fn read_old<D: SectorDisk>(
     // Refusals, in their order.
     ensures checked { (field : ℕ) → position not (tests limits.now) ≡ Some field
         → IsErrOf result (UpgradeError.BadLimits (record { field = field })) × (disk.new ≡ disk.old) }
-    ensures not_formatted { IsErrOf result UpgradeError.NotFormatted → IsHonest (D.medium disk.old)
-        → IsNotFormatted (D.medium disk.old).contents }
-    ensures version { (found : ℕ) → IsErrOf result (UpgradeError.Version found) → IsHonest (D.medium disk.old)
-        → HasVersionBut format_one found (D.medium disk.old).contents }
-    ensures below { (field : ℕ) → IsErrOf result (UpgradeError.BadLimits (record { field = field }))
-        → ArePassed limits.now → IsHonest (D.medium disk.old) → (own : AnyLimits)
-        × IsDeviceIn format_one own (D.medium disk.old).contents
-        × (position not (at_least limits.now own) ≡ Some field) }
+    ensures refused { IfErr result (λ error. IsHonest (D.medium disk.old)
+        → IsUpgradeRefusal limits.now (D.size disk.old) (D.medium disk.old).contents error) }
     ensures small { (need : ℕ) → IsErrOf result (UpgradeError.TooSmall need)
-        → (need ≡ need_of limits.now) × (D.size disk.old < need) × (IsHonest (D.medium disk.old) → (own : AnyLimits)
-        × IsDeviceIn format_one own (D.medium disk.old).contents × AreAtLeast limits.now own) }
-    ensures damaged { (sector : ℕ) → IsErrOf result (UpgradeError.Damaged sector) → IsHonest (D.medium disk.old)
-        → (IsDamagedIn format_one (D.medium disk.old).contents
-        × IsFirstFaultIn format_one (D.medium disk.old).contents sector)
-        ⊎ (HasNoNextEpoch (D.medium disk.old).contents × (sector ≡ format_one.root)) }
+        → (need ≡ need_of limits.now) × (D.size disk.old < need) }
     // It only reads.
-    ensures reads { IsHonest (D.medium disk.old) → Stays (D.medium disk.old) (D.medium disk.new) }
-    ensures same { IsSameDisk D.size D.medium disk.old disk.new }
-    ensures counts { CountsFaultIf D.counts (IsErrOf result UpgradeError.Device) disk.old disk.new }
-    ensures no_write { (D.counts disk.new).writes ≡ (D.counts disk.old).writes }
+    ensures reads { OnlySyncs D.size D.medium D.counts (IsErrOf result UpgradeError.Device) disk.old disk.new }
 {
     limits.check()?;
     let superblock = read_limits(disk, limits)?;
@@ -184,26 +154,13 @@ fn read_limits<D: SectorDisk>(disk: &mut D, limits: &Limits) -> Result<Superbloc
     ensures greater { IfOk result (λ found. AreAtLeast limits.now found.limits) }
     ensures room { IfOk result (λ found. need_of limits.now ≤ D.size disk.old) }
     ensures durable { IfOk result (λ found. IsHonest (D.medium disk.old) → IsDurable (D.medium disk.new)) }
-    // Refusals, in their order.
-    ensures not_formatted { IsErrOf result UpgradeError.NotFormatted → IsHonest (D.medium disk.old)
-        → IsNotFormatted (D.medium disk.old).contents }
-    ensures version { (found : ℕ) → IsErrOf result (UpgradeError.Version found) → IsHonest (D.medium disk.old)
-        → HasVersionBut format_one found (D.medium disk.old).contents }
-    ensures damaged { (sector : ℕ) → IsErrOf result (UpgradeError.Damaged sector) → IsHonest (D.medium disk.old)
-        → IsDamagedIn format_one (D.medium disk.old).contents
-        × IsFirstFaultIn format_one (D.medium disk.old).contents sector }
-    ensures below { (field : ℕ) → IsErrOf result (UpgradeError.BadLimits (record { field = field }))
-        → IsHonest (D.medium disk.old) → (own : AnyLimits)
-        × IsDeviceIn format_one own (D.medium disk.old).contents
-        × (position not (at_least limits.now own) ≡ Some field) }
+    // Refusals.
+    ensures refused { IfErr result (λ error. IsHonest (D.medium disk.old)
+        → IsUpgradeRefusal limits.now (D.size disk.old) (D.medium disk.old).contents error) }
     ensures small { (need : ℕ) → IsErrOf result (UpgradeError.TooSmall need)
-        → (need ≡ need_of limits.now) × (D.size disk.old < need) × (IsHonest (D.medium disk.old) → (own : AnyLimits)
-        × IsDeviceIn format_one own (D.medium disk.old).contents × AreAtLeast limits.now own) }
+        → (need ≡ need_of limits.now) × (D.size disk.old < need) }
     // It only reads.
-    ensures reads { IsHonest (D.medium disk.old) → Stays (D.medium disk.old) (D.medium disk.new) }
-    ensures same { IsSameDisk D.size D.medium disk.old disk.new }
-    ensures counts { CountsFaultIf D.counts (IsErrOf result UpgradeError.Device) disk.old disk.new }
-    ensures no_write { (D.counts disk.new).writes ≡ (D.counts disk.old).writes }
+    ensures reads { OnlySyncs D.size D.medium D.counts (IsErrOf result UpgradeError.Device) disk.old disk.new }
 {
     disk.sync()?;
     let superblock = load_superblock(FORMAT_ONE, disk)?;
@@ -234,13 +191,9 @@ fn read_state<D: SectorDisk>(
     ensures read { IfOk result (λ found. IsHonest (D.medium disk.old) → IsDurable (D.medium disk.old)
         → IsNamed superblock (D.medium disk.old).contents → IsReadOld (D.medium disk.new) found.0 found.1) }
     // Refusals.
-    ensures damaged { (sector : ℕ) → IsErrOf result (OpenError.Damaged sector) → IsHonest (D.medium disk.old)
-        → IsDurable (D.medium disk.old) → IsNamed superblock (D.medium disk.old).contents
-        → (IsDamagedIn format_one (D.medium disk.old).contents
-        × IsFirstFaultIn format_one (D.medium disk.old).contents sector)
-        ⊎ (HasNoNextEpoch (D.medium disk.old).contents × (sector ≡ format_one.root)) }
-    ensures faults { (found : ℕ) → IsErrOf result OpenError.NotFormatted
-        ⊎ IsErrOf result (OpenError.Version found) → ⊥ }
+    ensures refused { IfErr result (λ error. IsHonest (D.medium disk.old) → IsDurable (D.medium disk.old)
+        → IsNamed superblock (D.medium disk.old).contents
+        → IsDamage (IsOldDamage (D.medium disk.old).contents) error) }
     // It only reads.
     ensures reads { OnlyReads D.size D.medium D.counts (IsErrOf result OpenError.Device) disk.old disk.new }
 {
@@ -254,12 +207,7 @@ fn read_state<D: SectorDisk>(
 fn test_room(limits: &Limits, own: &Limits, sectors: u32) -> Result<(), UpgradeError>
     requires { ArePassed limits.now }
     ensures ok { OnOk result (AreAtLeast limits.now own.now × (need_of limits.now ≤ sectors)) }
-    ensures below { (field : ℕ) → IsErrOf result (UpgradeError.BadLimits (record { field = field }))
-        → position not (at_least limits.now own.now) ≡ Some field }
-    ensures small { (need : ℕ) → IsErrOf result (UpgradeError.TooSmall need)
-        → (need ≡ need_of limits.now) × (sectors < need) × AreAtLeast limits.now own.now }
-    ensures faults { (n : ℕ) → IsErrOf result UpgradeError.NotFormatted ⊎ IsErrOf result (UpgradeError.Version n)
-        ⊎ IsErrOf result (UpgradeError.Damaged n) ⊎ IsErrOf result UpgradeError.Device → ⊥ }
+    ensures refused { IfErr result (IsRoomRefusal limits.now own.now sectors) }
 {
     if let Some(field) = first_below(limits, own) {
         return Err(UpgradeError::BadLimits(BadLimits { field }));
@@ -290,12 +238,10 @@ fn load_wide<D: SectorDisk>(
         × (free_of found.0 + sectors_of objects ≡ (saved_layout found.0).range.count)
         × (IsHonest (D.medium disk.old) → IsDurable (D.medium disk.old)
         → CheckpointMatches found.0 objects (D.medium disk.new))) }
-    ensures damaged { (sector : ℕ) → IsErrOf result (OpenError.Damaged sector) → IsHonest (D.medium disk.old)
+    ensures refused { IfErr result (λ error. IsHonest (D.medium disk.old)
         → (epoch : ℕ) (objects : PlainObjects) (s : State)
         → HoldsObjects (wide_layout limits.now (D.size disk.old)) epoch objects (D.medium disk.old).contents
-        → ¬ StandForStateIn format_one own s objects }
-    ensures faults { (found : ℕ) → IsErrOf result OpenError.NotFormatted
-        ⊎ IsErrOf result (OpenError.Version found) → ⊥ }
+        → StandForStateIn format_one own s objects → IsDamage (λ sector. ⊥) error) }
     ensures reads { OnlyReads D.size D.medium D.counts (IsErrOf result OpenError.Device) disk.old disk.new }
 {
     let layout = Layout {
@@ -322,14 +268,9 @@ fn go_through_journal<D: SectorDisk>(
         × (IsHonest (D.medium disk.old) → IsDurable (D.medium disk.old) → (batches : List (List PlainEvent))
         × HasBatches (epoch_of checkpoint.now) batches (D.medium disk.old).contents
         × LeadToBy format_one.batch engine.old.limits engine.old.state batches s)) }
-    ensures damaged { (sector : ℕ) → IsErrOf result (OpenError.Damaged sector) → IsHonest (D.medium disk.old)
-        → IsDurable (D.medium disk.old)
+    ensures refused { IfErr result (λ error. IsHonest (D.medium disk.old) → IsDurable (D.medium disk.old)
         → HasBaseIn format_one engine.old.limits (epoch_of checkpoint.now) engine.old.state (D.medium disk.old).contents
-        → (IsDamagedIn format_one (D.medium disk.old).contents
-        × IsFirstFaultIn format_one (D.medium disk.old).contents sector)
-        ⊎ (HasNoNextEpoch (D.medium disk.old).contents × (sector ≡ format_one.root)) }
-    ensures faults { (found : ℕ) → IsErrOf result OpenError.NotFormatted
-        ⊎ IsErrOf result (OpenError.Version found) → ⊥ }
+        → IsDamage (IsOldDamage (D.medium disk.old).contents) error) }
     ensures reads { OnlyReads D.size D.medium D.counts (IsErrOf result OpenError.Device) disk.old disk.new }
 {
     let mut room = room_for(alloc, FORMAT_ONE.batch as usize)?;
@@ -360,6 +301,7 @@ fn write_new<D: SectorDisk>(
     requires sound { IsSound limits.now engine.now.state }
     ensures ok { OnOk result (IsReadOld (D.medium disk.old) checkpoint engine.now
         → EachNow (D.medium disk.new) (StandsFor limits.now engine.now.state)) }
+    ensures whole { OnOk result (IsHonest (D.medium disk.old) → EachNow (D.medium disk.new) NamesAll) }
     ensures durable { OnOk result (IsDurable (D.medium disk.new)) }
     ensures any_moment { (old : IsReadOld (D.medium disk.old) checkpoint engine.now)
         → EachImageSince (D.medium disk.old) (D.medium disk.new)

@@ -1,29 +1,26 @@
 //! The device of a run, in memory or in a file.
 
-ghost use Rattle.std.specs.Prelude.{◌≡◌, ◌⊎◌, ◌<◌, ◌≤◌, ℕ, not, Ok, Err, IfOk, IfErr, Some, IfSome, position};
+ghost use Rattle.std.specs.Prelude.{◌≡◌, ◌⊎◌, ◌<◌, ◌≤◌, ℕ, Ok, Err, IfOk, IfErr, IfSome};
 ghost use Rattle.ipc_base.specs.declared.limits.Limits.{Limits};
 ghost use Rattle.ipc_base.specs.Limits.{ArePassed};
 ghost use Rattle.ipc_disk.specs.File.{file_size};
 ghost use Rattle.ipc_disk.specs.Joined.{disk_under};
 ghost use Rattle.ipc_disk.specs.Medium.{IsHonest};
 ghost use Rattle.ipc_disk.specs.Memory.{memory_medium};
-ghost use Rattle.ipc_image.specs.Format.{format, format_one};
-ghost use Rattle.ipc_image.specs.Greater.{at_least};
+ghost use Rattle.ipc_image.specs.Format.{format};
 ghost use Rattle.ipc_image.specs.Sizes.{need_of};
 ghost use Rattle.ipc_state.specs.State.{start};
 ghost use Rattle.ipc_store.specs.Histories.{Keeps, OpensOn, Past, new_past, reopened};
-ghost use Rattle.ipc_store.specs.Image.{IsNotFormatted, HasVersion, IsDamaged};
-ghost use Rattle.ipc_store.specs.Image.{IsFirstFault, IsAtEnd};
-ghost use Rattle.ipc_store.specs.Image.{HasVersionBut, IsDamagedIn, IsDeviceIn, IsFirstFaultIn};
+ghost use Rattle.ipc_store.specs.Image.{IsAtEnd};
 ghost use Rattle.ipc_store.specs.Lives.{StandsAfter};
-ghost use Rattle.ipc_store.specs.Upgrade.{HasNoNextEpoch, IsUpgraded};
-ghost use Rattle.ipc_script.specs.declared.fault.ScriptFault.TheVariants.{NotFormatted};
-ghost use Rattle.ipc_script.specs.declared.fault.ScriptFault.TheVariants.{Version, Damaged};
+ghost use Rattle.ipc_store.specs.Refusals.{IsRefusal, IsUpgradeRefusal};
+ghost use Rattle.ipc_store.specs.Upgrade.{IsUpgraded};
 ghost use Rattle.ipc_store.specs.declared.fault.FormatError.{FormatError};
 ghost use Rattle.ipc_store.specs.declared.fault.OpenError.{OpenError};
+ghost use Rattle.ipc_store.specs.declared.fault.OpenError.TheVariants as errors;
 ghost use Rattle.ipc_store.specs.declared.fault.UpgradeError.{UpgradeError};
 ghost use Rattle.ipcd.specs.Ending.{device_fault, of_format_error, of_open_error, of_upgrade_error};
-ghost use Rattle.ipcd.specs.declared.ending.Fault.TheVariants.{Run, TooSmall, BadLimits};
+ghost use Rattle.ipcd.specs.declared.ending.Fault.TheVariants.{TooSmall};
 ghost use Rattle.ipcd.specs.Device.{sectors_given};
 
 use crate::ending::Fault;
@@ -67,14 +64,9 @@ pub fn open_store<D: SectorDisk + Drop>(alloc: Global, disk: D) -> Result<Store<
     ensures history { IfOk result (λ store. (past : Past) → StandsAfter past (D.medium disk)
         → Keeps (D.medium store.disk) store (reopened past)) }
     ensures named { IfErr result (λ fault. (error : OpenError) × (fault ≡ of_open_error error)) }
-    ensures not_formatted { IfErr result (λ fault. fault ≡ Run NotFormatted → IsHonest (D.medium disk)
-        → IsNotFormatted (D.medium disk).contents) }
-    ensures version { IfErr result (λ fault. (found : ℕ) → fault ≡ Run (Version found)
-        → IsHonest (D.medium disk) → HasVersion found (D.medium disk).contents) }
-    ensures damaged { IfErr result (λ fault. (sector : ℕ) → fault ≡ Run (Damaged sector)
-        → IsHonest (D.medium disk)
-        → (IsDamaged (D.medium disk).contents × IsFirstFault (D.medium disk).contents sector)
-        ⊎ (IsAtEnd (D.medium disk).contents × (sector ≡ format.root))) }
+    ensures refused { IfErr result (λ fault. (error : OpenError) × (fault ≡ of_open_error error)
+        × (IsHonest (D.medium disk) → IsRefusal format (D.medium disk).contents error
+        ⊎ (IsAtEnd (D.medium disk).contents × (error ≡ errors.Damaged format.root)))) }
 {
     an_open_finds_what_stands_there::<D>();
     match Store::open(alloc, disk) {
@@ -152,20 +144,11 @@ fn upgrade_disk<D: SectorDisk + Drop>(alloc: Global, disk: D, limits: &Limits) -
         → IsUpgraded limits.now (D.medium disk) (D.medium made)) }
     ensures size { IfOk result (λ made. D.size made ≡ D.size disk) }
     ensures named { IfErr result (λ fault. (error : UpgradeError) × (fault ≡ of_upgrade_error error)) }
-    ensures not_formatted { IfErr result (λ fault. fault ≡ Run NotFormatted → IsHonest (D.medium disk)
-        → IsNotFormatted (D.medium disk).contents) }
-    ensures version { IfErr result (λ fault. (found : ℕ) → fault ≡ Run (Version found)
-        → IsHonest (D.medium disk) → HasVersionBut format_one found (D.medium disk).contents) }
-    ensures below { IfErr result (λ fault. (field : ℕ) → fault ≡ BadLimits field → IsHonest (D.medium disk)
-        → (own : Limits) × IsDeviceIn format_one own (D.medium disk).contents
-        × (position not (at_least limits.now own) ≡ Some field)) }
+    ensures refused { IfErr result (λ fault. (error : UpgradeError) × (fault ≡ of_upgrade_error error)
+        × (IsHonest (D.medium disk)
+        → IsUpgradeRefusal limits.now (D.size disk) (D.medium disk).contents error)) }
     ensures small { IfErr result (λ fault. (need : ℕ) → fault ≡ TooSmall need
         → (need ≡ need_of limits.now) × (D.size disk < need)) }
-    ensures damaged { IfErr result (λ fault. (sector : ℕ) → fault ≡ Run (Damaged sector)
-        → IsHonest (D.medium disk)
-        → (IsDamagedIn format_one (D.medium disk).contents
-        × IsFirstFaultIn format_one (D.medium disk).contents sector)
-        ⊎ (HasNoNextEpoch (D.medium disk).contents × (sector ≡ format_one.root))) }
 {
     match Store::upgrade(alloc, disk, limits) {
         Ok(made) => Ok(made),

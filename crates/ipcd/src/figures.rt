@@ -15,6 +15,9 @@ use std::{fmt, io};
 /// The version of the program, as its command line tells it.
 const VERSION: &str = "0.1.0";
 
+/// The number after the greatest of a process, and of an identifier.
+const NUMBERS_END: u32 = 1 << 31;
+
 /// No error has a greater number.
 const GREATEST_ERRNO: u16 = 127;
 
@@ -372,7 +375,99 @@ fn write_objects<W: Write>(alloc: Global, w: &mut W, engine: &Engine) -> io::Res
     };
     write_counts(w, limits, &stocks)?;
     write_messages(w, limits, &stocks)?;
-    write_bytes(w, limits, &stocks, queued_bytes(engine.state()))
+    write_bytes(w, limits, &stocks, queued_bytes(engine.state()))?;
+    write_queues(w, engine.state())?;
+    write_numbers_left(w, engine.state())
+}
+
+/// What is told of each message queue of System V. When the oldest of its messages came no state tells.
+#[derive(Clone, Copy)]
+enum Column {
+    Messages,
+    Bytes,
+    LastSend,
+    LastReceive,
+}
+
+// The queues of System V, which are few, one by one.
+fn write_queues<W: Write>(w: &mut W, state: &State) -> io::Result<()> {
+    write_head(
+        w,
+        "ipcd_queue_messages",
+        Kind::Gauge,
+        "Messages in a queue of System V.",
+    )?;
+    write_column(w, state, "ipcd_queue_messages", Column::Messages)?;
+    write_head(
+        w,
+        "ipcd_queue_bytes",
+        Kind::Gauge,
+        "Bytes of the messages in it.",
+    )?;
+    write_column(w, state, "ipcd_queue_bytes", Column::Bytes)?;
+    write_head(
+        w,
+        "ipcd_queue_last_send_seconds",
+        Kind::Gauge,
+        "When a message was sent to it last, since 1970; 0 for never.",
+    )?;
+    write_column(w, state, "ipcd_queue_last_send_seconds", Column::LastSend)?;
+    write_head(
+        w,
+        "ipcd_queue_last_receive_seconds",
+        Kind::Gauge,
+        "When one was received from it last, since 1970; 0 for never.",
+    )?;
+    write_column(
+        w,
+        state,
+        "ipcd_queue_last_receive_seconds",
+        Column::LastReceive,
+    )
+}
+
+// The values of one metric, for each queue.
+fn write_column<W: Write>(w: &mut W, state: &State, name: &str, column: Column) -> io::Result<()> {
+    for item in state.msg_queues() {
+        let stat = item.value.object.stat();
+        match column {
+            Column::Messages => write_queue(w, name, item.number, stat.qnum)?,
+            Column::Bytes => write_queue(w, name, item.number, stat.bytes)?,
+            Column::LastSend => write_queue(w, name, item.number, Since(stat.stime))?,
+            Column::LastReceive => write_queue(w, name, item.number, Since(stat.rtime))?,
+        }
+    }
+    Ok(())
+}
+
+// The value of a metric for one queue.
+fn write_queue<W: Write>(
+    w: &mut W,
+    name: &str,
+    number: u32,
+    value: impl fmt::Display + Drop,
+) -> io::Result<()> {
+    writeln!(w, "{name}{{msqid=\"{number}\"}} {value}")
+}
+
+// How many numbers there are still, of those that are given once and never again.
+fn write_numbers_left<W: Write>(w: &mut W, state: &State) -> io::Result<()> {
+    let name = "ipcd_numbers_left";
+    write_head(
+        w,
+        name,
+        Kind::Gauge,
+        "Numbers of processes, and identifiers of a kind, that were not given yet.",
+    )?;
+    write_kind(w, name, "process", left_from(state.next_pid()))?;
+    write_kind(w, name, "msg", left_from(state.next_msg_queue()))?;
+    write_kind(w, name, "sem", left_from(state.next_semset()))?;
+    write_kind(w, name, "seg", left_from(state.next_shm()))
+}
+
+// How many numbers there are from the next one on.
+fn left_from(next: u32) -> u32 {
+    NUMBERS_END.saturating_sub(next)
 }
 
 // The bytes of all texts in POSIX queues, which a listing does not have.

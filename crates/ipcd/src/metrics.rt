@@ -17,6 +17,9 @@ use std::time::Clock;
 /// The file is written anew once in so many milliseconds at most.
 const PERIOD: u64 = 1_000;
 
+/// A file that can always be opened, and is nothing.
+const NOTHING: &str = "/dev/null";
+
 /// Everyone may read the file: the collector is another user.
 const MODE: u32 = 0o644;
 
@@ -35,9 +38,11 @@ pub struct Metrics<'a, R> {
     written: Option<u64>,
     // They may have changed since.
     stale: bool,
+    // A file that is open only so that a descriptor is left for the figures when clients have taken all others.
+    spare: Option<File>,
 }
 
-impl<'a, R: AllocGlobal + Clock> Metrics<'a, R> {
+impl<'a, R: AllocGlobal + Clock + Files<File = File>> Metrics<'a, R> {
     /// Nothing is written yet.
     pub fn new(rt: &'a R, path: &'a str) -> Result<Self, AllocError> {
         Ok(Metrics {
@@ -49,6 +54,7 @@ impl<'a, R: AllocGlobal + Clock> Metrics<'a, R> {
             failures: 0,
             written: None,
             stale: true,
+            spare: File::open(rt, NOTHING).ok(),
         })
     }
 
@@ -68,10 +74,12 @@ impl<R: AllocGlobal + Clock + Files<File = File>> Metrics<'_, R> {
             return;
         }
         self.written = Some(running(self.rt));
+        self.spare = None;
         match self.write(hub) {
             Ok(()) => self.stale = false,
             Err(_) => self.failures = self.failures.saturating_add(1),
         }
+        self.spare = File::open(self.rt, NOTHING).ok();
     }
 
     // Writes them beside the file, and puts them in its place.

@@ -1,6 +1,6 @@
 //! The server on a socket, over the device in a file.
 
-ghost use Rattle.std.specs.Prelude.{◌≡◌};
+ghost use Rattle.std.specs.Prelude.{◌≡◌, [], IfOk};
 ghost use Rattle.ipcd.specs.Clock.{ahead_by};
 
 use crate::device::open_store;
@@ -11,10 +11,10 @@ use ipc_base::{Limits, Moment};
 use ipc_disk::{FileDisk, FileRuns, JoinedDisk, SectorDisk};
 use ipc_hub::Hub;
 use ipc_script::ScriptFault;
-use ipc_server::{Observer, Server, Unobserved, now};
+use ipc_server::{Observer, ServeFault, Server, Unobserved, now};
 use ipc_store::Store;
 use mio::net::UnixListener;
-use std::alloc::AllocError;
+use std::alloc::{AllocError, Global};
 use std::fs::File;
 use std::net::Net;
 use std::rt::Files;
@@ -103,7 +103,7 @@ fn serve_store<D: SectorDisk + Timed + Drop>(
 
 // A server of a store, on a socket that is bound now.
 fn start<D: SectorDisk + Drop>(
-    rt: &(impl AllocGlobal + Files<File = File> + Net),
+    rt: &(impl AllocGlobal + Files<File = File> + Net + Clock),
     store: Store<D>,
     socket: &str,
 ) -> Result<Server<D>, Fault> {
@@ -111,15 +111,31 @@ fn start<D: SectorDisk + Drop>(
     server_of(rt, store, listener)
 }
 
-// A server of a store, on a socket.
+// A server of a store, on a socket. Its clock is the system's from the start: the first turn may be a minute away.
 fn server_of<D: SectorDisk + Drop>(
-    rt: &(impl AllocGlobal + Net),
+    rt: &(impl AllocGlobal + Net + Clock),
     store: Store<D>,
     listener: UnixListener,
 ) -> Result<Server<D>, Fault> {
-    match Server::new(rt, Hub::new(rt.alloc(), store), listener) {
+    let hub = hub_at(rt.alloc(), store, now(rt))?;
+    match Server::new(rt, hub, listener) {
         Ok(server) => Ok(server),
         Err(unserved) => Err(Fault::from(unserved.error)),
+    }
+}
+
+// A hub of a store without connections, whose clock is at least this moment. That lasts with the first turn.
+fn hub_at<D: SectorDisk + Drop>(
+    alloc: Global,
+    store: Store<D>,
+    moment: Moment,
+) -> Result<Hub<D>, Fault>
+    ensures { IfOk result (λ hub. hub.hub.connections ≡ []) }
+{
+    let mut hub = Hub::new(alloc, store);
+    match hub.tick(moment) {
+        Ok(()) => Ok(hub),
+        Err(error) => Err(Fault::from(ServeFault::from(error))),
     }
 }
 

@@ -6,7 +6,11 @@ ghost use Rattle.ipc_disk.specs.Medium.{Image};
 ghost use Rattle.ipc_disk.specs.Memory.{memory_medium};
 ghost use Rattle.ipc_disk.specs.declared.memory.MemoryDisk.{MemoryDisk};
 ghost use Rattle.ipc_store.specs.Histories.{Past, new_past, state_after};
-ghost use Rattle.ipc_store.specs.Image.{StandsFor};
+ghost use Rattle.ipc_image.specs.Format.{format_one};
+ghost use Rattle.ipc_state.specs.State.{State, restart};
+ghost use Rattle.ipc_store.specs.Image.{StandsFor, StandsForIn};
+ghost use Rattle.ipc_store.specs.Lives.{StandsAfter};
+ghost use Rattle.ipc_store.specs.Meanwhile.{IsRead};
 ghost use Rattle.ipc_store.specs.View.{StoreView};
 ghost use Rattle.ipc_hub.specs.Clients.{Clients};
 ghost use Rattle.ipc_hub.specs.Lives.{HasHistory, Life, Lives, Seen};
@@ -16,8 +20,9 @@ ghost use Rattle.premises.specs.Visits.{AreSeen, Saw, Goes, Ends};
 use crate::remembering::RememberingDisk;
 use ipc_base::{Limits, Moment};
 use ipc_disk::{MemoryDisk, disks_in_memory_are_honest};
+use ipc_engine::Engine;
 use ipc_hub::{Hub, no_answer_is_taken_back};
-use ipc_store::{CommitError, Store, an_open_finds_what_stands_there};
+use ipc_store::{CommitError, Store, an_open_finds_what_stands_there, look};
 use std::alloc::{AllocError, Global};
 
 /// A disk in memory is honest, whatever calls led to it. So of lives on one that was made a device
@@ -33,8 +38,8 @@ pub fn lives_in_memory()
     disks_in_memory_are_honest();
 }
 
-/// One life on a new device in memory: time passes, and that is made to last. Then the device is
-/// opened again. The clauses of these calls give the premises of the law.
+/// One life on a new device in memory: time passes, and that is made durable. Then the device is opened again. The
+/// clauses of these calls give the premises of the law.
 pub fn one_life(
     alloc: Global,
     limits: &Limits,
@@ -44,14 +49,65 @@ pub fn one_life(
     ensures { IfSome result (λ store. (life : Life)
         × HasHistory (memory_medium store.disk) (new_past limits.now) (life ∷ []) store) }
 {
-    no_answer_is_taken_back::<MemoryDisk>();
+    disks_in_memory_are_honest();
+    let disk = new_device(alloc, limits, sectors)?;
+    live(alloc, disk, moment)
+}
+
+/// One life on a device of version 1 in memory: the device is upgraded and opened, time passes, and that is made
+/// durable. Then the device is opened again. Its history begins with the state for which it stood, after a restart.
+pub fn one_life_after_an_upgrade(
+    alloc: Global,
+    disk: MemoryDisk,
+    limits: &Limits,
+    moment: Moment,
+) -> Option<Store<MemoryDisk>>
+    ensures { IfSome result (λ store. (own : Limits) × ((s : State)
+        × StandsForIn format_one own s (memory_medium disk).contents
+        × ((life : Life) × HasHistory (memory_medium store.disk)
+        (record { limits = limits.now; base = restart s; events = [] }) (life ∷ []) store))) }
+{
+    disks_in_memory_are_honest();
+    let Ok(upgraded) = Store::upgrade(alloc, disk, limits) else {
+        return None;
+    };
+    live(alloc, upgraded, moment)
+}
+
+/// A look at a new device in memory: what it reads while nobody writes is such as the law of looks asks for.
+pub fn one_look(alloc: Global, limits: &Limits, sectors: u32) -> Option<Engine>
+    ensures { IfSome result (λ engine. (image : Image) × StandsFor engine.limits engine.state image
+        × IsRead image image image) }
+{
+    disks_in_memory_are_honest();
+    let mut disk = new_device(alloc, limits, sectors)?;
+    match look(alloc, &mut disk) {
+        Ok(engine) => Some(engine),
+        Err(_) => None,
+    }
+}
+
+// A disk in memory that is a new device: it stands for the first state.
+fn new_device(alloc: Global, limits: &Limits, sectors: u32) -> Option<MemoryDisk>
+    ensures { IfSome result (λ disk. StandsAfter (new_past limits.now) (memory_medium disk)) }
+{
     disks_in_memory_are_honest();
     let Ok(mut disk) = MemoryDisk::new(alloc, sectors) else {
         return None;
     };
-    let Ok(()) = Store::format(&mut disk, limits) else {
-        return None;
-    };
+    match Store::format(&mut disk, limits) {
+        Ok(()) => Some(disk),
+        Err(_) => None,
+    }
+}
+
+// One life on a device in memory: time passes, and that is made durable. Then the device is opened again.
+fn live(alloc: Global, disk: MemoryDisk, moment: Moment) -> Option<Store<MemoryDisk>>
+    ensures { IfSome result (λ store. (past : Past) → StandsAfter past (memory_medium disk) → (life : Life)
+        × HasHistory (memory_medium store.disk) past (life ∷ []) store) }
+{
+    no_answer_is_taken_back::<MemoryDisk>();
+    disks_in_memory_are_honest();
     let Ok(store) = Store::open(alloc, disk) else {
         return None;
     };

@@ -44,3 +44,9 @@ pub record IsGoodUpTo (most : ℕ) (limits : Limits) (from : State) (journal : J
   pub used : sectors_of (map batch_bytes batches) < used_of journal
   pub none : HasNoBatchOfAt most limits state (range_of journal) (sectors_of (map batch_bytes batches))
       (used_of journal) image
+
+-- no batches of events that can come are those that the journal uses, and this is where the first fault is
+pub record IsBadAt (most : ℕ) (limits : Limits) (from : State) (journal : Journal) (image : Image) (sector : ℕ)
+    : Type 0 where
+  pub none : (batches : List (List PlainEvent)) (s : State) → ¬ Replays most limits from journal image batches s
+  pub first : IsGoodUpTo most limits from journal image sector

@@ -1,5 +1,5 @@
 -- What an upgrade has read, and how it goes on.
-use Rattle.std.specs.Prelude.{◌≡◌, ℕ, List}
+use Rattle.std.specs.Prelude.{◌≡◌, ◌<◌, ℕ, List, Some, position, not as is_not}
 use Rattle.ipc_base.specs.declared.limits.Limits.{Limits}
 use Rattle.ipc_base.specs.Objects.{PlainObjects}
 use Rattle.ipc_checkpoint.specs.declared.layout.Layout.{Layout}
@@ -11,8 +11,12 @@ use Rattle.ipc_engine.specs.Changes.{IsTracked}
 use Rattle.ipc_engine.specs.Engine.{Machine}
 use Rattle.ipc_engine.specs.Event.{PlainEvent}
 use Rattle.ipc_image.specs.Format.{format_one}
+use Rattle.ipc_image.specs.Greater.{AreAtLeast, at_least}
 use Rattle.ipc_image.specs.Saved.{StandForStateIn}
+use Rattle.ipc_image.specs.Sizes.{need_of}
 use Rattle.ipc_image.specs.declared.superblock.Superblock.{Superblock}
+use Rattle.ipc_store.specs.declared.fault.UpgradeError.{UpgradeError}
+use Rattle.ipc_store.specs.declared.fault.UpgradeError.TheVariants as errors
 use Rattle.ipc_store.specs.Image.{layout_of, named_sectors, HasBatches, HasObjectsIn, IsDeviceIn, LeadToBy}
 
 -- where the objects of the version before are read once more, and where those of today are written: on all of the disk,
@@ -24,6 +28,13 @@ wide_layout limits sectors = record (layout_of limits sectors) { root = format_o
 abbrev pub IsNamed : Superblock → Image → Type 0
 IsNamed superblock image =
     IsDeviceIn format_one superblock.limits image × (superblock.sectors ≡ named_sectors image)
+
+-- what an error says of the limits beside the device's own, and of the room for them on so many sectors
+abbrev pub IsRoomRefusal : Limits → Limits → ℕ → UpgradeError → Type 0
+IsRoomRefusal limits own sectors (errors.BadLimits bad) = position is_not (at_least limits own) ≡ Some bad.field
+IsRoomRefusal limits own sectors (errors.TooSmall need) =
+    (need ≡ need_of limits) × (sectors < need) × AreAtLeast limits own
+IsRoomRefusal limits own sectors error = ⊥
 
 -- An image stands for this state in the old version, piece by piece: it is a device, and has these objects and batches.
 pub record HasOld (own : Limits) (epoch : ℕ) (objects : PlainObjects) (batches : List (List PlainEvent)) (image : Image)

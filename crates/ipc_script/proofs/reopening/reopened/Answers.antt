@@ -72,7 +72,7 @@ returns-in-Ok-clause-stops g c honest =
             ∙ c.in_default.ensures.spends.running;
         empty = none g d;
         honest = still g d honest;
-        crash = subst (λ x. EachImageSince (med x) (med next.disk) (OpensTo (med x))) c.close-3.ensures.disk (c.in-Ok.ensures.any_moment is).0;
+        crash = subst (λ x. EachImageSince (med x) (med next.disk) (OpensTo (med x))) c.close-3.ensures.disk (c.in-Ok.ensures.any_moment is);
         opens = subst (λ x. OpensOn (med x).contents (med next.disk) next) c.close-3.ensures.disk (c.in-Ok.ensures.ok is);
       },
     )
@@ -93,7 +93,7 @@ returns-in-Err-open-clause-left g c honest =
       c.close-2.result,
       came g d,
       inr (subst (λ x. EachImageSince (med x) (med c.in-Err-open.field-0.disk) (OpensTo (med x))) c.close-3.ensures.disk
-          (c.in-Err-open.ensures.any_moment (here g d honest)).1),
+          (c.in-Err-open.ensures.any_moment (here g d honest))),
       unless-any _ _ (none g d),
     )
 
@@ -105,7 +105,7 @@ returns-in-Ok-clause-spends g c honest has =
     (none g d) (there g d honest) in
     rw c.new.ensures.store (record {
       running = (c.in-Ok.ensures.ok is).found.2.running;
-      failures = c.in-Ok.ensures.no_failure.0 ∙ failures g d;
+      failures = ⊎_elim (λ never. absurd never) (λ same. same) c.in-Ok.ensures.counts.no_failure ∙ failures g d;
       numbers = omega (arith, c.in-Ok.ensures.numbers is, epoch, ap numbers_used c.close-2.ensures.store, c.in_default.ensures.spends.numbers);
     })
 
@@ -128,7 +128,7 @@ returns-in-Err-open-clause-disk g c honest has =
     let stands = stood g.D.SectorDisk.medium old old c.close-3.result c.close-3.ensures.disk (fits g d honest) (still g d honest) (none g d)
     (there g d honest) in
     ⊎_elim (λ device. rw (c.fault_of.ensures.device device)
-    (c.in-Err-open.ensures.failure device ∙ ap (λ (n : ℕ). counted n 1) (failures g d)))
+    (c.in-Err-open.ensures.counts.failure device ∙ ap (λ (n : ℕ). counted n 1) (failures g d)))
     (λ other. ⊎_elim (λ memory. rw (c.fault_of.ensures.memory memory) tt)
     (λ end. absurd (omega (arith, end.epoch, epoch, ap numbers_used c.close-2.ensures.store, c.in_default.ensures.spends.numbers, has.left))) other)
     (c.in-Err-open.ensures.refusals old.machine.limits old.machine.state (here g d honest) stands)

@@ -21,6 +21,11 @@ returns-clause-ok g c =
     (λ image now. (c.in_ok-prepare.ensures.prepared s stand erased (c.in_ok-erase.ensures.erased honest) image now).1))
     c.put_superblock.ensures.ok
 
+pub returns-clause-whole : goal.returns-clause-whole
+returns-clause-whole g c =
+    on_ok_weaker c.put_superblock.result (λ whole honest.
+    whole (c.prepare.ensures.same.honest.0 (c.erase.ensures.same.honest.0 honest))) c.put_superblock.ensures.whole
+
 pub returns-clause-any_moment : goal.returns-clause-any_moment
 returns-clause-any_moment g c = λ s stand honest.
     let erased = c.erase.ensures.same.honest.0 honest in

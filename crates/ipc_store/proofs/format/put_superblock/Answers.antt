@@ -4,8 +4,8 @@ use Rattle.std.proofs.lemmas.Result.{on_ok_weaker}
 use Rattle.ipc_disk.specs.Medium.{Image}
 use Rattle.ipc_disk.proofs.CallerLemmas.{EachImageSince-set}
 use Rattle.ipc_image.specs.Superblock.{IsSuperblock}
-use Rattle.ipc_store.specs.Image.{StandsFor}
-use Rattle.ipc_store.proofs.Formatting.{becomes-device}
+use Rattle.ipc_store.specs.Image.{NamesAll, StandsFor}
+use Rattle.ipc_store.proofs.Formatting.{becomes-device, names-all}
 use Rattle.ipc_store.proofs.format.put_superblock.Given.{Over}
 use Rattle.ipc_store.proofs.format.put_superblock.Goals as goal
 
@@ -30,6 +30,15 @@ returns-clause-ok g c =
     (becomes-device c.args.limits.now s c.superblock_of-sector.result old.contents (fits g c old.contents honest.reads)
     (the_superblock g c old.contents honest.reads)
     (prepared old.contents honest.reads)))
+    c.put_durably.ensures.written
+
+pub returns-clause-whole : goal.returns-clause-whole
+returns-clause-whole g c =
+    let old = g.D.SectorDisk.medium c.args.disk.now in
+    on_ok_weaker c.put_durably.result (λ written honest image now.
+    subst NamesAll (sym (written honest image now))
+    (names-all c.args.limits.now c.superblock_of-sector.result old.contents (fits g c old.contents honest.reads)
+    (the_superblock g c old.contents honest.reads)))
     c.put_durably.ensures.written
 
 pub returns-clause-any_moment : goal.returns-clause-any_moment

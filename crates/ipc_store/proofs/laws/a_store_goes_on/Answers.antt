@@ -12,3 +12,13 @@ returns-clause-call g c = λ store new base pending at durable stays image since
 
 pub returns-clause-calls : goal.returns-clause-calls
 returns-clause-calls g c = goes-on-then
+
+pub returns-clause-life : goal.returns-clause-life
+returns-clause-life g c = λ store next before events keeps durable takes image since.
+    let from = (takes before keeps).later.each image since in
+    subst (λ (first : Image). GoesOn first image) (durable from.0 from.1) from.2
+
+pub returns-clause-next : goal.returns-clause-next
+returns-clause-next g c = λ disk new first now later image since.
+    let from = later.each image since in
+    goes-on-then first from.0 image (now from.0 from.1) from.2

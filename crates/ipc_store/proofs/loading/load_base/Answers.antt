@@ -1,6 +1,6 @@
 -- What the objects are to the image.
 use Rattle.std.proofs.Common.{◌≡◌, inl, inr, sym, ap, subst, ◌∙◌}
-use Rattle.std.proofs.lemmas.Result.{IfOk-weaker}
+use Rattle.std.proofs.lemmas.Result.{IfErr-weaker, IfOk-weaker}
 use Rattle.ipc_base.specs.Objects.{PlainObjects}
 use Rattle.ipc_checkpoint.specs.declared.layout.Layout.{Layout}
 use Rattle.ipc_checkpoint.specs.Checkpoint.{IsFirstDamage, IsLaidOut, Holds}
@@ -9,7 +9,9 @@ use Rattle.ipc_checkpoint.proofs.CallerLemmas.{Holds-one}
 use Rattle.ipc_disk.specs.Medium.{Image}
 use Rattle.ipc_image.specs.Saved.{StandForStateIn}
 use Rattle.ipc_store.specs.Image.{layout_in, named_sectors, IsFirstFaultIn}
+use Rattle.ipc_store.specs.Relations.Loading.{HasNoBase}
 use Rattle.ipc_store.proofs.Formatting.{laid-out}
+use Rattle.ipc_store.proofs.Refusals.{damage-map}
 use Rattle.ipc_store.proofs.loading.load_base.Goals as goal
 
 pub load_objects-requires-clause-laid_out : goal.load_objects-requires-clause-laid_out
@@ -18,28 +20,32 @@ load_objects-requires-clause-laid_out g c =
     (laid-out c.args.form c.requires.known c.args.superblock.limits c.args.superblock.sectors (g.D.SectorDisk.size c.args.disk.now)
     c.requires.passed c.requires.room c.requires.there)
 
-pub returns-clause-damaged : goal.returns-clause-damaged
-returns-clause-damaged g c = λ sector is honest device named.
+pub returns-clause-refused : goal.returns-clause-refused
+returns-clause-refused g c = IfErr-weaker c.load_objects.result _ _
+    (λ error is honest device named.
     let form = c.args.form in
     let limits = c.args.superblock.limits in
     let image : Image = (g.D.SectorDisk.medium c.args.disk.now).contents in
     let here : c.layout_in-layout.result ≡ layout_in form limits (named_sectors image) =
     c.layout_in-layout.ensures.exact ∙ ap (layout_in form limits) named in
-    elim (c.load_objects.ensures.damaged sector is honest) [
-      | inl none ↦ (
-        λ epoch base has. none.none epoch has.objects (subst (λ (l : Layout). Holds l epoch has.objects image) (sym here) has.there),
-        IsFirstFaultIn.Objects limits sector device (subst (λ (l : Layout). IsFirstDamage l image sector) here none.first),
-      )
-      | inr others ↦ (
-        λ epoch base has.
+    damage-map _ (HasNoBase form limits image) error
+    (λ sector damage. elim damage [
+      | inl none ↦ record {
+        none = λ epoch base has. none.none epoch has.objects (subst (λ (l : Layout). Holds l epoch has.objects image) (sym here) has.there);
+        first = IsFirstFaultIn.Objects limits sector device (subst (λ (l : Layout). IsFirstDamage l image sector) here none.first);
+      }
+      | inr others ↦ record {
+        none = λ epoch base has.
             let one = Holds-one (layout_in form limits (named_sectors image)) others.epoch epoch others.objects has.objects image
             (subst (λ (l : Layout). Holds l others.epoch others.objects image) here others.there) has.there in
-            others.none base (subst (λ (o : PlainObjects). StandForStateIn form limits base o) (sym one.1) has.stand),
-        subst (IsFirstFaultIn form image) (sym others.at)
+            others.none base (subst (λ (o : PlainObjects). StandForStateIn form limits base o) (sym one.1) has.stand);
+        first = subst (IsFirstFaultIn form image) (sym others.at)
             (IsFirstFaultIn.NoState limits others.epoch others.objects device
-            (subst (λ (l : Layout). Holds l others.epoch others.objects image) here others.there) others.none),
-      )
-    ]
+            (subst (λ (l : Layout). Holds l others.epoch others.objects image) here others.there) others.none);
+      }
+    ])
+    (is honest))
+    c.load_objects.ensures.refused
 
 pub returns-clause-there : goal.returns-clause-there
 returns-clause-there g c =

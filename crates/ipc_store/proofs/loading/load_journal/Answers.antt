@@ -1,18 +1,19 @@
 -- Each exit: the journal that was opened, and what its batches lead to.
-use Rattle.std.proofs.Common.{inl, inr, ⊎_elim, ℕ, ◌<◌, ◌^◌, Err, length, refl, sym, ap, subst, ◌∙◌, arith}
+use Rattle.std.proofs.Common.{ℕ, ◌<◌, ◌^◌, Err, length, refl, sym, ap, subst, ◌∙◌, arith}
 use Rattle.std.specs.Prelude.{map}
 use Rattle.ipc_disk.specs.Medium.{Image, Medium, IsHonest}
 use Rattle.ipc_checkpoint.specs.View.{epoch_of as saved_epoch}
 use Rattle.ipc_journal.specs.View.{used_of}
 use Rattle.ipc_disk.proofs.CallerLemmas.{OnlyReads-as}
 use Rattle.ipc_journal.proofs.CallerLemmas.{JournalMatches-stays}
-use Rattle.ipc_store.specs.declared.fault.OpenError.TheVariants as errors
 use Rattle.ipc_store.specs.Batch.{batch_bytes}
 use Rattle.ipc_store.specs.Image.{HasBatches, HasNoHeader}
 use Rattle.ipc_store.specs.View.{of_journal_error}
 use Rattle.ipc_store.specs.Relations.Replay.{IsOpened, Replays, IsGoodUpTo}
-use Rattle.ipc_store.proofs.Faults.{passed_on, journal-fault, journal-device}
+use Rattle.ipc_store.specs.Relations.Loading.{IsFoundDamaged}
+use Rattle.ipc_store.proofs.Faults.{journal-device, opened-damage}
 use Rattle.ipc_store.proofs.Opened.{header-damaged, is_opened, batch-damaged, batches-hold, current-is}
+use Rattle.ipc_store.proofs.Refusals.{damage-map, passed}
 use Rattle.ipc_store.proofs.loading.load_journal.Given.{Over}
 use Rattle.ipc_store.proofs.loading.load_journal.Goals as goal
 use Rattle.ipc_store.proofs.loading.load_journal.Goals.{In_ok-journal}
@@ -30,48 +31,46 @@ fits : (g : Over) (c : In_ok-journal g) → IsHonest (g.D.SectorDisk.medium c.ar
 fits g c honest =
     omega (arith, (g.met.D.SectorDisk.shaped c.args.disk.now _ honest.reads).count, g.met.D.SectorDisk.fits c.args.disk.now)
 
-pub returns-in_err-journal-clause-damaged : goal.returns-in_err-journal-clause-damaged
-returns-in_err-journal-clause-damaged g c = λ form sector known most is honest has.
+pub returns-in_err-journal-clause-refused : goal.returns-in_err-journal-clause-refused
+returns-in_err-journal-clause-refused g c =
+    passed _ c.from_residual.result (of_journal_error c.in_err-journal.field-0.0) c.from_residual.ensures.1
+    (λ form known most honest has.
     let image : Image = (g.D.SectorDisk.medium c.args.disk.now).contents in
     let few : length image < 2 ^ 32 =
     omega (arith, (g.met.D.SectorDisk.shaped c.args.disk.now image honest.reads).count, g.met.D.SectorDisk.fits c.args.disk.now) in
-    let e = ap Err (journal-fault c.in_err-journal.field-0.0 sector
-    (passed_on c.from_residual.result (of_journal_error c.in_err-journal.field-0.0) (errors.Damaged sector) c.from_residual.ensures.1 is)) in
+    opened-damage c.in_err-journal.field-0.0 (IsFoundDamaged form image)
+    (λ sector is.
     header-damaged form known c.args.engine.now.limits (saved_epoch c.args.checkpoint.now) c.args.engine.now.state image few has sector
-    (c.in_err-journal.ensures.named sector e)
-    (subst (λ (n : ℕ). HasNoHeader n image) c.epoch.ensures (c.in_err-journal.ensures.damaged sector e honest))
+    (c.in_err-journal.ensures.named sector (ap Err is))
+    (subst (λ (n : ℕ). HasNoHeader n image) c.epoch.ensures (c.in_err-journal.ensures.damaged sector (ap Err is) honest))))
 
 pub returns-in_err-journal-clause-reads : goal.returns-in_err-journal-clause-reads
 returns-in_err-journal-clause-reads g c =
     let device = journal-device c.open.result c.from_residual.result c.in_err-journal.field-0.0 c.in_err-journal.was c.from_residual.ensures.1 in
     OnlyReads-as device.0 device.1 c.open.ensures.reads
 
-pub returns-in_err-replay-clause-damaged : goal.returns-in_err-replay-clause-damaged
-returns-in_err-replay-clause-damaged g c = λ form sector known most is honest has.
-    let here = (goal.at.returns-in_err-replay-clause-damaged g c).In_ok-journal in
+pub returns-in_err-replay-clause-refused : goal.returns-in_err-replay-clause-refused
+returns-in_err-replay-clause-refused g c =
+    passed _ c.from_residual-in_err-replay.result c.in_err-replay.field-0.0 c.from_residual-in_err-replay.ensures.1
+    (λ form known most honest has.
+    let here = (goal.at.returns-in_err-replay-clause-refused g c).In_ok-journal in
     let image : Image = (g.D.SectorDisk.medium c.args.disk.now).contents in
     let limits = c.args.engine.now.limits in
     let s = c.args.engine.now.state in
     let journal = c.in_ok-journal.journal in
     let same = c.open.ensures.stays.contents honest in
     let still = c.open.ensures.stays.time.honest.0 honest in
-    let e = ap Err (passed_on c.from_residual-in_err-replay.result c.in_err-replay.field-0.0 (errors.Damaged sector)
-    c.from_residual-in_err-replay.ensures.1 is) in
+    damage-map _ (IsFoundDamaged form image) c.in_err-replay.field-0.0
+    (λ sector damage.
     batch-damaged form known limits (saved_epoch c.args.checkpoint.now) s image (fits g here honest) has journal c.in_ok-journal.ensures.range
     (c.in_ok-journal.ensures.epoch ∙ c.epoch.ensures) (opened_on g here honest)
-    (λ batches t found. c.in_err-replay.ensures.damaged sector batches t e still
+    (λ batches t found. damage.none batches t
     (subst (λ (x : Image). Replays (length c.args.room.now) limits s journal x batches t) (sym same)
     (subst (λ (n : ℕ). Replays n limits s journal image batches t) most found)))
     sector
     (subst (λ (n : ℕ). IsGoodUpTo n limits s journal image sector) (sym most)
-    (subst (λ (x : Image). IsGoodUpTo (length c.args.room.now) limits s journal x sector) same (c.in_err-replay.ensures.named sector e still)))
-
-pub returns-in_err-replay-clause-faults : goal.returns-in_err-replay-clause-faults
-returns-in_err-replay-clause-faults g c = λ found which.
-    let went = passed_on c.from_residual-in_err-replay.result c.in_err-replay.field-0.0 in
-    c.in_err-replay.ensures.faults found (⊎_elim
-    (λ is. inl (ap Err (went errors.NotFormatted c.from_residual-in_err-replay.ensures.1 is)))
-    (λ is. inr (ap Err (went (errors.Version found) c.from_residual-in_err-replay.ensures.1 is))) which)
+    (subst (λ (x : Image). IsGoodUpTo (length c.args.room.now) limits s journal x sector) same damage.first)))
+    (c.in_err-replay.ensures.refused still))
 
 pub returns-clause-stands : goal.returns-clause-stands
 returns-clause-stands g c = λ honest.

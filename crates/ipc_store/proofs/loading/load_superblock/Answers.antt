@@ -1,8 +1,7 @@
-use Rattle.std.proofs.Common.{◌≡◌, inr, ℕ, ◌≤◌, sym, ap, subst, ◌∙◌, Err, arith}
+use Rattle.std.proofs.Common.{inr, ◌≤◌, sym, ap, subst, ◌∙◌, Err, arith}
 use Rattle.ipc_disk.specs.Medium.{Image}
 use Rattle.ipc_store.proofs.Loaded.{OnlyReads-call, OnlyReads-never}
 use Rattle.ipc_image.specs.Superblock.{IsFormatted}
-use Rattle.ipc_store.specs.Image.{HasVersionBut, IsDamagedIn, IsFirstFaultIn}
 use Rattle.ipc_store.proofs.Faults.{ok-device, format-device}
 use Rattle.ipc_store.proofs.Superblocks.{sector-read, is_device, has_version, is_damaged}
 use Rattle.ipc_store.proofs.loading.load_superblock.Goals as goal
@@ -15,34 +14,30 @@ returns-in-Ok-clause-device g c = λ honest.
     (sector-read image 0 c.read.new.into (c.in_ok-read.ensures.bytes honest)) (g.met.D.SectorDisk.fits c.args.disk.now)
     c.in-Ok.superblock (omega (arith, c.in-Ok.ensures.room, c.sectors-sectors.ensures)) c.in-Ok.ensures.ok
 
-pub returns-in-Err-NotFormatted-clause-not_formatted : goal.returns-in-Err-NotFormatted-clause-not_formatted
-returns-in-Err-NotFormatted-clause-not_formatted g c = λ is honest.
+pub returns-in-Err-NotFormatted-clause-refused : goal.returns-in-Err-NotFormatted-clause-refused
+returns-in-Err-NotFormatted-clause-refused g c = λ honest.
     let image : Image = (g.D.SectorDisk.medium c.args.disk.now).contents in
     let read = sector-read image 0 c.read.new.into (c.in_ok-read.ensures.bytes honest) in
     inr (λ formatted. c.read_superblock.ensures.not_formatted.0 (c.in-Err-NotFormatted.is ∙ ap Err c.in-Err-NotFormatted.field-0-is)
     (subst IsFormatted read formatted))
 
-pub returns-in-Err-Version-clause-version : goal.returns-in-Err-Version-clause-version
-returns-in-Err-Version-clause-version g c = λ found is honest.
+pub returns-in-Err-Version-clause-refused : goal.returns-in-Err-Version-clause-refused
+returns-in-Err-Version-clause-refused g c = λ honest.
     let image : Image = (g.D.SectorDisk.medium c.args.disk.now).contents in
     let whole = (g.met.D.SectorDisk.shaped c.args.disk.now image honest.reads).count in
     let read = sector-read image 0 c.read.new.into (c.in_ok-read.ensures.bytes honest) in
     let large : 3 ≤ g.D.SectorDisk.size c.args.disk.now = omega (arith, c.sectors-sectors.ensures, c.if-sectors-lt-LEAST_SECTORS.false) in
-    let same : c.in-Err-Version.found ≡ found = cc in
-    subst (λ (n : ℕ). HasVersionBut c.args.form n image) same
-    (has_version c.args.form image (g.D.SectorDisk.size c.args.disk.now) c.read.new.into whole read large c.in-Err-Version.found
-    ((c.read_superblock.ensures.version c.in-Err-Version.found).0 (c.in-Err-Version.is ∙ ap Err c.in-Err-Version.field-0-is)))
+    has_version c.args.form image (g.D.SectorDisk.size c.args.disk.now) c.read.new.into whole read large c.in-Err-Version.found
+    ((c.read_superblock.ensures.version c.in-Err-Version.found).0 (c.in-Err-Version.is ∙ ap Err c.in-Err-Version.field-0-is))
 
-pub returns-in-Err-Damaged-clause-damaged : goal.returns-in-Err-Damaged-clause-damaged
-returns-in-Err-Damaged-clause-damaged g c = λ sector is honest.
+pub returns-in-Err-Damaged-clause-refused : goal.returns-in-Err-Damaged-clause-refused
+returns-in-Err-Damaged-clause-refused g c = λ honest.
     let image : Image = (g.D.SectorDisk.medium c.args.disk.now).contents in
     let whole = (g.met.D.SectorDisk.shaped c.args.disk.now image honest.reads).count in
     let read = sector-read image 0 c.read.new.into (c.in_ok-read.ensures.bytes honest) in
     let large : 3 ≤ g.D.SectorDisk.size c.args.disk.now = omega (arith, c.sectors-sectors.ensures, c.if-sectors-lt-LEAST_SECTORS.false) in
-    let same : 0 ≡ sector = cc in
-    subst (λ (n : ℕ). IsDamagedIn c.args.form image × IsFirstFaultIn c.args.form image n) same
-    (is_damaged c.args.form image (g.D.SectorDisk.size c.args.disk.now) c.read.new.into whole read large
-    (rw (sym c.sectors-sectors.ensures) (c.read_superblock.ensures.damaged.0 (c.in-Err-Damaged.is ∙ ap Err c.in-Err-Damaged.field-0-is))))
+    is_damaged c.args.form image (g.D.SectorDisk.size c.args.disk.now) c.read.new.into whole read large
+    (rw (sym c.sectors-sectors.ensures) (c.read_superblock.ensures.damaged.0 (c.in-Err-Damaged.is ∙ ap Err c.in-Err-Damaged.field-0-is)))
 
 pub returns-in-Ok-clause-reads : goal.returns-in-Ok-clause-reads
 returns-in-Ok-clause-reads g c = OnlyReads-never (ok-device _) (OnlyReads-call c.in_ok-read.ensures.call c.read.ensures.medium)

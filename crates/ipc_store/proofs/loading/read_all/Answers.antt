@@ -1,5 +1,5 @@
 -- Each exit: what was read is what stood there before.
-use Rattle.std.proofs.Common.{◌≡◌, inl, inr, ℕ, ◌<◌, ◌^◌, Err, List, length, refl, sym, ap, subst, ◌∙◌, arith}
+use Rattle.std.proofs.Common.{◌≡◌, inr, ℕ, ◌<◌, ◌^◌, List, length, refl, sym, subst, ◌∙◌, arith}
 use Rattle.ipc_base.specs.declared.limits.Limits.{Limits}
 use Rattle.ipc_base.specs.Objects.{PlainObjects, Fit}
 use Rattle.ipc_checkpoint.specs.View.{epoch_of as saved_epoch}
@@ -11,18 +11,20 @@ use Rattle.ipc_journal.specs.Journal.{header_epoch, header_used}
 use Rattle.ipc_journal.specs.View.{epoch_of, used_of}
 use Rattle.ipc_state.specs.declared.parked.Object.{Object}
 use Rattle.ipc_engine.specs.Changes.{IsTracked}
-use Rattle.ipc_store.specs.declared.fault.OpenError.TheVariants as errors
 use Rattle.ipc_image.specs.Format.{format}
 use Rattle.ipc_image.specs.Saved.{StandForState}
 use Rattle.ipc_image.specs.Sizes.{area_of}
 use Rattle.ipc_image.specs.declared.superblock.Superblock.{Superblock}
 use Rattle.ipc_image.proofs.CallerLemmas.{saved-fits}
-use Rattle.ipc_store.specs.Image.{journal_range, layout_of, named_sectors, IsDevice, HasBase, IsDamaged, IsFirstFault, LeadToBy}
+use Rattle.ipc_store.specs.Image.{journal_range, layout_of, named_sectors, IsDevice, HasBase, LeadToBy}
 use Rattle.ipc_store.specs.Image.{StandsFor}
 use Rattle.ipc_store.proofs.Devices.{has-spare}
-use Rattle.ipc_store.proofs.Faults.{passed_on, passed-device}
+use Rattle.ipc_store.specs.Refusals.{IsRefusal}
+use Rattle.ipc_store.specs.Relations.Loading.{IsFoundDamaged}
+use Rattle.ipc_store.proofs.Faults.{passed-device}
 use Rattle.ipc_store.proofs.Loaded.{chain, stays-durable, Led, loaded, on-disk}
 use Rattle.ipc_store.proofs.Opened.{base-damaged}
+use Rattle.ipc_store.proofs.Refusals.{damage-map, damage-refused, passed, superblock-refused}
 use Rattle.ipc_store.proofs.loading.read_all.Given.{Over}
 use Rattle.ipc_store.proofs.loading.read_all.Goals as goal
 use Rattle.ipc_store.proofs.loading.read_all.Goals.{In_ok-superblock, In_ok-checkpoint}
@@ -70,37 +72,27 @@ has g c honest =
 
 -- ---- the exits
 
-pub returns-in_err-superblock-clause-damaged : goal.returns-in_err-superblock-clause-damaged
-returns-in_err-superblock-clause-damaged g c = λ sector is honest.
-    let e = passed_on c.from_residual.result c.in_err-superblock.field-0.0 (errors.Damaged sector) c.from_residual.ensures.1 is in
-    c.load_superblock.ensures.damaged sector (c.in_err-superblock.was ∙ ap Err e) honest
+pub returns-in_err-superblock-clause-refused : goal.returns-in_err-superblock-clause-refused
+returns-in_err-superblock-clause-refused g c =
+    passed _ c.from_residual.result c.in_err-superblock.field-0.0 c.from_residual.ensures.1
+    (λ honest. superblock-refused format _ c.in_err-superblock.field-0.0 (c.in_err-superblock.ensures.refused honest))
 
-pub returns-in_err-checkpoint-clause-not_formatted : goal.returns-in_err-checkpoint-clause-not_formatted
-returns-in_err-checkpoint-clause-not_formatted g c = λ is honest.
-    let e = passed_on c.from_residual-in_err-checkpoint.result c.in_err-checkpoint.field-0.0 errors.NotFormatted
-    c.from_residual-in_err-checkpoint.ensures.1 is in
-    absurd (c.in_err-checkpoint.ensures.faults 0 (inl (ap Err e)))
-
-pub returns-in_err-checkpoint-clause-version : goal.returns-in_err-checkpoint-clause-version
-returns-in_err-checkpoint-clause-version g c = λ found is honest.
-    let e = passed_on c.from_residual-in_err-checkpoint.result c.in_err-checkpoint.field-0.0 (errors.Version found)
-    c.from_residual-in_err-checkpoint.ensures.1 is in
-    absurd (c.in_err-checkpoint.ensures.faults found (inr (ap Err e)))
-
-pub returns-in_err-checkpoint-clause-damaged : goal.returns-in_err-checkpoint-clause-damaged
-returns-in_err-checkpoint-clause-damaged g c = λ sector is honest.
-    let here = (goal.at.returns-in_err-checkpoint-clause-damaged g c).In_ok-superblock in
+pub returns-in_err-checkpoint-clause-refused : goal.returns-in_err-checkpoint-clause-refused
+returns-in_err-checkpoint-clause-refused g c =
+    passed _ c.from_residual-in_err-checkpoint.result c.in_err-checkpoint.field-0.0 c.from_residual-in_err-checkpoint.ensures.1
+    (λ honest.
+    let here = (goal.at.returns-in_err-checkpoint-clause-refused g c).In_ok-superblock in
     let image : Image = (g.D.SectorDisk.medium c.load_superblock.new.disk).contents in
     let s1 = c.load_superblock.ensures.reads.stays honest in
     let h1 = s1.time.honest.0 honest in
     let names = device g here honest in
     let few : length image < 2 ^ 32 =
     omega (arith, (g.met.D.SectorDisk.shaped c.load_superblock.new.disk image h1.reads).count, g.met.D.SectorDisk.fits c.load_superblock.new.disk) in
-    let e = ap Err (passed_on c.from_residual-in_err-checkpoint.result c.in_err-checkpoint.field-0.0 (errors.Damaged sector)
-    c.from_residual-in_err-checkpoint.ensures.1 is) in
-    let both = c.in_err-checkpoint.ensures.damaged sector e h1 names.0 names.1 in
-    subst (λ (i : Image). IsDamaged i × IsFirstFault i sector) (s1.contents honest)
-    (base-damaged format (inr refl) c.in_ok-superblock.superblock.limits image few names.0 both.0, both.1)
+    let error = c.in_err-checkpoint.field-0.0 in
+    subst (λ (i : Image). IsRefusal format i error) (s1.contents honest)
+    (damage-refused format image error (damage-map _ (IsFoundDamaged format image) error
+    (λ sector has. (base-damaged format (inr refl) c.in_ok-superblock.superblock.limits image few names.0 has.none, has.first))
+    (c.in_err-checkpoint.ensures.refused h1 names.0 names.1))))
 
 pub returns-in_err-checkpoint-clause-reads : goal.returns-in_err-checkpoint-clause-reads
 returns-in_err-checkpoint-clause-reads g c =
@@ -108,29 +100,21 @@ returns-in_err-checkpoint-clause-reads g c =
     c.from_residual-in_err-checkpoint.ensures.1 in
     OnlyReads-then (OnlyReads-ok (λ failed. cc) c.in_ok-superblock.ensures.reads) (OnlyReads-as device.0 device.1 c.load_base.ensures.reads)
 
-pub returns-in_err-journal-clause-not_formatted : goal.returns-in_err-journal-clause-not_formatted
-returns-in_err-journal-clause-not_formatted g c = λ is honest.
-    let e = passed_on c.from_residual-in_err-journal.result c.in_err-journal.field-0.0 errors.NotFormatted c.from_residual-in_err-journal.ensures.1 is in
-    absurd (c.in_err-journal.ensures.faults 0 (inl (ap Err e)))
-
-pub returns-in_err-journal-clause-version : goal.returns-in_err-journal-clause-version
-returns-in_err-journal-clause-version g c = λ found is honest.
-    let e = passed_on c.from_residual-in_err-journal.result c.in_err-journal.field-0.0 (errors.Version found) c.from_residual-in_err-journal.ensures.1 is in
-    absurd (c.in_err-journal.ensures.faults found (inr (ap Err e)))
-
-pub returns-in_err-journal-clause-damaged : goal.returns-in_err-journal-clause-damaged
-returns-in_err-journal-clause-damaged g c = λ sector is honest.
-    let here = (goal.at.returns-in_err-journal-clause-damaged g c).In_ok-checkpoint in
+pub returns-in_err-journal-clause-refused : goal.returns-in_err-journal-clause-refused
+returns-in_err-journal-clause-refused g c =
+    passed _ c.from_residual-in_err-journal.result c.in_err-journal.field-0.0 c.from_residual-in_err-journal.ensures.1
+    (λ honest.
+    let here = (goal.at.returns-in_err-journal-clause-refused g c).In_ok-checkpoint in
     let m2 : Medium = g.D.SectorDisk.medium c.load_base.new.disk in
     let s2 = reads-base g here honest in
     let h2 = s2.time.honest.0 honest in
     let checkpoint = c.in_ok-checkpoint.checkpoint in
     let from = c.in_ok-checkpoint.engine.state in
-    let e = ap Err (passed_on c.from_residual-in_err-journal.result c.in_err-journal.field-0.0 (errors.Damaged sector)
-    c.from_residual-in_err-journal.ensures.1 is) in
-    subst (λ (i : Image). IsDamaged i × IsFirstFault i sector) (s2.contents honest)
-    (c.in_err-journal.ensures.damaged format sector (inr refl) (sym c.requires) e h2
-    (subst (λ (l : Limits). HasBase l (saved_epoch checkpoint) from m2.contents) (sym c.in_ok-checkpoint.ensures.limits) (has g here honest)))
+    let error = c.in_err-journal.field-0.0 in
+    subst (λ (i : Image). IsRefusal format i error) (s2.contents honest)
+    (damage-refused format m2.contents error
+    (c.in_err-journal.ensures.refused format (inr refl) (sym c.requires) h2
+    (subst (λ (l : Limits). HasBase l (saved_epoch checkpoint) from m2.contents) (sym c.in_ok-checkpoint.ensures.limits) (has g here honest)))))
 
 pub returns-in_err-journal-clause-reads : goal.returns-in_err-journal-clause-reads
 returns-in_err-journal-clause-reads g c =

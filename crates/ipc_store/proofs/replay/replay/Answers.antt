@@ -1,11 +1,9 @@
 -- One batch more is replayed, or what stands there is no batch that goes on from here.
 use Rattle.std.proofs.Common.{◌≡◌, inl, inr, ◌+◌, ◌<◌, ◌≤◌, ℕ, List, Result, Option, Ok, Err, None, Some, true, length, take, drop}
 use Rattle.std.proofs.Common.{refl, sym, ap, ◌∙◌, subst, arith}
-use Rattle.std.specs.Prelude.{⊤}
 use Rattle.std.specs.Option.{IsSome}
-use Rattle.std.specs.Result.{IsErrOf, IsErrAnd}
+use Rattle.std.specs.Result.{IsErrOf}
 use Rattle.std.proofs.lemmas.Bool.{false≢true, cases_lt}
-use Rattle.std.proofs.lemmas.Result.{err_from_is_err_and}
 use Rattle.std.proofs.lemmas.List.{length-take-le}
 use Rattle.ipc_disk.specs.declared.range.Range.{Range}
 use Rattle.ipc_disk.specs.Medium.{Image, IsHonest}
@@ -19,32 +17,15 @@ use Rattle.ipc_journal.specs.View.{range_of, used_of}
 use Rattle.ipc_state.specs.State.{State}
 use Rattle.ipc_engine.specs.Event.{PlainEvent}
 use Rattle.ipc_store.specs.View.{of_journal_error}
-use Rattle.ipc_store.specs.declared.fault.OpenError.{OpenError}
-use Rattle.ipc_store.specs.declared.fault.OpenError.TheVariants.{Damaged}
-use Rattle.ipc_store.specs.Relations.Replay.{AreRecords}
+use Rattle.ipc_store.specs.Relations.Replay.{AreRecords, IsBadAt}
 use Rattle.ipc_store.proofs.Loaded.{OnlyReads-never}
-use Rattle.ipc_store.proofs.Faults.{journal-device, ok-device, read-device, damaged-device, memory-device}
+use Rattle.ipc_store.proofs.Faults.{journal-device, ok-device, opened-damage, read-device, damaged-device, memory-device}
+use Rattle.ipc_store.proofs.Refusals.{passed}
 use Rattle.ipc_store.proofs.Replaying.{Replayed, Found, replayed_none, replayed_more, replayed_refused, replayed_all}
 use Rattle.ipc_store.proofs.Replaying.{replayed_damaged, replayed_good, none_damaged, none_refused, found_batch, records_slice, AreRecords-same}
 use Rattle.ipc_store.proofs.replay.replay.Given.{Over}
 use Rattle.ipc_store.proofs.replay.replay.Goals as goal
 use Rattle.ipc_store.proofs.replay.replay.Goals.{After-next_batch, In_ok-go_through}
-
--- the store's fault is the journal's
-from_damaged : (r : Result ⊤ OpenError) (error : JournalError) (sector : ℕ) → IsErrOf r (Damaged sector)
-    → IsErrAnd r (λ e. e ≡ of_journal_error error) → error ≡ journal.Damaged sector
-from_damaged r error sector is and = let e = err_from_is_err_and r and in which error (sym e.2 ∙ same_err e.0 (sym e.1 ∙ is))
-  where
-    same_err : (x : OpenError) → ◌≡◌ {A = Result ⊤ OpenError} (Err x) (Err (Damaged sector)) → x ≡ Damaged sector
-    same_err x is = cc
-
-    which : (error : JournalError) → of_journal_error error ≡ Damaged sector → error ≡ journal.Damaged sector
-    which journal.Device is = cc
-    which (journal.Damaged other) is = let same : other ≡ sector = cc in ap journal.Damaged same
-
--- the sector of the batch that is refused
-named_sector : (at sector : ℕ) → ◌≡◌ {A = Result ⊤ OpenError} (Err (Damaged at)) (Err (Damaged sector)) → at ≡ sector
-named_sector at sector is = cc
 
 not_some : (found : Option ℕ) → found ≡ None → IsSome found → ⊥
 not_some None is some = false≢true some
@@ -104,46 +85,33 @@ loop-len-init g c = record {
   reads = OnlyReads-start c.args.disk.now;
 }
 
-pub returns-in_err-len-clause-damaged : goal.returns-in_err-len-clause-damaged
-returns-in_err-len-clause-damaged g c = λ sector batches s is honest good.
+pub returns-in_err-len-clause-refused : goal.returns-in_err-len-clause-refused
+returns-in_err-len-clause-refused g c =
+    passed _ c.from_residual.result (of_journal_error c.in_err-len.field-0.0) c.from_residual.ensures.1
+    (λ honest.
     let inv = c.loop-len.invariant in
     let image = (g.D.SectorDisk.medium c.args.disk.now).contents in
     let journal = c.args.journal.now in
     let place = c.loop-len.place.sector in
     let stays = inv.reads.stays honest in
-    let error = from_damaged c.from_residual.result c.in_err-len.field-0.0 sector is c.from_residual.ensures.1 in
-    let was = ap (λ (x : JournalError). Err x) error in
-    let at : sector ≡ (range_of c.args.journal.now).first + 1 + place = c.in_err-len.ensures.named sector was in
+    let replayed = inv.replayed honest in
+    let more : place < used_of journal = elim (cases_lt place (used_of journal)) [
+      | inl lt ↦ lt
+      | inr le ↦ absurd (not_none c.in_err-len.field-0.0 (c.in_err-len.ensures.end le))
+    ] in
+    opened-damage c.in_err-len.field-0.0
+    (IsBadAt (length c.args.room.now) c.args.engine.now.limits c.args.engine.now.state journal image)
+    (λ sector is.
+    let was = ap (λ (x : JournalError). Err x) is in
+    let at : sector ≡ (range_of journal).first + 1 + place = c.in_err-len.ensures.named sector was in
     let bad = c.in_err-len.ensures.damaged sector was (stays.time.honest.0 honest) in
     let said = ap (λ (i : Image). length_in (sector_at i sector)) (stays.contents honest) ∙ ap (λ (n : ℕ). length_in (sector_at image n)) at in
-    let more : place < used_of journal = elim (cases_lt place (used_of journal)) [
-      | inl lt ↦ lt
-      | inr le ↦ absurd (not_none c.in_err-len.field-0.0 (c.in_err-len.ensures.end le))
-    ] in
-    replayed_damaged (length c.args.room.now) c.requires.room c.args.engine.now.limits c.args.engine.now.state
-    journal image place c.loop-len.engine.state (inv.replayed honest)
-    (length c.loop-len.room) _
-    inv.room said more bad batches s good
-
-pub returns-in_err-len-clause-named : goal.returns-in_err-len-clause-named
-returns-in_err-len-clause-named g c = λ sector is honest.
-    let inv = c.loop-len.invariant in
-    let image = (g.D.SectorDisk.medium c.args.disk.now).contents in
-    let journal = c.args.journal.now in
-    let place = c.loop-len.place.sector in
-    let stays = inv.reads.stays honest in
-    let error = from_damaged c.from_residual.result c.in_err-len.field-0.0 sector is c.from_residual.ensures.1 in
-    let was = ap (λ (x : JournalError). Err x) error in
-    let at : sector ≡ (range_of c.args.journal.now).first + 1 + place = c.in_err-len.ensures.named sector was in
-    let said = ap (λ (i : Image). length_in (sector_at i sector)) (stays.contents honest) ∙ ap (λ (n : ℕ). length_in (sector_at image n)) at in
-    let more : place < used_of journal = elim (cases_lt place (used_of journal)) [
-      | inl lt ↦ lt
-      | inr le ↦ absurd (not_none c.in_err-len.field-0.0 (c.in_err-len.ensures.end le))
-    ] in
-    let replayed = inv.replayed honest in
-    replayed_good _ c.requires.room _ _ _ _ _ _ replayed sector at more
-    (none_damaged _ c.requires.room _ _ _ _ _ _ replayed (length c.loop-len.room) _ inv.room said
-    (c.in_err-len.ensures.damaged sector was (stays.time.honest.0 honest)))
+    record {
+      none = λ batches s good. replayed_damaged (length c.args.room.now) c.requires.room c.args.engine.now.limits c.args.engine.now.state
+          journal image place c.loop-len.engine.state replayed (length c.loop-len.room) _ inv.room said more bad batches s good;
+      first = replayed_good _ c.requires.room _ _ _ _ _ _ replayed sector at more
+          (none_damaged _ c.requires.room _ _ _ _ _ _ replayed (length c.loop-len.room) _ inv.room said bad);
+    }))
 
 pub returns-in_err-len-clause-reads : goal.returns-in_err-len-clause-reads
 returns-in_err-len-clause-reads g c =
@@ -164,21 +132,20 @@ returns-in_err-go_through-clause-reads g c =
     OnlyReads-never (memory-device c.from_residual-in_err-go_through.result c.from_residual-in_err-go_through.ensures.1)
     (reads_well g (goal.at.returns-in_err-go_through-clause-reads g c).After-next_batch c.in_ok-len.field-0 c.in_ok-len.was)
 
-pub returns-then-not-branch-clause-damaged : goal.returns-then-not-branch-clause-damaged
-returns-then-not-branch-clause-damaged g c = λ sector batches to is honest good.
-    let here = (goal.at.returns-then-not-branch-clause-damaged g c).In_ok-go_through in
-    replayed_refused _ c.requires.room _ _ _ _ _ _ _ (c.loop-len.invariant.replayed honest) (found_there g here honest)
-    (λ es t are. false≢true (sym c.if-not-branch.true ∙ (only_there g here es t are).0)) batches to good
-
-pub returns-then-not-branch-clause-named : goal.returns-then-not-branch-clause-named
-returns-then-not-branch-clause-named g c = λ sector is honest.
-    let here = (goal.at.returns-then-not-branch-clause-named g c).In_ok-go_through in
+pub returns-then-not-branch-clause-refused : goal.returns-then-not-branch-clause-refused
+returns-then-not-branch-clause-refused g c = λ honest.
+    let here = (goal.at.returns-then-not-branch-clause-refused g c).In_ok-go_through in
     let replayed = c.loop-len.invariant.replayed honest in
     let found = found_there g here honest in
-    replayed_good _ c.requires.room _ _ _ _ _ _ replayed sector
-    (sym (named_sector _ sector is) ∙ ap (λ (range : Range). range.first + 1 + c.loop-len.place.sector) c.range.ensures)
-    (omega (arith, found.inside, found.is.field))
-    (none_refused _ c.requires.room _ _ _ _ _ _ _ replayed found (λ es t are. false≢true (sym c.if-not-branch.true ∙ (only_there g here es t are).0)))
+    record {
+      none = λ batches to good. replayed_refused _ c.requires.room _ _ _ _ _ _ _ replayed found
+          (λ es t are. false≢true (sym c.if-not-branch.true ∙ (only_there g here es t are).0)) batches to good;
+      first = replayed_good _ c.requires.room _ _ _ _ _ _ replayed _
+          (ap (λ (range : Range). range.first + 1 + c.loop-len.place.sector) c.range.ensures)
+          (omega (arith, found.inside, found.is.field))
+          (none_refused _ c.requires.room _ _ _ _ _ _ _ replayed found
+          (λ es t are. false≢true (sym c.if-not-branch.true ∙ (only_there g here es t are).0)));
+    }
 
 pub returns-then-not-branch-clause-reads : goal.returns-then-not-branch-clause-reads
 returns-then-not-branch-clause-reads g c =

@@ -1,5 +1,5 @@
 -- The journal leads from the objects to a state, and there is a next epoch or none.
-use Rattle.std.proofs.Common.{◌≡◌, inl, inr, ⊎_elim, ℕ, List, Err, length, refl, sym, ap, subst, ◌∙◌}
+use Rattle.std.proofs.Common.{◌≡◌, inl, inr, ℕ, List, length, refl, sym, ap, subst, ◌∙◌}
 use Rattle.std.specs.Prelude.{map}
 use Rattle.ipc_checkpoint.specs.View.{epoch_of as saved_epoch}
 use Rattle.ipc_disk.specs.declared.range.Range.{Range}
@@ -10,8 +10,8 @@ use Rattle.ipc_engine.specs.Event.{PlainEvent}
 use Rattle.ipc_image.specs.Format.{format_one}
 use Rattle.ipc_store.specs.Batch.{batch_bytes}
 use Rattle.ipc_store.specs.Image.{journal_range, HasBatches, LeadToBy}
-use Rattle.ipc_store.specs.declared.fault.OpenError.TheVariants as errors
-use Rattle.ipc_store.proofs.Faults.{passed_on}
+use Rattle.ipc_store.specs.Refusals.{IsOldDamage}
+use Rattle.ipc_store.proofs.Refusals.{damage-map, passed}
 use Rattle.ipc_store.proofs.upgrade.go_through_journal.Given.{Over}
 use Rattle.ipc_store.proofs.upgrade.go_through_journal.Goals as goal
 use Rattle.ipc_store.proofs.upgrade.go_through_journal.Goals.{In_ok-load_journal}
@@ -38,23 +38,16 @@ led g c honest durable =
       subst (λ (n : ℕ). LeadToBy n c.args.engine.now.limits c.args.engine.now.state found.0 c.load_journal.new.engine.state) (long g c) found.2,
     )
 
-pub returns-in_err-load_journal-clause-damaged : goal.returns-in_err-load_journal-clause-damaged
-returns-in_err-load_journal-clause-damaged g c = λ sector is honest durable has.
-    let e = passed_on c.from_residual-in_err-load_journal.result c.in_err-load_journal.field-0.0 (errors.Damaged sector)
-    c.from_residual-in_err-load_journal.ensures.1 is in
-    inl (c.in_err-load_journal.ensures.damaged format_one sector (inl refl) (sym (ap length c.deref_mut.ensures.value ∙ c.in_ok-room.ensures))
-    (ap Err e) honest has)
+pub returns-in_err-load_journal-clause-refused : goal.returns-in_err-load_journal-clause-refused
+returns-in_err-load_journal-clause-refused g c =
+    passed _ c.from_residual-in_err-load_journal.result c.in_err-load_journal.field-0.0 c.from_residual-in_err-load_journal.ensures.1
+    (λ honest durable has.
+    damage-map _ (IsOldDamage (g.D.SectorDisk.medium c.args.disk.now).contents) c.in_err-load_journal.field-0.0 (λ sector is. inl is)
+    (c.in_err-load_journal.ensures.refused format_one (inl refl) (sym (ap length c.deref_mut.ensures.value ∙ c.in_ok-room.ensures)) honest has))
 
-pub returns-in_err-load_journal-clause-faults : goal.returns-in_err-load_journal-clause-faults
-returns-in_err-load_journal-clause-faults g c = λ found which.
-    let went = passed_on c.from_residual-in_err-load_journal.result c.in_err-load_journal.field-0.0 in
-    c.in_err-load_journal.ensures.faults found (⊎_elim
-    (λ is. inl (ap Err (went errors.NotFormatted c.from_residual-in_err-load_journal.ensures.1 is)))
-    (λ is. inr (ap Err (went (errors.Version found) c.from_residual-in_err-load_journal.ensures.1 is))) which)
-
-pub returns-then-epoch-eq18446744073709551615-clause-damaged : goal.returns-then-epoch-eq18446744073709551615-clause-damaged
-returns-then-epoch-eq18446744073709551615-clause-damaged g c = λ sector is honest durable has.
-    let all = led g (goal.at.returns-then-epoch-eq18446744073709551615-clause-damaged g c).In_ok-load_journal honest durable in
+pub returns-then-epoch-eq18446744073709551615-clause-refused : goal.returns-then-epoch-eq18446744073709551615-clause-refused
+returns-then-epoch-eq18446744073709551615-clause-refused g c = λ honest durable has.
+    let all = led g (goal.at.returns-then-epoch-eq18446744073709551615-clause-refused g c).In_ok-load_journal honest durable in
     inr (
       record {
         limits = c.args.engine.now.limits;
@@ -69,7 +62,7 @@ returns-then-epoch-eq18446744073709551615-clause-damaged g c = λ sector is hone
         };
         epoch = has.there.there.current ∙ sym c.epoch.ensures ∙ c.if-epoch-eq18446744073709551615.true;
       },
-      cc,
+      refl,
     )
 
 pub returns-clause-restarted : goal.returns-clause-restarted

@@ -1,5 +1,5 @@
 -- What the objects are in version 1 they are seen from the whole disk.
-use Rattle.std.proofs.Common.{◌≡◌, ◌⊎◌, inl, inr, ⊎_elim, ℕ, ◌≤◌, ◌<◌, ◌^◌, List, Err, length, refl, sym, ap, subst, ◌∙◌, arith}
+use Rattle.std.proofs.Common.{◌≡◌, inl, ℕ, ◌≤◌, ◌<◌, ◌^◌, List, length, refl, sym, ap, subst, ◌∙◌, arith}
 use Rattle.ipc_base.specs.declared.limits.Limits.{Limits}
 use Rattle.ipc_base.specs.Objects.{PlainObjects, Fit}
 use Rattle.ipc_checkpoint.specs.declared.layout.Layout.{Layout}
@@ -20,15 +20,16 @@ use Rattle.ipc_image.specs.Saved.{StandForStateIn}
 use Rattle.ipc_image.specs.Sizes.{area_of}
 use Rattle.ipc_image.specs.declared.superblock.Superblock.{Superblock}
 use Rattle.ipc_image.proofs.CallerLemmas.{each-at-least, old-saved-fits}
-use Rattle.ipc_store.specs.Image.{layout_in, named_sectors, objects_range, HasBaseIn, HasBatches, IsDamagedIn, IsFirstFaultIn, LeadToBy}
+use Rattle.ipc_store.specs.Image.{layout_in, named_sectors, objects_range, HasBaseIn, HasBatches, LeadToBy}
+use Rattle.ipc_store.specs.Refusals.{IsOldDamage}
+use Rattle.ipc_store.specs.Relations.Loading.{IsDamage}
 use Rattle.ipc_store.specs.Relations.Upgrade.{wide_layout, HasOld, IsNamed}
-use Rattle.ipc_store.specs.Upgrade.{HasNoNextEpoch}
-use Rattle.ipc_store.specs.declared.fault.OpenError.TheVariants as errors
 use Rattle.ipc_store.proofs.Devices.{has-spare}
-use Rattle.ipc_store.proofs.Faults.{ok-device, passed_on, passed-device}
+use Rattle.ipc_store.proofs.Faults.{ok-device, passed-device}
 use Rattle.ipc_store.proofs.Greater.{area-greater, restart-waits, sound-greater}
 use Rattle.ipc_store.proofs.Loaded.{OnlyReads-never, stays-durable}
 use Rattle.ipc_store.proofs.Opened.{base-damaged}
+use Rattle.ipc_store.proofs.Refusals.{damage-map, passed}
 use Rattle.ipc_store.proofs.upgrade.read_state.Given.{Over}
 use Rattle.ipc_store.proofs.upgrade.read_state.Goals as goal
 use Rattle.ipc_store.proofs.upgrade.read_state.Goals.{In_ok-load_base, In_ok-checkpoint}
@@ -136,47 +137,31 @@ module _ (g : Over) (c : In_ok-checkpoint g) (honest : IsHonest (g.D.SectorDisk.
 
 -- ---- the exits
 
-pub returns-in_err-load_base-clause-faults : goal.returns-in_err-load_base-clause-faults
-returns-in_err-load_base-clause-faults g c = λ found which.
-    let went = passed_on c.from_residual.result c.in_err-load_base.field-0.0 in
-    c.in_err-load_base.ensures.faults found (⊎_elim (λ is. inl (ap Err (went errors.NotFormatted c.from_residual.ensures.1 is)))
-    (λ is. inr (ap Err (went (errors.Version found) c.from_residual.ensures.1 is))) which)
+pub returns-in_err-load_base-clause-refused : goal.returns-in_err-load_base-clause-refused
+returns-in_err-load_base-clause-refused g c =
+    passed _ c.from_residual.result c.in_err-load_base.field-0.0 c.from_residual.ensures.1
+    (λ honest durable named.
+    damage-map _ (IsOldDamage (g.D.SectorDisk.medium c.args.disk.now).contents) c.in_err-load_base.field-0.0
+    (λ sector has. inl (base-damaged format_one (inl refl) c.args.superblock.limits _ (few g c.args.disk.now honest) named.0 has.none, has.first))
+    (c.in_err-load_base.ensures.refused honest named.0 named.1))
 
-pub returns-in_err-checkpoint-clause-faults : goal.returns-in_err-checkpoint-clause-faults
-returns-in_err-checkpoint-clause-faults g c = λ found which.
-    let went = passed_on c.from_residual-in_err-checkpoint.result c.in_err-checkpoint.field-0.0 in
-    c.in_err-checkpoint.ensures.faults found (⊎_elim (λ is. inl (ap Err (went errors.NotFormatted c.from_residual-in_err-checkpoint.ensures.1 is)))
-    (λ is. inr (ap Err (went (errors.Version found) c.from_residual-in_err-checkpoint.ensures.1 is))) which)
-
-pub returns-in_err-go_through_journal-clause-faults : goal.returns-in_err-go_through_journal-clause-faults
-returns-in_err-go_through_journal-clause-faults g c = λ found which.
-    let went = passed_on c.from_residual-in_err-go_through_journal.result c.in_err-go_through_journal.field-0.0 in
-    c.in_err-go_through_journal.ensures.faults found
-    (⊎_elim (λ is. inl (ap Err (went errors.NotFormatted c.from_residual-in_err-go_through_journal.ensures.1 is)))
-    (λ is. inr (ap Err (went (errors.Version found) c.from_residual-in_err-go_through_journal.ensures.1 is))) which)
-
-pub returns-in_err-load_base-clause-damaged : goal.returns-in_err-load_base-clause-damaged
-returns-in_err-load_base-clause-damaged g c = λ sector is honest durable named.
-    let e = passed_on c.from_residual.result c.in_err-load_base.field-0.0 (errors.Damaged sector) c.from_residual.ensures.1 is in
-    let both = c.in_err-load_base.ensures.damaged sector (ap Err e) honest named.0 named.1 in
-    inl (base-damaged format_one (inl refl) c.args.superblock.limits _ (few g c.args.disk.now honest) named.0 both.0, both.1)
-
-pub returns-in_err-checkpoint-clause-damaged : goal.returns-in_err-checkpoint-clause-damaged
-returns-in_err-checkpoint-clause-damaged g c = λ sector is honest durable named.
-    let here = (goal.at.returns-in_err-checkpoint-clause-damaged g c).In_ok-load_base in
-    let e = passed_on c.from_residual-in_err-checkpoint.result c.in_err-checkpoint.field-0.0 (errors.Damaged sector)
-    c.from_residual-in_err-checkpoint.ensures.1 is in
+pub returns-in_err-checkpoint-clause-refused : goal.returns-in_err-checkpoint-clause-refused
+returns-in_err-checkpoint-clause-refused g c =
+    passed _ c.from_residual-in_err-checkpoint.result c.in_err-checkpoint.field-0.0 c.from_residual-in_err-checkpoint.ensures.1
+    (λ honest durable named.
+    let here = (goal.at.returns-in_err-checkpoint-clause-refused g c).In_ok-load_base in
     let disk = c.load_base.new.disk in
     let limits : Limits = c.args.limits.now in
     let base = c.in_ok-load_base.ensures.base in
     let wide : Layout = wide_layout limits (g.D.SectorDisk.size disk) in
-    absurd (c.in_err-checkpoint.ensures.damaged sector (ap Err e) ((c.load_base.ensures.reads.stays honest).time.honest.0 honest)
+    damage-map (λ sector. ⊥) _ c.in_err-checkpoint.field-0.0 (λ sector never. absurd never)
+    (c.in_err-checkpoint.ensures.refused ((c.load_base.ensures.reads.stays honest).time.honest.0 honest)
     (epoch_of c.in_ok-load_base.field-0.0) base.0 c.in_ok-load_base.field-0.1.state
     (subst (λ (i : Image). Holds wide (epoch_of c.in_ok-load_base.field-0.0) base.0 i) (sym ((c.load_base.ensures.reads.stays honest).contents honest))
     (seen-from-all limits c.args.superblock.limits c.args.superblock (g.D.SectorDisk.size disk)
     (g.D.SectorDisk.medium c.args.disk.now).contents named (omega (arith, c.requires.there, c.load_base.ensures.reads.same.sectors))
     (epoch_of c.in_ok-load_base.field-0.0) base.0 (base-there g here honest durable)))
-    base.1)
+    base.1))
 
 -- the reads so far, none of which failed
 base-reads : (g : Over) (c : In_ok-load_base g)
@@ -206,20 +191,22 @@ returns-clause-reads g c =
     OnlyReads-never (ok-device _) (OnlyReads-then (wide-reads g (goal.at.returns-clause-reads g c).In_ok-checkpoint)
     (OnlyReads-ok (ok-device _) c.in_ok-go_through_journal.ensures.reads))
 
-pub returns-in_err-go_through_journal-clause-damaged : goal.returns-in_err-go_through_journal-clause-damaged
-returns-in_err-go_through_journal-clause-damaged g c = λ sector is honest durable named.
-    let here = (goal.at.returns-in_err-go_through_journal-clause-damaged g c).In_ok-checkpoint in
-    let e = passed_on c.from_residual-in_err-go_through_journal.result c.in_err-go_through_journal.field-0.0 (errors.Damaged sector)
-    c.from_residual-in_err-go_through_journal.ensures.1 is in
+pub returns-in_err-go_through_journal-clause-refused : goal.returns-in_err-go_through_journal-clause-refused
+returns-in_err-go_through_journal-clause-refused g c =
+    passed _ c.from_residual-in_err-go_through_journal.result c.in_err-go_through_journal.field-0.0
+    c.from_residual-in_err-go_through_journal.ensures.1
+    (λ honest durable named.
+    let here = (goal.at.returns-in_err-go_through_journal-clause-refused g c).In_ok-checkpoint in
+    let error = c.in_err-go_through_journal.field-0.0 in
     let engine = c.in_ok-checkpoint.engine in
     let at : ℕ = epoch_of c.in_ok-checkpoint.checkpoint in
     let same = same-wide g here honest durable named in
-    let Damage : Image → Type 0 = λ i. (IsDamagedIn format_one i × IsFirstFaultIn format_one i sector) ⊎ (HasNoNextEpoch i × (sector ≡ format_one.root)) in
-    subst Damage same (c.in_err-go_through_journal.ensures.damaged sector (ap Err e) (honest-wide g here honest durable named)
+    subst (λ (i : Image). IsDamage (IsOldDamage i) error) same
+    (c.in_err-go_through_journal.ensures.refused (honest-wide g here honest durable named)
     (durable-wide g here honest durable named)
     (subst (λ (l : Limits). HasBaseIn format_one l at engine.state (g.D.SectorDisk.medium c.load_wide.new.disk).contents)
     (sym c.in_ok-checkpoint.ensures.limits)
-    (subst (λ (i : Image). HasBaseIn format_one c.args.superblock.limits at engine.state i) (sym same) (wide-base g here honest durable named))))
+    (subst (λ (i : Image). HasBaseIn format_one c.args.superblock.limits at engine.state i) (sym same) (wide-base g here honest durable named)))))
 
 pub returns-clause-spare : goal.returns-clause-spare
 returns-clause-spare g c =

@@ -93,3 +93,7 @@ returns-clause-any_moment g c = λ old.
 
 pub returns-clause-same : goal.returns-clause-same
 returns-clause-same g c = IsSameDisk-then c.save_beside.ensures.same c.put_superblock.ensures.same
+
+pub returns-clause-whole : goal.returns-clause-whole
+returns-clause-whole g c =
+    on_ok_weaker c.put_superblock.result (λ whole honest. whole (c.save_beside.ensures.same.honest.0 honest)) c.put_superblock.ensures.whole

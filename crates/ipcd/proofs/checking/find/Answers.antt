@@ -1,8 +1,10 @@
 -- What is found of a machine is found of an image that stands for its state, and what a look refuses is there.
-use Rattle.std.proofs.Common.{◌≡◌, ℕ, refl, subst, sym}
+use Rattle.std.proofs.Common.{ℕ, subst, sym}
 use Rattle.ipc_disk.specs.Medium.{Image}
 use Rattle.ipc_engine.specs.Engine.{Machine}
-use Rattle.ipc_store.specs.Image.{StandsFor, IsNotFormatted, HasVersion, IsDamaged, IsFirstFault}
+use Rattle.ipc_image.specs.Format.{format}
+use Rattle.ipc_store.specs.Image.{StandsFor}
+use Rattle.ipc_store.specs.Refusals.{IsRefusal}
 use Rattle.ipc_store.specs.declared.fault.OpenError.{OpenError}
 use Rattle.ipc_store.specs.declared.fault.OpenError.TheVariants as opening
 use Rattle.ipcd.specs.Check.{IsFoundIn, IsOfMachine, refusal_of}
@@ -19,15 +21,12 @@ of-machine (Version found) machine image is stands = absurd is
 of-machine (Damaged sector) machine image is stands = absurd is
 of-machine Unread machine image is stands = absurd is
 
-of-error : (sectors : ℕ) (error : OpenError) (image : Image) → (error ≡ opening.NotFormatted → IsNotFormatted image)
-    → ((found : ℕ) → error ≡ opening.Version found → HasVersion found image)
-    → ((sector : ℕ) → error ≡ opening.Damaged sector → IsDamaged image × IsFirstFault image sector)
-    → IsFoundIn (refusal_of sectors error) image
-of-error sectors opening.NotFormatted image none other damaged = none refl
-of-error sectors (opening.Version found) image none other damaged = other found refl
-of-error sectors (opening.Damaged sector) image none other damaged = damaged sector refl
-of-error sectors opening.Device image none other damaged = tt
-of-error sectors opening.NoMemory image none other damaged = tt
+of-error : (sectors : ℕ) (error : OpenError) (image : Image) → IsRefusal format image error → IsFoundIn (refusal_of sectors error) image
+of-error sectors opening.NotFormatted image is = is
+of-error sectors (opening.Version found) image is = is
+of-error sectors (opening.Damaged sector) image is = is
+of-error sectors opening.Device image is = tt
+of-error sectors opening.NoMemory image is = tt
 
 pub returns-in-Ok-clause-found : goal.returns-in-Ok-clause-found
 returns-in-Ok-clause-found g c = λ honest. of-machine _ _ _ c.fitness.ensures (c.in-Ok.ensures.ok honest)
@@ -35,5 +34,4 @@ returns-in-Ok-clause-found g c = λ honest. of-machine _ _ _ c.fitness.ensures (
 pub returns-in-Err-clause-found : goal.returns-in-Err-clause-found
 returns-in-Err-clause-found g c = λ honest.
     subst (λ (f : Finding). IsFoundIn f (g.D.SectorDisk.medium c.args.disk.now).contents) (sym c.refusal_of.ensures)
-    (of-error _ c.in-Err.error _ (λ is. c.in-Err.ensures.not_formatted (rw is refl) honest)
-    (λ found is. c.in-Err.ensures.version found (rw is refl) honest) (λ sector is. c.in-Err.ensures.damaged sector (rw is refl) honest))
+    (of-error _ c.in-Err.error _ (c.in-Err.ensures.refused honest))

@@ -1,42 +1,6 @@
-use Rattle.std.proofs.Common.{◌≡◌, ◌+◌, ◌<◌, ◌^◌, ◌∙◌, ℕ, [], ◌∷◌, length, ap, subst, arith}
-use Rattle.std.proofs.lemmas.List.{length-map}
-use Rattle.ipc_base.specs.declared.limits.Limits.{Limits}
-use Rattle.ipc_disk.specs.Memory.{memory_medium, memory_size}
-use Rattle.ipc_disk.specs.declared.memory.MemoryDisk.{MemoryDisk}
-use Rattle.ipc_disk.specs.declared.memory.Slot.{Slot}
-use Rattle.ipc_engine.specs.Event.{Restart}
+use Rattle.std.proofs.lemmas.Option.{IfSome_then}
 use Rattle.ipc_store.specs.Histories.{new_past}
-use Rattle.ipc_store.proofs.CallerLemmas.{StandsFor-one}
-use Rattle.ipc_hub.specs.Clients.{no_clients}
-use Rattle.ipc_hub.specs.Relations.Matches.{StoredMatches}
-use Rattle.premises.proofs.Living.{one-life}
 use Rattle.premises.proofs.lives.one_life.Goals as goal
 
-contents-fit : (disk : MemoryDisk) (sectors : ℕ) → sectors < 2 ^ 32 → memory_size disk ≡ sectors → length (memory_medium disk).contents < 2 ^ 32
-contents-fit disk sectors few size = omega (arith, few, size, length-map disk.slots.items (λ (slot : Slot). slot.last))
-
-pub returns-in-Ok-open-2 : goal.returns-in-Ok-open-2
-returns-in-Ok-open-2 c =
-    let limits : Limits = c.args.limits.now in
-    let disk = c.format.new.disk in
-    let honest = c.disks_in_memory_are_honest.ensures.memory in
-    let stands = c.in-Ok-format.ensures.ok (honest c.in-Ok.disk) in
-    let opened = c.in-Ok-open.store in
-    let opens = c.in-Ok-open.ensures.ok (honest disk) in
-    let image = (memory_medium disk).contents in
-    let few = contents-fit disk c.args.sectors c.ranges.sectors.fits (c.format.ensures.same.sectors ∙ c.in-Ok.ensures.size) in
-    let same = (StandsFor-one opened.machine.limits limits opens.found.0 _ image few opens.found.1 (stands image (honest disk).reads)).0 in
-    let count : length (Restart ∷ []) ≡ opened.confirmed + opened.waiting =
-    omega (arith, c.in-Ok-open.ensures.confirmed, opens.found.2.waits.count) in
-    let matches = subst (λ (l : Limits). StoredMatches l c.new-hub.result (no_clients opened.machine.state (Restart ∷ []))) same
-    (c.new-hub.ensures.matches (Restart ∷ []) count) in
-    let left = c.close-2.result in
-    let life =
-    one-life memory_medium limits disk left opened c.in-Ok-open-2.store c.new-hub.result c.tick.new.self c.release.new.self c.args.moment.0
-    opens c.new-hub.ensures.store matches c.in-Ok-tick.ensures.ok c.in-Ok-release.ensures.ok c.release.ensures.takes
-    (honest c.release.new.self.store.disk) (c.close-2.ensures.disk ∙ ap (λ s. s.disk) c.close.ensures.store)
-    (c.in-Ok-open-2.ensures.ok (honest left)) in (
-      life.0,
-      c.no_answer_is_taken_back.ensures.history (new_past limits) disk (life.0 ∷ []) c.in-Ok-open-2.store
-          (record { honest = honest disk; stands = stands }) life.1,
-    )
+pub returns : goal.returns
+returns c = IfSome_then c.live.result c.live.ensures (λ store lives. lives (new_past c.args.limits.now) c.in_ok-disk.ensures)

@@ -31,7 +31,7 @@ returns-then-fits-clause-takes g c =
     takes-either g.D.SectorDisk.medium g.met.D.SectorDisk.only_now c.args.self.now c.append.new.self
     (sym (ap (λ v. v.stopped) c.self.view_is) ∙ c.if-self.false) (ap (λ v. v.limits) c.append.ensures.commits.machine)
     c.append.ensures.any_moment c.append.result c.append.ensures.commits.confirmed c.append.ensures.matches
-    c.append.ensures.commits.unconfirmed c.append.ensures.commits.stops c.append.ensures.same.honest.0
+    c.append.ensures.commits.unconfirmed c.append.ensures.commits.stops c.append.ensures.same.honest.0 c.append.ensures.meanwhile
 
 pub returns-then-fits-clause-left : goal.returns-then-fits-clause-left
 returns-then-fits-clause-left g c =
@@ -45,6 +45,7 @@ returns-else-fits-clause-takes g c =
     (sym (ap (λ v. v.stopped) c.self.view_is) ∙ c.if-self.false) (ap (λ v. v.limits) c.save_state.ensures.commits.machine)
     c.save_state.ensures.any_moment c.save_state.result c.save_state.ensures.commits.confirmed c.save_state.ensures.matches
     c.save_state.ensures.commits.unconfirmed c.save_state.ensures.commits.stops c.save_state.ensures.same.honest.0
+    c.save_state.ensures.meanwhile
 
 pub returns-else-fits-clause-left : goal.returns-else-fits-clause-left
 returns-else-fits-clause-left g c =

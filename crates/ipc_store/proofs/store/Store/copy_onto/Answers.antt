@@ -3,7 +3,7 @@ use Rattle.std.proofs.Common.{◌≡◌, ◌⊎◌, refl, subst, inl, inr}
 use Rattle.std.proofs.lemmas.Result.{err_from_is_err_and}
 use Rattle.ipc_base.specs.Objects.{PlainObjects}
 use Rattle.ipc_base.specs.declared.limits.Limits.{Limits}
-use Rattle.ipc_disk.specs.Medium.{Image, Medium}
+use Rattle.ipc_disk.specs.Medium.{Medium}
 use Rattle.ipc_disk.specs.Since.{EachImageSince}
 use Rattle.ipc_state.specs.State.{State}
 use Rattle.ipc_image.specs.Saved.{saved, StandForState}

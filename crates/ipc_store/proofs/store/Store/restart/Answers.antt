@@ -1,7 +1,9 @@
 -- The restart is the one event that waits.
 use Rattle.std.proofs.Common.{◌≡◌, ⊎_elim, ℕ, ◌+◌, List, [], ◌∷◌, ◌++◌, Err, true, false, length, sym, ap, subst, ◌∙◌, arith}
+use Rattle.ipc_checkpoint.specs.Meanwhile.{EachLater}
 use Rattle.ipc_checkpoint.specs.View.{CheckpointView, epoch_of}
 use Rattle.ipc_store.specs.Image.{last_epoch}
+use Rattle.ipc_store.specs.Meanwhile.{GoesOn}
 use Rattle.ipc_journal.specs.declared.journal.Journal.{Journal}
 use Rattle.ipc_journal.specs.View.{range_of, used_of}
 use Rattle.ipc_engine.specs.Event.{Restart}
@@ -50,3 +52,18 @@ returns-in-Err-Stopped-clause-at_end g c = λ is.
 
     never : true ≡ false → ⊥
     never is = cc
+
+pub returns-in-Ok-clause-meanwhile : goal.returns-in-Ok-clause-meanwhile
+returns-in-Ok-clause-meanwhile g c = λ base at.
+    subst (λ d. EachLater GoesOn (g.D.SectorDisk.medium d) (g.D.SectorDisk.medium c.commit.new.self.disk)) c.step.ensures.disk
+    (c.commit.ensures.meanwhile.goes_on base (Restart ∷ []) (c.in_default.ensures.matches base [] at))
+
+pub returns-in-Err-Device-clause-meanwhile : goal.returns-in-Err-Device-clause-meanwhile
+returns-in-Err-Device-clause-meanwhile g c = λ base at.
+    subst (λ d. EachLater GoesOn (g.D.SectorDisk.medium d) (g.D.SectorDisk.medium c.commit.new.self.disk)) c.step.ensures.disk
+    (c.commit.ensures.meanwhile.goes_on base (Restart ∷ []) (c.in_default.ensures.matches base [] at))
+
+pub returns-in-Err-Stopped-clause-meanwhile : goal.returns-in-Err-Stopped-clause-meanwhile
+returns-in-Err-Stopped-clause-meanwhile g c = λ base at.
+    subst (λ d. EachLater GoesOn (g.D.SectorDisk.medium d) (g.D.SectorDisk.medium c.commit.new.self.disk)) c.step.ensures.disk
+    (c.commit.ensures.meanwhile.goes_on base (Restart ∷ []) (c.in_default.ensures.matches base [] at))

@@ -16,6 +16,7 @@ returns-clause-takes g c =
     (sym (ap (λ v. v.stopped) c.self.view_is) ∙ c.if-self.false) (ap (λ v. v.limits) c.save_state.ensures.commits.machine)
     c.save_state.ensures.any_moment c.save_state.result c.save_state.ensures.commits.confirmed c.save_state.ensures.matches
     c.save_state.ensures.commits.unconfirmed c.save_state.ensures.commits.stops c.save_state.ensures.same.honest.0
+    c.save_state.ensures.meanwhile
 
 pub returns-clause-left : goal.returns-clause-left
 returns-clause-left g c =

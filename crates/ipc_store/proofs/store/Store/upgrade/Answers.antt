@@ -1,5 +1,5 @@
 -- What was read, and what is written then.
-use Rattle.std.proofs.Common.{◌≡◌, ◌⊎◌, inl, inr, ⊎_elim, ◌<◌, ◌^◌, Err, length, ap, subst, ◌∙◌, arith}
+use Rattle.std.proofs.Common.{◌≡◌, ◌⊎◌, inl, inr, ⊎_elim, ◌<◌, ◌^◌, Err, length, refl, ap, subst, ◌∙◌, arith}
 use Rattle.ipc_disk.specs.Counts.{counted}
 use Rattle.ipc_disk.specs.Medium.{Image, Medium, IsHonest}
 use Rattle.ipc_disk.specs.Since.{EachImageSince}
@@ -36,14 +36,14 @@ module _ (g : Over) (c : After-write_new g) (honest : IsHonest (g.D.SectorDisk.m
 
   stood : StandsForIn format_one machine.limits read.state old.contents
   stood =
-      subst (StandsForIn format_one machine.limits read.state) ((c.read_old.ensures.reads honest).contents honest)
+      subst (StandsForIn format_one machine.limits read.state) ((c.read_old.ensures.reads.stays honest).contents honest)
       (old-stands machine.limits (epoch_of c.in-Ok.found.0) read.objects read.batches read.base read.state mid.contents read.old read.stand read.leads)
 
   -- what a crash leaves at any moment
   leaves : EachImageSince old new (UpgradesTo c.args.limits.now old)
   leaves =
       EachImageSince-join old mid new (UpgradesTo c.args.limits.now old)
-      (only-read c.args.limits.now old mid (c.read_old.ensures.reads honest) (g.met.D.SectorDisk.only_now c.args.disk))
+      (only-read c.args.limits.now old mid (c.read_old.ensures.reads.stays honest) (g.met.D.SectorDisk.only_now c.args.disk))
       (EachImageSince-weaken mid new (λ image. StandsForIn format_one machine.limits read.state image ⊎ StandsFor c.args.limits.now machine.state image)
       (UpgradesTo c.args.limits.now old) (c.write_new.ensures.any_moment read)
       (λ image either. inr (
@@ -55,13 +55,13 @@ module _ (g : Over) (c : After-write_new g) (honest : IsHonest (g.D.SectorDisk.m
 
 pub returns-in-Err-clause-any_moment : goal.returns-in-Err-clause-any_moment
 returns-in-Err-clause-any_moment g c = λ honest.
-    (tt, only-read c.args.limits.now _ _ (c.read_old.ensures.reads honest) (g.met.D.SectorDisk.only_now c.args.disk))
+    only-read c.args.limits.now _ _ (c.read_old.ensures.reads.stays honest) (g.met.D.SectorDisk.only_now c.args.disk)
 
 pub returns-in-Ok-write_new-clause-any_moment : goal.returns-in-Ok-write_new-clause-any_moment
-returns-in-Ok-write_new-clause-any_moment g c = λ honest. (leaves g (goal.at.returns-in-Ok-write_new-clause-any_moment g c).After-write_new honest, tt)
+returns-in-Ok-write_new-clause-any_moment g c = λ honest. leaves g (goal.at.returns-in-Ok-write_new-clause-any_moment g c).After-write_new honest
 
 pub returns-clause-any_moment : goal.returns-clause-any_moment
-returns-clause-any_moment g c = λ honest. (tt, leaves g (goal.at.returns-clause-any_moment g c).After-write_new honest)
+returns-clause-any_moment g c = λ honest. leaves g (goal.at.returns-clause-any_moment g c).After-write_new honest
 
 pub returns-in-Ok-write_new-clause-ok : goal.returns-in-Ok-write_new-clause-ok
 returns-in-Ok-write_new-clause-ok g c = λ honest.
@@ -72,8 +72,9 @@ returns-in-Ok-write_new-clause-ok g c = λ honest.
       greater = c.in-Ok.ensures.greater;
       state = at.state;
       stood = stood g here honest;
-      honest = c.write_new.ensures.same.honest.0 (c.read_old.ensures.same.honest.0 honest);
+      honest = c.write_new.ensures.same.honest.0 (c.read_old.ensures.reads.same.honest.0 honest);
       stands = λ image now. subst (λ (s : State). StandsFor c.args.limits.now s image) at.restarted (c.in-Ok-write_new.ensures.ok at image now);
+      whole = c.in-Ok-write_new.ensures.whole (c.read_old.ensures.reads.same.honest.0 honest);
     }
 
 pub returns-in-Err-clause-refusals : goal.returns-in-Err-clause-refusals
@@ -81,26 +82,30 @@ returns-in-Err-clause-refusals g c = λ own s honest stands passed greater room.
     let image : Image = (g.D.SectorDisk.medium c.args.disk).contents in
     let few : length image < 2 ^ 32 =
     omega (arith, (g.met.D.SectorDisk.shaped c.args.disk image honest.reads).count, g.met.D.SectorDisk.fits c.args.disk) in
-    let e = c.read_old.ensures in
-    refused-by c.args.limits.now own s (g.D.SectorDisk.size c.args.disk) image c.in-Err.error few stands greater room
-    (λ is. e.not_formatted (c.in-Err.is ∙ ap Err is) honest) (λ found is. e.version found (c.in-Err.is ∙ ap Err is) honest)
-    (λ field is. e.below field (c.in-Err.is ∙ ap Err is) passed honest)
-    (λ need is. let small = e.small need (c.in-Err.is ∙ ap Err is) in (small.0, small.1))
-    (λ sector is. e.damaged sector (c.in-Err.is ∙ ap Err is) honest)
-
-pub returns-in-Err-clause-below : goal.returns-in-Err-clause-below
-returns-in-Err-clause-below g c = λ field is passed honest. c.read_old.ensures.below field (c.in-Err.is ∙ ap Err is) passed honest
+    refused-by c.args.limits.now own s (g.D.SectorDisk.size c.args.disk) image c.in-Err.error few stands passed greater room
+    (c.in-Err.ensures.refused honest)
 
 -- what had failed when all was read
 read-failures : (g : Over) (c : After-write_new g)
     → (g.D.SectorDisk.counts c.read_old.new.disk).failures ≡ (g.D.SectorDisk.counts c.args.disk).failures
-read-failures g c = ⊎_elim (λ bad. cc) (λ same. same) c.in-Ok.ensures.counts.no_failure
+read-failures g c = ⊎_elim (λ bad. cc) (λ same. same) c.in-Ok.ensures.reads.no_failure
 
-pub returns-in-Ok-write_new-clause-no_failure : goal.returns-in-Ok-write_new-clause-no_failure
-returns-in-Ok-write_new-clause-no_failure g c =
-    (c.in-Ok-write_new.ensures.counts.ok ∙ read-failures g (goal.at.returns-in-Ok-write_new-clause-no_failure g c).After-write_new, tt)
+pub returns-in-Err-clause-counts : goal.returns-in-Err-clause-counts
+returns-in-Err-clause-counts g c = record {
+  failure = λ device. c.in-Err.ensures.reads.failure (ap Err device);
+  no_failure = ⊎_elim (λ device. inl cc) inr c.in-Err.ensures.reads.no_failure;
+}
 
-pub returns-clause-failure : goal.returns-clause-failure
-returns-clause-failure g c = λ is.
-    c.in-Err-write_new.ensures.counts.err
-    ∙ ap (λ n. counted n 1) (read-failures g (goal.at.returns-clause-failure g c).After-write_new)
+pub returns-in-Ok-write_new-clause-counts : goal.returns-in-Ok-write_new-clause-counts
+returns-in-Ok-write_new-clause-counts g c = record {
+  failure = λ never. absurd never;
+  no_failure = inr (c.in-Ok-write_new.ensures.counts.ok
+      ∙ read-failures g (goal.at.returns-in-Ok-write_new-clause-counts g c).After-write_new);
+}
+
+pub returns-clause-counts : goal.returns-clause-counts
+returns-clause-counts g c = record {
+  failure = λ device. c.in-Err-write_new.ensures.counts.err
+      ∙ ap (λ n. counted n 1) (read-failures g (goal.at.returns-clause-counts g c).After-write_new);
+  no_failure = inl refl;
+}

@@ -1,0 +1,63 @@
+-- Why a device is refused: what an error says of its image. That the disk has failed, or that memory was refused, says
+-- nothing of the image.
+use Rattle.std.specs.Prelude.{◌≡◌, ◌⊎◌, ◌<◌, ◌≤◌, ℕ, Some, position, not as is_not}
+use Rattle.ipc_base.specs.Limits.{ArePassed, tests}
+use Rattle.ipc_base.specs.declared.limits.Limits.{Limits}
+use Rattle.ipc_disk.specs.Medium.{Image}
+use Rattle.ipc_image.specs.Format.{format_one}
+use Rattle.ipc_image.specs.Greater.{AreAtLeast, at_least}
+use Rattle.ipc_image.specs.Sizes.{need_of}
+use Rattle.ipc_image.specs.declared.format.Format.{Format}
+use Rattle.ipc_store.specs.Image.{IsDeviceIn, IsDamagedIn, IsFirstFaultIn, IsNotFormatted, HasVersionBut}
+use Rattle.ipc_store.specs.Upgrade.{HasNoNextEpoch}
+use Rattle.ipc_store.specs.declared.fault.OpenError.{OpenError}
+use Rattle.ipc_store.specs.declared.fault.OpenError.TheVariants as errors
+use Rattle.ipc_store.specs.declared.fault.UpgradeError.{UpgradeError}
+use Rattle.ipc_store.specs.declared.fault.UpgradeError.TheVariants as upgrades
+
+-- what an error says of an image that is read as one of this form
+abbrev pub IsRefusal : Format → Image → OpenError → Type 0
+IsRefusal form image errors.Device = Unit {0}
+IsRefusal form image errors.NotFormatted = IsNotFormatted image
+IsRefusal form image (errors.Version found) = HasVersionBut form found image
+IsRefusal form image (errors.Damaged sector) = IsDamagedIn form image × IsFirstFaultIn form image sector
+IsRefusal form image errors.NoMemory = Unit {0}
+
+-- sector 0 is no superblock of a device of this form, and this is its number
+pub record IsNoSuperblock (form : Format) (image : Image) (sector : ℕ) : Type 0 where
+  pub damaged : IsDamagedIn form image
+  pub none : (limits : Limits) → ¬ IsDeviceIn form limits image
+  pub first : sector ≡ 0
+
+-- the device is one of the old version under limits that are no greater than these, and a disk of so many sectors has
+-- room for these
+pub record MayBecome (limits : Limits) (size : ℕ) (image : Image) : Type 0 where
+  pub own : Limits
+  pub device : IsDeviceIn format_one own image
+  pub greater : AreAtLeast limits own
+  pub room : need_of limits ≤ size
+
+-- a device of the old version is damaged first at this sector, or has no next epoch, which its root shows
+abbrev pub IsOldDamage : Image → ℕ → Type 0
+IsOldDamage image sector =
+    (IsDamagedIn format_one image × IsFirstFaultIn format_one image sector)
+    ⊎ (HasNoNextEpoch image × (sector ≡ format_one.root))
+
+-- What an error says of an upgrade under these limits, on a disk of so many sectors. The tests come in this order: the
+-- limits by themselves, how the disk begins, its version, its superblock, the limits beside the device's own, the room,
+-- and all else that stands there.
+abbrev pub IsUpgradeRefusal : Limits → ℕ → Image → UpgradeError → Type 0
+IsUpgradeRefusal limits size image (upgrades.BadLimits bad) =
+    (position is_not (tests limits) ≡ Some bad.field)
+    ⊎ (ArePassed limits × (own : Limits) × IsDeviceIn format_one own image
+    × (position is_not (at_least limits own) ≡ Some bad.field))
+IsUpgradeRefusal limits size image upgrades.NotFormatted = ArePassed limits × IsNotFormatted image
+IsUpgradeRefusal limits size image (upgrades.Version found) = ArePassed limits × HasVersionBut format_one found image
+IsUpgradeRefusal limits size image (upgrades.TooSmall need) =
+    ArePassed limits × (need ≡ need_of limits) × (size < need) × (own : Limits) × IsDeviceIn format_one own image
+    × AreAtLeast limits own
+IsUpgradeRefusal limits size image (upgrades.Damaged sector) =
+    ArePassed limits
+    × (IsNoSuperblock format_one image sector ⊎ (MayBecome limits size image × IsOldDamage image sector))
+IsUpgradeRefusal limits size image upgrades.Device = Unit {0}
+IsUpgradeRefusal limits size image upgrades.NoMemory = Unit {0}
