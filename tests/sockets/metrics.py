@@ -6,6 +6,7 @@
 from __future__ import annotations
 
 import errno
+import json
 import os
 import re
 import shutil
@@ -350,6 +351,60 @@ def passes_its_tool() -> None:
     check((asked.returncode, asked.stdout, asked.stderr) == (0, "", ""), f"promtool says {asked}")
 
 
+ROOT = Path(__file__).resolve().parents[2]
+# A figure in an expression of Prometheus.
+FIGURE = re.compile(r"\bipcd_[a-z_]+")
+ALERT = re.compile(r"^ +- alert: (\w+)\n +expr: (.*)$", re.M)
+
+
+def alerts() -> dict[str, str]:
+    """The expressions of contrib/alerts.yml, by the names of their alerts."""
+    text = (ROOT / "contrib/alerts.yml").read_text()
+    found = dict(ALERT.findall(text))
+    check(len(found) == text.count("expr:") == text.count("alert:") > 0, f"{found} are not all alerts")
+    return found
+
+
+def expressions_of_the_dashboard() -> list[str]:
+    panels = json.loads((ROOT / "contrib/grafana.json").read_text())["panels"]
+    check(len({panel["title"] for panel in panels}) == len(panels), "two panels have one title")
+    return [target["expr"] for panel in panels for target in panel["targets"]]
+
+
+def alerts_and_dashboard_are_of_what_is_written() -> None:
+    """They name no figure that the server does not write, and labels that it has; the dashboard shows each that there
+    is. OPERATIONS.md's alerts are there, and Prometheus' own tool takes the file, if it is installed."""
+    printed("format", "device")
+    with serving("--metrics", "figures.prom"), process() as client:
+        uses_objects_once(client)
+        until(lambda: is_there() and figures().get(("ipcd_refusals_total", "ENOENT")) == 1, "a refusal is not told")
+        text = Path("figures.prom").read_text()
+    written = {name for name, _ in parsed(text)}
+    labels = set(re.findall(r"\{([a-z]+)=", text)) | {"instance"}
+    shown = expressions_of_the_dashboard()
+    for expression in [*alerts().values(), *shown]:
+        names = set(FIGURE.findall(expression))
+        check(names != set() and names <= written, f"{expression!r} names {names - written}")
+        by = re.findall(r"by \((\w+)\)", expression) + re.findall(r"\{(\w+)=~", expression)
+        check(set(by) <= labels, f"{expression!r} is by {by}")
+    left = written - {name for expression in shown for name in FIGURE.findall(expression)} - {"ipcd_build_info"}
+    check(left == set(), f"the dashboard does not show {left}")
+    page = (ROOT / "docs/OPERATIONS.md").read_text()
+    told = [line.strip() for line in page.splitlines() if re.match(r"    .*ipcd_.* > [0-9.]+$", line)]
+    check(len(told) >= 3 and set(told) <= set(alerts().values()), f"{told} are alerts of OPERATIONS.md")
+    tool = shutil.which("promtool")
+    if tool is None:
+        print("metrics: promtool is not installed, so it is not asked of the alerts")
+        return
+    asked = subprocess.run([tool, "check", "rules", ROOT / "contrib/alerts.yml"], capture_output=True, text=True)
+    check(asked.returncode == 0 and f"{len(alerts())} rules found" in asked.stdout, f"promtool says {asked}")
+
+
+def uses_objects_once(client: Client) -> None:
+    client.msgsnd(client.msgget(IPC_PRIVATE, IPC_CREAT | 0o600), 1, b"x")
+    is_refused(lambda: client.msgget(77, 0), errno.ENOENT)
+
+
 def each_request_is_told() -> None:
     """Each request of the protocol has its name in the text."""
     check(len(REQUESTS) == len(NAMES) == 48, f"there are {len(REQUESTS)} requests")
@@ -375,6 +430,7 @@ TESTS = [
     cannot_be_written,
     finds_no_room,
     passes_its_tool,
+    alerts_and_dashboard_are_of_what_is_written,
 ]
 
 if __name__ == "__main__":

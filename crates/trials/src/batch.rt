@@ -1,14 +1,15 @@
 //! Requests of one moment, which a hub that is fed by hand makes last at once.
 
-use crate::calls::{HELLO, MAKE, MSGGET, MSGSND};
 use crate::fault::Fault;
-use crate::host::{GROUP, Host, USER};
+use crate::halted::{consume, feed};
 use crate::request::Field::{Bytes, Long, Word};
-use crate::request::{Field, reply, request};
+use crate::request::{Field, GROUP, HELLO, MAKE, MSGGET, MSGSND, USER, reply, request};
 use crate::runs::{device, sector};
 use crate::told::Told;
 use ipc_disk::{MemoryDisk, SectorDisk};
+use ipc_hub::Hub;
 use ipc_image::JOURNAL;
+use ipc_store::Store;
 use std::alloc::Global;
 
 /// How many clients there are.
@@ -40,49 +41,61 @@ pub(crate) fn batch_of_three(alloc: Global) -> Result<Told, Fault> {
 
 /// Feeds a hub on a new device, with the messages or without.
 fn hub_left(alloc: Global, messages: bool) -> Result<Left, Fault> {
-    let mut host = Host::open(alloc, device(alloc)?)?;
-    let served = serve(&mut host, messages);
-    let replies = replies_of(&host);
-    let disk = host.close();
-    served?;
-    Ok(Left {
-        disk,
-        replies: replies?,
-    })
+    let mut hub = match Store::open(alloc, device(alloc)?) {
+        Ok(store) => Hub::new(alloc, store),
+        Err(unopened) => return Err(Fault::from(unopened.error)),
+    };
+    let served = serve(alloc, &mut hub, messages);
+    let disk = hub.close().close();
+    let replies = served?;
+    Ok(Left { disk, replies })
 }
 
-/// Makes the clients' processes and their queue, and then sends the messages, if that is asked for.
-fn serve(host: &mut Host, messages: bool) -> Result<(), Fault> {
+/// Makes the clients' processes and their queue, and then sends the messages, if that is asked for. How many clients
+/// may see the reply to theirs, and nothing else.
+fn serve(alloc: Global, hub: &mut Hub<MemoryDisk>, messages: bool) -> Result<u64, Fault> {
     for client in 1..=CLIENTS {
-        host.connect(client)?;
+        hub.connect(client)?;
     }
-    feed_each(host, HELLO, &[Word(USER), Word(GROUP)])?;
-    host.send(1, MSGGET, &[Word(7), Word(MAKE)]);
+    feed_each(alloc, hub, HELLO, &[Word(USER), Word(GROUP)])?;
+    let get = request(alloc, 1, MSGGET, &[Word(7), Word(MAKE)])?;
+    feed(hub, 1, &get)?;
+    hub.release()?;
     for client in 1..=CLIENTS {
-        host.read(client);
+        consume(hub, client);
     }
     if messages {
-        feed_each(host, MSGSND, &[Word(1), Word(0), Long(1), Bytes(b"hi")])?;
-        host.release()?;
+        feed_each(
+            alloc,
+            hub,
+            MSGSND,
+            &[Word(1), Word(0), Long(1), Bytes(b"hi")],
+        )?;
+        hub.release()?;
     }
-    host.outcome
+    replies_of(alloc, hub)
 }
 
 /// Gives each client's connection the same request, all at one moment.
-fn feed_each(host: &mut Host, opcode: u8, fields: &[Field]) -> Result<(), Fault> {
+fn feed_each(
+    alloc: Global,
+    hub: &mut Hub<MemoryDisk>,
+    opcode: u8,
+    fields: &[Field],
+) -> Result<(), Fault> {
     for client in 1..=CLIENTS {
-        let piece = request(host.alloc, client, opcode, fields)?;
-        host.feed(client, &piece)?;
+        let piece = request(alloc, client, opcode, fields)?;
+        feed(hub, client, &piece)?;
     }
     Ok(())
 }
 
-/// How many clients may see the reply to a msgsnd, and nothing else.
-fn replies_of(host: &Host) -> Result<u64, Fault> {
+/// How many clients may see a reply that a call is done, and nothing else.
+fn replies_of(alloc: Global, hub: &Hub<MemoryDisk>) -> Result<u64, Fault> {
     let mut replies: u64 = 0;
     for client in 1..=CLIENTS {
-        let wanted = reply(host.alloc, client, 0, &[])?;
-        replies = replies.saturating_add(u64::from(host.output(client) == wanted.as_slice()));
+        let wanted = reply(alloc, client)?;
+        replies = replies.saturating_add(u64::from(hub.output(client) == wanted.as_slice()));
     }
     Ok(replies)
 }

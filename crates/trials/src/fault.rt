@@ -49,8 +49,7 @@ impl Fault {
     fn name(&self) -> &'static str {
         match self {
             Fault::Usage =>
-                "usage: trials WORD, one of stopped N, faulted N, upgraded N, frames N, limits, batch, script \
-                and refused",
+                "usage: trials WORD, one of stopped N, faulted N, upgraded N, batch, script and refused",
             Fault::Input => "the input cannot be read, or has no line `-`",
             Fault::Output => "output fault",
             Fault::NoMemory => "no memory",

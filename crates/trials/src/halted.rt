@@ -1,10 +1,8 @@
 //! A hub that is fed by hand, on a disk of which one call fails: from then on it stops, and leaves the disk alone.
 
-use crate::calls::{HELLO, MAKE, MSGGET, MSGSND};
 use crate::fault::Fault;
-use crate::host::{GROUP, USER};
 use crate::request::Field::{Long, Text, Word};
-use crate::request::request;
+use crate::request::{GROUP, HELLO, MAKE, MSGGET, MSGSND, USER, request};
 use crate::runs::{MOST_CALLS, device};
 use ipc_base::Moment;
 use ipc_disk::{FuseDisk, OnceDisk, SectorDisk};
@@ -175,13 +173,13 @@ fn take_steps<D: SectorDisk>(
             alloc,
             3,
             MSGSND,
-            &[Word(1), Word(0), Long(1), Text(0, 0, LONGEST)],
+            &[Word(1), Word(0), Long(1), Text(LONGEST)],
         )?,
         shorter: request(
             alloc,
             3,
             MSGSND,
-            &[Word(1), Word(0), Long(1), Text(0, 0, SHORTER)],
+            &[Word(1), Word(0), Long(1), Text(SHORTER)],
         )?,
     };
     for conn in 0..CLIENTS {
@@ -232,13 +230,18 @@ fn take_step<D: SectorDisk>(hub: &mut Hub<D>, frames: &Frames, step: Step) -> Re
 /// The clients take all that they may see.
 fn consume_all<D: SectorDisk>(hub: &mut Hub<D>) {
     for conn in 0..CLIENTS {
-        let shown = hub.output(conn).len();
-        hub.consume(conn, shown);
+        consume(hub, conn);
     }
 }
 
+/// A client takes all that it may see.
+pub(crate) fn consume<D: SectorDisk>(hub: &mut Hub<D>, conn: u32) {
+    let shown = hub.output(conn).len();
+    hub.consume(conn, shown);
+}
+
 /// Feeds a connection a frame, which it takes whole.
-fn feed<D: SectorDisk>(hub: &mut Hub<D>, conn: u32, piece: &[u8]) -> Result<(), Fault> {
+pub(crate) fn feed<D: SectorDisk>(hub: &mut Hub<D>, conn: u32, piece: &[u8]) -> Result<(), Fault> {
     if hub.feed(conn, piece, Moment(0))? < piece.len() {
         return Err(Fault::Unserved);
     }

@@ -5,8 +5,6 @@
 //!     trials faulted N < SCRIPT    lets each call on its disk fail once, and each of the openings after each N-th line
 //!     trials upgraded N < TEXT     upgrades and opens a device of version 1, stopped at each call on its disk, as is
 //!                                  what comes after each N-th stop, and with each call failing once
-//!     trials frames N              cuts frames of each opcode off at each byte, and changes each N-th byte of them
-//!     trials limits [small]        makes, uses, saves and finds as much as the limits allow, standard ones or small
 //!     trials batch                 feeds a hub requests of one moment, and counts what one release writes of them
 //!     trials script < SCRIPT       runs the script in memory, under small limits but 16 processes
 //!     trials refused [NAME]        makes one call, and again if it is refused for memory; without NAME, all names
@@ -19,20 +17,11 @@
 ghost use Rattle.std.specs.Prelude.{◌<◌, IfOk};
 
 mod batch;
-mod calls;
-mod cases;
 mod fault;
 mod faulted;
 mod formats;
-mod frames;
 mod halted;
-mod host;
 mod last_words;
-mod limits;
-mod most_posix;
-mod most_shared;
-mod most_sysv;
-mod most_waiting;
 mod openings;
 mod refused;
 mod request;
@@ -47,9 +36,6 @@ mod upgraded;
 use batch::batch_of_three;
 use fault::Fault;
 use faulted::faulted;
-use frames::frames;
-use ipc_base::Limits;
-use limits::at_limits;
 use refused::{print_names, refused};
 use script::script;
 use std::alloc::Global;
@@ -91,11 +77,8 @@ fn act(
     word: &str,
     more: &str,
 ) -> Result<(), Fault> {
-    let alloc = rt.alloc();
     match (word, more) {
-        ("batch", "") => print(rt, batch_of_three(alloc)),
-        ("limits", "") => print(rt, at_limits(alloc, Limits::standard())),
-        ("limits", "small") => print(rt, at_limits(alloc, Limits::small())),
+        ("batch", "") => print(rt, batch_of_three(rt.alloc())),
         ("refused", "") => print_names(rt),
         ("refused", name) => refused(rt, name),
         ("script", "") => script(rt),
@@ -108,9 +91,6 @@ fn with_number(rt: &(impl Input + Print + AllocGlobal), word: &str, every: u64) 
     requires { 0 < every }
 {
     let alloc = rt.alloc();
-    if word == "frames" {
-        return print(rt, frames(alloc, every));
-    }
     let text = input(alloc, &mut rt.reader())?;
     match word {
         "stopped" => print(rt, stopped(alloc, text.as_slice(), every)),

@@ -6,7 +6,7 @@ use std::fmt;
 #[derive(Clone, Copy)]
 pub(crate) struct Told {
     words: &'static str,
-    numbers: [u64; 19],
+    numbers: [u64; 8],
 }
 
 impl Told {
