@@ -4,60 +4,60 @@
 # there are man and groff. `clients` says so without a C compiler, and tests only those in Python; its memcheck needs
 # valgrind.
 
-.PHONY: help try run test edits imports runs serves clients memory trials program install dist peers bench bench-serve \
-	bench-clients bench-peers
+.PHONY: help try run test edits imports runs serves clients memory trials program install dist deb verify peers bench \
+	bench-serve bench-clients bench-peers
 
 help:
-	@echo "make try    a first look, in two minutes at most: runs the sources on a script, with nothing proved"
-	@echo "make run    proves and builds what is needed, which takes an hour or more the first time, and says how"
-	@echo "            far it is; then it runs examples/device.sh: a message outlives the program. It may be stopped:"
-	@echo "            crates that are proved stay proved, and the next run goes on after them"
-	@echo "make install  puts the program, which 'make program' has built, its manual pages, its unit for systemd, what this"
-	@echo "            starts it by, its user and its folder below PREFIX, /usr/local if it is not given, in DESTDIR"
+	@echo "make try    a first look, in about 90 seconds, with nothing proved: a message is sent, the machine stops, and the"
+	@echo "            message is received; each frame in words and bytes"
+	@echo "make run    proves and builds what is needed, an hour or more the first time, and shows its progress; then it runs"
+	@echo "            examples/device.sh: a message outlives the program. It may be interrupted: proved crates stay proved,"
+	@echo "            and the next run resumes after them"
+	@echo "make install  puts below PREFIX (default /usr/local), in DESTDIR: the program that 'make program' has built, the"
+	@echo "            manual pages, the systemd unit with ipcd-notify, and the files for systemd-sysusers and systemd-tmpfiles"
 	@echo "make dist   packs what is built: out/ipcd-VERSION.tar.gz, with what 'make install' puts below PREFIX, documents,"
-	@echo "            examples, clients, and a MANIFEST of the commit, the toolchain's logic and sums, and of the last line"
-	@echo "            of the gate if 'make dist GATE=FILE' has what it printed. It needs git"
-	@echo "make test   what 'make imports' runs; whether the record of wrong bodies is of today's sources; the gate: every"
-	@echo "            proof, the wrong bodies that stand for a promise, the programs; and then what 'make trials', 'make runs',"
-	@echo "            'make serves', 'make clients' and 'make memory' run, on what the gate has built. Over an hour on four"
-	@echo "            cores"
-	@echo "make edits  the other wrong bodies, of all crates, or of those of 'make edits CRATE=\"ipc_wire ipc_hub\"', and"
-	@echo "            writes their records. Up to six take 15 to 90 seconds of a processor, if their crate is proved here"
+	@echo "            examples, clients, 'try' for a first session, and a MANIFEST of the commit, the toolchain's logic and"
+	@echo "            sums, and of the last line of the gate if 'make dist GATE=FILE' has what it printed. It needs git"
+	@echo "make deb    packs what is built as Debian packages in out/: ipcd, libipcd0, libipcd-dev, ipcd-run, python3-ipcd. It"
+	@echo "            needs git and dpkg-deb"
+	@echo "make verify FILE=..  whether a program, or the one in a tarball or a package, is the one that is built here"
+	@echo "make test   the gate, over an hour on four cores: 'make imports'; whether the records of mutants are of today's"
+	@echo "            sources; every proof, the mutants that stand for a promise, the programs; and then, on what the gate has"
+	@echo "            built, 'make trials', 'make runs', 'make serves', 'make clients' and 'make memory'"
+	@echo "make edits  the other mutants, of all crates, or of those of 'make edits CRATE=\"ipc_wire ipc_hub\"', and writes"
+	@echo "            their records. Up to six take 15 to 90 CPU seconds, if their crate is proved here"
 	@echo "make imports  that no crate names what is another's own, nor one that carries requests a call"
 	@echo "make runs   the program on scripts, also random ones beside models of semaphore sets and of System V segments,"
-	@echo "            command lines, a terminal and devices: what it prints and says, its exit status, and what it leaves in"
-	@echo "            the file; what 'make install' puts where, what 'make dist' packs; and whether links, paths, manual"
-	@echo "            pages and pictures of the documents are right"
-	@echo "make serves the program as a server: clients by the dozen, crashes under load, what ends a connection, and what"
-	@echo "            docs/OPERATIONS.md says, also of what tells systemd that it is ready; looks at its device, copies of it,"
-	@echo "            and what 'check' says of it; the first sessions;"
-	@echo "            examples/serve.sh, in which a message outlives a crash; examples/users.sh, two users of a queue;"
-	@echo "            examples/worker.sh, two who wait for jobs;"
-	@echo "            examples/lock.sh, a lock whose holder is killed; examples/notify.sh, one who is told of a message;"
-	@echo "            clients that wait by the dozen; how late deadlines are, and what an idle server does; semaphore sets;"
-	@echo "            POSIX queues, named semaphores and segments of both kinds; and its calls of the system, watched, and each"
-	@echo "            refused in turn. Three minutes, once built"
-	@echo "make clients  builds the library for C and ipcd-run, which runs programs that nobody has changed, and tests them"
-	@echo "            and the Python package on the program: beside the system's own objects, over kills, by a false server."
-	@echo "            'make install' puts those in C below PREFIX, if they are built. Two minutes, once built"
+	@echo "            command lines, a terminal and devices: its output, its exit status, and the file that it leaves; what"
+	@echo "            'make install' puts where, what 'make try' shows; and the documents: links, paths, manual pages,"
+	@echo "            pictures and style"
+	@echo "make serves the program as a server, three minutes once built: dozens of clients, crashes under load, what ends a"
+	@echo "            connection, what docs/OPERATIONS.md tells operators, readiness for systemd, containers; 'list', 'backup'"
+	@echo "            and 'check' of its device; the sessions of README.md; the examples serve.sh (a message outlives a crash), users.sh"
+	@echo "            (two users of a queue), worker.sh (two wait for jobs), lock.sh (the holder of a lock is killed) and"
+	@echo "            notify.sh (a message notifies a client); dozens of waiting calls; how late deadlines are, and an idle"
+	@echo "            server; semaphore sets, POSIX queues, named semaphores and segments of both kinds; and its system calls,"
+	@echo "            watched, and each refused in turn"
+	@echo "make clients  builds the C library, ipcd-run, which runs unchanged programs, and ipcd-ask, which asks a server in"
+	@echo "            words, and tests them and the Python package on the program, four minutes once built: beside the"
+	@echo "            system's own objects, over kills, with a false server, under sanitizers, and built by other compilers;"
+	@echo "            and what 'make dist' and 'make deb' pack. 'make install' puts the C clients below PREFIX, if built"
 	@echo "make peers  other people's programs on the kernel's objects and through ipcd-run; as uid 0 it installs them"
-	@echo "make memory the programs, with each allocation of a script refused in turn, of a listing, an opening and a copy of"
+	@echo "make memory the programs with each allocation refused in turn: of a script, of a listing, an opening and a copy of"
 	@echo "            what it leaves, and of each public call that may need memory, by itself"
 	@echo "make trials scripts that are stopped at each call on their disk, with each choice of what a crash keeps, or of which"
-	@echo "            one call fails, openings and formats too: what opens is what was answered, or one line more; an upgrade"
-	@echo "            that is stopped or fails so: what it leaves is of version 1 or 2, and has all that was there; devices"
-	@echo "            with each byte wrong; frames that are cut off or changed; as much of everything as the limits allow;"
-	@echo "            and what one release of requests of one moment writes"
-	@echo "make bench  processor time of runs, lines, saves and ticks, peak memory, what a commit and a save write, and"
-	@echo "            commits a second on a file beside the same writes and syncs done bare; and of messages of deep queues,"
-	@echo "            as ratios; and of an upgrade of a full device. It ends with an error while calls that wait on other"
-	@echo "            queues add more to a request than they may, a message of a deep queue costs more beside one of a short"
-	@echo "            queue than it may, or an upgrade takes more than 3 seconds of a processor"
+	@echo "            one call fails, openings and formats too: what opens is what was answered, or one line more; a stopped or"
+	@echo "            failing upgrade: what it leaves is of version 1 or 2, and has all that was there; devices with each byte"
+	@echo "            wrong; frames that are cut off or changed; as much of everything as the limits allow; and what one"
+	@echo "            release of requests of one moment writes"
+	@echo "make bench  CPU time of runs, lines, saves and ticks, peak memory, what a commit and a save write, commits a second"
+	@echo "            on a file beside the same bare writes and syncs, messages of deep queues, as ratios, and an upgrade of a"
+	@echo "            full device. It ends with an error if calls that wait on other queues or a deep queue add more to a"
+	@echo "            request than they may, or an upgrade takes more than 3 seconds of CPU time"
 	@echo "make bench-clients  what a call through the library costs beside frames by hand, and the kernel's queues"
 	@echo "make bench-serve  sends and receives, locks, writes and reads of segments, and hand-overs by named semaphores"
-	@echo "            a second over the socket, beside the same, and their processor time; how many requests a sync puts on"
-	@echo "            the disk; what calls that wait cost others; and what a file of figures costs. It ends with an error while one"
-	@echo "            of them misses its bar"
+	@echo "            a second over the socket, beside the same bare, and their CPU time; how many requests share a sync; what"
+	@echo "            waiting calls cost others; and what a file of figures costs. It ends with an error if one misses its bar"
 	@echo "make bench-peers  messages of ipcd beside those of redis, beanstalkd, PostgreSQL and SQLite, as far as they are"
 	@echo "            installed: rates and latencies on one disk, a table and a plot, out/peers.svg. A quarter of an hour"
 
@@ -100,6 +100,16 @@ DIST = out
 dist:
 	@python3 tools/dist.py $(BUILT) $(DIST) $(GATE)
 
+# It packs what is built, too. MAINTAINER is who answers for the packages.
+DEBS = out
+
+deb:
+	@python3 tools/deb.py $(BUILT) $(DEBS)
+
+# FILE is a program, or a tarball or package with one.
+verify:
+	@python3 tools/verify.py $(BUILT) "$(FILE)"
+
 REFUSE_EACH = python3 tests/scripts/refuse_each.py $(BUILT) crates/trials/out/trials
 
 memory: program
@@ -114,7 +124,7 @@ EACH = 1
 TRIALS = $(TRIAL) stopped 1 < crates/trials/stdin && $(TRIAL) faulted 1 < crates/trials/stdin && \
 	python3 tests/devices/upgraded.py $(TRIAL) $(EACH)0 && \
 	python3 tests/devices/damaged.py $(BUILT) $(EACH) < tests/devices/damaged.script && \
-	$(TRIAL) frames 1 && $(TRIAL) limits && $(TRIAL) limits small && \
+	python3 tests/scripts/frames.py $(BUILT) && python3 tests/sockets/limits.py $(BUILT) && \
 	test "$$($(TRIAL) batch)" = "a batch of 163 bytes, 2 writes, 2 syncs, 3 replies"
 
 trials: program
@@ -126,9 +136,10 @@ imports:
 	@sh tests/imports.sh
 
 RUNS = sh tests/scripts/runs.sh crates/ipcd/out/ipcd && python3 tests/scripts/terminal.py crates/ipcd/out/ipcd && \
-	python3 tests/scripts/words.py crates/ipcd/out/ipcd && python3 tests/scripts/scripts.py crates/ipcd/out/ipcd && \
+	python3 tests/scripts/words.py crates/ipcd/out/ipcd && python3 tests/system/first_look.py crates/ipcd/out/ipcd && \
+	python3 tests/scripts/scripts.py crates/ipcd/out/ipcd && \
 	python3 tests/scripts/sets.py crates/ipcd/out/ipcd && python3 tests/scripts/segments.py crates/ipcd/out/ipcd && \
-	python3 tests/system/install.py crates/ipcd/out/ipcd && python3 tests/system/dist.py crates/ipcd/out/ipcd && \
+	python3 tests/system/install.py crates/ipcd/out/ipcd && \
 	python3 tests/devices/device.py crates/ipcd/out/ipcd && python3 tests/devices/files.py crates/ipcd/out/ipcd && \
 	python3 tests/devices/upgrade.py crates/ipcd/out/ipcd && python3 tests/system/documents.py
 
@@ -139,6 +150,8 @@ SERVES = python3 tests/sockets/serve.py crates/ipcd/out/ipcd && python3 tests/sy
 	python3 tests/sockets/on_time.py crates/ipcd/out/ipcd && python3 tests/system/notify.py crates/ipcd/out/ipcd && \
 	python3 tests/devices/looks.py crates/ipcd/out/ipcd && python3 tests/devices/backups.py crates/ipcd/out/ipcd && \
 	python3 tests/devices/check.py crates/ipcd/out/ipcd && python3 tests/sockets/metrics.py crates/ipcd/out/ipcd && \
+	python3 tests/sockets/figures.py crates/ipcd/out/ipcd && \
+	python3 tests/system/container.py crates/ipcd/out/ipcd && \
 	python3 tests/system/session.py crates/ipcd/out/ipcd && sh examples/serve.sh crates/ipcd/out/ipcd && \
 	sh examples/users.sh crates/ipcd/out/ipcd && sh examples/worker.sh crates/ipcd/out/ipcd && \
 	sh examples/lock.sh crates/ipcd/out/ipcd && sh examples/notify.sh crates/ipcd/out/ipcd && \
@@ -151,7 +164,9 @@ SERVES = python3 tests/sockets/serve.py crates/ipcd/out/ipcd && python3 tests/sy
 serves: program
 	@$(SERVES)
 
-CLIENTS = $(MAKE) -s -C clients/c tested PROGRAM=$(abspath $(BUILT)) && sh clients/python/test.sh $(BUILT)
+# What is packed has the C clients, so it comes last.
+CLIENTS = $(MAKE) -s -C clients/c tested PROGRAM=$(abspath $(BUILT)) && sh clients/python/test.sh $(BUILT) && \
+	python3 tests/system/dist.py $(BUILT) && python3 tests/system/deb.py $(BUILT)
 
 clients: program
 	@$(CLIENTS)

@@ -1,17 +1,22 @@
-# A first look: runs the program as its sources stand, before any proof, on kept_message.script. It needs rt alone, and
-# keeps nothing.
+# A first look: runs the program as its sources stand, before any proof, on crash.script, in which a message outlives a
+# crash. It needs rt, tells frames in words if there is Python, and keeps nothing.
 set -eu
 here=$(realpath "$(dirname "$0")")
-said=$(mktemp)
-trap 'rm "$said"' EXIT
+folder=$(mktemp -d)
+trap 'rm -r "$folder"' EXIT
 
-echo "compiling the sources with checks, and without a proof: one or two minutes"
-echo "\$ ipcd replay --small < kept_message.script"
+echo "compiling the sources with checks, and without a proof: about a minute"
+echo "\$ ipcd replay --small < crash.script"
 cd "$here/../crates/ipcd"
-if ! rt try -- replay --small < "$here/kept_message.script" 2> "$said"; then
-	cat "$said" >&2
+if ! rt try -- replay --small < "$here/crash.script" > "$folder/printed" 2> "$folder/said"; then
+	cat "$folder/said" >&2
 	exit 1
 fi
-echo "These are the replies to three requests: connection 1 is process 1, has made queue 1, and has sent a message to it."
-echo "It shows that the sources run. Nothing was proved, and code with checks is slow: 'make run' proves the program,"
-echo "builds it, and shows that a message outlives it."
+if command -v python3 > "$folder/python"; then
+	python3 "$here/frames.py" "$here/crash.script" < "$folder/printed"
+else
+	cat "$folder/printed"
+	echo "These are the replies in bytes: with Python they would be told in words."
+fi
+echo "A message was sent, the machine stopped, and the message was received after that. This was a device in memory, of"
+echo "sources with checks: nothing was proved, and it was slow. 'make run' proves the program and builds it."

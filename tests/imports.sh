@@ -14,7 +14,8 @@ set -eu
 cd "${1:-.}"
 carriers="ipc_hub ipc_script ipc_server"
 calls="msgget msgsnd msgrcv msgctl semget semop semctl mq_open mq_unlink mq_send mq_receive mq_notify mq_getattr
-	mq_setattr sem_open sem_unlink sem_post sem_wait sem_trywait sem_getvalue shm_open shm_unlink ftruncate"
+	mq_setattr sem_open sem_unlink sem_post sem_wait sem_trywait sem_getvalue shm_open shm_unlink ftruncate fstat
+	shmget shmat shmdt shmctl attached_read attached_write"
 
 fail() {
 	echo "imports: $1" >&2

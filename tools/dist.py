@@ -5,7 +5,8 @@
 FOLDER gets ipcd-VERSION.tar.gz, where VERSION is the program's and the commit, with `-dirty` if the tree has changes
 that are in no commit. In it is what `make install` puts below PREFIX, and in share/doc/ipcd the documents, the examples
 and the clients in Python. MANIFEST says what that is: the commit, the toolchain's logic, the last line of the file
-GATE, in which is what the gate printed, and a sum of each file. It builds nothing, and needs make and git.
+GATE, in which is what the gate printed, and a sum of each file. If the clients in C are built, `try` at the top runs a
+first session from where the tarball is unpacked. It builds nothing, and needs make and git.
 """
 
 from __future__ import annotations
@@ -25,16 +26,20 @@ from typing import NamedTuple, NoReturn
 ROOT = Path(__file__).resolve().parent.parent
 PREFIX = "/usr/local"
 # Files of the repository that are there to be read, or to be run as they are. They keep their places, and so do links.
-PYTHON = ["clients/python/README.md", "clients/python/pyproject.toml", "clients/python/ipcd"]
+PYTHON = ["clients/python/README.md", "clients/python/pyproject.toml", "clients/python/build_backend.py"]
+PYTHON += ["clients/python/ipcd"]
 PAGES = ["README.md", "CHANGELOG.md", "CONTRIBUTING.md", "docs/*.md", "docs/pictures", "bench/LOG.md", "examples"]
+PAGES += ["contrib/alerts.yml", "contrib/grafana.json"]
 PAGES += PYTHON
 DOC = "share/doc/ipcd"
 CLIENTS = "bin/ipcd-run"
+# Stands at the top, if what it asks with is packed.
+TRY, ASK = "contrib/try", "bin/ipcd-ask"
 CHECK = "sha256sum --check --strict --quiet MANIFEST"
 
 
 def fail(text: str) -> NoReturn:
-    print(f"dist: {text}", file=sys.stderr)
+    print(f"{Path(sys.argv[0]).stem}: {text}", file=sys.stderr)
     sys.exit(1)
 
 
@@ -64,6 +69,11 @@ class Commit(NamedTuple):
 def commit() -> Commit:
     full, second = said("git", "log", "-1", "--format=%H %ct").split()
     return Commit(full, said("git", "describe", "--always", "--dirty"), int(second))
+
+
+def second_of(of: Commit) -> int:
+    """The time of what is packed: that of the commit, or the one that SOURCE_DATE_EPOCH names, as packagers have it."""
+    return int(os.environ.get("SOURCE_DATE_EPOCH") or of.second)
 
 
 def logic() -> str:
@@ -96,15 +106,23 @@ def tracked(pattern: str) -> list[str]:
     return said("git", "ls-files", "--", pattern).splitlines()
 
 
+def apart() -> dict[str, str]:
+    """The environment for a make that is apart from the one that runs this."""
+    return {name: text for name, text in os.environ.items() if not name.startswith(("MAKE", "MFLAGS", "GNUMAKE"))}
+
+
 def put_files(program: str, top: Path) -> None:
     """Puts there what is installed and what is there to be read."""
-    apart = {name: text for name, text in os.environ.items() if not name.startswith(("MAKE", "MFLAGS", "GNUMAKE"))}
     with tempfile.TemporaryDirectory() as folder:
         words = [f"DESTDIR={folder}", f"PREFIX={PREFIX}", f"BUILT={program}"]
-        ended = subprocess.run(["make", "-s", "-C", ROOT, "install", *words], capture_output=True, text=True, env=apart)
+        line = ["make", "-s", "-C", ROOT, "install", *words]
+        ended = subprocess.run(line, capture_output=True, text=True, env=apart())
         if ended.returncode:
             fail(f"make install: {ended.stderr.strip()}")
         shutil.copytree(folder + PREFIX, top, symlinks=True)
+    if (top / ASK).exists():
+        shutil.copy(ROOT / TRY, top / "try")
+        (top / "try").chmod(0o755)
     for name in (it for pattern in PAGES for it in tracked(pattern)):
         to = top / DOC / name
         to.parent.mkdir(parents=True, exist_ok=True)
@@ -123,7 +141,7 @@ def manifest(top: Path, release: str, of: Commit, gate_line: str) -> bytes:
         f"# the gate's last line: {gate_line}\n"
         f"{clients}"
         f"# To check the files, in the folder of this one: {CHECK}\n"
-        f"# To install them: all but this file below {PREFIX}.\n"
+        f"# To install them: all but this file and try below {PREFIX}.\n"
     )
     return (head + "".join(sums)).encode()
 
@@ -154,7 +172,7 @@ def main() -> None:
         top = Path(temporary) / name
         put_files(os.path.abspath(program), top)
         (top / "MANIFEST").write_bytes(manifest(top, release, of, gate_line))
-        data = pack(top, name, of.second)
+        data = pack(top, name, second_of(of))
     out = Path(folder) / f"{name}.tar.gz"
     out.parent.mkdir(parents=True, exist_ok=True)
     out.write_bytes(data)

@@ -54,7 +54,7 @@ static int stat_segment(int shmid, struct shmid_ds *buf)
         errno = EFAULT;
         return (int) end(link, -1);
     }
-    read_record(current_client()->path, link->body, buf);
+    read_record(link->client->path, link->body, buf);
     return (int) end(link, 0);
 }
 

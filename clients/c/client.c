@@ -26,8 +26,8 @@ enum { GRACE = 50, LONG_GRACE = 1000 };
 
 struct changes changes;
 
+// The first of a list of all.
 static struct ipcd of_process = {.lock = PTHREAD_MUTEX_INITIALIZER};
-static struct ipcd *all = &of_process;
 static pthread_mutex_t all_lock = PTHREAD_MUTEX_INITIALIZER;
 static _Thread_local struct ipcd *used;
 static _Thread_local char thread;
@@ -38,7 +38,7 @@ static atomic_int *same_process;
 static void after_fork(void)
 {
     all_lock = (pthread_mutex_t) PTHREAD_MUTEX_INITIALIZER;
-    for (struct ipcd *client = all; client != NULL; client = client->next) {
+    for (struct ipcd *client = &of_process; client != NULL; client = client->next) {
         client->lock = (pthread_mutex_t) PTHREAD_MUTEX_INITIALIZER;
         client->sleepers = 0;
         for (size_t i = 0; i < PROCESSES_MOST; i++) {
@@ -58,10 +58,11 @@ static void after_fork(void)
 __attribute__((constructor)) static void prepare(void)
 {
     pthread_atfork(NULL, NULL, after_fork);
-    void *page = mmap(NULL, 4096, PROT_READ | PROT_WRITE, MAP_PRIVATE | MAP_ANONYMOUS, -1, 0);
+    size_t size = (size_t) sysconf(_SC_PAGESIZE);
+    void *page = mmap(NULL, size, PROT_READ | PROT_WRITE, MAP_PRIVATE | MAP_ANONYMOUS, -1, 0);
     if (page == MAP_FAILED)
         return;
-    if (madvise(page, 4096, MADV_WIPEONFORK) == 0) {
+    if (madvise(page, size, MADV_WIPEONFORK) == 0) {
         same_process = page;
         *same_process = 1;
     }
@@ -101,6 +102,17 @@ void unlock_handles(struct ipcd *client, const sigset_t *mask)
     pthread_sigmask(SIG_SETMASK, mask, NULL);
 }
 
+bool copy_handle(struct ipcd *client, size_t number, enum kind kind, struct handle *copy)
+{
+    if (number >= HANDLES)
+        return false;
+    sigset_t mask;
+    lock_handles(client, &mask);
+    *copy = client->handles[number];
+    unlock_handles(client, &mask);
+    return copy->is_open && copy->kind == kind;
+}
+
 static void set_path(struct ipcd *client, const char *path)
 {
     if (path == NULL)
@@ -110,14 +122,33 @@ static void set_path(struct ipcd *client, const char *path)
     snprintf(client->path, sizeof client->path, "%s", path);
 }
 
+static atomic_bool has_path;
+
+static void set_path_of_process(void)
+{
+    set_path(&of_process, NULL);
+    has_path = true;
+}
+
+// Signals are blocked: a handler that calls in the midst of it would wait for itself.
+static void set_path_once(void)
+{
+    static pthread_once_t once = PTHREAD_ONCE_INIT;
+    sigset_t all_signals, mask;
+    sigfillset(&all_signals);
+    pthread_sigmask(SIG_BLOCK, &all_signals, &mask);
+    pthread_once(&once, set_path_of_process);
+    pthread_sigmask(SIG_SETMASK, &mask, NULL);
+}
+
 struct ipcd *current_client(void)
 {
     if (same_process != NULL && *same_process == 0)
         after_fork();
     if (used != NULL)
         return used;
-    if (of_process.path[0] == 0)
-        set_path(&of_process, NULL);
+    if (!has_path)
+        set_path_once();
     return &of_process;
 }
 
@@ -130,8 +161,9 @@ static bool try_take(struct link *link)
     return true;
 }
 
-void release(struct ipcd *client, struct link *link)
+void release(struct link *link)
 {
+    struct ipcd *client = link->client;
     client->answers += link->socket >= 0;
     link->busy = 0;
     client->releases++;
@@ -147,7 +179,7 @@ static struct link *add_link(struct ipcd *client)
             continue;
         if (client->links[i]->socket < 0)
             return client->links[i];
-        release(client, client->links[i]);
+        release(client->links[i]);
     }
     struct link *made = mmap(NULL, sizeof *made, PROT_READ | PROT_WRITE, MAP_PRIVATE | MAP_ANONYMOUS, -1, 0);
     if (made == MAP_FAILED) {
@@ -155,6 +187,7 @@ static struct link *add_link(struct ipcd *client)
         return NULL;
     }
     made->busy = 1;
+    made->client = client;
     made->holder = &thread;
     made->socket = -1;
     for (size_t i = 0; i < PROCESSES_MOST; i++) {
@@ -174,7 +207,7 @@ static uint64_t current_user(void)
     static atomic_uint known_at = UINT32_MAX;
     unsigned at = changes.of_users;
     if (!changes.are_heard || known_at != at) {
-        known = (uint64_t) (uid_t) syscall(SYS_geteuid) << 32 | (gid_t) syscall(SYS_getegid);
+        known = user_of((uid_t) syscall(SYS_geteuid), (gid_t) syscall(SYS_getegid));
         known_at = at;
     }
     return known;
@@ -182,7 +215,7 @@ static uint64_t current_user(void)
 
 static bool is_of(const struct link *link, uint64_t user)
 {
-    return link->socket >= 0 && ((uint64_t) link->uid << 32 | link->gid) == user;
+    return link->socket >= 0 && link->user == user;
 }
 
 // An idle link of this user: the one that this thread used last, else the first; or NULL.
@@ -198,7 +231,7 @@ static struct link *find_idle(struct ipcd *client, bool of_any_user)
             // Meanwhile another thread may have lost it, or connected it again.
             if (of_any_user ? link->socket >= 0 : is_of(link, user))
                 return link;
-            release(client, link);
+            release(link);
         }
     }
     return NULL;
@@ -264,8 +297,9 @@ static bool is_still_there(struct link *link)
 }
 
 // Connects the link if need be. A socket that the program has closed is lost, with what the process had to undo.
-static int wake(struct ipcd *client, struct link *link)
+static int wake(struct link *link)
 {
+    struct ipcd *client = link->client;
     bool is_first = client->links[0] == link;
     link->owner = is_first ? NULL : &thread;
     if (link->socket >= 0 && !is_still_there(link)) {
@@ -280,10 +314,10 @@ static int wake(struct ipcd *client, struct link *link)
         if (link_connect(link, client->path) < 0)
             return -1;
         tell_process(client->path, link->pid);
-        if (is_first && open_all_again(client, link) < 0)
+        if (is_first && open_all_again(link) < 0)
             return -1;
     }
-    return close_stale(client, link);
+    return close_stale(link);
 }
 
 static struct link *take(struct ipcd *client, bool of_any_user)
@@ -298,7 +332,7 @@ static struct link *take(struct ipcd *client, bool of_any_user)
         }
         link->saved_errno = saved;
         link->cancellation = cancellation;
-        if (wake(client, link) == 0)
+        if (wake(link) == 0)
             return link;
         // There is no room for a process more, but those that there are may be free soon.
         bool goes_on = errno == ENFILE && client->answers != answers && use_by_others(client) != UNUSED;
@@ -322,31 +356,31 @@ static struct link *take_with(struct ipcd *client, size_t number, uint32_t gener
 {
     for (size_t i = 0; i < PROCESSES_MOST && client->links[i] != NULL; i++) {
         struct link *link = client->links[i];
-        if (link->opened[number].generation != generation || !try_take(link))
+        if (link->generations[number] != generation || !try_take(link))
             continue;
         link->saved_errno = errno;
-        if (link->opened[number].generation == generation && is_still_there(link)) {
+        if (link->generations[number] == generation && is_still_there(link)) {
             link->cancellation = hold_cancellation();
             return link;
         }
-        release(client, link);
+        release(link);
     }
     return NULL;
 }
 
 struct link *begin_on(struct ipcd *client, size_t number, enum kind kind, int wrong, enum opcode opcode)
 {
-    struct handle *handle = number < HANDLES ? &client->handles[number] : NULL;
-    if (handle == NULL || !handle->is_open || handle->kind != kind) {
+    struct handle handle;
+    if (!copy_handle(client, number, kind, &handle)) {
         errno = wrong;
         return NULL;
     }
-    struct link *link = take_with(client, number, handle->generation);
+    struct link *link = take_with(client, number, handle.generation);
     if (link == NULL)
         link = take(client, true);
     if (link == NULL)
         return NULL;
-    if (close_stale(client, link) < 0 || open_again(client, link, number) < 0) {
+    if (close_stale(link) < 0 || open_again(link, number, &handle) < 0) {
         if (errno == ENOENT)
             errno = wrong;
         end(link, -1);
@@ -367,7 +401,7 @@ static void drop_ended(struct ipcd *client)
             continue;
         if (link->socket >= 0 && recv(link->socket, &byte, 1, MSG_PEEK | MSG_DONTWAIT) == 0)
             link_drop(link);
-        release(client, link);
+        release(link);
     }
 }
 
@@ -378,11 +412,11 @@ int close_on_idle_links(struct ipcd *client)
         struct link *link = client->links[i];
         if (!try_take(link))
             continue;
-        if (link_is_there(link) && close_stale(client, link) < 0) {
+        if (link_is_there(link) && close_stale(link) < 0) {
             result = -1;
             error = errno;
         }
-        release(client, link);
+        release(link);
     }
     errno = error;
     return result;
@@ -393,9 +427,10 @@ long end(struct link *link, long result)
     int error = errno;
     bool is_lost = result < 0 && error == ECONNRESET && link->socket < 0;
     int saved = link->saved_errno, cancellation = link->cancellation;
-    release(current_client(), link);
+    struct ipcd *client = link->client;
+    release(link);
     if (is_lost)
-        drop_ended(current_client());
+        drop_ended(client);
     allow_cancellation(cancellation);
     errno = saved;
     if (result < 0)
@@ -419,6 +454,11 @@ int end_number(struct link *link)
         return (int) end(link, -1);
     }
     return (int) end(link, (long) number);
+}
+
+const char *ipcd_version(void)
+{
+    return IPCD_VERSION;
 }
 
 struct ipcd *ipcd_connect(const char *socket)

@@ -45,7 +45,7 @@ struct ipcd {
     struct handle handles[HANDLES];
     sem_t semaphores[SEMAPHORES];
     struct registration *registrations;
-    char path[256];
+    char path[256];           // is written before another thread knows of the client
 };
 
 // The handle of a descriptor, which is none if that is no number of this library.
@@ -56,8 +56,8 @@ static inline size_t handle_of(int descriptor)
 
 HIDDEN struct ipcd *current_client(void);
 
-// Whoever waits for a link takes this one, if it wants.
-HIDDEN void release(struct ipcd *client, struct link *link);
+// Whoever waits for a link of its client takes this one, if it wants.
+HIDDEN void release(struct link *link);
 
 // No call is a point of cancellation: what a call does would else leave the link in mid-frame.
 HIDDEN int hold_cancellation(void);
@@ -65,6 +65,9 @@ HIDDEN void allow_cancellation(int before);
 
 HIDDEN void lock_handles(struct ipcd *client, sigset_t *mask);
 HIDDEN void unlock_handles(struct ipcd *client, const sigset_t *mask);
+
+// Whether a number is that of a handle that is open as this: then there is a copy of it, as it was at one moment.
+HIDDEN bool copy_handle(struct ipcd *client, size_t number, enum kind kind, struct handle *copy);
 
 // A call begins over a link that is idle, of the effective user and group, or NULL with an error of link_connect.
 HIDDEN struct link *begin(enum opcode opcode);

@@ -42,22 +42,33 @@ static int close_on_link(struct link *link, const struct opened *opened)
 
 static struct opened opened_by(const struct handle *handle, long descriptor)
 {
-    return (struct opened){
-        handle->generation, (uint32_t) descriptor, handle->nonblocking, handle->kind == ATTACHMENT};
+    return (struct opened){(uint32_t) descriptor, handle->nonblocking, handle->kind == ATTACHMENT};
 }
 
-int close_stale(struct ipcd *client, struct link *link)
+// Notes what is open on a link for a handle.
+static void note_opened(struct link *link, size_t number, const struct handle *handle, long descriptor)
 {
-    uint32_t closings = client->closings;
+    link->opened[number] = opened_by(handle, descriptor);
+    link->generations[number] = handle->generation;
+}
+
+int close_stale(struct link *link)
+{
+    struct ipcd *client = link->client;
+    uint32_t closings = client->closings, generations[HANDLES];
     if (link->closings == closings)
         return 0;
     int saved = errno;
+    sigset_t mask;
+    lock_handles(client, &mask);
+    for (size_t i = 0; i < HANDLES; i++)
+        generations[i] = client->handles[i].generation;
+    unlock_handles(client, &mask);
     for (size_t i = 0; i < HANDLES; i++) {
-        struct opened *opened = &link->opened[i];
-        if (opened->generation == 0 || opened->generation == client->handles[i].generation)
+        if (link->generations[i] == 0 || link->generations[i] == generations[i])
             continue;
-        opened->generation = 0;
-        if (close_on_link(link, opened) < 0 && link->socket < 0)
+        link->generations[i] = 0;
+        if (close_on_link(link, &link->opened[i]) < 0 && link->socket < 0)
             return -1;
     }
     link->closings = closings;
@@ -76,11 +87,10 @@ static int set_nonblocking(struct link *link, struct opened *opened, bool nonblo
     return 0;
 }
 
-int open_again(struct ipcd *client, struct link *link, size_t number)
+int open_again(struct link *link, size_t number, const struct handle *handle)
 {
-    const struct handle *handle = &client->handles[number];
     struct opened *opened = &link->opened[number];
-    if (opened->generation == handle->generation) {
+    if (link->generations[number] == handle->generation) {
         bool is_same = handle->kind != POSIX_QUEUE || opened->nonblocking == handle->nonblocking;
         return is_same ? 0 : set_nonblocking(link, opened, handle->nonblocking);
     }
@@ -97,22 +107,36 @@ int open_again(struct ipcd *client, struct link *link, size_t number)
             errno = ENOENT;
         return -1;
     }
-    *opened = opened_by(handle, descriptor);
+    note_opened(link, number, handle, descriptor);
     return 0;
 }
 
-int open_all_again(struct ipcd *client, struct link *link)
+// Notes that the name of a handle is of nothing any more, if the handle was not closed meanwhile.
+static void note_unlinked(struct ipcd *client, size_t number, uint32_t generation)
 {
+    sigset_t mask;
+    lock_handles(client, &mask);
+    if (client->handles[number].generation == generation)
+        client->handles[number].is_unlinked = true;
+    unlock_handles(client, &mask);
+}
+
+int open_all_again(struct link *link)
+{
+    struct ipcd *client = link->client;
     int saved = errno;
     for (size_t i = 0; i < HANDLES; i++) {
-        struct handle *handle = &client->handles[i];
-        if (!handle->is_open || open_again(client, link, i) == 0)
+        sigset_t mask;
+        lock_handles(client, &mask);
+        struct handle handle = client->handles[i];
+        unlock_handles(client, &mask);
+        if (!handle.is_open || open_again(link, i, &handle) == 0)
             continue;
         if (link->socket < 0)
             return -1;
         // An object that is made under the name later is another.
         if (errno == ENOENT)
-            handle->is_unlinked = true;
+            note_unlinked(client, i, handle.generation);
     }
     errno = saved;
     return 0;
@@ -143,17 +167,16 @@ static int find_handle(const struct ipcd *client, enum kind kind, const char *na
 static int note(struct ipcd *client, struct link *link, int number, struct handle named, long descriptor)
 {
     struct handle *handle = &client->handles[number];
-    struct opened *opened = &link->opened[number];
     if (handle->is_open) {
         handle->opens++;
         struct opened twice = opened_by(handle, descriptor);
-        if (opened->generation == handle->generation)
+        if (link->generations[number] == handle->generation)
             return close_on_link(link, &twice);
     } else {
         named.generation = handle->generation + (handle->generation == 0);
         *handle = named;
     }
-    *opened = opened_by(handle, descriptor);
+    note_opened(link, (size_t) number, handle, descriptor);
     return 0;
 }
 

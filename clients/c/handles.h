@@ -29,14 +29,14 @@ HIDDEN int close_handle(struct ipcd *client, size_t number, enum kind kind, int 
 // Takes a name off an object: 0, or -1.
 HIDDEN int unlink_name(struct ipcd *client, const char *name, enum kind kind, enum opcode opcode);
 
-// Opens a handle on a link too, if it is not open there: 0, or -1; ENOENT if its name is gone.
-HIDDEN int open_again(struct ipcd *client, struct link *link, size_t number);
+// Opens a handle, as a copy has it, on a link too, if it is not open there: 0, or -1; ENOENT if its name is gone.
+HIDDEN int open_again(struct link *link, size_t number, const struct handle *handle);
 
 // Opens all handles on a new link, as far as their names are there: 0, or -1 if the link is lost.
-HIDDEN int open_all_again(struct ipcd *client, struct link *link);
+HIDDEN int open_all_again(struct link *link);
 
 // Closes what is open on the link of handles that were closed since: 0, or -1 if the link is lost.
-HIDDEN int close_stale(struct ipcd *client, struct link *link);
+HIDDEN int close_stale(struct link *link);
 
 // Closes them on each link on which no call waits: 0, or -1 if one is lost.
 HIDDEN int close_on_idle_links(struct ipcd *client);

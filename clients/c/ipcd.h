@@ -19,6 +19,7 @@
 #include <mqueue.h>
 #include <semaphore.h>
 #include <stddef.h>
+#include <sys/ipc.h>
 #include <sys/stat.h>
 #include <sys/types.h>
 #include <time.h>
@@ -29,10 +30,19 @@ extern "C" {
 
 #define IPCD_PUBLIC __attribute__((visibility("default")))
 
+// The version of this header. A later one of the same major number has all that this one has.
+#define IPCD_VERSION_MAJOR 0
+#define IPCD_VERSION_MINOR 1
+#define IPCD_VERSION_PATCH 0
+#define IPCD_VERSION "0.1.0"
+
 struct ipcd;
 struct msqid_ds;
 struct sembuf;
 struct shmid_ds;
+
+// The version of the library that is loaded, as IPCD_VERSION has that of the header.
+IPCD_PUBLIC const char *ipcd_version(void);
 
 // A connection of its own to a socket, at most 107 bytes long; with NULL to that of the process. NULL if it fails.
 IPCD_PUBLIC struct ipcd *ipcd_connect(const char *socket);
@@ -98,7 +108,8 @@ IPCD_PUBLIC int ipcd_close(int fd);
 // Segments of System V, see shmget(2), shmctl(2). Commands are IPC_STAT, IPC_SET and IPC_RMID. There is no mapping:
 // ipcd_shmat and ipcd_shmdt are ENOSYS. In their place ipcd_shmattach answers a number like the descriptors above, by
 // which one call reads or writes at most 8192 bytes, all within the segment (else EINVAL); with SHM_RDONLY a write is
-// EBADF. ipcd_shmdetach gives it up.
+// EBADF. ipcd_shmdetach gives it up. No read is short: the length of a segment of System V is fixed, so what passes its
+// end is a mistake, as with a mapping. A segment of shm_open is a file that may be cut, and ends as one in ipcd_pread.
 IPCD_PUBLIC int ipcd_shmget(key_t key, size_t size, int shmflg);
 IPCD_PUBLIC int ipcd_shmctl(int shmid, int cmd, struct shmid_ds *buf);
 IPCD_PUBLIC int ipcd_shmattach(int shmid, int shmflg);

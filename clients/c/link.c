@@ -36,14 +36,23 @@ bool link_is_there(const struct link *link)
     return link->socket >= 0 && cookie_of(link->socket) == link->cookie;
 }
 
+static void forget_opened(struct link *link)
+{
+    for (size_t i = 0; i < HANDLES; i++)
+        link->generations[i] = 0;
+}
+
+atomic_uint adjustments_lost;
+
 void link_drop(struct link *link)
 {
     int saved = errno;
+    adjustments_lost += link->has_undone;
     if (link_is_there(link))
         close(link->socket);
     link->socket = -1;
     link->has_undone = false;
-    memset(link->opened, 0, sizeof link->opened);
+    forget_opened(link);
     errno = saved;
 }
 
@@ -360,14 +369,15 @@ int link_connect(struct link *link, const char *path)
     link->cookie = cookie_of(made);
     link->filled = link->taken = 0;
     link->ends_always = link->has_undone = false;
-    memset(link->opened, 0, sizeof link->opened);
-    link->uid = (uid_t) syscall(SYS_geteuid);
-    link->gid = (gid_t) syscall(SYS_getegid);
+    forget_opened(link);
+    uid_t uid = (uid_t) syscall(SYS_geteuid);
+    gid_t gid = (gid_t) syscall(SYS_getegid);
+    link->user = user_of(uid, gid);
     ssize_t done = -1;
     for (int i = 0; i < HELLOS; i++) {
         link_begin(link, HELLO);
-        put_u32(link, link->uid);
-        put_u32(link, link->gid);
+        put_u32(link, uid);
+        put_u32(link, gid);
         done = link_exchange(link, ANSWERED_AT_ONCE, 4, 4);
         if (done >= 0 || errno != ENFILE || link->socket < 0)
             break;

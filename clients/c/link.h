@@ -20,24 +20,26 @@ enum { HANDLES = 128 };
 // How a signal handler ends the call: not at all; always; or as SA_RESTART has it, see signal(7).
 enum waiting { ANSWERED_AT_ONCE, ENDED_BY_HANDLERS, RESTARTED };
 
-// A descriptor of the server for a handle of the client, if the generation is that of the handle.
+struct ipcd;
+
+// A descriptor of the server for a handle of the client.
 struct opened {
-    uint32_t generation;
     uint32_t descriptor;
     bool nonblocking;
     bool is_attachment;
 };
 
+// Whoever has made `busy` 1 has the link. Others read only what is atomic.
 struct link {
     atomic_int busy;
-    int socket;               // -1 if there is none
+    struct ipcd *client;      // whose link it is, from the making to the end
+    atomic_int socket;        // -1 if there is none
     uint64_t cookie;          // the system's number of the socket, which no other has
-    const void *owner;        // the thread that used it last, if it is not the first link
+    _Atomic(const void *) owner; // the thread that used it last, if it is not the first link
     _Atomic(const void *) holder; // the thread whose call it has, if it is busy
     int cancellation;         // of that thread, as it was before the call
     atomic_bool may_wait;     // whether its call may wait for others
-    uid_t uid;
-    gid_t gid;
+    _Atomic uint64_t user;    // of the process, see user_of
     char *into;               // where a body is to go
     size_t into_size;
     size_t placed;            // how many bytes of it are there
@@ -54,10 +56,17 @@ struct link {
     const void *text;         // the caller's bytes that follow it
     size_t text_size;
     const unsigned char *body; // of the reply
+    atomic_uint generations[HANDLES]; // of the handle for which `opened` counts; 0 if it is open for none
     struct opened opened[HANDLES];
     unsigned char request[FRAME_BYTES];
     unsigned char input[2 * FRAME_BYTES];
 };
+
+// A user and a group as one number.
+static inline uint64_t user_of(uid_t uid, gid_t gid)
+{
+    return (uint64_t) uid << 32 | gid;
+}
 
 // Milliseconds of a clock that is never set.
 int64_t clock_now(void);
@@ -65,6 +74,9 @@ int64_t clock_now(void);
 // Connects and says HELLO, as the effective user and group. 0, or -1: ECONNREFUSED without a server, ENFILE if it has
 // no room for a process, or another error of connect(2). A HELLO that is ENFILE is said again for a while.
 int link_connect(struct link *link, const char *path);
+
+// How many links of this process have ended whose process of the server may have had adjustments (SEM_UNDO).
+extern atomic_uint adjustments_lost __attribute__((visibility("hidden")));
 
 // Closes the socket. It is forgotten only, if the program has closed it: then its number may be another's.
 void link_drop(struct link *link);

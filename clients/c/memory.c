@@ -10,12 +10,18 @@
 #include <sys/syscall.h>
 #include <unistd.h>
 
-enum { PAGE = 4096, NO_SUCH_HOW = 99 };
+enum { NO_SUCH_HOW = 99 };
+
+// Bytes of a page, a power of two.
+static uintptr_t page(void)
+{
+    return (uintptr_t) sysconf(_SC_PAGESIZE);
+}
 
 // The system reads a signal set, if it is given one, before it looks what is to be done with it: nothing it knows.
 static bool reads(uintptr_t at)
 {
-    if (at < PAGE)
+    if (at < page())
         return false;
     return syscall(SYS_rt_sigprocmask, NO_SUCH_HOW, at & ~(uintptr_t) 7, NULL, 8) == 0 || errno != EFAULT;
 }
@@ -38,9 +44,10 @@ static bool each_page(uintptr_t begin, size_t size, bool (*is_good)(uintptr_t))
         return false;
     int saved = errno;
     bool good = true;
-    for (uintptr_t at = begin; good; at = (at | (PAGE - 1)) + 1) {
+    uintptr_t within = page() - 1;
+    for (uintptr_t at = begin; good; at = (at | within) + 1) {
         good = is_good(at);
-        if ((at | (PAGE - 1)) >= last)
+        if ((at | within) >= last)
             break;
     }
     errno = saved;
@@ -59,12 +66,12 @@ bool is_writable(void *address, size_t size)
 
 bool is_in_page(const void *address, size_t size)
 {
-    return (uintptr_t) address % PAGE + size <= PAGE;
+    return (uintptr_t) address % page() + size <= page();
 }
 
 bool is_writable_on(void *address, size_t first, size_t size)
 {
-    uintptr_t next = (((uintptr_t) address + first - 1) | (PAGE - 1)) + 1;
+    uintptr_t next = (((uintptr_t) address + first - 1) | (page() - 1)) + 1;
     uintptr_t end = (uintptr_t) address + size;
     return end <= next || is_writable((void *) next, end - next);
 }
@@ -74,7 +81,7 @@ ssize_t text_length(const char *text, size_t most)
     size_t length = 0;
     while (length < most) {
         uintptr_t at = (uintptr_t) text + length;
-        size_t here = PAGE - at % PAGE;
+        size_t here = page() - at % page();
         if (here > most - length)
             here = most - length;
         if (!is_readable(text + length, here)) {

@@ -122,7 +122,7 @@ static int stat_queue(int msqid, struct msqid_ds *buf)
         errno = EFAULT;
         return (int) end(link, -1);
     }
-    read_record(current_client()->path, link->body, buf);
+    read_record(link->client->path, link->body, buf);
     return (int) end(link, 0);
 }
 

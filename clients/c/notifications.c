@@ -155,8 +155,7 @@ static void end_each(struct ipcd *client, size_t number, const char *name)
 
 void end_registration_of(struct ipcd *client, size_t number)
 {
-    if (client->registrations != NULL)
-        end_each(client, number, NULL);
+    end_each(client, number, NULL);
 }
 
 void end_registrations(struct ipcd *client)
@@ -174,11 +173,15 @@ void forget_registrations(struct ipcd *client)
 // Connects, opens the queue and registers: 0, or -1.
 static int connect_registration(struct registration *it)
 {
-    it->link->socket = -1;
+    struct handle handle;
+    if (!copy_handle(it->client, it->number, POSIX_QUEUE, &handle)) {
+        errno = EBADF;
+        return -1;
+    }
     if (link_connect(it->link, it->client->path) < 0)
         return -1;
     tell_process(it->client->path, it->link->pid);
-    if (open_again(it->client, it->link, it->number) < 0) {
+    if (open_again(it->link, it->number, &handle) < 0) {
         if (errno == ENOENT)
             errno = EBADF;
         return -1;
@@ -217,8 +220,11 @@ static struct registration *make_registration(struct ipcd *client, size_t number
     if (event->sigev_notify == SIGEV_THREAD && event->sigev_notify_attributes != NULL)
         copy_attributes(&made->attributes, event->sigev_notify_attributes);
     made->link = mmap(NULL, sizeof *made->link, PROT_READ | PROT_WRITE, MAP_PRIVATE | MAP_ANONYMOUS, -1, 0);
-    if (made->link != MAP_FAILED)
+    if (made->link != MAP_FAILED) {
+        made->link->client = client;
+        made->link->socket = -1;
         return made;
+    }
     pthread_attr_destroy(&made->attributes);
     free(made);
     errno = ENOMEM;
@@ -243,15 +249,15 @@ static int make_or_end(mqd_t mqdes, const struct sigevent *sevp)
 {
     struct ipcd *client = current_client();
     size_t number = handle_of(mqdes);
-    struct handle *handle = number < HANDLES ? &client->handles[number] : NULL;
-    bool is_open = handle != NULL && handle->is_open && handle->kind == POSIX_QUEUE;
+    struct handle handle;
+    bool is_open = copy_handle(client, number, POSIX_QUEUE, &handle);
     int refusal = is_open ? refusal_of(sevp) : EBADF;
     if (refusal != 0) {
         errno = refusal;
         return -1;
     }
     if (sevp == NULL) {
-        end_each(client, number, handle->name);
+        end_each(client, number, handle.name);
         return 0;
     }
     // The connection that is there may have ended: then that is said first, as of each call.

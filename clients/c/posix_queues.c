@@ -143,6 +143,18 @@ int ipcd_mq_getattr(mqd_t mqdes, struct mq_attr *attr)
     return link == NULL ? -1 : (int) end(link, read_attributes(link, attr));
 }
 
+// Notes the flag of the queue that was set on this link. The handle may have been closed meanwhile.
+static void note_nonblocking(struct link *link, size_t number, bool nonblocking)
+{
+    struct ipcd *client = link->client;
+    sigset_t mask;
+    link->opened[number].nonblocking = nonblocking;
+    lock_handles(client, &mask);
+    if (client->handles[number].generation == link->generations[number])
+        client->handles[number].nonblocking = nonblocking;
+    unlock_handles(client, &mask);
+}
+
 int ipcd_mq_setattr(mqd_t mqdes, const struct mq_attr *newattr, struct mq_attr *oldattr)
 {
     if (newattr == NULL)
@@ -156,15 +168,12 @@ int ipcd_mq_setattr(mqd_t mqdes, const struct mq_attr *newattr, struct mq_attr *
         errno = EINVAL;
         return -1;
     }
-    struct ipcd *client = current_client();
     struct link *link = begin_on_queue(mqdes, MQ_SETATTR);
     if (link == NULL)
         return -1;
     put_u32(link, (uint32_t) flags);
     int result = read_attributes(link, oldattr);
-    if (result == 0) {
-        client->handles[handle_of(mqdes)].nonblocking = flags != 0;
-        link->opened[handle_of(mqdes)].nonblocking = flags != 0;
-    }
+    if (result == 0)
+        note_nonblocking(link, handle_of(mqdes), flags != 0);
     return (int) end(link, result);
 }

@@ -5,6 +5,7 @@
 #include <fcntl.h>
 #include <stdarg.h>
 
+#include "again.h"
 #include "named_semaphores.h"
 #include "preload.h"
 
@@ -72,118 +73,135 @@ static bool is_unnamed(const sem_t *sem)
 mqd_t redirected_mq_open(const char *name, int oflag, ...)
 {
     if (!(oflag & O_CREAT))
-        return ipcd_mq_open(name, oflag);
+        SERVED(mqd_t, ipcd_mq_open(name, oflag), -1);
     va_list rest;
     va_start(rest, oflag);
     mode_t mode = va_arg(rest, mode_t);
     struct mq_attr *attributes = va_arg(rest, struct mq_attr *);
     va_end(rest);
-    return ipcd_mq_open(name, oflag, mode, attributes);
+    SERVED(mqd_t, ipcd_mq_open(name, oflag, mode, attributes), -1);
 }
 
 mqd_t redirected_mq_open_2(const char *name, int oflag)
 {
     if (!(oflag & O_CREAT))
-        return ipcd_mq_open(name, oflag);
+        SERVED(mqd_t, ipcd_mq_open(name, oflag), -1);
     errno = EINVAL;
     return -1;
 }
 
 int redirected_mq_close(mqd_t mqdes)
 {
-    return ipcd_mq_close(mqdes);
+    struct attempts attempts = begin_attempts();
+    int result = ipcd_mq_close(mqdes);
+    // It is closed also if the connection has ended.
+    return result < 0 && is_made_again(&attempts) ? 0 : result;
 }
 
 int redirected_mq_unlink(const char *name)
 {
-    return ipcd_mq_unlink(name);
+    SERVED(int, ipcd_mq_unlink(name), -1);
 }
 
 int redirected_mq_send(mqd_t mqdes, const char *text, size_t size, unsigned int priority)
 {
-    return ipcd_mq_send(mqdes, text, size, priority);
+    SERVED(int, ipcd_mq_send(mqdes, text, size, priority), -1);
 }
 
 int redirected_mq_timedsend(mqd_t mqdes, const char *text, size_t size, unsigned int priority,
                             const struct timespec *deadline)
 {
-    return ipcd_mq_timedsend(mqdes, text, size, priority, deadline);
+    SERVED(int, ipcd_mq_timedsend(mqdes, text, size, priority, deadline), -1);
 }
 
 ssize_t redirected_mq_receive(mqd_t mqdes, char *text, size_t size, unsigned int *priority)
 {
-    return ipcd_mq_receive(mqdes, text, size, priority);
+    SERVED(ssize_t, ipcd_mq_receive(mqdes, text, size, priority), -1);
 }
 
 ssize_t redirected_mq_timedreceive(mqd_t mqdes, char *text, size_t size, unsigned int *priority,
                                    const struct timespec *deadline)
 {
-    return ipcd_mq_timedreceive(mqdes, text, size, priority, deadline);
+    SERVED(ssize_t, ipcd_mq_timedreceive(mqdes, text, size, priority, deadline), -1);
 }
 
 int redirected_mq_getattr(mqd_t mqdes, struct mq_attr *attributes)
 {
-    return ipcd_mq_getattr(mqdes, attributes);
+    SERVED(int, ipcd_mq_getattr(mqdes, attributes), -1);
 }
 
 int redirected_mq_setattr(mqd_t mqdes, const struct mq_attr *wanted, struct mq_attr *before)
 {
-    return ipcd_mq_setattr(mqdes, wanted, before);
+    SERVED(int, ipcd_mq_setattr(mqdes, wanted, before), -1);
 }
 
 int redirected_mq_notify(mqd_t mqdes, const struct sigevent *event)
 {
-    return ipcd_mq_notify(mqdes, event);
+    SERVED(int, ipcd_mq_notify(mqdes, event), -1);
 }
 
 sem_t *redirected_sem_open(const char *name, int oflag, ...)
 {
     if (!(oflag & O_CREAT))
-        return ipcd_sem_open(name, oflag);
+        SERVED(sem_t *, ipcd_sem_open(name, oflag), SEM_FAILED);
     va_list rest;
     va_start(rest, oflag);
     mode_t mode = va_arg(rest, mode_t);
     unsigned int value = va_arg(rest, unsigned int);
     va_end(rest);
-    return ipcd_sem_open(name, oflag, mode, value);
+    SERVED(sem_t *, ipcd_sem_open(name, oflag, mode, value), SEM_FAILED);
 }
 
 int redirected_sem_close(sem_t *sem)
 {
-    return ipcd_sem_close(sem);
+    struct attempts attempts = begin_attempts();
+    int result = ipcd_sem_close(sem);
+    return result < 0 && is_made_again(&attempts) ? 0 : result;
 }
 
 int redirected_sem_unlink(const char *name)
 {
-    return ipcd_sem_unlink(name);
+    SERVED(int, ipcd_sem_unlink(name), -1);
 }
 
 int redirected_sem_wait(sem_t *sem)
 {
-    return is_unnamed(sem) ? own.wait(sem) : ipcd_sem_wait(sem);
+    if (is_unnamed(sem))
+        return own.wait(sem);
+    SERVED(int, ipcd_sem_wait(sem), -1);
 }
 
 int redirected_sem_trywait(sem_t *sem)
 {
-    return is_unnamed(sem) ? own.trywait(sem) : ipcd_sem_trywait(sem);
+    if (is_unnamed(sem))
+        return own.trywait(sem);
+    SERVED(int, ipcd_sem_trywait(sem), -1);
 }
 
 int redirected_sem_timedwait(sem_t *sem, const struct timespec *deadline)
 {
-    return is_unnamed(sem) ? own.timedwait(sem, deadline) : ipcd_sem_timedwait(sem, deadline);
+    if (is_unnamed(sem))
+        return own.timedwait(sem, deadline);
+    SERVED(int, ipcd_sem_timedwait(sem, deadline), -1);
 }
 
 int redirected_sem_clockwait(sem_t *sem, clockid_t clock, const struct timespec *deadline)
 {
-    return is_unnamed(sem) ? own.clockwait(sem, clock, deadline) : ipcd_sem_clockwait(sem, clock, deadline);
+    if (is_unnamed(sem))
+        return own.clockwait(sem, clock, deadline);
+    SERVED(int, ipcd_sem_clockwait(sem, clock, deadline), -1);
 }
 
 int redirected_sem_post(sem_t *sem)
 {
-    return is_unnamed(sem) ? own.post(sem) : ipcd_sem_post(sem);
+    if (is_unnamed(sem))
+        return own.post(sem);
+    SERVED(int, ipcd_sem_post(sem), -1);
 }
 
 int redirected_sem_getvalue(sem_t *sem, int *value)
 {
-    return is_unnamed(sem) ? own.getvalue(sem, value) : ipcd_sem_getvalue(sem, value);
+    if (is_unnamed(sem))
+        return own.getvalue(sem, value);
+    SERVED(int, ipcd_sem_getvalue(sem, value), -1);
 }

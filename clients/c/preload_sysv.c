@@ -3,6 +3,7 @@
 #include <stdarg.h>
 #include <time.h>
 
+#include "again.h"
 #include "ipcd.h"
 #include "preload.h"
 
@@ -18,37 +19,37 @@ int redirected_semctl(int semid, int semnum, int cmd, ...) IN_PLACE_OF(semctl);
 
 int redirected_msgget(key_t key, int msgflg)
 {
-    return ipcd_msgget(key, msgflg);
+    SERVED(int, ipcd_msgget(key, msgflg), -1);
 }
 
 int redirected_msgsnd(int msqid, const void *msgp, size_t msgsz, int msgflg)
 {
-    return ipcd_msgsnd(msqid, msgp, msgsz, msgflg);
+    SERVED(int, ipcd_msgsnd(msqid, msgp, msgsz, msgflg), -1);
 }
 
 ssize_t redirected_msgrcv(int msqid, void *msgp, size_t msgsz, long msgtyp, int msgflg)
 {
-    return ipcd_msgrcv(msqid, msgp, msgsz, msgtyp, msgflg);
+    SERVED(ssize_t, ipcd_msgrcv(msqid, msgp, msgsz, msgtyp, msgflg), -1);
 }
 
 int redirected_msgctl(int msqid, int cmd, struct msqid_ds *buf)
 {
-    return ipcd_msgctl(msqid, cmd, buf);
+    SERVED(int, ipcd_msgctl(msqid, cmd, buf), -1);
 }
 
 int redirected_semget(key_t key, int nsems, int semflg)
 {
-    return ipcd_semget(key, nsems, semflg);
+    SERVED(int, ipcd_semget(key, nsems, semflg), -1);
 }
 
 int redirected_semop(int semid, struct sembuf *sops, size_t nsops)
 {
-    return ipcd_semop(semid, sops, nsops);
+    SERVED(int, ipcd_semop(semid, sops, nsops), -1);
 }
 
 int redirected_semtimedop(int semid, struct sembuf *sops, size_t nsops, const struct timespec *timeout)
 {
-    return ipcd_semtimedop(semid, sops, nsops, timeout);
+    SERVED(int, ipcd_semtimedop(semid, sops, nsops, timeout), -1);
 }
 
 int redirected_semctl(int semid, int semnum, int cmd, ...)
@@ -57,5 +58,5 @@ int redirected_semctl(int semid, int semnum, int cmd, ...)
     va_start(rest, cmd);
     void *argument = va_arg(rest, void *);
     va_end(rest);
-    return ipcd_semctl(semid, semnum, cmd, argument);
+    SERVED(int, ipcd_semctl(semid, semnum, cmd, argument), -1);
 }

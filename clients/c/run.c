@@ -21,7 +21,7 @@ static void fail(int status, const char *name, const char *why)
 
 static void print_usage(FILE *file)
 {
-    fputs("usage: ipcd-run [--socket SOCKET] PROGRAM [ARGUMENT]...\n", file);
+    fputs("usage: ipcd-run [--socket SOCKET] [--strict] [--wait SECONDS] PROGRAM [ARGUMENT]...\n", file);
 }
 
 // Sets a variable to a path that holds wherever the program goes.
@@ -70,23 +70,72 @@ static void set_preload(void)
         fail(MISUSED, library, strerror(errno));
 }
 
+// What the words ask for. The path and the seconds are NULL if they are not given.
+struct options {
+    const char *socket;
+    const char *seconds;
+    bool is_strict;
+};
+
+// The value of an option, which is the next word or stands after a `=`; NULL if the word is another.
+static const char *value_of(const char *option, int count, char **words, int *at)
+{
+    size_t length = strlen(option);
+    if (strncmp(words[*at], option, length) != 0)
+        return NULL;
+    if (words[*at][length] == '=')
+        return words[(*at)++] + length + 1;
+    if (words[*at][length] != 0 || *at + 1 >= count)
+        return NULL;
+    *at += 2;
+    return words[*at - 1];
+}
+
+// Reads the options: where the program stands among the words, or `count` if it does not.
+static int read_options(int count, char **words, struct options *options)
+{
+    int at = 1;
+    while (at < count && words[at][0] == '-') {
+        const char *socket, *seconds;
+        if (strcmp(words[at], "--") == 0)
+            return at + 1;
+        if (strcmp(words[at], "--strict") == 0) {
+            options->is_strict = true;
+            at++;
+        } else if ((socket = value_of("--socket", count, words, &at)) != NULL)
+            options->socket = socket;
+        else if ((seconds = value_of("--wait", count, words, &at)) != NULL)
+            options->seconds = seconds;
+        else
+            return count;
+    }
+    return at;
+}
+
+static void set(const char *name, const char *value)
+{
+    if (setenv(name, value, 1) < 0)
+        fail(MISUSED, name, strerror(errno));
+}
+
+// How long a call waits for a server: a number of seconds, up to a day.
+static void set_wait(const char *seconds)
+{
+    char *rest;
+    double number = strtod(seconds, &rest);
+    if (rest == seconds || *rest != 0 || !(number >= 0 && number <= 86400))
+        fail(MISUSED, seconds, "is no number of seconds from 0 to 86400");
+    set("IPCD_WAIT", seconds);
+}
+
 int main(int count, char **words)
 {
-    const char *socket = getenv("IPCD_SOCKET");
-    int at = 1;
-    if (at < count && strcmp(words[at], "--help") == 0) {
+    struct options options = {.socket = getenv("IPCD_SOCKET")};
+    if (count > 1 && strcmp(words[1], "--help") == 0) {
         print_usage(stdout);
         return 0;
     }
-    if (at + 1 < count && strcmp(words[at], "--socket") == 0) {
-        socket = words[at + 1];
-        at += 2;
-    } else if (at < count && strncmp(words[at], "--socket=", 9) == 0)
-        socket = words[at++] + 9;
-    if (at < count && strcmp(words[at], "--") == 0)
-        at++;
-    else if (at < count && words[at][0] == '-')
-        at = count;
+    int at = read_options(count, words, &options);
     if (at >= count) {
         print_usage(stderr);
         return MISUSED;
@@ -97,8 +146,12 @@ int main(int count, char **words)
     const char *why = why_not_redirected(path);
     if (why != NULL)
         fail(NOT_RUN, words[at], why);
-    if (socket != NULL && *socket != 0)
-        set_socket(socket);
+    if (options.socket != NULL && *options.socket != 0)
+        set_socket(options.socket);
+    if (options.is_strict)
+        set("IPCD_STRICT", "1");
+    if (options.seconds != NULL)
+        set_wait(options.seconds);
     set_preload();
     execv(path, words + at);
     fail(NOT_RUN, words[at], strerror(errno));

@@ -4,6 +4,7 @@
 
 #include <stddef.h>
 #include <stdint.h>
+#include <sys/types.h>
 
 enum {
     FRAME_MOST = 65792,               // the greatest length that a frame says, of what follows its length
@@ -20,6 +21,10 @@ enum {
 };
 
 #define NO_TIME UINT64_MAX
+
+// A message is copied to the caller as the type and the text of its frame; offsets and times fill fields of 64 bits.
+_Static_assert(sizeof(long) == 8, "a long has 64 bits: a message begins with one");
+_Static_assert(sizeof(off_t) == 8 && sizeof(time_t) == 8, "offsets and times have 64 bits");
 
 enum opcode {
     HELLO = 0x01, INTERRUPT = 0x02, CLOSE = 0x03,

@@ -142,6 +142,30 @@ def programs(top: Path) -> None:
         check(ended.returncode == 0, f"{folder}: {ended}")
 
 
+def tried(top: Path) -> str:
+    """`try` shows a message that survives a kill and leaves no file; one that is changed is refused. Says what was done."""
+    if not (top / "bin/ipcd-ask").exists():
+        check(not (top / "try").exists(), "there is a `try` with nothing to ask with")
+        return "the clients in C are not built, so `try` was not run"
+    Path("temporary").mkdir()
+    here = {**os.environ, "TMPDIR": os.path.abspath("temporary")}
+    ended = subprocess.run([(top / "try").absolute()], cwd="/", capture_output=True, text=True, env=here, timeout=60)
+    check((ended.returncode, ended.stderr) == (0, ""), f"try: {ended}")
+    check(os.listdir("temporary") == [], f"try leaves {os.listdir('temporary')}")
+    lines = ended.stdout.splitlines()
+    serving = "serving device, 1366 sectors, on socket, small limits"
+    check((lines[0], lines.count(serving)) == ("the files are those of MANIFEST", 2), f"{lines}")
+    told = lines[lines.index("the server is killed") :]
+    wanted = ["the server is killed", serving, "ipcd-ask socket 'msgget 1234' 'msgrcv $ 64'", "1", '5 "still here"']
+    check(told[:5] == wanted and len(told) == 6, f"{told}")
+    with (top / "bin/ipcd-run").open("ab") as changed:
+        changed.write(b"x")
+    ended = subprocess.run([top / "try"], capture_output=True, text=True, env=here, timeout=60)
+    said = "try: these files are not those of MANIFEST\n"
+    check(ended.returncode == 1 and ended.stderr.endswith(said), f"a changed file: {ended}")
+    return "`try` shows a message that survives a kill"
+
+
 def main() -> None:
     if not git("rev-parse", "HEAD"):
         print("dist: this is no tree of git's, so nothing was packed")
@@ -156,11 +180,12 @@ def main() -> None:
     manifest(top, NO_GATE)
     files(top)
     programs(top)
+    shown = tried(top)
     Path("gate").write_text("a line before\nthe gate: all is \x1b[1mwell\n\n")
     with tarfile.open(packed("gated", f"GATE={os.getcwd()}/gate")) as tar:
         tar.extract(f"{top.name}/MANIFEST", "gated")
     manifest(Path("gated", top.name), "the gate: all is [1mwell")
-    print("dist: a tarball, twice the same, whose sums, manifest, files and programs are as they should be")
+    print(f"dist: a tarball, twice the same, whose sums, manifest, files and programs are as they should be; {shown}")
 
 
 if __name__ == "__main__":

@@ -1,5 +1,6 @@
 """The documents: whether each link and path that they name leads somewhere, whether manual pages and pictures are what
-tools/man.py and tools/pictures.py make, whether the pages are rendered without a warning, and how many words there are.
+tools/man.py and tools/pictures.py make, whether the pages are rendered without a warning, how many words there are, and
+whether the prose keeps to docs/STYLE.md.
 
     python3 tests/system/documents.py
 
@@ -13,6 +14,7 @@ import shutil
 import subprocess
 import sys
 from collections.abc import Iterator
+from fnmatch import fnmatch
 from functools import cache
 from pathlib import Path
 
@@ -37,6 +39,10 @@ MADE = ("out", "NAME")
 # The most words of a document, and of what stands below a heading of the definitions.
 WORDS = {"README.md": 900, "docs/ARCHITECTURE.md": 1800, "docs/PROMISES.md": 2000}
 MODEL, MODEL_WORDS = "docs/MODEL.md", 60
+# The page of style, with the table of words; pages in which no sentence is longer, and those in which no line is.
+STYLE, SENTENCE_WORDS, LINE_WORDS = "docs/STYLE.md", 45, 120
+SHORT_SENTENCES = ["README.md", "docs/OPERATIONS.md", "docs/PROTOCOL.md", "clients/*/*.md", *MANUALS]
+SHORT_LINES = ["docs/PROTOCOL.md"]
 
 
 def fail(text: str) -> None:
@@ -84,7 +90,7 @@ def links(page: Path) -> Iterator[str]:
 def sections(page: Path) -> Iterator[str]:
     """The parts of a page from one heading to the next, but for what is told of things as they were once."""
     for part in re.split(r"(?m)^(?=#+ )", page.read_text()):
-        if not part.startswith("## Replaced"):
+        if not part.startswith("## Appendix"):
             yield part
 
 
@@ -153,14 +159,92 @@ def words() -> None:
             fail(f"{MODEL}: {len(rest.split())} words below {heading}, and {MODEL_WORDS} are the most")
 
 
+def paragraphs(page: Path) -> Iterator[str]:
+    """The prose of a page: paragraphs, entries of lists and cells of tables, without code and without targets of links."""
+    joined = ""
+    fenced = False
+    for line in [*page.read_text().splitlines(), ""]:
+        fenced ^= line.startswith("```")
+        is_code = fenced or line.startswith(("    ", "```"))
+        line = re.sub(r"!?\[([^]]*)\]\([^)]*\)", r"\1", re.sub(r"`[^`]*`", "CODE", line))
+        line = "" if is_code else line.strip()
+        if line and not line.startswith(("#", "|", "- ")) and not re.match(r"[0-9]+\. ", line):
+            joined += f" {line}"
+            continue
+        yield joined
+        joined = re.sub(r"^(-|[0-9]+\.) ", "", line) if line and line[0] not in "#|" else ""
+        if not joined:
+            yield from line.split("|")
+
+
+def rendered_paragraphs(page: Path) -> Iterator[str]:
+    """The prose of a manual page in roff, without its requests and what stands between .EX and .EE or .nf and .fi."""
+    joined, is_code = "", False
+    for line in [*page.read_text().splitlines(), ".PP"]:
+        name, _, rest = line.partition(" ")
+        if name in (".EX", ".nf", ".EE", ".fi"):
+            is_code = name in (".EX", ".nf")
+        if is_code or name.startswith(('.\\"', "'")):
+            continue
+        if name in (".B", ".I", ".BR", ".RB", ".BI", ".IB", ".IR", ".RI"):
+            separator = " " if len(name) == 2 else ""
+            joined += " " + separator.join(re.findall(r'"[^"]*"|[^" ]+', rest)).replace('"', "")
+        elif not line.startswith("."):
+            joined += f" {line}"
+        else:
+            yield joined
+            joined = ""
+    yield joined
+
+
+def prose(page: Path) -> Iterator[str]:
+    return paragraphs(page) if page.suffix == ".md" else rendered_paragraphs(page)
+
+
+def sentences(page: Path) -> Iterator[str]:
+    for text in prose(page):
+        yield from (it for it in re.split(r"(?<=[.?!])\)? ", text) if it.strip())
+
+
+@cache
+def replaced_words() -> re.Pattern[str]:
+    """The words that STYLE.md replaces: those of the second column of its table."""
+    rows = [line.strip("|").split("|") for line in (ROOT / STYLE).read_text().splitlines() if line.startswith("|")]
+    found = [word.strip() for row in rows[2:] for word in row[1].split(",")]
+    if not found or not all(found):
+        fail(f"{STYLE} has no table of words")
+    return re.compile(r"\b(" + "|".join(re.escape(it) for it in found) + r")\b", re.IGNORECASE)
+
+
+def style(page: Path) -> Iterator[str]:
+    """What in a page is not as STYLE.md has it."""
+    name = str(page.relative_to(ROOT))
+    if name != STYLE:
+        for text in prose(page):
+            for word in replaced_words().findall(text):
+                yield f"'{word}', which {STYLE} replaces, in '{text.strip()[:60]}'"
+    if any(fnmatch(name, it) for it in SHORT_SENTENCES):
+        for sentence in sentences(page):
+            if len(sentence.split()) > SENTENCE_WORDS:
+                yield f"a sentence of {len(sentence.split())} words, '{sentence.strip()[:60]}'"
+    if any(fnmatch(name, it) for it in SHORT_LINES):
+        for line in page.read_text().splitlines():
+            if len(line.split()) > LINE_WORDS:
+                yield f"a line of {len(line.split())} words, '{line[:60]}'"
+
+
 def main() -> None:
     pages = documents()
     wrong = [f"{it.relative_to(ROOT)}: {what}" for it in pages for what in (*links(it), *paths(it))]
     if wrong:
         fail("these lead nowhere:\n" + "\n".join(wrong))
+    pages += sorted(it for pattern in MANUALS for it in ROOT.glob(pattern))
+    wrong = [f"{it.relative_to(ROOT)}: {what}" for it in pages for what in style(it)]
+    if wrong:
+        fail(f"these are not as {STYLE} has it:\n" + "\n".join(wrong))
     made()
     words()
-    print(f"documents: the links and paths of {len(pages)} lead somewhere; {rendered()}")
+    print(f"documents: {len(pages)} pages keep to {STYLE}, and their links and paths lead somewhere; {rendered()}")
 
 
 if __name__ == "__main__":

@@ -3,13 +3,14 @@
     python3 tests/system/install.py PROGRAM
 
 It installs into a temporary folder, with the prefix of a distribution's packager and with the usual
-one. It needs make, and man to render the page: without man it says so and refuses nothing. It takes
-a moment.
+one. It needs make, man to render the page, and systemd-analyze to judge the unit: without one of these
+two it says so and refuses nothing. It takes a moment.
 """
 
 from __future__ import annotations
 
 import os
+import re
 import shutil
 import stat
 import subprocess
@@ -34,12 +35,15 @@ FILES = {
 }
 CLIENTS = {
     "bin/ipcd-run": 0o755,
+    "bin/ipcd-ask": 0o755,
     "include/ipcd.h": 0o644,
+    "lib/libipcd.a": 0o644,
     "lib/libipcd.so": 0o644,
     "lib/libipcd.so.0": 0o644,
     "lib/ipcd/libipcd-preload.so": 0o644,
     "lib/pkgconfig/ipcd.pc": 0o644,
     "share/man/man1/ipcd-run.1": 0o644,
+    "share/man/man1/ipcd-ask.1": 0o644,
     "share/man/man3/libipcd.3": 0o644,
 }
 # They are installed if they are built.
@@ -90,6 +94,25 @@ def unit(top: Path, prefix: str) -> None:
     check(shown in pages, f"{prefix}: OPERATIONS.md shows another unit")
 
 
+def hardened(top: Path) -> str:
+    """The unit is let do little, by the reckoning of systemd, and makes the folder of the clients' pids before the
+    server begins."""
+    text = (top / UNIT).read_text()
+    folder = "ExecStartPre=/bin/mkdir -p -m 01777 /run/ipcd/socket.pids\n"
+    check(folder in text.partition("ExecStart=")[0], f"the folder of pids is not made: {text!r}")
+    words = ["systemd-analyze", "security", "--offline=true"]
+    here = {**os.environ, "LC_ALL": "C"}
+    try:
+        ended = subprocess.run([*words, top / UNIT], capture_output=True, text=True, env=here, timeout=60)
+    except FileNotFoundError:
+        return "systemd-analyze is not here, so the unit was not judged"
+    level = re.search(r"Overall exposure level for ipcd.service: ([0-9.]+)", ended.stdout)
+    if level is None:
+        return f"systemd-analyze of this version judges no file, so the unit was not judged: {ended.stderr.strip()[:80]}"
+    check(float(level[1]) <= 2.0, f"the exposure of the unit is {level[1]}, and 2.0 is the most")
+    return f"the exposure of the unit is {level[1]}"
+
+
 def notify(top: Path) -> None:
     """What the unit starts the program by is installed as one that can be run."""
     ended = subprocess.run([top / NOTIFY, top / "bin/ipcd", "--version"], capture_output=True, text=True, timeout=60)
@@ -120,8 +143,9 @@ def main() -> None:
         top = installed(prefix)
         name = program(top)
         unit(top, prefix)
+        judged = hardened(top)
         notify(top)
-    print(f"install: the program, its page, its unit and what this starts it by, twice; {page(top, name)}")
+    print(f"install: the program, its page, its unit and what this starts it by, twice; {judged}; {page(top, name)}")
 
 
 if __name__ == "__main__":

@@ -16,7 +16,6 @@ import socket
 import stat
 import subprocess
 import sys
-import textwrap
 import threading
 import time
 from collections.abc import Iterator
@@ -32,7 +31,7 @@ sys.path.insert(0, str(HERE.parents[2] / "tests/lib"))
 sys.path.insert(0, str(HERE))
 
 from false_server import FAULTS, HALF_AFTER_INTERRUPT, INTERRUPTED, TORN, Fault, FalseServer  # noqa: E402
-from server import Connection, Server, check, in_a_folder, printed, run_tests, serving, until  # noqa: E402
+from server import PROGRAM, Connection, Server, check, in_a_folder, printed, run_tests, serving, until  # noqa: E402
 
 SECONDS = 100
 RUN = str(OUT / "ipcd-run")
@@ -118,14 +117,109 @@ def memcheck() -> None:
     all_are_errors([(program, EACH_CALL[i % len(EACH_CALL)], "answered", it) for i, it in enumerate(FAULTS[::2])])
 
 
+def sanitized() -> None:
+    """ThreadSanitizer reports nothing of threads that call at once, AddressSanitizer nothing of each call."""
+    device()
+    threads = [["thread_races"], *(["thread_processes", name] for name in ("threads", "many_threads", "not_cancelled"))]
+    addresses = [["address_races"], *([f"address_{name}"] for name in CALLS if name != "handlers")]
+    with serving(prepare=by_anybody):
+        for kind, programs in (("ThreadSanitizer", threads), ("AddressSanitizer", addresses)):
+            if (OUT / "tests" / programs[0][0]).stat().st_size == 0:
+                print(f"clients: the compiler has no {kind}, so it was not run")
+                continue
+            first = str(OUT / "tests" / programs[0][0])
+            begun = subprocess.run(first, capture_output=True, text=True, env={**os.environ, "IPCD_SOCKET": "none"})
+            if "unexpected memory mapping" in begun.stderr:
+                print(f"clients: this system's memory is not for {kind}, so it was not run")
+                continue
+            for words in programs:
+                ends_well(str(OUT / "tests" / words[0]), *words[1:], NO_BAD_ADDRESSES="1")
+
+
+def looks_inside() -> None:
+    """A call ends where it began, and pages may be longer."""
+    device()
+    with serving(prepare=by_anybody):
+        ends_well(str(OUT / "tests" / "inside"))
+        ends_well(str(OUT / "tests" / "library_races"))
+
+
 def redirected_calls() -> None:
     device()
     with serving(prepare=by_anybody):
-        # Segments of System V stay the kernel's.
-        all_end_well([[RUN, str(OUT / "tests" / name)] for name in [*reversed(CALLS), "attachments"]])
+        all_end_well([[RUN, str(OUT / "tests" / name)] for name in reversed(CALLS)])
+        # Segments of System V stay the kernel's, and that is said.
+        says_so(str(OUT / "tests" / "attachments"), call="shmget")
         with Connection("socket") as connection:
             connection.hello(0, 0)
             check(connection.shmget(0, 1, 0o600) == 1, "segments of System V are not the kernel's")
+
+
+def says_so(*words: str, call: str) -> None:
+    """A program that asks for shared memory ends well, and one line says whose that is."""
+    ended = subprocess.run([RUN, *words], capture_output=True, text=True, timeout=SECONDS)
+    name = os.path.basename(words[0])
+    kernels = "stays the kernel's, and outlives no crash of the machine"
+    wanted = f"ipcd-run: {name}: shared memory ({call}) {kernels}\n"
+    check((ended.returncode, ended.stderr) == (0, wanted), f"{words}: {ended}")
+
+
+def shared_memory() -> None:
+    """It stays the kernel's, which is said once and nowhere but on standard error, or it is refused."""
+    program = str(OUT / "tests" / "waits")
+    says_so(program, "memory", call="shm_open")
+    ends_well(RUN, program, "other_errors")
+    check(Path("own").read_text() == "own\n", "a line is in a file of the program")
+    ends_well(RUN, "--strict", program, "strict")
+    ends_well(RUN, "--strict", "sh", "-c", f"exec {program} strict")
+
+
+@contextmanager
+def waiting_program(*words: str) -> Iterator[subprocess.Popen[str]]:
+    """A program whose calls wait for a server, up to half a minute."""
+    here = {**os.environ, "IPCD_SOCKET": os.path.abspath("socket")}
+    line = [RUN, "--wait", "30", str(OUT / "tests" / "waits"), *words]
+    pipes = dict.fromkeys(("stdin", "stdout", "stderr"), subprocess.PIPE)
+    program = subprocess.Popen(line, text=True, env=here, **pipes)
+    try:
+        yield program
+        output, said = program.communicate("\n", timeout=SECONDS)
+        check((program.returncode, output, said) == (0, "", ""), f"{words}: {program.returncode}, {said}")
+    finally:
+        program.kill()
+        program.wait()
+
+
+def waits_for_a_server() -> None:
+    """With --wait a call goes on when a server comes, but for one that has lost a lock by its end."""
+    device()
+    with waiting_program("begins_before"):
+        time.sleep(0.5)
+        server = Server()
+    with waiting_program("goes_on") as program:
+        check(program.stdout.readline() == "kill it while I wait\n", "it does not come so far")
+        until_one_waits(program)
+        server.stop(signal.SIGKILL)
+        time.sleep(0.3)
+        server = Server()
+        with Connection("socket") as connection:
+            connection.hello(os.geteuid(), os.getegid())
+            connection.msgsnd(connection.msgget(8, 0), 1, b"again")
+            for _ in range(2):
+                check(program.stdout.readline() == "kill it now\n", "it does not come so far")
+                server.stop(signal.SIGKILL)
+                server = Server()
+                program.stdin.write("\n")
+                program.stdin.flush()
+    with waiting_program("lost_lock") as program:
+        check(program.stdout.readline() == "kill it now\n", "it does not come so far")
+        server.stop(signal.SIGKILL)
+        server = Server()
+    server.stop()
+    ends_well(RUN, "--wait=0.5", str(OUT / "tests" / "waits"), "gives_up")
+    for words in ("--wait", "--wait=", "--wait=x", "--wait=-1", "--wait=1e9"):
+        ended = subprocess.run([RUN, words, "true"], capture_output=True, text=True, timeout=20)
+        check(ended.returncode == 125 and ended.stdout == "", f"{words}: {ended}")
 
 
 def processes() -> None:
@@ -286,11 +380,12 @@ def refuses_programs() -> None:
 
 def names_of(library: Path) -> set[str]:
     listed = subprocess.run(["nm", "-D", "--defined-only", library], capture_output=True, text=True)
-    return {line.split()[2].partition("@")[0] for line in listed.stdout.splitlines()}
+    found = [line.split()[1:3] for line in listed.stdout.splitlines()]
+    return {name.partition("@")[0] for kind, name in found if kind != "A"}
 
 
 # What the C library has of these calls, and the library that is preloaded leaves to it.
-LEFT = {"sem_init", "sem_destroy", "shm_open", "shm_unlink", "__shm_get_name", "shmget", "shmat", "shmdt", "shmctl"}
+LEFT = {"sem_init", "sem_destroy", "shm_unlink", "__shm_get_name", "shmdt", "shmctl"}
 
 
 def exports() -> None:
@@ -302,16 +397,18 @@ def exports() -> None:
         setregid setresgid sigaction siginterrupt signal bsd_signal ssignal sigset
     """.split()
     calls = names_of(preload) - set(heard)
-    check(len(calls) == 28 and names_of(preload) >= set(heard), f"{names_of(preload)}")
+    check(len(calls) == 31 and names_of(preload) >= set(heard), f"{names_of(preload)}")
     own = {name for it in c_library(preload) for name in names_of(it)}
     kinds = r"_*(msg(get|snd|rcv|ctl)|sem(get|op|timedop|ctl)|shm(get|at|dt|ctl)|mq_|sem_|shm_)"
     wanted = {name for name in own if re.match(kinds, name)}
     check(calls == wanted - LEFT, f"{calls ^ wanted ^ LEFT}")
     names = names_of(library)
     prefixed = {name for name in calls if name != "__mq_open_2"}
-    others = "connect disconnect use shm_open shm_unlink ftruncate pread pwrite fstat close".split()
+    others = "version connect disconnect use shm_open shm_unlink ftruncate pread pwrite fstat close".split()
     others += "shmget shmctl shmattach shmdetach shmread shmwrite shmat shmdt".split()
     check(names == {f"ipcd_{name}" for name in [*prefixed, *others]}, f"{names}")
+    listed = subprocess.run(["nm", "-D", "--defined-only", library], capture_output=True, text=True).stdout
+    check(all(f"{name}@@IPCD_0\n" in listed for name in names), f"a name has no version: {listed}")
     words = ["nm", "-D", "--undefined-only", OUT / "tests" / "posix_queues"]
     asked = subprocess.run(words, capture_output=True, text=True).stdout
     check("__mq_open_2" in asked, f"the test of POSIX queues is not fortified: {asked}")
@@ -349,6 +446,91 @@ def installs() -> None:
     renders(top)
 
 
+def makes(out: str, *words: str) -> str:
+    """Builds the library elsewhere, by other words of a packager, and answers what the compiler has said."""
+    apart = {name: text for name, text in os.environ.items() if not name.startswith(("MAKE", "MFLAGS"))}
+    line = ["make", "-s", "-C", str(HERE.parent), f"OUT={os.path.abspath(out)}", *words]
+    ended = subprocess.run(line, capture_output=True, text=True, env=apart)
+    check(ended.returncode == 0, f"{words}: {ended}")
+    return ended.stdout + ended.stderr
+
+
+def built_otherwise() -> None:
+    """By another compiler, by the letter of the standard, and with what a packager gives."""
+    compilers = [it for it in ("gcc", "clang") if shutil.which(it)]
+    for name in compilers:
+        said = makes(name, f"CC={name}", "CFLAGS=-O1 -pedantic", "CPPFLAGS=-DPATIENCE=12321", "LDFLAGS=-Wl,-z,now")
+        check(said == "", f"{name} says {said}")
+        listed = subprocess.run(["readelf", "-d", f"{name}/libipcd.so.0"], capture_output=True, text=True).stdout
+        check("NOW" in listed, f"{name}: LDFLAGS are not heard: {listed}")
+    print(f"clients: built by {' and '.join(compilers)}")
+    top = Path("packaged").resolve()
+    makes(compilers[0] if compilers else "cc", "install", f"DESTDIR={top}", "PREFIX=/usr", "LIBDIR=/usr/lib64")
+    there = {str(it.relative_to(top)) for it in (top / "usr/lib64").rglob("*") if it.is_file()}
+    wanted = {"libipcd.so", "libipcd.so.0", "libipcd.a", "pkgconfig/ipcd.pc"}
+    check(there == {f"usr/lib64/{name}" for name in wanted}, f"{there}")
+    file = (top / "usr/lib64/pkgconfig/ipcd.pc").read_text()
+    check("\nlibdir=/usr/lib64\n" in file and "Version: 0.1.0\n" in file, file)
+    ended = subprocess.run([top / "usr/bin/ipcd-run", "true"], capture_output=True, text=True)
+    check((ended.returncode, ended.stderr) == (0, ""), f"{ended}")
+
+
+def headers() -> None:
+    """ipcd.h compiles alone, in C and in C++, and each file refuses a system whose long has 32 bits."""
+    compiler, warnings = os.environ.get("CC", "cc"), ["-Wall", "-Wextra", "-Werror", "-pedantic", "-fsyntax-only"]
+    forms = [["-x", "c", f"-std={it}", "-D_DEFAULT_SOURCE"] for it in ("c99", "c11", "gnu11")]
+    forms.append(["-x", "c", "-std=c11", "-D_XOPEN_SOURCE=700"])
+    if shutil.which("c++"):
+        forms += [["-x", "c++", f"-std={it}"] for it in ("c++98", "c++17")]
+    else:
+        print("clients: there is no C++ compiler, so ipcd.h was not tried in C++")
+    for form in forms:
+        line = ["c++" if "c++" in form else compiler, *form, *warnings, str(HERE.parent / "ipcd.h")]
+        ended = subprocess.run(line, capture_output=True, text=True)
+        check((ended.returncode, ended.stderr) == (0, ""), f"{line}: {ended.stderr}")
+    os.makedirs("gnu", exist_ok=True)
+    Path("gnu/stubs-32.h").write_text("")
+    where = subprocess.run([compiler, "-print-multiarch"], capture_output=True, text=True).stdout.strip()
+    line = [compiler, "-m32", "-fsyntax-only", "-I.", "-idirafter", f"/usr/include/{where}"]
+    ended = subprocess.run([*line, str(HERE.parent / "messages.c")], capture_output=True, text=True)
+    check(ended.returncode != 0, "messages.c compiles for 32 bits")
+    if "a long has 64 bits" not in ended.stderr:
+        print("clients: this compiler has no 32 bits, so the refusal of them was not seen")
+
+
+def static_library() -> None:
+    """It has no names but its own, so a program may have any other, and says its version."""
+    listed = subprocess.run(["nm", "-g", "--defined-only", OUT / "libipcd.a"], capture_output=True, text=True).stdout
+    names = {words[2] for words in map(str.split, listed.splitlines()) if len(words) == 3}
+    check(names == names_of(OUT / "libipcd.so.0"), f"{names}")
+    Path("clashes.c").write_text("""
+        #include <errno.h>
+        #include <string.h>
+        #include <ipcd.h>
+        int begin(void), end(void), take(void), release(void), find(void), wake(void), changes;
+        int begin(void) { return 1; }
+        int end(void) { return 2; }
+        int take(void) { return 3; }
+        int release(void) { return 4; }
+        int find(void) { return 5; }
+        int wake(void) { return 6; }
+        int main(void)
+        {
+            int sum = begin() + end() + take() + release() + find() + wake() + changes;
+            if (sum != 21 || strcmp(ipcd_version(), IPCD_VERSION) != 0 || strcmp(IPCD_VERSION, "0.1.0") != 0)
+                return 1;
+            return ipcd_msgget(1, 0) == -1 && errno == ENOENT ? 0 : 2;
+        }
+    """)
+    flags = ["-Wall", "-Wextra", "-Werror", "-pthread", f"-I{HERE.parent}"]
+    line = [os.environ.get("CC", "cc"), *flags, "clashes.c", "-o", "clashes", str(OUT / "libipcd.a")]
+    ended = subprocess.run(line, capture_output=True, text=True)
+    check((ended.returncode, ended.stderr) == (0, ""), ended.stderr)
+    device()
+    with serving(prepare=by_anybody):
+        ends_well("./clashes")
+
+
 def compiles_there(top: Path) -> None:
     """A program finds header and library by pkg-config, if that is here."""
     Path("asks.c").write_text("""
@@ -381,22 +563,91 @@ def renders(top: Path) -> None:
         check((ended.returncode, ended.stderr) == (0, "") and words in ended.stdout, f"{name}: {ended}")
 
 
-def shown_in_readme() -> None:
-    """The lines of README.md, with the server killed between them."""
-    text = (HERE.parents[2] / "README.md").read_text()
-    lines = re.findall(r"^    \$ (ipcd-run .*)\n(?!    \$)((?:    .*\n)*)|^    \$ (ipcd-run .*)\n", text, re.M)
-    check(len(lines) == 2, f"{lines}")
-    if shutil.which("perl") is None or subprocess.run(["perl", "-MIPC::Msg", "-e", "1"], stderr=-3).returncode:
-        print("clients: perl is not here with IPC::Msg, so README's lines were not run")
-        return
+# What stands between `.EX` and `.EE` in a section EXAMPLES, and how roff writes some characters there.
+EXAMPLE = re.compile(r"^\.EX\n(.*?)^\.EE$", re.M | re.S)
+ROFF = {r"\-": "-", r"\(aq": "'", r"\&": "", r"\e": "\\"}
+
+
+def examples(page: Path) -> list[str]:
+    """The examples of a manual page, as a terminal shows them."""
+    found = EXAMPLE.findall(page.read_text().partition(".SH EXAMPLES")[2].partition("\n.SH ")[0])
+    return [re.sub(r"\\(?:-|\(aq|&|e)", lambda it: ROFF[it[0]], text) for text in found]
+
+
+def manual_pages() -> None:
+    """Each example of a manual page is run as it stands: one in C is compiled, one of a shell prints what is shown."""
+    count = 0
+    os.makedirs("path", exist_ok=True)
+    shutil.copy(PROGRAM, "path/ipcd")
+    for page in sorted([*HERE.parent.glob("*.[1-8]"), *(HERE.parents[2] / "docs").glob("*.[1-8]")]):
+        for name in ("device", "copy", "socket"):
+            Path(name).unlink(missing_ok=True)
+        servers: list[Server] = []
+        try:
+            for text in examples(page):
+                count += 1
+                if text.startswith("$ "):
+                    shell_shows(page, text, servers)
+                else:
+                    compiles_and_runs(page, text)
+        finally:
+            for server in servers:
+                server.process.kill()
+                server.process.communicate()
+    check(count >= 4, f"{count} examples are few")
+    print(f"clients: {count} examples of manual pages")
+
+
+def compiles_and_runs(page: Path, text: str) -> None:
+    """A program, or a part of one below the includes of the page's synopsis."""
+    if "int main(" not in text:
+        synopsis = page.read_text().partition(".SH SYNOPSIS")[2].partition("\n.SH ")[0]
+        includes = "\n".join(["#include <errno.h>", *re.findall(r"#include <[^>]*>", synopsis)])
+        text = f"{includes}\nint main(void)\n{{\n{text}return errno;\n}}\n"
+    Path("example.c").write_text(text)
+    flags = ["-Wall", "-Wextra", "-Werror", f"-I{HERE.parent}", f"-L{OUT}", f"-Wl,-rpath,{OUT}"]
+    compiler = os.environ.get("CC", "cc")
+    made = subprocess.run([compiler, *flags, "example.c", "-o", "example", "-lipcd"], capture_output=True, text=True)
+    check(made.returncode == 0, f"{page.name}: an example does not compile: {made.stderr}")
     device()
-    here = {**os.environ, "IPCD_SOCKET": os.path.abspath("socket"), "PATH": f"{OUT}:{os.environ['PATH']}"}
-    for first, printed_there, second in lines:
-        server = Server()
-        ended = subprocess.run(["sh", "-c", first or second], capture_output=True, text=True, env=here)
-        check((ended.returncode, ended.stderr) == (0, ""), f"{ended}")
-        check(ended.stdout == textwrap.dedent(printed_there), f"{ended}")
-        server.stop(signal.SIGKILL)
+    with serving(prepare=by_anybody):
+        ends_well("./example")
+
+
+def shell_shows(page: Path, text: str, servers: list[Server]) -> None:
+    """The lines of a shell. One by ipcd-run has a server, which is killed after it; one that serves is one."""
+    if "IPC::Msg" in text and subprocess.run(["perl", "-MIPC::Msg", "-e", "1"], stderr=subprocess.DEVNULL).returncode:
+        print(f"clients: perl is not here with IPC::Msg, so an example of {page.name} was not run")
+        return
+    here = {**os.environ, "IPCD_SOCKET": os.path.abspath("socket")}
+    make_objects(text)
+    here["PATH"] = f"{os.getcwd()}/path:{OUT}:{os.environ['PATH']}"
+    for line, printed_there in re.findall(r"^\$ (.*)\n((?:(?!\$ ).*\n)*)", text, re.M):
+        if line.startswith("ipcd serve "):
+            servers.append(Server())
+            check(line.split()[2:4] == ["device", "socket"], f"{page.name}: {line} is another server")
+            shown = "serving device, 252440 sectors, on socket, standard limits\n"
+            check(printed_there == shown, f"{page.name}: {line}: {printed_there!r}, and not {shown!r}")
+            continue
+        if line.startswith("ipcd-run ") and not os.path.exists("device"):
+            printed("format", "device")
+        server = Server() if line.startswith("ipcd-run ") else None
+        ended = subprocess.run(["sh", "-c", line], capture_output=True, text=True, env=here, timeout=SECONDS)
+        if server is not None:
+            server.stop(signal.SIGKILL)
+        check((ended.returncode, ended.stderr) == (0, ""), f"{page.name}: {line}: {ended}")
+        check(ended.stdout == printed_there, f"{page.name}: {line}: {ended.stdout!r}, and not {printed_there!r}")
+
+
+def make_objects(text: str) -> None:
+    """As many objects as an example tells of, if it does."""
+    told = re.search(r"(\d+) objects", text)
+    if told is None or not os.path.exists("socket"):
+        return
+    with Connection("socket") as connection:
+        connection.hello(0, 0)
+        for number in range(int(told[1])):
+            connection.msgget(100 + number, 0o1600)
 
 
 def pids() -> None:
@@ -506,10 +757,11 @@ def pieces() -> None:
             ends_well(str(OUT / "tests" / f"library_{name}"), IPCD_SOCKET=os.path.abspath("dribble"))
 
 
-TESTS = [exports, refuses_programs, installs, kernel_agrees, library_calls, pieces, memcheck, redirected_calls,
-         processes, pids, shown_in_readme, without_a_server, restarts, killed_in_each_call, false_servers]  # fmt: skip
+TESTS = [exports, headers, built_otherwise, static_library, refuses_programs, installs, kernel_agrees, library_calls,
+         pieces, memcheck, sanitized, looks_inside, redirected_calls, shared_memory, waits_for_a_server, processes,
+         pids, manual_pages, without_a_server, restarts, killed_in_each_call, false_servers]  # fmt: skip
 
 if __name__ == "__main__":
-    with in_a_folder(300):
+    with in_a_folder(600):
         os.chmod(".", stat.S_IRWXU | 0o055)
         run_tests("clients in C", [test for test in TESTS if not WANTED or test.__name__ in WANTED])

@@ -6,9 +6,11 @@ names are on the kernel's objects, `ipcd.work` does work at least once, and `pyt
 
 from __future__ import annotations
 
-from .connection import Connection as Connection
-from .connection import ProtocolError as ProtocolError
-from .connection import ServerFault as ServerFault
+from . import wire
+from .connection import Connection, ProtocolError, ServerFault
 from .wire import *  # noqa: F403
+
+__all__ = ["Connection", "ProtocolError", "ServerFault"]
+__all__ += wire.__all__
 
 __version__ = "0.1.0"

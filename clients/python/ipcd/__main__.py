@@ -9,9 +9,10 @@ import os
 import subprocess
 import sys
 import time
-from typing import Callable, Optional
+from pathlib import Path
+from typing import Callable, Optional, TypeVar
 
-from . import listing, session
+from . import __version__, listing, session
 from .connection import Connection
 from .top import top
 from .wire import IPC_CREAT, IPC_NOWAIT, MSG_NOERROR, O_CREAT, O_RDONLY, O_WRONLY
@@ -19,6 +20,16 @@ from .wire import IPC_CREAT, IPC_NOWAIT, MSG_NOERROR, O_CREAT, O_RDONLY, O_WRONL
 KINDS = ("mqueue", "semaphore", "shmem")
 SYSTEM_V = ("queue", "shmem", "semaphore")
 LETTERS = {"queue": "q", "shmem": "m", "semaphore": "s"}
+T = TypeVar("T")
+# What an object of System V is called.
+CALLED = {"queue": "message queue", "shmem": "segment", "semaphore": "semaphore set"}
+CALLED_BY_NAME = {"mqueue": "POSIX queue", "shmem": "segment", "semaphore": "named semaphore"}
+
+__all__ = ["main"]
+
+
+class Missing(Exception):
+    """No object has the key, the identifier or the name that is given."""
 
 
 def number(text: str) -> int:
@@ -27,8 +38,11 @@ def number(text: str) -> int:
 
 
 def parser() -> argparse.ArgumentParser:
-    words = argparse.ArgumentParser(prog="python3 -m ipcd", description="Looks at a live server, and uses it.")
-    words.add_argument("--socket", default=os.environ.get("IPCD_SOCKET", session.SOCKET), help="default: %(default)s")
+    own = Path(sys.argv[0]).name
+    prog = own if own == "ipcdctl" else "python3 -m ipcd"
+    words = argparse.ArgumentParser(prog=prog, description="Looks at a live server, and uses it.")
+    words.add_argument("--version", action="version", version=f"ipcd {__version__}")
+    words.add_argument("--socket", default=session.socket_path(), help="default: %(default)s")
     commands = words.add_subparsers(dest="command", required=True)
 
     ls = commands.add_parser("ls", help="lists queues, segments and semaphore sets, and objects by their names")
@@ -44,13 +58,13 @@ def parser() -> argparse.ArgumentParser:
     for command in (ls, watch):
         command.add_argument("--upto", type=int, default=1024, help="tries identifiers 1 to N, default: 1024")
 
-    stat = commands.add_parser("stat", help="says all of one object")
+    stat = commands.add_parser("stat", help="says all of one object, of a set each semaphore too")
     objects(stat, KINDS, SYSTEM_V, many=False)
     send = commands.add_parser("send", help="sends a text to a queue")
     receive = commands.add_parser("receive", help="takes a message off a queue, and prints its text")
     for command in (send, receive):
         objects(command, KINDS[:1], SYSTEM_V[:1], many=False)
-        command.add_argument("--nowait", action="store_true", help="is refused, and does not wait")
+        command.add_argument("--nowait", action="store_true", help="fail at once instead of waiting")
         command.add_argument("--timeout", type=float, help="waits so many seconds at most")
         command.add_argument("--type", type=int, default=int(command is send), help="of a System V message")
     send.add_argument("--create", action="store_true", help="makes the queue, if there is none")
@@ -113,24 +127,53 @@ def watch(connection: Connection, given: argparse.Namespace) -> int:
 
 
 def stat(connection: Connection, given: argparse.Namespace) -> int:
-    for kind in KINDS:
-        name = getattr(given, f"posix_{kind}")
-        if name is not None:
-            columns = listing.NAMED[kind][1]
-            fields = dict(zip(columns, listing.named(connection, kind, name)))
-            break
-    else:
-        record: tuple[int, ...]
-        if given.queue_id is not None or given.queue_key is not None:
-            record = connection.msgctl_stat(queue_of(connection, given))
-        elif given.shmem_id is not None or given.shmem_key is not None:
-            record = connection.shmctl_stat(segment_of(connection, given))
-        else:
-            record = connection.semctl_stat(set_of(connection, given))
-        fields = {name: shown(name, value) for name, value in record._asdict().items()}  # type: ignore[attr-defined]
-    for name, text in fields.items():
+    named_kind = next((kind for kind in KINDS if getattr(given, f"posix_{kind}") is not None), None)
+    if named_kind is None:
+        print(system_v_stat(connection, given), end="")
+        return 0
+    wanted = getattr(given, f"posix_{named_kind}")
+    try:
+        row = listing.named(connection, named_kind, wanted)
+    except FileNotFoundError:
+        raise Missing(f"no {CALLED_BY_NAME[named_kind]} has the name {wanted}") from None
+    for name, text in zip(listing.NAMED[named_kind][1], row):
         print(f"{name}={text}")
     return 0
+
+
+def system_v_stat(connection: Connection, given: argparse.Namespace) -> str:
+    """What IPC_STAT tells of an object, and of a set its semaphores too."""
+    record: tuple[int, ...]
+    semaphores = ""
+    if given.queue_id is not None or given.queue_key is not None:
+        record = found("queue", queue_of(connection, given), connection.msgctl_stat)
+    elif given.shmem_id is not None or given.shmem_key is not None:
+        record = found("shmem", segment_of(connection, given), connection.shmctl_stat)
+    else:
+        number = set_of(connection, given)
+        record = of_set = found("semaphore", number, connection.semctl_stat)
+        rows = listing.semaphore_rows(connection, number, of_set.nsems)
+        semaphores = "\n" + listing.columns(listing.SEMAPHORES, rows)
+    fields = record._asdict().items()  # type: ignore[attr-defined]
+    return "".join(f"{name}={shown(name, value)}\n" for name, value in fields) + semaphores
+
+
+def found(kind: str, number: int, call: Callable[[int], T]) -> T:
+    """What a call answers of an object with an identifier."""
+    try:
+        return call(number)
+    except OSError as refusal:
+        if refusal.errno == errno.EINVAL:
+            raise Missing(f"no {CALLED[kind]} has the identifier {number}") from None
+        raise
+
+
+def of_key(kind: str, key: int, call: Callable[[int], int]) -> int:
+    """The identifier of an object with a key."""
+    try:
+        return call(key)
+    except FileNotFoundError:
+        raise Missing(f"no {CALLED[kind]} has the key {listing.key(key)}") from None
 
 
 def shown(name: str, value: int) -> str:
@@ -142,19 +185,19 @@ def shown(name: str, value: int) -> str:
 def queue_of(connection: Connection, given: argparse.Namespace, flags: int = 0) -> int:
     """The identifier of the queue that is named."""
     if given.queue_key is not None:
-        return connection.msgget(given.queue_key, flags)
+        return of_key("queue", given.queue_key, lambda key: connection.msgget(key, flags))
     return need(given.queue_id)
 
 
 def segment_of(connection: Connection, given: argparse.Namespace) -> int:
     if given.shmem_key is not None:
-        return connection.shmget(given.shmem_key, 0, 0)
+        return of_key("shmem", given.shmem_key, lambda key: connection.shmget(key, 0, 0))
     return need(given.shmem_id)
 
 
 def set_of(connection: Connection, given: argparse.Namespace) -> int:
     if given.semaphore_key is not None:
-        return connection.semget(given.semaphore_key, 0, 0)
+        return of_key("semaphore", given.semaphore_key, lambda key: connection.semget(key, 0, 0))
     return need(given.semaphore_id)
 
 
@@ -182,7 +225,8 @@ def receive(connection: Connection, given: argparse.Namespace) -> int:
         _, text = connection.mq_receive(queue, connection.mq_getattr(queue).msgsize, limit(given))
     else:
         flags = (IPC_NOWAIT if given.nowait else 0) & ~MSG_NOERROR
-        _, text = connection.msgrcv(queue_of(connection, given), 2**31 - 1, given.type, flags, given.timeout)
+        queue = queue_of(connection, given)
+        _, text = found("queue", queue, lambda it: connection.msgrcv(it, 2**31 - 1, given.type, flags, given.timeout))
     sys.stdout.buffer.write(text)
     if sys.stdout.isatty():
         print()
@@ -196,13 +240,17 @@ def limit(given: argparse.Namespace) -> Optional[float]:
 
 def rm(connection: Connection, given: argparse.Namespace) -> int:
     """Removes each, and goes on after one that is refused, as ipcrm(1) does."""
-    removes: list[tuple[list[object], Callable[..., None]]] = [
-        (given.queue_id, connection.msgctl_rmid),
-        (given.queue_key, lambda key: connection.msgctl_rmid(connection.msgget(key, 0))),
-        (given.shmem_id, connection.shmctl_rmid),
-        (given.shmem_key, lambda key: connection.shmctl_rmid(connection.shmget(key, 0, 0))),
-        (given.semaphore_id, connection.semctl_rmid),
-        (given.semaphore_key, lambda key: connection.semctl_rmid(connection.semget(key, 0, 0))),
+    each: dict[str, tuple[Callable[[int], None], Callable[[int], int]]] = {
+        "queue": (connection.msgctl_rmid, lambda key: connection.msgget(key, 0)),
+        "shmem": (connection.shmctl_rmid, lambda key: connection.shmget(key, 0, 0)),
+        "semaphore": (connection.semctl_rmid, lambda key: connection.semget(key, 0, 0)),
+    }
+    removes: list[tuple[list[object], Callable[..., None]]] = []
+    for kind, (rmid, get) in each.items():
+        by_id, by_key = getattr(given, f"{kind}_id"), getattr(given, f"{kind}_key")
+        removes.append((by_id, lambda number, kind=kind, rmid=rmid: found(kind, number, rmid)))
+        removes.append((by_key, lambda key, kind=kind, rmid=rmid, get=get: rmid(of_key(kind, key, get))))
+    removes += [
         (given.posix_mqueue, connection.mq_unlink),
         (given.posix_semaphore, connection.sem_unlink),
         (given.posix_shmem, connection.shm_unlink),
@@ -215,6 +263,9 @@ def rm(connection: Connection, given: argparse.Namespace) -> int:
                 remove(thing)
             except ConnectionError:
                 raise
+            except Missing as missing:
+                print(f"ipcd: rm: {missing}", file=sys.stderr)
+                status = 1
             except OSError as refusal:
                 print(f"ipcd: rm: {thing}: {refusal.strerror}", file=sys.stderr)
                 status = 1
@@ -233,6 +284,13 @@ def of_device(given: argparse.Namespace) -> int:
         return 1
 
 
+def reason(refusal: OSError) -> str:
+    """What a refusal is called. ENFILE is of the server here, not of the system, of which its text tells."""
+    if refusal.errno == errno.ENFILE:
+        return "the server has as many processes as it takes, which is 64 by standard limits: a client has to end first"
+    return refusal.strerror or str(refusal)
+
+
 def main(words: Optional[list[str]] = None) -> int:
     given = parser().parse_args(words)
     if given.command == "ls" and given.device is not None:
@@ -248,7 +306,9 @@ def main(words: Optional[list[str]] = None) -> int:
         # Who reads the output has ended, or the server has.
         sys.stderr.write(f"ipcd: {given.command}: {refusal.strerror}\n")
     except OSError as refusal:
-        print(f"ipcd: {given.command}: {refusal.strerror}", file=sys.stderr)
+        print(f"ipcd: {given.command}: {reason(refusal)}", file=sys.stderr)
+    except Missing as missing:
+        print(f"ipcd: {given.command}: {missing}", file=sys.stderr)
     except ValueError as refusal:
         print(f"ipcd: {given.command}: {refusal}", file=sys.stderr)
         return 2

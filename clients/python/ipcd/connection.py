@@ -121,7 +121,7 @@ class Connection(Stream):
     ) -> tuple[int, bytes]:
         """Takes a message off the queue: its type and its text, see msgop(2)."""
         body = self.call(msgrcv_request(msqid, msgsz, msgtyp, msgflg), timeout)
-        return self.number_and_text(">q", body, msgsz)
+        return self._number_and_text(">q", body, msgsz)
 
     def msgctl_stat(self, msqid: int) -> QueueStat:
         """What there is to know of a queue, IPC_STAT of msgctl(2)."""
@@ -207,7 +207,7 @@ class Connection(Stream):
         """Takes the oldest message of the greatest priority off the queue: the priority and the text, see
         mq_receive(3). It waits while the queue is empty, as mq_send does while it is full."""
         body = self.call(mq_receive_request(mqdes, size, _deadline(timeout)))
-        return self.number_and_text(">I", body, size)
+        return self._number_and_text(">I", body, size)
 
     def mq_notify(self, mqdes: int, kind: int, cookie: int = 0) -> None:
         """Asks to be told of the next message that comes to the queue while it is empty, see mq_notify(3)."""
@@ -318,13 +318,13 @@ class Connection(Stream):
         """Makes a call that is answered so many bytes."""
         body = self.call(request)
         if len(body) != length:
-            self.breaks("other bytes than were asked")
+            self._breaks("other bytes than were asked")
         return body
 
     def _done(self, request: bytes, timeout: float | None = None) -> None:
         """Makes a call whose reply has no body."""
         if self.call(request, timeout):
-            self.breaks("a body where none is")
+            self._breaks("a body where none is")
 
     def _number(self, request: bytes) -> int:
         """Makes a call that is answered one number."""
@@ -333,14 +333,14 @@ class Connection(Stream):
     def _fields(self, form: str, body: bytes) -> tuple[int, ...]:
         """The numbers of a body."""
         if len(body) != struct.calcsize(form):
-            self.breaks("a body of another size")
+            self._breaks("a body of another size")
         return struct.unpack(form, body)
 
-    def number_and_text(self, form: str, body: bytes, most: int) -> tuple[int, bytes]:
+    def _number_and_text(self, form: str, body: bytes, most: int) -> tuple[int, bytes]:
         """The number that a body begins with, and the rest of it, which has as many bytes at most."""
         size = struct.calcsize(form)
         if len(body) > size + most:
-            self.breaks("a longer text than was asked")
+            self._breaks("a longer text than was asked")
         return self._fields(form, body[:size])[0], body[size:]
 
 

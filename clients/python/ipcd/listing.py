@@ -24,14 +24,22 @@ from .wire import (
     ShmidStat,
     msgctl_stat_request,
     semctl_getncnt_request,
+    semctl_getpid_request,
+    semctl_getval_request,
     semctl_getzcnt_request,
     semctl_stat_request,
     shmctl_stat_request,
 )
 
+__all__ = [
+    *("NAMED", "QUEUES", "Row", "SEGMENTS", "SEMAPHORES", "SETS", "ask", "columns", "key", "named", "owner", "queue_row", "queues", "segment_row"),
+    *("segments", "semaphore_rows", "set_row", "sets", "table", "waiters"),
+]
+
 QUEUES = ["key", "msqid", "owner", "perms", "used-bytes", "messages"]
 SEGMENTS = ["key", "shmid", "owner", "perms", "bytes", "nattch", "status"]
 SETS = ["key", "semid", "owner", "perms", "nsems"]
+SEMAPHORES = ["semnum", "value", "ncount", "zcount", "pid"]
 WIDTHS = {"used-bytes": 12, "messages": 12, "status": 12}
 
 Row = list[str]
@@ -82,7 +90,7 @@ def _found(
             found[number] = None
         elif body:
             if len(body) != struct.calcsize(form):
-                connection.breaks("a record of another size")
+                connection._breaks("a record of another size")
             found[number] = record(struct.unpack(form, body))
     return found
 
@@ -96,6 +104,17 @@ def waiters(connection: Connection, semid: int, nsems: int) -> tuple[int, int]:
     return counts[0], counts[1]
 
 
+def semaphore_rows(connection: Connection, semid: int, nsems: int) -> list[Row]:
+    """The semaphores of a set, as `ipcs -s -i` has them: the value, how many calls wait for more and for 0, and which
+    process of the server has set it last."""
+    rows = [[str(number)] for number in range(nsems)]
+    for request in (semctl_getval_request, semctl_getncnt_request, semctl_getzcnt_request, semctl_getpid_request):
+        bodies = ask(connection, (request(semid, number) for number in range(nsems)))
+        for row, body in zip(rows, bodies):
+            row.append(str(int.from_bytes(body, "big")) if body else "-")
+    return rows
+
+
 def owner(uid: int) -> str:
     try:
         return pwd.getpwuid(uid).pw_name
@@ -107,11 +126,15 @@ def key(number: int) -> str:
     return f"0x{number & 0xFFFFFFFF:08x}"
 
 
-def table(title: str, columns: list[str], rows: list[Row]) -> str:
-    """A table as ipcs(1) prints it: columns of ten places at least, parted by one."""
-    widths = [max([WIDTHS.get(name, 10), *(len(row[i]) for row in rows)]) for i, name in enumerate(columns)]
-    lines = [" ".join(word.ljust(width) for word, width in zip(row, widths)) for row in [columns, *rows]]
-    return "\n".join([f"------ {title} --------", *(line.rstrip() for line in lines)]) + "\n"
+def columns(names: list[str], rows: list[Row]) -> str:
+    """Rows below their names, as ipcs(1) prints them: columns of ten places at least, parted by one."""
+    widths = [max([WIDTHS.get(name, 10), *(len(row[i]) for row in rows)]) for i, name in enumerate(names)]
+    lines = [" ".join(word.ljust(width) for word, width in zip(row, widths)) for row in [names, *rows]]
+    return "".join(line.rstrip() + "\n" for line in lines)
+
+
+def table(title: str, names: list[str], rows: list[Row]) -> str:
+    return f"------ {title} --------\n{columns(names, rows)}"
 
 
 def queue_row(number: int, stat: Optional[QueueStat]) -> Row:

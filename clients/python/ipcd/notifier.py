@@ -16,6 +16,8 @@ from .connection import Connection
 from .stream import file_of
 from .wire import NOTIFY_FRAME, NOTIFY_NOT
 
+__all__ = ["Notifier"]
+
 Open = Callable[[Connection], int]
 Told = Callable[[], object]
 

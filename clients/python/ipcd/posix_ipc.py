@@ -335,7 +335,7 @@ class MessageQueue(_Object):
         end = self._until(timeout)
         with _refusals(_USE), self._use(end != 0, self._keep) as lane:
             body = lane.wait(mq_receive_request(self._descriptor(lane), _ANY_SIZE, end))
-            priority, text = lane.connection.number_and_text(">I", body, _ANY_SIZE)
+            priority, text = lane.connection._number_and_text(">I", body, _ANY_SIZE)
         return text, priority
 
     def _keep(self, connection: Connection, body: bytes) -> None:

@@ -22,6 +22,8 @@ from typing import Optional
 from .connection import PATIENCE, Connection
 from .stream import Reply, file_of
 
+__all__ = ["HELLO_SECONDS", "SOCKET", "ServerLost", "connect", "socket_path"]
+
 SOCKET = "/run/ipcd/socket"
 
 # How many seconds a HELLO is said again for while there are as many processes as the limit allows: one that has
@@ -77,7 +79,7 @@ class Lane:
         """Makes a call that may wait, and answers the body of its reply. If the handler of a signal runs
         meanwhile the call is interrupted, which is EINTR unless it was done before."""
         connection = self.connection
-        connection.fits(request)
+        connection._fits(request)
         with _masked():
             self.serial = connection.send(request)
         with _handlers() as told:
@@ -96,10 +98,12 @@ class Lane:
     def wait_until_done(self, request: bytes) -> None:
         """The same, of a call whose reply has no body."""
         if self.wait(request):
-            self.connection.breaks("a body where none is")
+            self.connection._breaks("a body where none is")
 
 
 _lanes: list[Lane] = []
+# Who makes a connection now, and for which user. A HELLO may take a while, so it is made while others call.
+_making: list[tuple[int, tuple[int, int]]] = []
 _change = threading.Condition()
 # A pipe, and the file that it is.
 _pipe: tuple[int, int] = (-1, -1)
@@ -152,7 +156,7 @@ def pieces(first: int, end: int) -> Iterator[tuple[int, int]]:
 
 def _take(waits: bool, token: Optional[int]) -> Lane:
     """A connection of this user that nobody uses, or one on which the object is open. While one is used for a call
-    that does not wait, that is waited for; if there is none, one more is made."""
+    that does not wait, or is made by another thread, that is waited for; if there is none, one more is made."""
     me, user = threading.get_ident(), (os.geteuid(), os.getegid())
     with _change:
         while True:
@@ -162,12 +166,24 @@ def _take(waits: bool, token: Optional[int]) -> Lane:
                 if not lane.busy:
                     lane.busy, lane.waits, lane.thread = True, waits, me
                     return lane
-            if all(lane.waits or lane.thread == me for lane in fit):
+            is_made = any(maker != me and for_user == user for maker, for_user in _making)
+            if not is_made and all(lane.waits or lane.thread == me for lane in fit):
                 break
             _change.wait()
+        making = (me, user)
+        _making.append(making)
+    lane = None
+    try:
         lane = Lane(waits)
-        _lanes.append(lane)
         return lane
+    finally:
+        with _change:
+            if lane is not None:
+                _lanes.append(lane)
+            # In a child that a handler has made meanwhile it is not there any more.
+            if making in _making:
+                _making.remove(making)
+            _change.notify_all()
 
 
 def _give_back(lane: Lane) -> None:
@@ -180,7 +196,7 @@ def _give_back(lane: Lane) -> None:
 
 def _settle(lane: Lane, keep: Optional[Keep]) -> None:
     """Ends the call of a connection, if something broke it off, and takes what came all the same."""
-    if lane.connection.is_settled():
+    if lane.connection._is_settled():
         return
     try:
         with _masked():
@@ -201,9 +217,14 @@ def _drop_those_that_ended() -> None:
             _lanes.remove(lane)
 
 
+def socket_path() -> str:
+    """Where the server is: an IPCD_SOCKET that is empty names none, as for the clients in C."""
+    return os.environ.get("IPCD_SOCKET") or SOCKET
+
+
 def connect() -> Connection:
     """A new connection, which is a process of the effective user and group."""
-    path = os.environ.get("IPCD_SOCKET", SOCKET)
+    path = socket_path()
     try:
         connection = Connection(path)
     except OSError as refusal:
@@ -273,6 +294,7 @@ def _forget_all() -> None:
     for lane in _lanes:
         lane.connection.close()
     _lanes.clear()
+    _making.clear()
     _change = threading.Condition()
     _pipe_file = None
 

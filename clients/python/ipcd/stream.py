@@ -13,6 +13,8 @@ from typing import NoReturn
 
 from .wire import LONGEST_REPLY, LONGEST_REQUEST, TOO_LONG, interrupt_request
 
+__all__ = ["PATIENCE", "ProtocolError", "Reply", "ServerFault", "Stream"]
+
 # The serial of a reply, its error number, which is 0 for success, and its body.
 Reply = tuple[int, int, bytes]
 
@@ -79,7 +81,7 @@ class Stream:
         """Sends a request, and answers the body of its reply. All earlier replies were received. After
         `timeout` seconds it is interrupted: the reply is EINTR then, or one that came first. Once the
         connection has ended it is closed, and that is a ConnectionError."""
-        self.fits(request)
+        self._fits(request)
         try:
             serial = self.send(request)
             try:
@@ -91,7 +93,7 @@ class Stream:
             raise
         return self.answer(serial, reply)
 
-    def fits(self, request: bytes) -> None:
+    def _fits(self, request: bytes) -> None:
         """Refuses a request that is longer than any frame, as its call would refuse it."""
         if 8 + len(request) > LONGEST_REQUEST and request[0] in TOO_LONG:
             raise _refusal(TOO_LONG[request[0]])
@@ -103,12 +105,12 @@ class Stream:
             self.close()
             raise ServerFault(error, os.strerror(error))
         if answered in self._strange:
-            self.breaks("a reply to no request")
+            self._breaks("a reply to no request")
         if answered != serial:
             raise RuntimeError("a call, while an earlier reply is still to be received")
         if error:
             if body:
-                self.breaks("a refusal that has a body")
+                self._breaks("a refusal that has a body")
             raise _refusal(error)
         return body
 
@@ -174,7 +176,7 @@ class Stream:
         """The reply that the bytes which have come are, or nothing, if they are a notification."""
         return self._replies.popleft() if self._replies else self._frame(self._end())
 
-    def is_settled(self) -> bool:
+    def _is_settled(self) -> bool:
         """Whether no reply is still to come or to be received."""
         return self.closed or not (self._replies or self._unanswered - self._interrupts)
 
@@ -206,7 +208,7 @@ class Stream:
         """Whether a notification has come and was not handed out."""
         return bool(self._notifications)
 
-    def breaks(self, what: str) -> NoReturn:
+    def _breaks(self, what: str) -> NoReturn:
         """The server has sent this, which is against the protocol."""
         self.close()
         raise ProtocolError(errno.EPROTO, f"the server has sent {what}")
@@ -220,10 +222,10 @@ class Stream:
             self._fill(4, rest)
             size = 4 + int.from_bytes(self._read[:4], "big")
             if not 10 <= size <= LONGEST_REPLY:
-                self.breaks(f"a frame of {size} bytes")
+                self._breaks(f"a frame of {size} bytes")
             self._fill(size, rest)
         except TimeoutError:
-            self.breaks("a frame without its end")
+            self._breaks("a frame without its end")
         serial, error = struct.unpack(">IH", self._read[4:10])
         body = bytes(self._read[10:size])
         del self._read[:size]
@@ -234,7 +236,7 @@ class Stream:
         if serial in self._interrupts and error != errno.EPROTO:
             self._interrupts.remove(serial)
             if error or body:
-                self.breaks("an answer to an interrupt that is none")
+                self._breaks("an answer to an interrupt that is none")
             return None
         if error or serial:
             return serial, error, body
@@ -244,7 +246,7 @@ class Stream:
     def _cookie(self, body: bytes) -> tuple[int, int]:
         """What a notification says."""
         if len(body) != 8:
-            self.breaks("a notification of another size")
+            self._breaks("a notification of another size")
         descriptor, cookie = struct.unpack(">II", body)
         return descriptor, cookie
 

@@ -285,7 +285,7 @@ class MessageQueue(_Object):
         size = min(self._most, _INT_MAX)
         request = msgrcv_request(self._id, size, wanted, 0 if block else IPC_NOWAIT)
         with _refusals(_QUEUE), session.use(block, self._keep) as lane:
-            mtype, text = lane.connection.number_and_text(">q", lane.wait(request), size)
+            mtype, text = lane.connection._number_and_text(">q", lane.wait(request), size)
         return text, mtype
 
     def _keep(self, connection: Connection, body: bytes) -> None:

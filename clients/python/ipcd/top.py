@@ -15,6 +15,8 @@ from . import listing
 from .connection import Connection
 from .wire import QueueStat
 
+__all__ = ["look", "moved", "top"]
+
 QUEUES = ["key", "msqid", "owner", "messages", "used-bytes", "in/s>=", "out/s>="]
 SETS = ["key", "semid", "owner", "nsems", "wait-more", "wait-zero"]
 

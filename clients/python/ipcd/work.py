@@ -27,6 +27,8 @@ from typing import NamedTuple
 from .connection import Connection
 from .wire import IPC_CREAT, IPC_NOWAIT, O_CREAT, O_RDWR, SEM_UNDO, Operation
 
+__all__ = ["Job", "Jobs", "Lock"]
+
 # The lock of a set, and the semaphore that says whether the set was given its first values.
 LOCK, MADE = 0, 1
 # Of the set of a table: units for jobs that nobody has, units for free places, and then the leases, 1 if held.

@@ -426,6 +426,53 @@ def more_than_the_limit() -> None:
             connection.close()
 
 
+def others_call_while_one_connects() -> None:
+    """A HELLO that is refused again and again holds up nobody whose connection is there."""
+    with served():
+        before, session.HELLO_SECONDS = session.HELLO_SECONDS, 5.0
+        queue = sysv_ipc.MessageQueue(None, sysv_ipc.IPC_CREX)
+        order: list[str] = []
+
+        def receives() -> None:
+            queue.receive()
+            order.append("received")
+
+        def is_refused() -> None:
+            equals(raises(lambda: sysv_ipc.MessageQueue(queue.key), OSError).errno, 23)  # type: ignore[attr-defined]
+            order.append("refused")
+
+        threads = [threading.Thread(target=receives), threading.Thread(target=is_refused)]
+        # All other places are taken, by a server that answers them; one of those who hold them sends.
+        held = [Connection("socket") for _ in range(63)]
+        for connection in held:
+            connection.hello(os.geteuid(), os.getegid())
+        threads[0].start()
+        until(lambda: len(session._lanes) == 1 and session._lanes[0].waits, "nobody waits")
+        threads[1].start()
+        until(lambda: len(session._making) == 1, "nobody connects")
+        held[0].msgsnd(queue.id, 1, b"x")
+        for thread in threads:
+            thread.join(20)
+        session.HELLO_SECONDS = before
+        for connection in held:
+            connection.close()
+        equals(order, ["received", "refused"])
+
+
+def an_empty_variable() -> None:
+    """An IPCD_SOCKET that is empty names no socket, as for the clients in C."""
+    before = os.environ["IPCD_SOCKET"]
+    try:
+        os.environ["IPCD_SOCKET"] = ""
+        equals(session.socket_path(), "/run/ipcd/socket")
+        del os.environ["IPCD_SOCKET"]
+        equals(session.socket_path(), "/run/ipcd/socket")
+        os.environ["IPCD_SOCKET"] = "here"
+        equals(session.socket_path(), "here")
+    finally:
+        os.environ["IPCD_SOCKET"] = before
+
+
 def sixty_processes() -> None:
     """Children that are there at once hand a message on, each to the next."""
     with served():
@@ -714,7 +761,7 @@ def main() -> None:
     tests += [attachments, attachments_of_others]
     tests += [notifications, two_threads_of_which_one_waits, a_fork, a_restart, more_than_the_limit]
     tests += [interrupted_again_and_again, sixty_processes, descriptors_that_the_program_closes]
-    tests += [with_a_thousand_descriptors]
+    tests += [with_a_thousand_descriptors, others_call_while_one_connects, an_empty_variable]
     tests += [users, killed_in_each_call, a_handler_with_and_without_restart]
     run_tests("modules", [*tests, the_server_is_killed_in_each_wait, broken_off, a_mode_and_a_umask])
 

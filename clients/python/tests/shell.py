@@ -14,7 +14,8 @@ import time
 from typing import Optional
 
 import setting
-from ipcd import IPC_CREAT, O_CREAT, O_RDWR, Connection, QueueStat, ShmidStat, top
+from ipcd import IPC_CREAT, O_CREAT, O_RDWR, Connection, QueueStat, ShmidStat, semop_request, top
+from ipcd import __version__ as ipcd_version
 from ipcd.__main__ import main as main_of_shell
 from server import PROGRAM, check, in_a_folder, printed, run_tests, serving, until
 
@@ -50,7 +51,8 @@ def messages() -> None:
         says("receive -q 1 --nowait", "last")
         says("receive -q 1 --nowait", "", 1, "ipcd: receive: No message of desired type\n")
         says("receive -q 1 --timeout 0.1", "", 1, "ipcd: receive: Interrupted system call\n")
-        says("receive -q 2", "", 1, "ipcd: receive: Invalid argument\n")
+        says("receive -q 2", "", 1, "ipcd: receive: no message queue has the identifier 2\n")
+        says("receive -Q 0x99", "", 1, "ipcd: receive: no message queue has the key 0x00000099\n")
         says("receive", "", 2, "ipcd: receive: no object is named: see --help\n")
         says("send --posix-mqueue /jobs --create -p 0600 --priority 3 sweep", "")
         says("send --posix-mqueue /jobs --priority 7 wash", "")
@@ -139,6 +141,7 @@ def stats(gates: int) -> None:
     check(abs(sent - time.time()) < 60, f"{fields['stime']} is when a message was sent")
     output = start("stat", "-S", "-5").communicate(timeout=20)[0]
     check("nsems=3\n" in output and "otime=never\n" in output, f"{output!r} is said of set {gates}")
+    semaphores_of_a_set(gates)
     found = start("stat", "-m", "2").communicate(timeout=20)[0]
     fields = dict(line.split("=", 1) for line in found.splitlines())
     check(list(fields) == list(ShmidStat._fields), f"{fields} are the fields")
@@ -149,8 +152,83 @@ def stats(gates: int) -> None:
     says("stat --posix-semaphore /ready", "name=/ready\nvalue=4\n")
 
 
+def semaphores_of_a_set(gates: int) -> None:
+    """Each has its value, who waits for it, and who has set it last, as `ipcs -s -i` shows them."""
+    with Connection("socket") as setter, Connection("socket") as taker, Connection("socket") as third:
+        me = setter.hello(os.geteuid(), os.getegid())
+        setter.semctl_setall(gates, [0, 3, 32767])
+        setter.semop(gates, [(1, -1)])
+        for waiter, operation in ((taker, (0, -1)), (third, (1, 0))):
+            waiter.hello(os.geteuid(), os.getegid())
+            waiter.send(semop_request(gates, [operation]))
+        until(lambda: setter.semctl_getncnt(gates, 0) + setter.semctl_getzcnt(gates, 1) == 2, "nobody waits")
+        lines = start("stat", "-s", str(gates)).communicate(timeout=20)[0].splitlines()
+        table = [line.split() for line in lines[lines.index("") + 1 :]]
+        header = ["semnum", "value", "ncount", "zcount", "pid"]
+        rows = [["0", "0", "1", "0", str(me)], ["1", "2", "0", "1", str(me)], ["2", "32767", "0", "0", str(me)]]
+        check(table == [header, *rows], f"{lines} is said of the semaphores")
+
+
+def empties() -> None:
+    """The lines of docs/OPERATIONS.md that empty a queue, of either kind."""
+    printed("format", "device")
+    with serving(), Connection("socket") as connection:
+        connection.hello(os.geteuid(), os.getegid())
+        queue = connection.msgget(7, IPC_CREAT | 0o600)
+        jobs = connection.mq_open("/jobs", O_CREAT | O_RDWR, 0o600)
+        for number in range(3):
+            connection.msgsnd(queue, 1, b"%d" % number)
+            connection.mq_send(jobs, b"%d" % number)
+        here = {**os.environ, "IPCD_SOCKET": "socket", "PYTHONPATH": str(setting.PACKAGE)}
+        for option, said in (("-q 1", "No message of desired type"), ("--posix-mqueue /jobs", "Connection timed out")):
+            line = f"while {sys.executable} -m ipcd receive {option} --nowait > /dev/null; do :; done"
+            ended = subprocess.run(["sh", "-c", line], capture_output=True, text=True, env=here, timeout=20)
+            check(ended.stderr == f"ipcd: receive: {said}\n", f"{line}: {ended}")
+        check(connection.msgctl_stat(queue).qnum == connection.mq_getattr(jobs).curmsgs == 0, "a message is left")
+
+
+def of_what_is_not_there() -> None:
+    """What is asked of no object says which one that would be."""
+    printed("format", "device")
+    with serving():
+        for option, kind in (("q", "message queue"), ("m", "segment"), ("s", "semaphore set")):
+            for command in ("stat", "rm"):
+                says(f"{command} -{option} 7", "", 1, f"ipcd: {command}: no {kind} has the identifier 7\n")
+                key = f"ipcd: {command}: no {kind} has the key 0x0000000a\n"
+                says(f"{command} -{option.upper()} 10", "", 1, key)
+        for option, kind in (("mqueue", "POSIX queue"), ("shmem", "segment"), ("semaphore", "named semaphore")):
+            says(f"stat --posix-{option} /no", "", 1, f"ipcd: stat: no {kind} has the name /no\n")
+            says(f"rm --posix-{option} /no", "", 1, "ipcd: rm: /no: No such file or directory\n")
+
+
+def a_full_server() -> None:
+    """ENFILE is of the server's processes, not of the system's files."""
+    printed("format", "device")
+    with serving():
+        clients = [Connection("socket") for _ in range(64)]
+        for client in clients:
+            client.hello(1000, 100)
+        process = start("ls")
+        said = process.communicate(timeout=20)[1]
+        wanted = "ipcd: ls: the server has as many processes as it takes, which is 64 by standard limits"
+        check(process.returncode == 1 and said.startswith(wanted), f"{said!r}")
+        for client in clients:
+            client.close()
+
+
+def which_version_and_which_server() -> None:
+    """It tells its version, and an IPCD_SOCKET that is empty is none."""
+    says("--version", f"ipcd {ipcd_version}\n")
+    environment = {**os.environ, "IPCD_SOCKET": "", "PYTHONPATH": str(setting.PACKAGE)}
+    helped = subprocess.run([sys.executable, "-m", "ipcd", "--help"], capture_output=True, text=True, env=environment)
+    check("default: /run/ipcd/socket" in helped.stdout, f"{helped.stdout}")
+
+
 def removals() -> None:
-    refused = "ipcd: rm: 9: Invalid argument\nipcd: rm: 3: Invalid argument\nipcd: rm: /no: No such file or directory\n"
+    refused = (
+        "ipcd: rm: no message queue has the identifier 9\nipcd: rm: no segment has the identifier 3\n"
+        "ipcd: rm: /no: No such file or directory\n"
+    )
     says("rm -q 9 -Q 1234 -m 3 -M 1234 -S -5 --posix-mqueue /jobs --posix-shmem /no", "", 1, refused)
     says("rm --posix-semaphore /ready --posix-shmem /table", "")
     check("0x" not in says("ls --upto 5", EMPTY), "something is left")
@@ -259,7 +337,8 @@ def without_a_server() -> None:
 
 
 def main() -> None:
-    run_tests("shell", [messages, lists, what_may_not_be_read, pages_of_top, without_a_server])
+    tests = [messages, empties, lists, of_what_is_not_there, a_full_server, what_may_not_be_read, pages_of_top]
+    run_tests("shell", [*tests, without_a_server, which_version_and_which_server])
 
 
 if __name__ == "__main__":
