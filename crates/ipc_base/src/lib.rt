@@ -21,8 +21,8 @@
 //!   field has, it answers `None` and takes nothing (`Reads`). `Put` puts exactly the field's bytes at its place. If
 //!   the buffer is too short, it answers `false` and changes nothing (`Puts`); `Put::field` puts a number in the field
 //!   that it knows, and `Field::to_bytes` is the bytes of it. `take_fields` takes the numbers of some sizes from the
-//!   front: these and what is left are all the bytes (`some`), and it answers `None` only if no such numbers stand there
-//!   (`none`).
+//!   front: these and what is left are all the bytes (`some`), and it answers `None` only if no such numbers stand
+//!   there (`none`).
 //!
 //! - `ObjectMap` is a list of numbered objects: `push` adds one after the others (`ok`) or leaves them (`err`),
 //!   `is_next` says whether a number may come, `object` gives the bytes. It meets the trait `Objects`: how many there

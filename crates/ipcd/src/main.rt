@@ -17,19 +17,20 @@
 //! - `exit_of` is the exit status of a run: 0, 1 if the world or the device failed, 2 if the script is wrong
 //!   (`specs/Ending.antt`). A `Fault` prints as the program's name and the fault's text.
 //! - `open_store` is a store over the device of a disk, as `Store::open` has it (`ok`, `confirmed`), and the fault that
-//!   is said of a disk which is none (`refused`); it is one that an open can have (`named`). `open_file` is such a store over a file: one event is confirmed (`ok`), and its faults are those of an
-//!   open (`named`), as those of `look_at_file` are, which gives the machine of a `look`. `copy_file` puts that machine
-//!   onto a new file; once there is room for it, a fault of that is one of the device (`put_in_file` `err`).
-//!   `format_file` is Ok only with as many sectors as were asked for, or as the limits need (`ok`); it is a device
-//!   fault, or the refusal of so few sectors (`err`).
+//!   is said of a disk which is none (`refused`); it is one that an open can have (`named`). `open_file` is such a
+//!   store over a file: one event is confirmed (`ok`), and its faults are those of an open (`named`), as those of
+//!   `look_at_file` are, which gives the machine of a `look`. `copy_file` puts that machine onto a new file; once there
+//!   is room for it, a fault of that is one of the device (`put_in_file` `err`). `format_file` is Ok only with as many
+//!   sectors as were asked for, or as the limits need (`ok`); it is a device fault, or the refusal of so few sectors
+//!   (`err`).
 //! - What `check` finds on a disk is there (`find` `found`, `specs/Check.antt`): it is fit if the disk stands for the
 //!   state of a machine, of which it tells how many objects are listed, and otherwise it has the fault that is named;
 //!   and it is only read (`alone`). Its text is exact, with what stands in a damaged sector (`place_name`, the
 //!   `Display` of `Finding`), and so is the verdict (`verdict_of`). What the system says of a file, and who has its
 //!   lock (`src/holder.rt`), no clause can say: that is tested (`check.py` of `tests/`).
 //! - `upgrade_disk` is `Store::upgrade` of a disk: what it leaves (`ok`, `size`), and the fault that is said of a disk
-//!   which is not upgraded (`refused`, `small`). `upgrade_file` is that of a file,
-//!   which then has as many sectors as were asked for, or more (`ok`). Their faults are those of an upgrade (`named`).
+//!   which is not upgraded (`refused`, `small`). `upgrade_file` is that of a file, which then has as many sectors as
+//!   were asked for, or more (`ok`). Their faults are those of an upgrade (`named`).
 //!   No clause tells what a file holds, so a `format_file` or an `upgrade_file` that writes nothing and answers Ok
 //!   meets all of them: that they do what they say is tested (`device.py` of `tests/`, `upgrade.py` of `tests/`).
 //! - `serve` joins `open_store`, the socket and `Server::serve`, and a `Meter` shows how far a format or the growth of
