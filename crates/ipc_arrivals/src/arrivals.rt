@@ -145,7 +145,7 @@ impl<T: Ranked> Arrivals<T> {
         self.index.first_but(rank)
     }
 
-    /// The least rank; none where there is no value.
+    /// The least rank, if there is a value.
     pub fn least(&self) -> Option<u64>
         ensures empty { IfNone result (length self.now.items ≡ 0) }
         ensures least { IfSome result (λ least. All (λ value. least ≤ T.rank value) self.now.items) }
@@ -154,7 +154,7 @@ impl<T: Ranked> Arrivals<T> {
         self.index.least()
     }
 
-    /// The greatest rank; none where there is no value.
+    /// The greatest rank, if there is a value.
     pub fn greatest(&self) -> Option<u64>
         ensures empty { IfNone result (length self.now.items ≡ 0) }
         ensures greatest { IfSome result (λ greatest. All (λ value. T.rank value ≤ greatest) self.now.items) }

@@ -549,9 +549,9 @@ module _ {X : Type 0} where
       let apart : nat_eq e.0 k ≡ false = missed (nat_eq e.0 k) none in
       choice (λ (t : List (ℕ × X)). IsRising low (keys_of t) high) (nat_lt k e.0) ((k, x) ∷ e ∷ es) (e ∷ with_entry es k x)
       (λ before. (le, (grind (arith, nat_tests, before), rising.1)))
-      (λ behind. (
+      (λ beyond. (
         rising.0,
-        rising-entry (e.0 + 1) es high k x rising.1 (grind (arith, nat_tests, behind, apart)) lt (rw apart at none),
+        rising-entry (e.0 + 1) es high k x rising.1 (grind (arith, nat_tests, beyond, apart)) lt (rw apart at none),
       ))
     where
       missed : (b : Bool) → (if b then Some e.1 else value_at nat_eq es k) ≡ None → b ≡ false

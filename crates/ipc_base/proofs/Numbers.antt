@@ -205,11 +205,11 @@ pub values_back : (ks : List Kind) (bytes : List ℕ) → AreBytes bytes → tot
     → values_bytes ks (values_of ks bytes) ++ drop (total ks) bytes ≡ bytes
 values_back [] bytes are enough = refl
 values_back (k ∷ ks) bytes are enough =
-    let behind : List ℕ = drop (size_of k) bytes in
-    let rest = values_back ks behind (bytes-drop (size_of k) bytes are) (omega (arith, length-drop (size_of k) bytes)) in
-    append_assoc (number_bytes k (number_in k bytes)) (values_bytes ks (values_of ks behind)) (drop (size_of k + total ks) bytes)
-    ∙ ap (λ (x : List ℕ). x ++ (values_bytes ks (values_of ks behind) ++ drop (size_of k + total ks) bytes)) (number_back k bytes are (omega arith))
-    ∙ ap (λ (x : List ℕ). take (size_of k) bytes ++ (values_bytes ks (values_of ks behind) ++ x)) (sym (drop-drop (total ks) (size_of k) bytes))
+    let beyond : List ℕ = drop (size_of k) bytes in
+    let rest = values_back ks beyond (bytes-drop (size_of k) bytes are) (omega (arith, length-drop (size_of k) bytes)) in
+    append_assoc (number_bytes k (number_in k bytes)) (values_bytes ks (values_of ks beyond)) (drop (size_of k + total ks) bytes)
+    ∙ ap (λ (x : List ℕ). x ++ (values_bytes ks (values_of ks beyond) ++ drop (size_of k + total ks) bytes)) (number_back k bytes are (omega arith))
+    ∙ ap (λ (x : List ℕ). take (size_of k) bytes ++ (values_bytes ks (values_of ks beyond) ++ x)) (sym (drop-drop (total ks) (size_of k) bytes))
     ∙ ap (λ (x : List ℕ). take (size_of k) bytes ++ x) rest
     ∙ take-append-drop (size_of k) bytes
 

@@ -13,7 +13,7 @@ puts_both a b at mid next old between new p q =
     let mid-is : mid ≡ at + length a = p.1 in
     let kept : length (take at old) ≡ at = length-take-le at old (omega arith) in
     let front : length (take at old ++ a) ≡ mid = omega (arith, length-append (take at old) a) in
-    let behind : List ℕ = drop (at + length a) old in
+    let beyond : List ℕ = drop (at + length a) old in
     let whole : length between ≡ length old = ap length p.2 ∙ omega (
       arith,
       length-append (take at old ++ a) (drop (at + length a) old),
@@ -21,8 +21,8 @@ puts_both a b at mid next old between new p q =
           (at + length a) old,
     ) in
     let both : length (a ++ b) ≡ length a + length b = length-append a b in
-    let before : take mid between ≡ take at old ++ a = ap (take mid) p.2 ∙ take_at (take at old ++ a) behind mid front in
-    let after : drop mid between ≡ behind = ap (drop mid) p.2 ∙ drop_at (take at old ++ a) behind mid front in
+    let before : take mid between ≡ take at old ++ a = ap (take mid) p.2 ∙ take_at (take at old ++ a) beyond mid front in
+    let after : drop mid between ≡ beyond = ap (drop mid) p.2 ∙ drop_at (take at old ++ a) beyond mid front in
     let end : at + length a + length b ≡ at + length (a ++ b) = omega arith in
     let last : drop (mid + length b) between ≡ drop (at + length (a ++ b)) old =
     sym (drop-drop (length b) mid between) ∙ ap (drop (length b)) after ∙ drop-drop (length b) (at + length a) old ∙ ap (λ (n : ℕ). drop n old) end in
@@ -46,7 +46,7 @@ pub puts_room : (field : List ℕ) (at next : ℕ) (old new : List ℕ) (written
 puts_room field at next old new true p room = p
 puts_room field at next old new false p room = absurd (omega arith)
 
--- a field put behind one that was put, where there is room for both
+-- a field put after one that was put, where there is room for both
 pub puts_more : (a b : List ℕ) (at mid next : ℕ) (old between new : List ℕ) (written : Bool) → Puts a at mid old between true
     → Puts b mid next between new written → at + length (a ++ b) ≤ length old → Puts (a ++ b) at next old new true
 puts_more a b at mid next old between new written p q room =
@@ -54,7 +54,7 @@ puts_more a b at mid next old between new written p q room =
     let fits : mid + length b ≤ length between = omega (arith, p.1, kept, length-append a b) in
     puts_both a b at mid next old between new p (puts_room b mid next between new written q fits)
 
--- a field put behind others is one more of them
+-- a field put after others is one more of them
 pub puts_next : {X : Type 0} (spell : X → List ℕ) (xs : List X) (i at next : ℕ) (d : X) (old new : List ℕ) (written : Bool) → i < length xs
     → at ≡ length (flat_map spell (take i xs)) → take at old ≡ flat_map spell (take i xs) → length (flat_map spell xs) ≤ length old
     → Puts (spell (get_or xs i d)) at next old new written

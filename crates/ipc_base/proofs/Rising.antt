@@ -63,7 +63,7 @@ module _ {A X : Type 0} (row : A → ℕ × X) where
       let other = λ (k : ℕ) (d : A) (within : k < length xs). ne_eqb (number (get_or xs k d)) n (λ same.
       elim (cases_Bool (nat_lt k place)) [
         | inl before ↦ let lt = below k d (grind (arith, nat_tests, before)) in omega (arith, lt, same)
-        | inr behind ↦ let lt = above k d (grind (arith, nat_tests, behind)) within in omega (arith, lt, same)
+        | inr beyond ↦ let lt = above k d (grind (arith, nat_tests, beyond)) within in omega (arith, lt, same)
       ]) in
       none_passes (λ (a : A). nat_eq (row a).0 n) xs other
 

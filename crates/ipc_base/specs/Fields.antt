@@ -11,7 +11,7 @@ Reads n value old new result =
     MatchOption result ((length old < n) × (new ≡ old))
     (λ x. (n ≤ length old) × (x ≡ value (take n old)) × (new ≡ drop n old))
 
--- A field was put at a place of a buffer: behind what stood before the place, with what stands behind the
+-- A field was put at a place of a buffer: after what stood before the place, with what stands after the
 -- field kept. Where it would pass the end, nothing has changed.
 abbrev pub Puts : List ℕ → ℕ → ℕ → List ℕ → List ℕ → Bool → Type 0
 Puts field at next old new written =

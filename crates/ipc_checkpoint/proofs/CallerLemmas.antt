@@ -9,7 +9,7 @@ use Rattle.ipc_heap.proofs.CallerLemmas as heap
 use Rattle.ipc_checkpoint.specs.declared.layout.Layout.{Layout}
 use Rattle.ipc_checkpoint.specs.Checkpoint.{IsOwn, Holds}
 use Rattle.ipc_checkpoint.specs.Matches.{CheckpointMatches, IsSavedUnder}
-use Rattle.ipc_checkpoint.specs.View.{CheckpointView, aimed, layout_of, layout_under, epoch_of, saved_root}
+use Rattle.ipc_checkpoint.specs.View.{CheckpointView, with_next_root, layout_of, layout_under, epoch_of, saved_root}
 
 module _ (layout : Layout) where
   -- the checkpoint's sectors decide what is there
@@ -61,11 +61,11 @@ module _ (root : ℕ) (checkpoint : CheckpointView) (objects : PlainObjects) whe
         free = at.free;
       }
 
-  -- it is aimed at another root
-  pub IsSavedUnder-aimed : (aim : ℕ) (medium : Medium) → IsSavedUnder root checkpoint objects medium
-      → IsSavedUnder root (aimed aim checkpoint) objects medium
-  IsSavedUnder-aimed aim medium at = record {
-    matches = heap.HeapMatches-aimed checkpoint.heap objects medium aim at.matches;
+  -- another root is named
+  pub IsSavedUnder-with_next_root : (next_root : ℕ) (medium : Medium) → IsSavedUnder root checkpoint objects medium
+      → IsSavedUnder root (with_next_root next_root checkpoint) objects medium
+  IsSavedUnder-with_next_root next_root medium at = record {
+    matches = heap.HeapMatches-with_next_root checkpoint.heap objects medium next_root at.matches;
     under = at.under;
     map = at.map;
     inside = at.inside;

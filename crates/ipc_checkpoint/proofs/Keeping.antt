@@ -39,7 +39,7 @@ module _ (kept : ℕ → Bool) where
 
   pub keeps-none : (heap : HeapView) → KeepsSoFar 0 heap heap
   keeps-none heap = record {
-    stays = record { range = refl; root = refl; aim = refl; epoch = refl; table = refl };
+    stays = record { range = refl; root = refl; next_root = refl; epoch = refl; table = refl };
     placed = refl;
     first = All-nil (IsKeptOne kept);
     few = omega arith;
@@ -70,7 +70,7 @@ module _ (kept : ℕ → Bool) where
         stays = record {
           range = removes.stays.range ∙ so_far.stays.range;
           root = removes.stays.root ∙ so_far.stays.root;
-          aim = removes.stays.aim ∙ so_far.stays.aim;
+          next_root = removes.stays.next_root ∙ so_far.stays.next_root;
           epoch = removes.stays.epoch ∙ so_far.stays.epoch;
           table = removes.stays.table ∙ so_far.stays.table;
         };

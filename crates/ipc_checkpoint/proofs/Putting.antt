@@ -91,34 +91,36 @@ changed-more differs (o ∷ os) (suc i) (suc j) d is less =
 
 -- ---- so many of them were looked at
 
-module _ {D : Type 0} (size : D → ℕ) (medium : D → Medium) (counts : D → Counts) (os : PlainObjects) (differs : ℕ → Bool) (begin : HeapView) (old : D) where
-  pub record PutSoFar (i : ℕ) (now : HeapView) (disk : D) : Type 0 where
-    pub stays : StaysInPlace begin now
-    pub placed : ArePlaced now.range now.placed
-    pub bytes : IsHonest (medium disk) → sizes_of now ≡ seen_as (λ b. length b) (map_of now (medium disk))
-    pub no_others : HasNoOthers (sizes_of now) os
-    pub there : (k : ℕ) (o : ℕ × List ℕ) → k < i → slice_get os k ≡ Some o → value_at nat_eq (sizes_of now) o.0 ≡ Some (length o.1)
-    pub matches : (saved : PlainObjects) → HeapMatches begin saved (medium old) → HeapMatches now saved (medium disk)
-    pub map : (saved : PlainObjects) → HeapMatches begin saved (medium old) → AreThere differs os (map_of begin (medium old))
-        → (k : ℕ) (o : ℕ × List ℕ) → slice_get os k ≡ Some o → (k < i) ⊎ (differs k ≡ false) → value_at nat_eq (map_of now (medium disk)) o.0 ≡ Some o.1
-    pub moment : (saved : PlainObjects) → HeapMatches begin saved (medium old)
-        → StaysSaved begin.range begin.root begin.epoch saved (medium old) (medium disk)
-    pub meanwhile : (saved : PlainObjects) → HeapMatches begin saved (medium old)
-        → EachLater (KeepsUsed begin.range begin.root) (medium old) (medium disk)
-    pub others : IsHonest (medium old) → LeavesAlone (IsOutside begin.range) (medium old) (medium disk)
-    pub same : IsSameDisk size medium old disk
-    pub spent : ℕ
-    pub spent_most : spent ≤ object_sectors (take i os)
-    pub spent_free : free begin ≤ free now + spent
-    pub spent_counts : counts disk ≡ with_calls spent 0 (counts old)
-    pub spent_changed : (saved : PlainObjects) → HeapMatches begin saved (medium old) → AreThere differs os (map_of begin (medium old))
-        → spent ≡ changed_sectors differs (take i os)
+pub record PutSoFar {D : Type 0} (size : D → ℕ) (medium : D → Medium) (counts : D → Counts) (os : PlainObjects) (differs : ℕ → Bool) (begin : HeapView)
+    (old : D) (i : ℕ) (now : HeapView) (disk : D) : Type 0 where
+  pub stays : StaysInPlace begin now
+  pub placed : ArePlaced now.range now.placed
+  pub bytes : IsHonest (medium disk) → sizes_of now ≡ seen_as (λ b. length b) (map_of now (medium disk))
+  pub no_others : HasNoOthers (sizes_of now) os
+  pub there : (k : ℕ) (o : ℕ × List ℕ) → k < i → slice_get os k ≡ Some o → value_at nat_eq (sizes_of now) o.0 ≡ Some (length o.1)
+  pub matches : (saved : PlainObjects) → HeapMatches begin saved (medium old) → HeapMatches now saved (medium disk)
+  pub map : (saved : PlainObjects) → HeapMatches begin saved (medium old) → AreThere differs os (map_of begin (medium old))
+      → (k : ℕ) (o : ℕ × List ℕ) → slice_get os k ≡ Some o → (k < i) ⊎ (differs k ≡ false) → value_at nat_eq (map_of now (medium disk)) o.0 ≡ Some o.1
+  pub moment : (saved : PlainObjects) → HeapMatches begin saved (medium old)
+      → StaysSaved begin.range begin.root begin.epoch saved (medium old) (medium disk)
+  pub meanwhile : (saved : PlainObjects) → HeapMatches begin saved (medium old)
+      → EachLater (KeepsUsed begin.range begin.root) (medium old) (medium disk)
+  pub others : IsHonest (medium old) → LeavesAlone (IsOutside begin.range) (medium old) (medium disk)
+  pub same : IsSameDisk size medium old disk
+  pub spent : ℕ
+  pub spent_most : spent ≤ object_sectors (take i os)
+  pub spent_free : free begin ≤ free now + spent
+  pub spent_counts : counts disk ≡ with_calls spent 0 (counts old)
+  pub spent_changed : (saved : PlainObjects) → HeapMatches begin saved (medium old) → AreThere differs os (map_of begin (medium old))
+      → spent ≡ changed_sectors differs (take i os)
 
+module _ {D : Type 0} {size : D → ℕ} {medium : D → Medium} {counts : D → Counts} {os : PlainObjects} {differs : ℕ → Bool} {begin : HeapView} {old : D} where
   pub put-none : ArePlaced begin.range begin.placed → (IsHonest (medium old) → sizes_of begin ≡ seen_as (λ b. length b) (map_of begin (medium old)))
       → HasNoOthers (sizes_of begin) os → InRange (counts old)
-      → ((image : Image) → (medium old).images_since (medium old).moment image → (medium old).images_now image) → PutSoFar 0 begin old
+      → ((image : Image) → (medium old).images_since (medium old).moment image → (medium old).images_now image)
+      → PutSoFar size medium counts os differs begin old 0 begin old
   put-none placed bytes no_others range law = record {
-    stays = record { range = refl; root = refl; aim = refl; epoch = refl; table = refl };
+    stays = record { range = refl; root = refl; next_root = refl; epoch = refl; table = refl };
     placed = placed;
     bytes = bytes;
     no_others = no_others;
@@ -136,7 +138,8 @@ module _ {D : Type 0} (size : D → ℕ) (medium : D → Medium) (counts : D →
     spent_changed = λ saved at there. refl;
   }
 
-  module _ (are : AreObjects os) (i : ℕ) (now : HeapView) (disk : D) (so_far : PutSoFar i now disk) (o : ℕ × List ℕ) (at : slice_get os i ≡ Some o) where
+  module _ (are : AreObjects os) {i : ℕ} {now : HeapView} {disk : D} (so_far : PutSoFar size medium counts os differs begin old i now disk)
+      {o : ℕ × List ℕ} (at : slice_get os i ≡ Some o) where
     less : i < length os
     less = slice_get_within os i o at
 
@@ -155,7 +158,8 @@ module _ {D : Type 0} (size : D → ℕ) (medium : D → Medium) (counts : D →
         ∙ ap (λ (c : Bool). changed_sectors differs (take i os) + (if c then sectors_for (length o.1) else 0)) is
 
     -- it is kept
-    pub put-kept : differs i ≡ false → value_at nat_eq (sizes_of now) o.0 ≡ Some (length o.1) → PutSoFar (i + 1) now disk
+    pub put-kept : differs i ≡ false → value_at nat_eq (sizes_of now) o.0 ≡ Some (length o.1)
+        → PutSoFar size medium counts os differs begin old (i + 1) now disk
     put-kept off is = record {
       stays = so_far.stays;
       placed = so_far.placed;
@@ -192,8 +196,7 @@ module _ {D : Type 0} (size : D → ℕ) (medium : D → Medium) (counts : D →
         ∙ ap (λ (r : Option (List ℕ)). option_map (λ b. length b) r) here
 
     -- the images while it is put in, whether or not that goes well
-    module _ (next : D)
-        (moment : (saved : PlainObjects) → HeapMatches now saved (medium disk)
+    module _ {next : D} (moment : (saved : PlainObjects) → HeapMatches now saved (medium disk)
         → StaysSaved now.range now.root now.epoch saved (medium disk) (medium next))
         (others : IsHonest (medium disk) → LeavesAlone (IsKept now) (medium disk) (medium next)) where
       pub put-moment : (saved : PlainObjects) → HeapMatches begin saved (medium old)
@@ -232,7 +235,7 @@ module _ {D : Type 0} (size : D → ℕ) (medium : D → Medium) (counts : D →
           (others run.honest))
 
       -- it is put in
-      module _ (new : HeapView) (stays : StaysInPlace now new) (placed : ArePlaced new.range new.placed)
+      module _ {new : HeapView} (stays : StaysInPlace now new) (placed : ArePlaced new.range new.placed)
           (bytes : IsHonest (medium next) → sizes_of new ≡ seen_as (λ b. length b) (map_of new (medium next)))
           (sizes : sizes_of new ≡ with_object (sizes_of now) o.0 (length o.1))
           (matches : (saved : PlainObjects) → HeapMatches now saved (medium disk) → HeapMatches new saved (medium next))
@@ -243,12 +246,12 @@ module _ {D : Type 0} (size : D → ℕ) (medium : D → Medium) (counts : D →
         rising : IsRising 0 (keys_of (sizes_of now)) (2 ^ 64)
         rising = subst (λ (ks : List ℕ). IsRising 0 ks (2 ^ 64)) (sym (keys-seen (λ p. p.len) now.placed)) so_far.placed.numbers
 
-        pub put-more : PutSoFar (i + 1) new next
+        pub put-more : PutSoFar size medium counts os differs begin old (i + 1) new next
         put-more = record {
           stays = record {
             range = stays.range ∙ so_far.stays.range;
             root = stays.root ∙ so_far.stays.root;
-            aim = stays.aim ∙ so_far.stays.aim;
+            next_root = stays.next_root ∙ so_far.stays.next_root;
             epoch = stays.epoch ∙ so_far.stays.epoch;
             table = stays.table ∙ so_far.stays.table;
           };
@@ -302,7 +305,8 @@ module _ {D : Type 0} (size : D → ℕ) (medium : D → Medium) (counts : D →
                 (λ (apart : k ≡ i → ⊥). omega (arith, lt, apart)) (cases_eq k i)
 
   -- all of them were looked at
-  module _ (are : AreObjects os) (i : ℕ) (now : HeapView) (disk : D) (so_far : PutSoFar i now disk) (all : length os ≤ i) where
+  module _ (are : AreObjects os) {i : ℕ} {now : HeapView} {disk : D} (so_far : PutSoFar size medium counts os differs begin old i now disk)
+      (all : length os ≤ i) where
     lengths-at : (k n : ℕ) → value_at nat_eq (seen_as (λ (b : List ℕ). length b) os) k ≡ Some n → value_at nat_eq (sizes_of now) k ≡ Some n
     lengths-at k n is =
         let place = value-place (seen_as (λ (b : List ℕ). length b) os) k n is in

@@ -91,51 +91,72 @@ module _ (h : HeapView) (os : PlainObjects) (placed : ArePlaced h.range h.placed
 
 -- ---- a save
 
-module _ (size : ℕ) (c : CheckpointView) (os : PlainObjects) (differs : ℕ → Bool) (are : AreObjects os) (laid : IsLaidOut (layout_of c) size)
-    (fits : Fit c.area os) (spare : HasSpare c) (one : HeapView) (keeps : Keeps (λ n. is_some (value_at nat_eq os n)) c.heap one)
-    (more : free c.heap ≤ free one) where
+-- the heap of a checkpoint, once what the objects lack was taken out
+pub record Started (size : ℕ) (c : CheckpointView) (os : PlainObjects) (one : HeapView) : Type 0 where
+  pub are : AreObjects os
+  pub laid : IsLaidOut (layout_of c) size
+  pub fits : Fit c.area os
+  pub spare : HasSpare c
+  pub keeps : Keeps (λ n. is_some (value_at nat_eq os n)) c.heap one
+  pub more : free c.heap ≤ free one
+
+-- calls that put objects in, at any moment
+pub record PutSome (one : HeapView) (old mid : Medium) : Type 0 where
+  pub moment : (saved : PlainObjects) → HeapMatches one saved old → StaysSaved one.range one.root one.epoch saved old mid
+  pub meanwhile : (saved : PlainObjects) → HeapMatches one saved old → EachLater (heap-later.KeepsUsed one.range one.root) old mid
+  pub others : IsHonest old → LeavesAlone (IsOutside one.range) old mid
+
+-- and once all are put in
+pub record PutAll (os : PlainObjects) (differs : ℕ → Bool) (one two : HeapView) (old mid : Medium) : Type 0 where
+  pub some : PutSome one old mid
+  pub stays : StaysInPlace one two
+  pub placed : ArePlaced two.range two.placed
+  pub sizes : sizes_of two ≡ seen_as (λ bytes. length bytes) os
+  pub spends : free one ≤ free two + object_sectors os
+  pub matches : (saved : PlainObjects) → HeapMatches one saved old → HeapMatches two saved mid
+  pub map : (saved : PlainObjects) → HeapMatches one saved old → AreThere differs os (map_of one old) → map_of two mid ≡ os
+
+module _ {size : ℕ} {c : CheckpointView} {os : PlainObjects} {one : HeapView} (b : Started size c os one) where
   abbrev kept : ℕ → Bool
   kept n = is_some (value_at nat_eq os n)
 
-  pub laid-one : heap.IsLaidOut one.range one.aim size
+  pub laid-one : heap.IsLaidOut one.range one.next_root size
   laid-one =
-      subst (λ (r : ℕ). heap.IsLaidOut one.range r size) (sym keeps.stays.aim)
-      (subst (λ (r : Range). heap.IsLaidOut r c.heap.aim size) (sym keeps.stays.range)
-      (record { within = laid.within; root_there = laid.root; apart = laid.apart; not_first = laid.not_first }))
+      subst (λ (r : ℕ). heap.IsLaidOut one.range r size) (sym b.keeps.stays.next_root)
+      (subst (λ (r : Range). heap.IsLaidOut r c.heap.next_root size) (sym b.keeps.stays.range)
+      (record { within = b.laid.within; root_there = b.laid.root; apart = b.laid.apart; not_first = b.laid.not_first }))
 
   pub only-one : HasNoOthers (sizes_of one) os
   only-one n some =
       filter-only kept (sizes_of c.heap) n
-      (ap (λ (t : List (ℕ × ℕ)). is_some (value_at nat_eq t n)) (sym (Keeps-sizes kept c.heap one keeps)) ∙ some)
+      (ap (λ (t : List (ℕ × ℕ)). is_some (value_at nat_eq t n)) (sym (Keeps-sizes kept c.heap one b.keeps)) ∙ some)
 
   pub room-one : object_sectors os ≤ free one
-  room-one = omega (arith, more, spare, fits, laid.room)
+  room-one = omega (arith, b.more, b.spare, b.fits, b.laid.room)
 
   module _ (old : Medium) {root : ℕ} (saved : PlainObjects) (at : IsSavedUnder root c saved old) where
     pub matches-one : HeapMatches one saved old
-    matches-one = Keeps-matches kept c.heap one keeps saved old at.matches
+    matches-one = Keeps-matches kept c.heap one b.keeps saved old at.matches
 
-    pub were-one : OthersAreThere differs os saved → AreThere differs os (map_of one old)
-    were-one others i o is off =
+    pub were-one : (differs : ℕ → Bool) → OthersAreThere differs os saved → AreThere differs os (map_of one old)
+    were-one differs others i o is off =
         let found = others i o is off in
         let saved-are : AreObjects saved = subst AreObjects at.map at.matches.are in
         ap (λ (t : PlainObjects). value_at nat_eq t o.0)
-        (Keeps-map kept c.heap one keeps old ∙ ap (λ (t : PlainObjects). filter (λ p. kept p.0) t) at.map)
-        ∙ filter-at kept saved o.0 (ap (λ (r : Option (List ℕ)). is_some r) (own-value os are i o is))
+        (Keeps-map kept c.heap one b.keeps old ∙ ap (λ (t : PlainObjects). filter (λ p. kept p.0) t) at.map)
+        ∙ filter-at kept saved o.0 (ap (λ (r : Option (List ℕ)). is_some r) (own-value os b.are i o is))
         ∙ own-value saved saved-are found.0 o found.1
 
   -- while objects are put in
-  module _ (old mid : Medium)
-      (moment : (saved : PlainObjects) → HeapMatches one saved old → StaysSaved one.range one.root one.epoch saved old mid)
-      (others : IsHonest old → LeavesAlone (IsOutside one.range) old mid) where
+  module _ {old mid : Medium} (p : PutSome one old mid) where
     pub moment-saved : {root : ℕ} (saved : PlainObjects) → IsSavedUnder root c saved old
         → StaysSaved c.heap.range root (epoch_of c) saved old mid
     moment-saved {root} saved at =
         let S : Range → ℕ → ℕ → Type 0 = λ r n e. StaysSaved r n e saved old mid in
-        let stays = keeps.stays in
+        let stays = b.keeps.stays in
         subst (λ (e : ℕ). S c.heap.range root e) stays.epoch
         (subst (λ (n : ℕ). S c.heap.range n one.epoch) (stays.root ∙ at.under)
-        (subst (λ (r : Range). S r one.root one.epoch) stays.range (moment saved (matches-one old saved at))))
+        (subst (λ (r : Range). S r one.root one.epoch) stays.range (p.moment saved (matches-one old saved at))))
 
     pub moment-mid : (saved : PlainObjects) → CheckpointMatches c saved old → (epoch : ℕ)
         → EachImageSince old mid (HoldsEither (layout_of c) (epoch_of c) saved epoch os)
@@ -143,125 +164,127 @@ module _ (size : ℕ) (c : CheckpointView) (os : PlainObjects) (differs : ℕ �
         EachImageSince-weaken old mid (Holds (layout_of c) (epoch_of c) saved) (HoldsEither (layout_of c) (epoch_of c) saved epoch os)
         (moment-saved saved at c.heap.range (λ i inside. inside) (CheckpointMatches-holds c saved old at)) (λ image holds. inl holds)
 
-    pub meanwhile-mid : ((saved : PlainObjects) → HeapMatches one saved old → EachLater (heap-later.KeepsUsed one.range one.root) old mid)
-        → (saved : PlainObjects) → CheckpointMatches c saved old → EachLater (KeepsUsed (layout_of c)) old mid
-    meanwhile-mid later saved at =
-        subst (λ (n : ℕ). EachLater (heap-later.KeepsUsed c.heap.range n) old mid) (keeps.stays.root ∙ at.under)
-        (subst (λ (r : Range). EachLater (heap-later.KeepsUsed r one.root) old mid) keeps.stays.range (later saved (matches-one old saved at)))
+    pub meanwhile-mid : (saved : PlainObjects) → CheckpointMatches c saved old → EachLater (KeepsUsed (layout_of c)) old mid
+    meanwhile-mid saved at =
+        subst (λ (n : ℕ). EachLater (heap-later.KeepsUsed c.heap.range n) old mid) (b.keeps.stays.root ∙ at.under)
+        (subst (λ (r : Range). EachLater (heap-later.KeepsUsed r one.root) old mid) b.keeps.stays.range (p.meanwhile saved (matches-one old saved at)))
 
     pub others-mid : IsHonest old → LeavesAlone (IsElsewhere (layout_of c)) old mid
     others-mid honest =
         LeavesAlone-fewer (IsElsewhere (layout_of c)) (IsOutside one.range) old mid
-        (λ i out. subst (λ (r : Range). IsOutside r i) (sym keeps.stays.range) out.1) (others honest)
+        (λ i out. subst (λ (r : Range). IsOutside r i) (sym b.keeps.stays.range) out.1) (p.others honest)
 
-    -- and then the heap is turned over
-    module _ (two : HeapView) (stays : StaysInPlace one two) (placed : ArePlaced two.range two.placed)
-        (sizes : sizes_of two ≡ seen_as (λ bytes. length bytes) os) (spends : free one ≤ free two + object_sectors os) where
-      abbrev words : ℕ
-      words = length (table_words two.placed)
+  -- and then the heap is turned over
+  module _ {differs : ℕ → Bool} {two : HeapView} {old mid : Medium} (p : PutAll os differs one two old mid) where
+    abbrev words : ℕ
+    words = length (table_words two.placed)
 
-      pub counted-two : 4 * words < 2 ^ 32
-      counted-two = omega (arith, its-words two os placed sizes, fits, laid.counted)
+    pub counted-two : 4 * words < 2 ^ 32
+    counted-two = omega (arith, its-words two os p.placed p.sizes, b.fits, b.laid.counted)
 
-      pub not-full : free two < table_sectors_for words → ⊥
-      not-full full = omega (arith, full, its-table two os placed sizes, spends, more, spare, fits, laid.room)
+    pub not-full : free two < table_sectors_for words → ⊥
+    not-full full = omega (arith, full, its-table two os p.placed p.sizes, p.spends, b.more, b.spare, b.fits, b.laid.room)
 
-      range-two : two.range ≡ c.heap.range
-      range-two = stays.range ∙ keeps.stays.range
+    range-two : two.range ≡ c.heap.range
+    range-two = p.stays.range ∙ b.keeps.stays.range
 
-      module _ (new : Medium) (epoch : ℕ) (three : HeapView)
-          (matches : (saved : PlainObjects) → HeapMatches one saved old → HeapMatches two saved mid)
-          (map-is : (saved : PlainObjects) → HeapMatches one saved old → AreThere differs os (map_of one old) → map_of two mid ≡ os)
-          (unchanged : (saved : PlainObjects) → CheckpointMatches c saved old → OthersAreThere differs os saved) where
-        map-two : {root : ℕ} (saved : PlainObjects) → IsSavedUnder root c saved old → OthersAreThere differs os saved → map_of two mid ≡ os
-        map-two saved at there = map-is saved (matches-one old saved at) (were-one old saved at there)
+    aim-two : two.next_root ≡ c.heap.next_root
+    aim-two = p.stays.next_root ∙ b.keeps.stays.next_root
 
-        pub moment-new : ((saved : PlainObjects) → HeapMatches two saved mid
-            → EachImageSince mid new (heap.HoldsEither two.range two.root two.epoch saved two.aim epoch (map_of two mid)))
-            → (saved : PlainObjects) → CheckpointMatches c saved old → EachImageSince old new (HoldsEither (layout_of c) (epoch_of c) saved epoch os)
-        moment-new flips saved at =
-            let E : Range → ℕ → ℕ → ℕ → PlainObjects → Type 0 = λ r n e a l. EachImageSince mid new (heap.HoldsEither r n e saved a epoch l) in
-            EachImageSince-join old mid new (HoldsEither (layout_of c) (epoch_of c) saved epoch os) (moment-mid saved at epoch)
-            (subst (E c.heap.range c.heap.aim c.heap.epoch c.heap.aim) (map-two saved at (unchanged saved at))
-            (subst (λ (a : ℕ). E c.heap.range c.heap.aim c.heap.epoch a (map_of two mid)) (stays.aim ∙ keeps.stays.aim)
-            (subst (λ (e : ℕ). E c.heap.range c.heap.aim e two.aim (map_of two mid)) (stays.epoch ∙ keeps.stays.epoch)
-            (subst (λ (r : ℕ). E c.heap.range r two.epoch two.aim (map_of two mid)) (stays.root ∙ keeps.stays.root ∙ at.under)
-            (subst (λ (r : Range). E r two.root two.epoch two.aim (map_of two mid)) range-two
-            (flips saved (matches saved (matches-one old saved at))))))))
+    map-two : {root : ℕ} (saved : PlainObjects) → IsSavedUnder root c saved old → OthersAreThere differs os saved → map_of two mid ≡ os
+    map-two saved at there = p.map saved (matches-one old saved at) (were-one old saved at differs there)
 
-        -- who reads meanwhile
-        pub meanwhile-new : ((saved : PlainObjects) → HeapMatches one saved old → EachLater (heap-later.KeepsUsed one.range one.root) old mid)
-            → (two.aim ≡ two.root → (saved : PlainObjects) → HeapMatches two saved mid
-            → EachLater (heap-later.KeepsUsedOrTurns two.range two.root) mid new)
-            → (saved : PlainObjects) → CheckpointMatches c saved old → EachLater (KeepsUsedOrTurns (layout_of c)) old new
-        meanwhile-new first flips saved at =
-            let from : two.root ≡ c.heap.aim = stays.root ∙ keeps.stays.root ∙ at.under in
-            let here = matches saved (matches-one old saved at) in
-            let more : EachLater (KeepsUsedOrTurns (layout_of c)) mid new =
-            subst (λ (n : ℕ). EachLater (heap-later.KeepsUsedOrTurns c.heap.range n) mid new) from
-            (subst (λ (r : Range). EachLater (heap-later.KeepsUsedOrTurns r two.root) mid new) range-two
-            (flips (stays.aim ∙ keeps.stays.aim ∙ sym from) saved here)) in
-            EachLater-join (KeepsUsed (layout_of c)) (KeepsUsedOrTurns (layout_of c)) old mid new (λ a b kept. inl kept)
-            (λ a b z kept after. KeepsUsed-turns c.heap.range c.heap.aim laid.apart a b kept z after) here.honest (meanwhile-mid first saved at) more
+    matches-two : {root : ℕ} (saved : PlainObjects) → IsSavedUnder root c saved old → HeapMatches two saved mid
+    matches-two saved at = p.matches saved (matches-one old saved at)
 
-        -- what was saved under another root stays there
-        pub kept-new : (two.aim ≢ two.root → (saved : PlainObjects) → HeapMatches two saved mid
-            → StaysSaved two.range two.root two.epoch saved mid new)
-            → {root : ℕ} (saved : PlainObjects) → IsSavedUnder root c saved old → root ≢ c.heap.aim
-            → StaysSaved c.heap.range root (epoch_of c) saved old new
-        kept-new flips {root} saved at other part within now =
-            let P : Image → Type 0 = heap.Holds part root (epoch_of c) saved in
-            let S : Range → ℕ → ℕ → Type 0 = λ r n e. StaysSaved r n e saved mid new in
-            let from : two.root ≡ root = stays.root ∙ keeps.stays.root ∙ at.under in
-            let here = matches saved (matches-one old saved at) in
-            let before = moment-saved saved at part within now in
-            let more : S c.heap.range root (epoch_of c) =
-            subst (λ (e : ℕ). S c.heap.range root e) (stays.epoch ∙ keeps.stays.epoch)
-            (subst (λ (n : ℕ). S c.heap.range n two.epoch) from
-            (subst (λ (r : Range). S r two.root two.epoch) range-two
-            (flips (λ same. other (sym from ∙ sym same ∙ stays.aim ∙ keeps.stays.aim)) saved here))) in
-            EachImageSince-join old mid new P before (more part within (EachImageSince-now old mid P before here.honest))
+    root-two : {root : ℕ} (saved : PlainObjects) → IsSavedUnder root c saved old → two.root ≡ root
+    root-two saved at = p.stays.root ∙ b.keeps.stays.root ∙ at.under
 
-        pub others-new : (IsHonest mid → LeavesAlone (λ i. IsKept two i × (i ≢ two.aim)) mid new)
-            → IsHonest old → LeavesAlone (IsElsewhere (layout_of c)) old new
-        others-new flips honest =
-            let run = others-mid honest in
-            LeavesAlone-join (IsElsewhere (layout_of c)) old mid new run
-            (LeavesAlone-fewer (IsElsewhere (layout_of c)) (λ i. IsKept two i × (i ≢ two.aim)) mid new
-            (λ i out. (
-              inl (subst (λ (r : Range). IsOutside r i) (sym range-two) out.1),
-              λ same. out.0 (same ∙ stays.aim ∙ keeps.stays.aim),
-            )) (flips run.honest))
+    module _ (new : Medium) (epoch : ℕ) where
+      pub moment-new : ((saved : PlainObjects) → CheckpointMatches c saved old → OthersAreThere differs os saved)
+          → ((saved : PlainObjects) → HeapMatches two saved mid
+          → EachImageSince mid new (heap.HoldsEither two.range two.root two.epoch saved two.next_root epoch (map_of two mid)))
+          → (saved : PlainObjects) → CheckpointMatches c saved old → EachImageSince old new (HoldsEither (layout_of c) (epoch_of c) saved epoch os)
+      moment-new unchanged flips saved at =
+          let E : Range → ℕ → ℕ → ℕ → PlainObjects → Type 0 = λ r n e a l. EachImageSince mid new (heap.HoldsEither r n e saved a epoch l) in
+          EachImageSince-join old mid new (HoldsEither (layout_of c) (epoch_of c) saved epoch os) (moment-mid p.some saved at epoch)
+          (subst (E c.heap.range c.heap.next_root c.heap.epoch c.heap.next_root) (map-two saved at (unchanged saved at))
+          (subst (λ (a : ℕ). E c.heap.range c.heap.next_root c.heap.epoch a (map_of two mid)) aim-two
+          (subst (λ (e : ℕ). E c.heap.range c.heap.next_root e two.next_root (map_of two mid)) (p.stays.epoch ∙ b.keeps.stays.epoch)
+          (subst (λ (r : ℕ). E c.heap.range r two.epoch two.next_root (map_of two mid)) (root-two saved at)
+          (subst (λ (r : Range). E r two.root two.epoch two.next_root (map_of two mid)) range-two
+          (flips saved (matches-two saved at)))))))
 
-        module _ (same : three.placed ≡ two.placed) (range : three.range ≡ two.range) (table : length three.table ≡ table_sectors_for words)
-            (all : free three + length (used_by three) ≡ three.range.count) where
-          pub free-new : free three + sectors_of os ≡ c.heap.range.count
-          free-new = its-free two os placed sizes three three.range.count same table all ∙ ap (λ (r : Range). r.count) (range ∙ range-two)
+      -- who reads meanwhile
+      pub meanwhile-new : (two.next_root ≡ two.root → (saved : PlainObjects) → HeapMatches two saved mid
+          → EachLater (heap-later.KeepsUsedOrTurns two.range two.root) mid new)
+          → (saved : PlainObjects) → CheckpointMatches c saved old → EachLater (KeepsUsedOrTurns (layout_of c)) old new
+      meanwhile-new flips saved at =
+          let from : two.root ≡ c.heap.next_root = root-two saved at in
+          let here = matches-two saved at in
+          let more : EachLater (KeepsUsedOrTurns (layout_of c)) mid new =
+          subst (λ (n : ℕ). EachLater (heap-later.KeepsUsedOrTurns c.heap.range n) mid new) from
+          (subst (λ (r : Range). EachLater (heap-later.KeepsUsedOrTurns r two.root) mid new) range-two (flips (aim-two ∙ sym from) saved here)) in
+          EachLater-join (KeepsUsed (layout_of c)) (KeepsUsedOrTurns (layout_of c)) old mid new (λ x y kept. inl kept)
+          (λ x y z kept after. KeepsUsed-turns c.heap.range c.heap.next_root b.laid.apart x y kept z after) here.honest
+          (meanwhile-mid p.some saved at) more
 
-          pub matches-new : three.root ≡ two.aim → three.aim ≡ two.aim
-              → ((saved : PlainObjects) → HeapMatches two saved mid → HeapMatches three (map_of two mid) new)
-              → ((saved : PlainObjects) → HeapMatches two saved mid → map_of three new ≡ map_of two mid)
-              → (area : ℕ) {root : ℕ} (saved : PlainObjects) → IsSavedUnder root c saved old → OthersAreThere differs os saved
-              → CheckpointMatches (record { area = area; heap = three }) os new
-          matches-new under aim flips keeps-map area saved at there =
-              let here = matches saved (matches-one old saved at) in
-              record {
-                matches = subst (λ (l : PlainObjects). HeapMatches three l new) (map-two saved at there) (flips saved here);
-                under = under ∙ sym aim;
-                map = keeps-map saved here ∙ map-two saved at there;
-                inside = subst (λ (r : Range). All (IsInside r) (heap.object_sectors three.placed)) (sym range)
-                    (subst (λ (l : List Placed). All (IsInside two.range) (heap.object_sectors l)) (sym same) placed.inside);
-                free = its-free two os placed sizes three three.range.count same table all;
-              }
+      -- what was saved under another root stays there
+      pub kept-new : (two.next_root ≢ two.root → (saved : PlainObjects) → HeapMatches two saved mid
+          → StaysSaved two.range two.root two.epoch saved mid new)
+          → {root : ℕ} (saved : PlainObjects) → IsSavedUnder root c saved old → root ≢ c.heap.next_root
+          → StaysSaved c.heap.range root (epoch_of c) saved old new
+      kept-new flips {root} saved at other part within now =
+          let P : Image → Type 0 = heap.Holds part root (epoch_of c) saved in
+          let S : Range → ℕ → ℕ → Type 0 = λ r n e. StaysSaved r n e saved mid new in
+          let from : two.root ≡ root = root-two saved at in
+          let here = matches-two saved at in
+          let before = moment-saved p.some saved at part within now in
+          let more : S c.heap.range root (epoch_of c) =
+          subst (λ (e : ℕ). S c.heap.range root e) (p.stays.epoch ∙ b.keeps.stays.epoch)
+          (subst (λ (n : ℕ). S c.heap.range n two.epoch) from
+          (subst (λ (r : Range). S r two.root two.epoch) range-two (flips (λ same. other (sym from ∙ sym same ∙ aim-two)) saved here))) in
+          EachImageSince-join old mid new P before (more part within (EachImageSince-now old mid P before here.honest))
 
-        pub writes-new : (first second third : Counts) → InRange first
-            → ((saved : PlainObjects) → HeapMatches one saved old → AreThere differs os (map_of one old)
-            → second ≡ with_calls (changed_sectors differs os) 0 first)
-            → third ≡ with_calls (table_sectors_for words + 1) 2 second → (saved : PlainObjects) → CheckpointMatches c saved old
-            → third ≡ with_calls (changed_sectors differs os + table_sectors os + 1) 2 first
-        writes-new first second third in_range puts flips saved at =
-            let sum : changed_sectors differs os + (table_sectors_for words + 1) ≡ changed_sectors differs os + table_sectors os + 1 =
-            omega (arith, its-table two os placed sizes) in
-            calls-more (changed_sectors differs os) (table_sectors_for words + 1) 2 first second third in_range
-            (puts saved (matches-one old saved at) (were-one old saved at (unchanged saved at))) flips
-            ∙ ap (λ (n : ℕ). with_calls n 2 first) sum
+      pub others-new : (IsHonest mid → LeavesAlone (λ i. IsKept two i × (i ≢ two.next_root)) mid new)
+          → IsHonest old → LeavesAlone (IsElsewhere (layout_of c)) old new
+      others-new flips honest =
+          let run = others-mid p.some honest in
+          LeavesAlone-join (IsElsewhere (layout_of c)) old mid new run
+          (LeavesAlone-fewer (IsElsewhere (layout_of c)) (λ i. IsKept two i × (i ≢ two.next_root)) mid new
+          (λ i out. (inl (subst (λ (r : Range). IsOutside r i) (sym range-two) out.1), λ same. out.0 (same ∙ aim-two))) (flips run.honest))
+
+    -- the heap that is there then
+    module _ (new : Medium) (three : HeapView) (same : three.placed ≡ two.placed) (range : three.range ≡ two.range)
+        (table : length three.table ≡ table_sectors_for words) (all : free three + length (used_by three) ≡ three.range.count) where
+      pub free-new : free three + sectors_of os ≡ c.heap.range.count
+      free-new = its-free two os p.placed p.sizes three three.range.count same table all ∙ ap (λ (r : Range). r.count) (range ∙ range-two)
+
+      pub matches-new : three.root ≡ two.next_root → three.next_root ≡ two.next_root
+          → ((saved : PlainObjects) → HeapMatches two saved mid → HeapMatches three (map_of two mid) new)
+          → ((saved : PlainObjects) → HeapMatches two saved mid → map_of three new ≡ map_of two mid)
+          → (area : ℕ) {root : ℕ} (saved : PlainObjects) → IsSavedUnder root c saved old → OthersAreThere differs os saved
+          → CheckpointMatches (record { area = area; heap = three }) os new
+      matches-new under next_root flips keeps-map area saved at there =
+          let here = matches-two saved at in
+          record {
+            matches = subst (λ (l : PlainObjects). HeapMatches three l new) (map-two saved at there) (flips saved here);
+            under = under ∙ sym next_root;
+            map = keeps-map saved here ∙ map-two saved at there;
+            inside = subst (λ (r : Range). All (IsInside r) (heap.object_sectors three.placed)) (sym range)
+                (subst (λ (l : List Placed). All (IsInside two.range) (heap.object_sectors l)) (sym same) p.placed.inside);
+            free = its-free two os p.placed p.sizes three three.range.count same table all;
+          }
+
+    pub writes-new : ((saved : PlainObjects) → CheckpointMatches c saved old → OthersAreThere differs os saved)
+        → (first second third : Counts) → InRange first
+        → ((saved : PlainObjects) → HeapMatches one saved old → AreThere differs os (map_of one old)
+        → second ≡ with_calls (changed_sectors differs os) 0 first)
+        → third ≡ with_calls (table_sectors_for words + 1) 2 second → (saved : PlainObjects) → CheckpointMatches c saved old
+        → third ≡ with_calls (changed_sectors differs os + table_sectors os + 1) 2 first
+    writes-new unchanged first second third in_range puts flips saved at =
+        let sum : changed_sectors differs os + (table_sectors_for words + 1) ≡ changed_sectors differs os + table_sectors os + 1 =
+        omega (arith, its-table two os p.placed p.sizes) in
+        calls-more (changed_sectors differs os) (table_sectors_for words + 1) 2 first second third in_range
+        (puts saved (matches-one old saved at) (were-one old saved at differs (unchanged saved at))) flips
+        ∙ ap (λ (n : ℕ). with_calls n 2 first) sum

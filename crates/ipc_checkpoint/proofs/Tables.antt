@@ -98,14 +98,14 @@ module _ {X : Type 0} where
       (λ k x is.
       let above = rising-found (f.0 + 1) fs high k b.1 (ap (λ (o : Option X). is_some o) is) in
       let later : nat_eq f.0 k ≡ false = other_key f.0 k (λ same. omega (arith, same, above)) in
-      let behind : nat_eq e.0 k ≡ false = other_key e.0 k (λ same. omega (arith, same, key, above)) in
+      let beyond : nat_eq e.0 k ≡ false = other_key e.0 k (λ same. omega (arith, same, key, above)) in
       let all : value_at nat_eq (f ∷ fs) k ≡ Some x = rw later is in
-      rw behind at (there k x all))
+      rw beyond at (there k x all))
       (λ n is.
       let above = rising-found (e.0 + 1) es high n a.1 is in
       let later : nat_eq f.0 n ≡ false = other_key f.0 n (λ same. omega (arith, same, key, above)) in
-      let behind : nat_eq e.0 n ≡ false = other_key e.0 n (λ same. omega (arith, same, above)) in
-      let all : is_some (value_at nat_eq (e ∷ es) n) ≡ true = rw behind is in
+      let beyond : nat_eq e.0 n ≡ false = other_key e.0 n (λ same. omega (arith, same, above)) in
+      let all : is_some (value_at nat_eq (e ∷ es) n) ≡ true = rw beyond is in
       rw later at (only n all)) in
       ap (λ (n : ℕ). (n, e.1) ∷ es) key ∙ ap (λ (x : X). (f.0, x) ∷ es) value ∙ ap (λ (l : List (ℕ × X)). f ∷ l) rest
 

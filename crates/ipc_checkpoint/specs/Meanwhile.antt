@@ -3,7 +3,7 @@ use Rattle.std.specs.Prelude.{ℕ}
 use Rattle.ipc_disk.specs.Medium.{Image}
 use Rattle.ipc_heap.specs.Meanwhile as heap
 use Rattle.ipc_checkpoint.specs.declared.layout.Layout.{Layout}
--- what each image since is to an image of then
+-- how each image that a crash since then may have left stands to one of then
 pub use Rattle.ipc_heap.specs.Meanwhile.{EachLater}
 
 -- a part of the image's checkpoint, but for its root, stands in this sector

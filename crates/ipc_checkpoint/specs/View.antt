@@ -17,17 +17,17 @@ abbrev pub layout_under : ℕ → CheckpointView → Layout
 layout_under root checkpoint =
     record { range = checkpoint.heap.range; root = root; area = checkpoint.area }
 
--- where the next save will put it: under the root that it has, or under the one that it was aimed at
+-- where the next save will put it: under the root that it has, or under the one that `set_next_root` has named
 abbrev pub layout_of : CheckpointView → Layout
-layout_of checkpoint = layout_under checkpoint.heap.aim checkpoint
+layout_of checkpoint = layout_under checkpoint.heap.next_root checkpoint
 
 -- the root that tells of what is saved
 abbrev pub saved_root : CheckpointView → ℕ
 saved_root checkpoint = checkpoint.heap.root
 
--- the same, aimed at this root
-abbrev pub aimed : ℕ → CheckpointView → CheckpointView
-aimed root checkpoint = record checkpoint { heap = record checkpoint.heap { aim = root } }
+-- a checkpoint with this root for the next save
+abbrev pub with_next_root : ℕ → CheckpointView → CheckpointView
+with_next_root root checkpoint = record checkpoint { heap = record checkpoint.heap { next_root = root } }
 
 abbrev pub epoch_of : CheckpointView → ℕ
 epoch_of checkpoint = checkpoint.heap.epoch

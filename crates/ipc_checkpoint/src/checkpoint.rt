@@ -40,7 +40,7 @@ impl Checkpoint {
     ghost use Rattle.ipc_checkpoint.specs.Meanwhile.{EachLater, KeepsUsedOrTurns};
     ghost use Rattle.ipc_base.specs.Objects.{Fit, OthersAreThere};
     ghost use Rattle.ipc_heap.specs.Matches.{StaysSaved};
-    ghost use Rattle.ipc_checkpoint.specs.View.{layout_of, saved_root, aimed, epoch_of, free_of, HasSpare};
+    ghost use Rattle.ipc_checkpoint.specs.View.{layout_of, saved_root, with_next_root, epoch_of, free_of, HasSpare};
 
     /// Makes the first checkpoint, at epoch 1, with one sync. Until then, and after an `Err`, its sectors may be
     /// anything.
@@ -108,16 +108,16 @@ impl Checkpoint {
     }
 
     /// Aims it at another root: the next save writes that sector, and leaves the root that tells of what is saved.
-    pub fn aim(&mut self, root: u32)
+    pub fn set_next_root(&mut self, root: u32)
         requires apart { IsOutside (layout_of self.old).range root }
         requires other { root ≢ saved_root self.old }
-        ensures { self.new ≡ aimed root self.old }
+        ensures { self.new ≡ with_next_root root self.old }
     {
-        self.heap.aim(root);
+        self.heap.set_next_root(root);
     }
 
     /// Replaces the objects, at a later epoch. Those that have changed are written, and the table. A crash at any
-    /// moment leaves all of the old ones at the old epoch, or all of the new ones at the new. If it was aimed at
+    /// moment leaves all of the old ones at the old epoch, or all of the new ones at the new. If it was given
     /// another root, the old ones stay under the old one as well, until the save that follows. It takes no memory.
     /// After an `Err` the checkpoint has to be loaded again.
     pub fn save<D: SectorDisk, O: Objects>(
@@ -149,8 +149,8 @@ impl Checkpoint {
         // Who reads it meanwhile finds the old objects where they stood, or a root of a later epoch.
         ensures meanwhile { (saved : PlainObjects) → CheckpointMatches self.old saved (D.medium disk.old)
             → EachLater (KeepsUsedOrTurns (layout_of self.old)) (D.medium disk.old) (D.medium disk.new) }
-        // After `aim` the old objects stay under the old root, also once the new ones are there.
-        ensures aimed { OnOk result ((root : ℕ) (saved : PlainObjects)
+        // After `set_next_root` the old objects stay under the old root, also once the new ones are there.
+        ensures moved { OnOk result ((root : ℕ) (saved : PlainObjects)
             → IsSavedUnder root self.old saved (D.medium disk.old)
             → OthersAreThere (O.differs objects.now) (O.objects objects.now) saved
             → CheckpointMatches self.new (O.objects objects.now) (D.medium disk.new)) }

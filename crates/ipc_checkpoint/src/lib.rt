@@ -22,8 +22,8 @@
 //!   objects that may have changed, those of the table, and the root, with two syncs (`writes`). It takes no memory.
 //!   Who reads the disk meanwhile finds the old objects and their table to the byte in the sectors in which they stood,
 //!   or a root of a later epoch (`meanwhile`, `KeepsUsedOrTurns` of `specs/Meanwhile.antt`).
-//! - `aim` makes the next save write another root. Then the old objects stay under the old root as well (`kept`), in
-//!   whatever part of the range they stand, and the new ones are there once the save is Ok (`aimed`).
+//! - `set_next_root` makes the next save write another root. Then the old objects stay under the old root too (`kept`),
+//!   in whatever part of the range they stand, and the new ones are there once the save is Ok (`moved`).
 //! - No call writes outside the range and the root (`others`), the disk is the same after `create` and `save` (`same`),
 //!   and a failure is answered only if the disk counted one (`counts`; of `load` `reads`). `create` and `save` want
 //!   room: the objects fit into an area with a table of them (`fits`), all but an area is free (`old_fits`), and the

@@ -19,7 +19,7 @@ pub(crate) fn read_objects<D: SectorDisk>(
     disk: &mut D,
     heap: &Heap,
 ) -> Result<ObjectMap, LoadError>
-    requires laid_out { IsLaidOut heap.now.range heap.now.aim (D.size disk.old) }
+    requires laid_out { IsLaidOut heap.now.range heap.now.next_root (D.size disk.old) }
     ensures placed { IfOk result (λ _. ArePlaced heap.now.range heap.now.placed) }
     ensures sizes { IfOk result (λ found. seen_as (λ bytes. length bytes) found ≡ sizes_of heap.now) }
     ensures objects { IfOk result (λ found. IsHonest (D.medium disk.old)
@@ -48,7 +48,7 @@ fn read_object<D: SectorDisk>(
     number: u64,
     len: u64,
 ) -> Result<Vec<u8>, LoadError>
-    requires laid_out { IsLaidOut heap.now.range heap.now.aim (D.size disk.old) }
+    requires laid_out { IsLaidOut heap.now.range heap.now.next_root (D.size disk.old) }
     requires object { value_at nat_eq (sizes_of heap.now) number ≡ Some len }
     ensures long { IfOk result (λ bytes. length bytes.items ≡ len) }
     ensures bytes { IfOk result (λ bytes. IsHonest (D.medium disk.old)

@@ -55,7 +55,7 @@ pub(crate) fn put_changed<D: SectorDisk, O: Objects>(
     disk: &mut D,
     objects: &O,
 ) -> Result<(), DiskFault>
-    requires laid_out { IsLaidOut heap.old.range heap.old.aim (D.size disk.old) }
+    requires laid_out { IsLaidOut heap.old.range heap.old.next_root (D.size disk.old) }
     requires no_others { HasNoOthers (sizes_of heap.old) (O.objects objects.now) }
     requires room { object_sectors (O.objects objects.now) ≤ free heap.old }
     // What the map is then.

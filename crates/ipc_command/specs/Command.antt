@@ -115,7 +115,7 @@ pub data PlainRequest : Type 0 where
   Upgrade : (device : Text) → (small : Bool) → (sectors : Option ℕ) → PlainRequest
   Run : (device : Text) → PlainRequest
   Dump : (device : Text) → PlainRequest
-  Look : (device : Text) → PlainRequest
+  ListObjects : (device : Text) → PlainRequest
   Backup : (device copy : Text) → PlainRequest
   Check : (device : Text) → PlainRequest
   Serve : (device socket : Text) → (turns : Option ℕ) → (metrics : Option Text) → PlainRequest
@@ -126,7 +126,7 @@ plain_request (request.Format device small sectors) = Format (string_bytes devic
 plain_request (request.Upgrade device small sectors) = Upgrade (string_bytes device) small sectors
 plain_request (request.Run device) = Run (string_bytes device)
 plain_request (request.Dump device) = Dump (string_bytes device)
-plain_request (request.Look device) = Look (string_bytes device)
+plain_request (request.ListObjects device) = ListObjects (string_bytes device)
 plain_request (request.Backup device copy) = Backup (string_bytes device) (string_bytes copy)
 plain_request (request.Check device) = Check (string_bytes device)
 plain_request (request.Serve device socket turns metrics) =
@@ -166,13 +166,13 @@ asked_request name rows =
     then Upgrade device (asked_small rows) (asked_number (codes "sectors") rows)
     else (if bytes_eq name (codes "run") then Run device
     else (if bytes_eq name (codes "dump") then Dump device
-    else (if bytes_eq name (codes "list") then Look device
+    else (if bytes_eq name (codes "list") then ListObjects device
     else (if bytes_eq name (codes "backup") then Backup device (asked_text (codes "copy") rows)
     else (if bytes_eq name (codes "check") then Check device
     else (if bytes_eq name (codes "serve") then asked_serve rows
     else Dump []))))))))
 
--- the same, by the command that was found; the parser takes no words without one
+-- what a command line asks for, by the command that was found; the parser takes no words without one
 abbrev pub asked : Option (Text × List Row) → PlainRequest
 asked None = Dump []
 asked (Some found) = asked_request found.0 found.1
@@ -205,7 +205,7 @@ pub record AsksFor (wanted : PlainRequest) (result : Result Request Error) : Typ
   pub ok : IfOk result (λ request. plain_request request ≡ wanted)
   pub err : IfErr result (λ error. kind_of error ≡ OutOfMemory)
 
--- the same of a request without a file
+-- a command line that is taken as this request, which has no file: it is refused for want of memory alone
 pub record IsTakenAs (request : Request) (result : Result Request Error) : Type 0 where
   pub ok : IfOk result (λ asked. asked ≡ request)
   pub err : IfErr result (λ error. kind_of error ≡ OutOfMemory)

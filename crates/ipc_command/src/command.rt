@@ -7,7 +7,7 @@ ghost use Rattle.clap.specs.Words.{app_of, rule_of, fault_of, subcommand_of, sub
 ghost use Rattle.clap.specs.Words.{FailsBy, first_of, found_of, rows_of};
 ghost use Rattle.clap.specs.declared.builder.command.Command.TheViews.{out-Command};
 ghost use Rattle.ipc_command.specs.Command.{limits_asked, refusal_status, IsTakenAs, AsksFor, declared};
-ghost use Rattle.ipc_command.specs.Command.PlainRequest.{Format, Upgrade, Run, Dump, Look, Backup, Check};
+ghost use Rattle.ipc_command.specs.Command.PlainRequest.{Format, Upgrade, Run, Dump, ListObjects, Backup, Check};
 ghost use Rattle.ipc_command.specs.Command.PlainRequest.{Serve};
 ghost use Rattle.ipc_command.specs.Command.{plain_request, asked, asked_serve, asked_small, asked_text};
 ghost use Rattle.ipc_command.specs.Command.{asked_number, parsed_number};
@@ -55,7 +55,7 @@ pub enum Request {
         device: String,
     },
     /// List the objects of the device in a file, which may be in use, and leave it as it is.
-    Look {
+    ListObjects {
         device: String,
     },
     /// Copy the device in a file, which may be in use, to a new file, and leave it as it is.
@@ -156,7 +156,7 @@ pub fn parse<S: AsStr>(alloc: Global, words: &[S]) -> Result<Request, Error>
         → AsksFor (Dump device) result }
     ensures list { (name device : List ℕ) → is_no_flag device ≡ true
         → map S.text words.now ≡ name ∷ codes "list" ∷ device ∷ []
-        → AsksFor (Look device) result }
+        → AsksFor (ListObjects device) result }
     ensures backup { (name device copy : List ℕ) → is_no_flag device ≡ true → is_no_flag copy ≡ true
         → map S.text words.now ≡ name ∷ codes "backup" ∷ device ∷ copy ∷ []
         → AsksFor (Backup device copy) result }
@@ -445,7 +445,7 @@ fn request_in(alloc: Global, matches: &ArgMatches<'_>) -> Result<Request, AllocE
         });
     }
     if let Some(list) = matches.subcommand_matches("list") {
-        return Ok(Request::Look {
+        return Ok(Request::ListObjects {
             device: text_in(alloc, list, "device")?,
         });
     }

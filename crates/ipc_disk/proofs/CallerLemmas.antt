@@ -13,7 +13,7 @@ use Rattle.ipc_disk.specs.declared.range.Range.{Range}
 use Rattle.ipc_disk.specs.Calls.{IsSameDisk, IsOneCall, OnlyReads}
 use Rattle.ipc_disk.specs.Counts.{Counts, counted, with_calls, with_failure}
 use Rattle.ipc_disk.specs.Growth.{with_zeros}
-use Rattle.ipc_disk.specs.Medium.{Image, Medium, IsHonest, Elapses, SetOrNot, Stays, Writes}
+use Rattle.ipc_disk.specs.Medium.{Image, Medium, IsHonest, IsDurable, Elapses, SetOrNot, Stays, Writes}
 use Rattle.ipc_disk.specs.Range.{IsOutside}
 use Rattle.ipc_disk.specs.Since.{EachImageSince, SameAt, LeavesAlone}
 use Rattle.ipc_disk.specs.Slots.{MayLeave, last_values}
@@ -164,6 +164,13 @@ EachImageSince-set old new at bytes P run same set =
     (λ image from. ⊎_elim (λ is. subst P (sym is) (same from.0 from.1)) (λ is. subst P (sym is) (set from.0 from.1))
     from.2)
 
+-- and of a disk that is durable then
+pub EachImageSince-durable : (old new : Medium) (at : ℕ) (bytes : List ℕ) (P : Image → Type 0) → IsDurable old → P old.contents
+    → P (slice_set old.contents at bytes) → EachImageSince old new (SetOrNot at bytes old) → EachImageSince old new P
+EachImageSince-durable old new at bytes P durable same set run =
+    EachImageSince-set old new at bytes P run (λ image now. subst P (sym (durable image now)) same)
+    (λ image now. subst (λ (c : Image). P (slice_set c at bytes)) (sym (durable image now)) set)
+
 -- on an honest disk it holds of each image now
 pub EachImageSince-now : (old new : Medium) (P : Image → Type 0) → EachImageSince old new P → IsHonest new
     → (image : Image) → new.images_now image → P image
@@ -306,10 +313,12 @@ LeavesAlone-fewer fewer places old new sub run = record {
   honest = run.honest;
 }
 
--- what is outside a range is outside its first sector
-pub outside-first : (range : Range) → 0 < range.count → (i : ℕ) → IsOutside range i → IsOutside (record { first = range.first; count = 1 }) i
-outside-first range has i (inl low) = inl low
-outside-first range has i (inr high) = inr (omega (arith, high, has))
+-- what is left alone outside a part of a range is left alone outside the range
+pub LeavesAlone-part : (part range : Range) (old new : Medium) → range.first ≤ part.first
+    → part.first + part.count ≤ range.first + range.count → LeavesAlone (IsOutside part) old new → LeavesAlone (IsOutside range) old new
+LeavesAlone-part part range old new low high run =
+    LeavesAlone-fewer (IsOutside range) (IsOutside part) old new
+    (λ i out. ⊎_elim (λ before. inl (omega (arith, before))) (λ after. inr (omega (arith, after))) out) run
 
 -- a sync goes on with what each image has
 pub EachImageSince-sync : (old mid new : Medium) (P : Image → Type 0) → EachImageSince old mid P → IsHonest mid → Stays mid new → EachImageSince old new P

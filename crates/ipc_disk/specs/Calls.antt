@@ -20,13 +20,13 @@ pub record CountsFault {D T E : Type 0} (counts : D → Counts) (result : Result
   pub err : OnErr result ((counts new).failures ≡ counted (counts old).failures 1)
   pub ok : OnOk result ((counts new).failures ≡ (counts old).failures)
 
--- the same, and Ok is these calls
+-- one call or more: an Err is one failure, and Ok is these calls
 pub record CountsCalls {D T E : Type 0} (counts : D → Counts) (result : Result T E) (calls : Counts → Counts)
     (old new : D) : Type 0 where
   pub err : OnErr result ((counts new).failures ≡ counted (counts old).failures 1)
   pub ok : OnOk result (counts new ≡ calls (counts old))
 
--- the same where there are errors that are none of the disk's: one failure if it has failed, and else none
+-- calls that may have errors which are none of the disk's: one failure if the disk has failed, and else none
 pub record CountsFaultIf {D : Type 0} (counts : D → Counts) (failed : Type 0) (old new : D) : Type 0 where
   pub failure : failed → (counts new).failures ≡ counted (counts old).failures 1
   pub no_failure : failed ⊎ ((counts new).failures ≡ (counts old).failures)

@@ -14,7 +14,7 @@ run_values run = take run.range.count run.sectors
 pub whole_values : (run : Run) → All IsSector (run_values run)
 whole_values run = All-take IsSector run.range.count run.sectors run.whole
 
--- the sector comes next, behind a run that is not full
+-- the sector comes next, after a run that is not full
 abbrev pub IsNext : Range → ℕ → Type 0
 IsNext range at = (at ≡ range.first + range.count) × (range.count < LONGEST)
 

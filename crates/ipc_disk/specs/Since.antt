@@ -15,8 +15,8 @@ pub record SameAt (places : ℕ → Type 0) (a b : Image) : Type 0 where
   pub count : length a ≡ length b
   pub sectors : (i : ℕ) → places i → slice_get a i ≡ slice_get b i
 
--- each image since old has, at these places, the sectors of an image of then, and so has what is read; the disk is
--- honest
+-- The disk is honest. At these places each image that a crash since `old` may have left has the sectors of an image
+-- that a crash could leave at `old`, and what is read has those that were read then.
 pub record LeavesAlone (places : ℕ → Type 0) (old new : Medium) : Type 0 where
   pub images : EachImageSince old new
       (λ image. (before : Image) × old.images_now before × SameAt places before image)

@@ -33,15 +33,15 @@ const ZEROS: Slot = Slot {
 pub struct MemoryDisk {
     slots: Vec<Slot>,
     // The sector of each write since the last sync, but of no more writes than there are sectors.
-    recent: Vec<u32>,
+    unsynced: Vec<u32>,
     writes: u64,
     syncs: u64,
     ghost whole: { All IsWhole slots.items },
     ghost few: { length slots.items < 2 ^ 32 },
-    ghost room: { length slots.items ≤ vec_capacity recent },
-    ghost places: { All (λ at. at < length slots.items) recent.items },
-    ghost listed: { length recent.items < length slots.items
-        → ListsUnsynced recent.items slots.items },
+    ghost room: { length slots.items ≤ vec_capacity unsynced },
+    ghost places: { All (λ at. at < length slots.items) unsynced.items },
+    ghost listed: { length unsynced.items < length slots.items
+        → ListsUnsynced unsynced.items slots.items },
     ghost writes_fit: { writes < 2 ^ 64 },
     ghost syncs_fit: { syncs < 2 ^ 64 },
 }
@@ -62,10 +62,10 @@ impl MemoryDisk {
             ≡ record { failures = 0; writes = 0; syncs = 0 }) }
     {
         let slots = zeros(alloc, sectors)?;
-        let recent = Vec::with_capacity(alloc, sectors as usize)?;
+        let unsynced = Vec::with_capacity(alloc, sectors as usize)?;
         Ok(MemoryDisk {
             slots,
-            recent,
+            unsynced,
             writes: 0,
             syncs: 0,
         })
@@ -91,7 +91,7 @@ impl MemoryDisk {
     {
         let mut disk = self;
         choose(&mut disk.slots, keep);
-        disk.recent.clear();
+        disk.unsynced.clear();
         disk
     }
 
@@ -115,11 +115,11 @@ impl MemoryDisk {
             return Ok(());
         }
         // Room in the list comes first: after it only what changes nothing can be refused.
-        let more = sectors.saturating_sub(self.recent.len());
-        self.recent.reserve(more)?;
+        let more = sectors.saturating_sub(self.unsynced.len());
+        self.unsynced.reserve(more)?;
         self.slots.resize(sectors, ZEROS)?;
         // A list that had no place for a write would have one now. A full one stands for all sectors.
-        self.recent.resize(sectors, 0).unwrap();
+        self.unsynced.resize(sectors, 0).unwrap();
         Ok(())
     }
 
@@ -150,15 +150,15 @@ fn zeros(alloc: Global, sectors: u32) -> Result<Vec<Slot>, AllocError>
 }
 
 // Lists a write, where fewer are listed than there are sectors.
-fn list(recent: &mut Vec<u32>, at: u32, sectors: usize)
-    requires { sectors ≤ vec_capacity recent.old }
-    ensures listed { length recent.old.items < sectors
-        → recent.new.items ≡ recent.old.items ++ at ∷ [] }
-    ensures full { sectors ≤ length recent.old.items → recent.new.items ≡ recent.old.items }
-    ensures room { sectors ≤ vec_capacity recent.new }
+fn list(unsynced: &mut Vec<u32>, at: u32, sectors: usize)
+    requires { sectors ≤ vec_capacity unsynced.old }
+    ensures listed { length unsynced.old.items < sectors
+        → unsynced.new.items ≡ unsynced.old.items ++ at ∷ [] }
+    ensures full { sectors ≤ length unsynced.old.items → unsynced.new.items ≡ unsynced.old.items }
+    ensures room { sectors ≤ vec_capacity unsynced.new }
 {
-    if recent.len() < sectors {
-        recent.push(at).unwrap();
+    if unsynced.len() < sectors {
+        unsynced.push(at).unwrap();
     }
 }
 
@@ -190,13 +190,13 @@ fn flush_listed(slots: &mut [Slot], listed: &[u32])
 }
 
 // A sync, which goes over no more sectors than there were writes since the last one.
-fn flush(slots: &mut [Slot], recent: &[u32])
-    requires places { All (λ at. at < length slots.old) recent.now }
-    requires listed { length recent.now < length slots.old → ListsUnsynced recent.now slots.old }
+fn flush(slots: &mut [Slot], unsynced: &[u32])
+    requires places { All (λ at. at < length slots.old) unsynced.now }
+    requires listed { length unsynced.now < length slots.old → ListsUnsynced unsynced.now slots.old }
     ensures { slots.new ≡ map flushed slots.old }
 {
-    if recent.len() < slots.len() {
-        flush_listed(slots, recent);
+    if unsynced.len() < slots.len() {
+        flush_listed(slots, unsynced);
     } else {
         flush_all(slots);
     }
@@ -288,7 +288,7 @@ impl SectorDisk for MemoryDisk {
         ensures synced { synced_image self.new ≡ synced_image self.old }
     {
         self.slots[at as usize].last = *from;
-        list(&mut self.recent, at, self.slots.len());
+        list(&mut self.unsynced, at, self.slots.len());
         self.writes = self.writes.saturating_add(1);
         Ok(())
     }
@@ -302,8 +302,8 @@ impl SectorDisk for MemoryDisk {
         ensures never_fails { IsOk result }
         ensures synced { synced_image self.new ≡ (memory_medium self.old).contents }
     {
-        flush(&mut self.slots, &self.recent);
-        self.recent.clear();
+        flush(&mut self.slots, &self.unsynced);
+        self.unsynced.clear();
         self.syncs = self.syncs.saturating_add(1);
         Ok(())
     }

@@ -30,8 +30,8 @@ use std::alloc::{AllocError, Global};
 #[derive(Drop)]
 pub(crate) struct Changed {
     pub(crate) marks: Vec<Object>,
-    /// The place of the mark that is looked at before all others: the one that was made or found last.
-    recent: usize,
+    /// Where a mark is looked for first: the place of the one that was made or found last.
+    hint: usize,
     ghost once: { IsDistinct is_on marks.items } by { Prim.hlevel props },
 }
 
@@ -43,7 +43,7 @@ impl Changed {
         ensures room { IfOk result (λ changed. 2 * most_objects limits.now < vec_capacity changed.marks) }
     {
         let marks = Vec::with_capacity(alloc, 2 * most_objects(limits) + 1)?;
-        Ok(Changed { marks, recent: 0 })
+        Ok(Changed { marks, hint: 0 })
     }
 
     /// None any more.
@@ -87,23 +87,23 @@ impl Changed {
         ensures few { length self.new.marks.items ≤ length self.old.marks.items + 1 }
         ensures capacity { vec_capacity self.new.marks ≡ vec_capacity self.old.marks }
     {
-        if self.is_recent(object) {
+        if self.is_hinted(object) {
             return;
         }
         match place_of(&self.marks, object) {
-            Some(place) => self.recent = place,
+            Some(place) => self.hint = place,
             None => {
-                self.recent = self.marks.len();
+                self.hint = self.marks.len();
                 self.marks.push_reserved(object);
             }
         }
     }
 
     /// Whether the mark that was made or found last is of this object.
-    fn is_recent(&self, object: Object) -> bool
+    fn is_hinted(&self, object: Object) -> bool
         ensures { IsTrue result → is_marked self.now.marks.items object ≡ true }
     {
-        match self.marks.get(self.recent) {
+        match self.marks.get(self.hint) {
             Some(mark) => is_on(object, *mark),
             None => false,
         }
@@ -138,7 +138,7 @@ impl Changed {
         self.mark_exit(state, pid);
     }
 
-    /// The same, if there is room.
+    /// Marks what an exit changes, for which there is room.
     fn mark_exit(&mut self, state: &State, pid: Option<u32>)
         requires { length self.old.marks.items + length state.now.state.semset.entries
             + length state.now.state.shm.entries + length state.now.state.mq.entries

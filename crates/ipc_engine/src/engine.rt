@@ -400,7 +400,7 @@ fn prepare(
     reserve(state, alloc, request)
 }
 
-/// Takes the memory that a HELLO needs: none where no process can be added.
+/// Takes the memory that a HELLO needs. If no process can be added, it needs none.
 fn reserve_hello(state: &mut State) -> Result<(), AllocError>
     requires { state.old.ready ≡ Nothing }
     ensures ok { OnOk result (state.new ≡ record state.old {

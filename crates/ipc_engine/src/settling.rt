@@ -97,7 +97,7 @@ fn first_to_go(state: &State, among: Option<Object>, change: Change) -> Option<P
     first_among(state, among, change, state.waits())
 }
 
-/// The same of these calls.
+/// The first of these waiting calls that can go on and waits on this object, or on any: its process.
 fn first_among(
     state: &State,
     among: Option<Object>,
@@ -185,7 +185,7 @@ pub(crate) fn all_have_to_wait(state: &State) -> bool
     all_have_place(state, state.waits())
 }
 
-/// The same of these calls.
+/// Whether each of these waiting calls is one of a connected process, and has to wait.
 fn all_have_place(state: &State, calls: &[Waiting<Awaited, Parked>]) -> bool
     requires { All IsSoundWaiting calls.now }
     ensures { IsTrue result ↔ All (HasToWait state.now.limits state.now.state) calls.now }

@@ -71,9 +71,10 @@ module _ (heap : HeapView) (saved : PlainObjects) where
       → Holds heap.range heap.root heap.epoch saved image
   HeapMatches-holds medium at image now = record { allocation = at.there; there = at.images image now }
 
-  -- it is aimed at another root
-  pub HeapMatches-aimed : (medium : Medium) (aim : ℕ) → HeapMatches heap saved medium → HeapMatches (record heap { aim = aim }) saved medium
-  HeapMatches-aimed medium aim at = record {
+  -- another root is named
+  pub HeapMatches-with_next_root : (medium : Medium) (next_root : ℕ) → HeapMatches heap saved medium
+      → HeapMatches (record heap { next_root = next_root }) saved medium
+  HeapMatches-with_next_root medium next_root at = record {
     honest = at.honest;
     apart = at.apart;
     there = at.there;

@@ -228,8 +228,8 @@ HasSize p = (0 < p.len) × (p.len < 2 ^ 64) × (length p.sectors ≡ sectors_for
 
 -- what is seen of it
 abbrev pub seen : Range → ℕ → ℕ → ℕ → Vec ℕ → Vec ℕ → List Use → HeapView
-seen range root aim epoch words table uses =
-    record { range = range; root = root; aim = aim; epoch = epoch; placed = placed_in words.items; table = table.items; uses = uses }
+seen range root next_root epoch words table uses =
+    record { range = range; root = root; next_root = next_root; epoch = epoch; placed = placed_in words.items; table = table.items; uses = uses }
 
 -- what holds of the objects of a heap
 pub record AreObjectsOf (range : Range) (placed : List Placed) (uses : List Use) : Type 0 where

@@ -122,7 +122,8 @@ turn-counts n begin one two three first second third range =
 
 -- ---- a heap, before and after
 
-module _ (heap : HeapView) (saved : PlainObjects) (old : Medium) (size : ℕ) (laid : IsLaidOut heap.range heap.aim size) (matches : HeapMatches heap saved old)
+module _ (heap : HeapView) (saved : PlainObjects) (old : Medium) (size : ℕ) (laid : IsLaidOut heap.range heap.next_root size)
+    (matches : HeapMatches heap saved old)
     (words table : List ℕ) (epoch : ℕ) (are : words ≡ table_words heap.placed) (positive : 0 < epoch)
     (numbers : IsRising 0 (map (λ p. p.number) heap.placed) (2 ^ 64))
     (sizes : All HasSize heap.placed) (long : length table ≡ table_sectors_for (length words))
@@ -131,8 +132,8 @@ module _ (heap : HeapView) (saved : PlainObjects) (old : Medium) (size : ℕ) (l
   not-at : (root s : ℕ) → IsOutside heap.range root → IsInside heap.range s → s ≢ root
   not-at root s out here same = ⊎_elim (λ low. omega (arith, low, here, same)) (λ high. omega (arith, high, here, same)) out
 
-  not-aim : (s : ℕ) → IsInside heap.range s → s ≢ heap.aim
-  not-aim s = not-at heap.aim s laid.apart
+  not-next_root : (s : ℕ) → IsInside heap.range s → s ≢ heap.next_root
+  not-next_root s = not-at heap.next_root s laid.apart
 
   root-open : Contains table heap.root → ⊥
   root-open there =
@@ -143,18 +144,18 @@ module _ (heap : HeapView) (saved : PlainObjects) (old : Medium) (size : ℕ) (l
   table-open s there = free-open heap.range heap.uses s matches.all (All-contains (WasFree heap.range.first heap.uses) table s free there)
 
   -- the objects of the map stand where they stood
-  objects-turned : (image : Image) → IsTurned words table heap.aim epoch old.contents image
+  objects-turned : (image : Image) → IsTurned words table heap.next_root epoch old.contents image
       → map_of heap old ≡ map (object_on image) heap.placed
   objects-turned image is =
       objects-same old.contents image heap.placed
-      (λ s there. sector_at-same (λ i. (Contains table i → ⊥) × (i ≢ heap.aim)) old.contents image s is.others (
+      (λ s there. sector_at-same (λ i. (Contains table i → ⊥) × (i ≢ heap.next_root)) old.contents image s is.others (
         distinct-apart (object_sectors heap.placed) table once s there,
-        not-aim s (All-contains (IsInside heap.range) (object_sectors heap.placed) s
+        not-next_root s (All-contains (IsInside heap.range) (object_sectors heap.placed) s
             (all-left (IsInside heap.range) (object_sectors heap.placed) table inside) there),
       ))
 
-  turned-holds : (image : Image) → IsTurned words table heap.aim epoch old.contents image
-      → HoldsIn heap.range heap.aim epoch (record { placed = heap.placed; table = table }) (map_of heap old) image
+  turned-holds : (image : Image) → IsTurned words table heap.next_root epoch old.contents image
+      → HoldsIn heap.range heap.next_root epoch (record { placed = heap.placed; table = table }) (map_of heap old) image
   turned-holds image is = record {
     are = matches.are;
     positive = positive;
@@ -179,39 +180,39 @@ module _ (heap : HeapView) (saved : PlainObjects) (old : Medium) (size : ℕ) (l
       root-open (λ s there also. table-open s also (saved-kept heap saved old matches s there)) (matches.images is.before is.now)
 
   -- what was saved stays under its root, if another is written
-  kept-holds : heap.aim ≢ heap.root → (image : Image) → IsTurned words table heap.aim epoch old.contents image
+  kept-holds : heap.next_root ≢ heap.root → (image : Image) → IsTurned words table heap.next_root epoch old.contents image
       → HoldsIn heap.range heap.root heap.epoch matches.there saved image
   kept-holds other image is =
       let holds = matches.images old.contents matches.honest.reads in
-      HoldsIn-same old.contents image heap.range heap.root heap.epoch matches.there saved (λ i. (Contains table i → ⊥) × (i ≢ heap.aim)) is.others
+      HoldsIn-same old.contents image heap.range heap.root heap.epoch matches.there saved (λ i. (Contains table i → ⊥) × (i ≢ heap.next_root)) is.others
       (root-open, λ same. other (sym same))
       (λ s there. (
         λ also. table-open s also (saved-kept heap saved old matches s there),
-        not-aim s (All-contains (IsInside heap.range) (used matches.there) s holds.allocated.inside there),
+        not-next_root s (All-contains (IsInside heap.range) (used matches.there) s holds.allocated.inside there),
       )) holds
 
   -- a crash leaves what was saved, or the map
-  pub flip-moment : (new : Medium) → EachImageSince old new (IsEither words table heap.aim epoch old)
-      → EachImageSince old new (HoldsEither heap.range heap.root heap.epoch saved heap.aim epoch (map_of heap old))
+  pub flip-moment : (new : Medium) → EachImageSince old new (IsEither words table heap.next_root epoch old)
+      → EachImageSince old new (HoldsEither heap.range heap.root heap.epoch saved heap.next_root epoch (map_of heap old))
   flip-moment new since =
-      EachImageSince-weaken old new (IsEither words table heap.aim epoch old)
-      (HoldsEither heap.range heap.root heap.epoch saved heap.aim epoch (map_of heap old)) since
+      EachImageSince-weaken old new (IsEither words table heap.next_root epoch old)
+      (HoldsEither heap.range heap.root heap.epoch saved heap.next_root epoch (map_of heap old)) since
       (λ image either. ⊎_elim (λ is. inl (record { allocation = matches.there; there = unturned-holds image is }))
       (λ is. inr (record { allocation = record { placed = heap.placed; table = table }; there = turned-holds image is })) either)
 
   -- and what was saved, if another root is written
-  pub flip-kept : heap.aim ≢ heap.root → (new : Medium) → EachImageSince old new (IsEither words table heap.aim epoch old)
+  pub flip-kept : heap.next_root ≢ heap.root → (new : Medium) → EachImageSince old new (IsEither words table heap.next_root epoch old)
       → StaysSaved heap.range heap.root heap.epoch saved old new
   flip-kept other new since =
       stays-saved heap saved old new matches
-      (EachImageSince-weaken old new (IsEither words table heap.aim epoch old) (HoldsIn heap.range heap.root heap.epoch matches.there saved) since
+      (EachImageSince-weaken old new (IsEither words table heap.next_root epoch old) (HoldsIn heap.range heap.root heap.epoch matches.there saved) since
       (λ image either. ⊎_elim (λ is. unturned-holds image is) (λ is. kept-holds other image is) either))
 
   -- who reads meanwhile finds what was saved where it stood, or a later root
-  pub flip-meanwhile : heap.aim ≡ heap.root → heap.epoch < epoch → (new : Medium) → EachImageSince old new (IsEither words table heap.aim epoch old)
+  pub flip-meanwhile : heap.next_root ≡ heap.root → heap.epoch < epoch → (new : Medium) → EachImageSince old new (IsEither words table heap.next_root epoch old)
       → EachLater (KeepsUsedOrTurns heap.range heap.root) old new
   flip-meanwhile same later new since =
-      EachImageSince-weaken old new (IsEither words table heap.aim epoch old)
+      EachImageSince-weaken old new (IsEither words table heap.next_root epoch old)
       (λ image. (earlier : Image) × old.images_now earlier × KeepsUsedOrTurns heap.range heap.root earlier image) since
       (λ image either. ⊎_elim
       (λ is. (
@@ -227,19 +228,20 @@ module _ (heap : HeapView) (saved : PlainObjects) (old : Medium) (size : ℕ) (l
       (old.contents, matches.honest.reads, inr (omega (arith, later, was, turned)))) either)
 
   -- the map is what is saved
-  pub flip-map : (new : Medium) → IsTurned words table heap.aim epoch old.contents new.contents → map (object_on new.contents) heap.placed ≡ map_of heap old
+  pub flip-map : (new : Medium) → IsTurned words table heap.next_root epoch old.contents new.contents → map (object_on new.contents) heap.placed
+      ≡ map_of heap old
   flip-map new is = sym (objects-turned new.contents is)
 
-  pub flip-matches : (new : Medium) → IsHonest new → IsDurable new → IsTurned words table heap.aim epoch old.contents new.contents → (uses : List Use)
+  pub flip-matches : (new : Medium) → IsHonest new → IsDurable new → IsTurned words table heap.next_root epoch old.contents new.contents → (uses : List Use)
       → length uses ≡ heap.range.count → AreNoted heap.range.first (saved_bits uses) (object_sectors heap.placed ++ table)
       → ((i : ℕ) (u : Use) → slice_get uses i ≡ Some u → IsTrue u.next ↔ Contains (object_sectors heap.placed) (heap.range.first + i))
-      → HeapMatches (record heap { root = heap.aim; epoch = epoch; table = table; uses = uses }) (map_of heap old) new
+      → HeapMatches (record heap { root = heap.next_root; epoch = epoch; table = table; uses = uses }) (map_of heap old) new
   flip-matches new honest durable is uses all noted next_uses = record {
     honest = honest;
     apart = laid.apart;
     there = record { placed = heap.placed; table = table };
     images = λ image now.
-        subst (HoldsIn heap.range heap.aim epoch (record { placed = heap.placed; table = table }) (map_of heap old)) (sym (durable image now))
+        subst (HoldsIn heap.range heap.next_root epoch (record { placed = heap.placed; table = table }) (map_of heap old)) (sym (durable image now))
         (turned-holds new.contents is);
     table = refl;
     are = subst AreObjects (objects-turned new.contents is) matches.are;

@@ -159,8 +159,8 @@ module _ {X : Type 0} (n : ℕ) (x : X) where
   entry-before : (es after : List (ℕ × X)) → All (λ e. e.0 < n) es → All (λ e. n < e.0) after → with_entry (es ++ after) n x ≡ es ++ (n, x) ∷ after
   entry-before [] after lower higher = entry-after after higher
   entry-before (e ∷ es) after lower higher =
-      let behind : nat_lt n e.0 ≡ false = let less = All-head (λ d. d.0 < n) e es lower in grind (arith, nat_tests, less) in
-      rw behind (ap (λ (l : List (ℕ × X)). e ∷ l) (entry-before es after (All-tail (λ d. d.0 < n) e es lower) higher))
+      let beyond : nat_lt n e.0 ≡ false = let less = All-head (λ d. d.0 < n) e es lower in grind (arith, nat_tests, less) in
+      rw beyond (ap (λ (l : List (ℕ × X)). e ∷ l) (entry-before es after (All-tail (λ d. d.0 < n) e es lower) higher))
 
   pub with_object-place : (es here after : List (ℕ × X)) → length here ≤ 1 → All (λ e. e.0 < n) es → All (λ e. e.0 ≡ n) here → All (λ e. n < e.0) after
       → with_object (es ++ (here ++ after)) n x ≡ es ++ (n, x) ∷ after

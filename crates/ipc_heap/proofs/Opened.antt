@@ -149,7 +149,7 @@ module _ (range : Range) (at : ℕ) (root : Root) (image : Image) (parts : Parts
   kept = record {
     range = range;
     root = at;
-    aim = at;
+    next_root = at;
     epoch = root.epoch;
     placed = placed_in parts.words.items;
     table = parts.table.items;

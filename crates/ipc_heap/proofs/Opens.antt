@@ -407,40 +407,40 @@ module _ (range : Range) (table words : List ℕ) (uses : List Use) (count at : 
 module _ (range : Range) (table words : List ℕ) (uses : List Use) (count at : ℕ) (last : Option ℕ) (some_empty : Bool)
     (gone : AreGone range table words uses count at last some_empty) (less : count < get_or words 0 0)
     (root : ℕ) (image : Image) (is : IsTable range root image table) (words-are : words ≡ words_of_table root image table) where
-  abbrev behind : List ℕ
-  behind = drop at words
+  abbrev beyond : List ℕ
+  beyond = drop at words
 
   abbrev all-words : List ℕ
   all-words = words_of_table root image table
 
-  gone-there : AreFirstObjects range table all-words gone.placed behind
-  gone-there = subst (λ (l : List ℕ). AreFirstObjects range table l gone.placed behind) words-are gone.are
+  gone-there : AreFirstObjects range table all-words gone.placed beyond
+  gone-there = subst (λ (l : List ℕ). AreFirstObjects range table l gone.placed beyond) words-are gone.are
 
   less-there : length gone.placed < get_or all-words 0 0
   less-there = omega (arith, less, gone.all, ap (λ (l : List ℕ). get_or l 0 0) words-are)
 
-  begin-is : length all-words - length behind ≡ at
+  begin-is : length all-words - length beyond ≡ at
   begin-is = omega (arith, gone.within, length-drop at words, ap length words-are)
 
   -- in which sector a word stands that is found from there
-  word-there : (from : ℕ → ℕ) → sector_of_word (length all-words) table (from (length all-words - length behind))
+  word-there : (from : ℕ → ℕ) → sector_of_word (length all-words) table (from (length all-words - length beyond))
       ≡ sector_of_word (length words) table (from at)
   word-there from =
-      ap (λ (n : ℕ). sector_of_word n table (from (length all-words - length behind))) (ap length (sym words-are))
+      ap (λ (n : ℕ). sector_of_word n table (from (length all-words - length beyond))) (ap length (sym words-are))
       ∙ ap (λ (n : ℕ). sector_of_word (length words) table (from n)) begin-is
 
-  pub damaged-object : (sector : ℕ) → sector ≡ sector_of_word (length words) table at → LacksObject last behind → IsFirstDamage range root image sector
+  pub damaged-object : (sector : ℕ) → sector ≡ sector_of_word (length words) table at → LacksObject last beyond → IsFirstDamage range root image sector
   damaged-object sector here lacks =
       subst (IsFirstDamage range root image) (word-there (λ k. k) ∙ sym here)
-      (Object table behind gone.placed is gone-there less-there (broken range table words uses count at last some_empty gone lacks))
+      (Object table beyond gone.placed is gone-there less-there (broken range table words uses count at last some_empty gone lacks))
 
-  pub damaged-sector : (n sector : ℕ) → HasObject last behind n
+  pub damaged-sector : (n sector : ℕ) → HasObject last beyond n
       → StopsAt range (object_sectors gone.placed) table (take n (drop (at + 4) words)) (length words) at sector
       → IsFirstDamage range root image sector
   damaged-sector n sector has stops =
       let begin : length (take n (drop (at + 4) words)) ≤ n = omega (arith, length-take n (drop (at + 4) words)) in
-      let whole : IsBroken gone.placed behind → ⊥ = not-broken range table words uses count at last some_empty gone n has in
-      let sectors : HasSectors range table gone.placed behind stops.before stops.next = record {
+      let whole : IsBroken gone.placed beyond → ⊥ = not-broken range table words uses count at last some_empty gone n has in
+      let sectors : HasSectors range table gone.placed beyond stops.before stops.next = record {
         whole = omega (arith, has.whole, has.count);
         few = omega (arith, stops.few, begin, has.count);
         are = ap (take (length stops.before + 1)) (drop-drop 4 at words)
@@ -450,9 +450,9 @@ module _ (range : Range) (table words : List ℕ) (uses : List Use) (count at : 
       } in
       ⊎_elim
       (λ twice. subst (IsFirstDamage range root image) (word-there (λ k. k) ∙ sym twice.2)
-      (Twice table behind stops.before stops.next gone.placed is gone-there less-there whole sectors twice.0 twice.1))
+      (Twice table beyond stops.before stops.next gone.placed is gone-there less-there whole sectors twice.0 twice.1))
       (λ outside. subst (IsFirstDamage range root image) (word-there (λ k. k + 4 + length stops.before) ∙ sym outside.1)
-      (Outside table behind stops.before stops.next gone.placed is gone-there less-there whole sectors outside.0))
+      (Outside table beyond stops.before stops.next gone.placed is gone-there less-there whole sectors outside.0))
       stops.stops
 
 -- ---- the table

@@ -36,9 +36,9 @@ pub word-put : (s part : List ℕ) (i word : ℕ) → length s ≡ 512 → i < 1
 word-put s part i word long less below is =
     let tail : List ℕ = drop (4 * i) s in
     let left : length tail ≡ 512 - 4 * i = length-drop (4 * i) s ∙ ap (λ (n : ℕ). n - 4 * i) long in
-    let behind : drop (512 - 4 * i) tail ≡ [] = drop_all (512 - 4 * i) tail (omega (arith, left)) in
+    let beyond : drop (512 - 4 * i) tail ≡ [] = drop_all (512 - 4 * i) tail (omega (arith, left)) in
     let all : take (512 - 4 * i) tail ≡ tail = take_all (512 - 4 * i) tail (omega (arith, left)) in
-    ap (λ (l : List ℕ). words_in (take (4 * i) s ++ (part ++ l))) behind ∙ ap (λ (l : List ℕ). words_in (take (4 * i) s ++ l)) (append-nil part)
+    ap (λ (l : List ℕ). words_in (take (4 * i) s ++ (part ++ l))) beyond ∙ ap (λ (l : List ℕ). words_in (take (4 * i) s ++ l)) (append-nil part)
     ∙ ap (λ (l : List ℕ). words_in (take (4 * i) s ++ l)) is
     ∙ words_in-set s (drop 4 (take (512 - 4 * i) tail)) i word below (omega (arith, long, less)) (ap (drop 4) all)
 

@@ -6,7 +6,7 @@ use Rattle.byteorder.specs.Numbers.{big_from-take, big_number-reads_back, length
 use Rattle.ipc_heap.specs.Heap.{epoch_in, first_in, len_in}
 use Rattle.ipc_heap.specs.Relations.Root.{IsRead}
 
--- a number is written behind the bytes before a place
+-- a number is written after the bytes before a place
 pub put_behind : (front left old part number tail post : List ℕ) (at : ℕ) → length front ≡ at → old ≡ front ++ left → part ≡ number ++ tail
     → take at old ++ (part ++ post) ≡ (front ++ number) ++ (tail ++ post)
 put_behind front left old part number tail post at long was is =

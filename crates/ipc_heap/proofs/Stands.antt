@@ -38,7 +38,7 @@ words-heap {range} {words} {table} {uses} {placed} heap is =
 abbrev pub nowhere : Placed
 nowhere = record { number = 0; len = 0; sectors = [] }
 
--- the k-th object begins at the place, and the next one behind its words
+-- the k-th object begins at the place, and the next one after its words
 pub record IsObjectAt (words : List ℕ) (placed : List Placed) (k at : ℕ) : Type 0 where
   pub number : wide_at words at ≡ (get_or placed k nowhere).number
   pub len : wide_at words (at + 2) ≡ (get_or placed k nowhere).len
@@ -150,10 +150,10 @@ window-at place bytes i lt =
     ⊎_elim
     (λ (here : i < length front).
     get_or_append_left front zeros 0 i here ∙ get_or-take 512 (drop place bytes) i 0 lt ∙ get_or-drop place bytes i 0)
-    (λ (behind : length front ≤ i).
-    get_or-append_right front zeros (length front) i 0 refl behind
-    ∙ get_or-replicate (512 - length front) (i - length front) 0 0 (omega (arith, lt, behind))
-    ∙ sym (get_or_past bytes (place + i) 0 (omega (arith, long, behind, lt))))
+    (λ (beyond : length front ≤ i).
+    get_or-append_right front zeros (length front) i 0 refl beyond
+    ∙ get_or-replicate (512 - length front) (i - length front) 0 0 (omega (arith, lt, beyond))
+    ∙ sym (get_or_past bytes (place + i) 0 (omega (arith, long, beyond, lt))))
     (cases_lt i (length front))
 
 -- a window has the end of a piece and the begin of the next one
@@ -171,11 +171,11 @@ window-both place k skip bytes is le =
     get_or_append_left end begin 0 i here ∙ get_or-drop skip (window (512 * k) bytes) i 0
     ∙ window-at (512 * k) bytes (skip + i) (omega (arith, here, end-long))
     ∙ ap (λ (n : ℕ). get_or bytes n 0) (omega (arith, is)) ∙ sym (window-at place bytes i (omega (arith, lt, all))))
-    (λ (behind : length end ≤ i).
-    get_or-append_right end begin (length end) i 0 refl behind
-    ∙ get_or-take skip (window (512 * (k + 1)) bytes) (i - length end) 0 (omega (arith, lt, all, behind, end-long))
+    (λ (beyond : length end ≤ i).
+    get_or-append_right end begin (length end) i 0 refl beyond
+    ∙ get_or-take skip (window (512 * (k + 1)) bytes) (i - length end) 0 (omega (arith, lt, all, beyond, end-long))
     ∙ window-at (512 * (k + 1)) bytes (i - length end) (omega (arith, lt, all))
-    ∙ ap (λ (n : ℕ). get_or bytes n 0) (omega (arith, is, behind, end-long, le)) ∙ sym (window-at place bytes i (omega (arith, lt, all))))
+    ∙ ap (λ (n : ℕ). get_or bytes n 0) (omega (arith, is, beyond, end-long, le)) ∙ sym (window-at place bytes i (omega (arith, lt, all))))
     (cases_lt i (length end)))
 
 -- the end of a first piece and the begin of a second one are written over 512 bytes

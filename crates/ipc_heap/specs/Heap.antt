@@ -127,5 +127,5 @@ pub record Holds (range : Range) (root epoch : ℕ) (objects : PlainObjects) (im
 
 -- it has the one under this root, or the other under that
 abbrev pub HoldsEither : Range → ℕ → ℕ → PlainObjects → ℕ → ℕ → PlainObjects → Image → Type 0
-HoldsEither range root epoch objects aim next others image =
-    Holds range root epoch objects image ⊎ Holds range aim next others image
+HoldsEither range root epoch objects next_root next others image =
+    Holds range root epoch objects image ⊎ Holds range next_root next others image

@@ -26,7 +26,7 @@ abbrev pub KeepsUsedOrTurns : Range → ℕ → Image → Image → Type 0
 KeepsUsedOrTurns range root earlier later =
     KeepsUsed range root earlier later ⊎ (epoch_in (sector_at earlier root) < epoch_in (sector_at later root))
 
--- each image since is so to an image of then
+-- each image that a crash since `old` may have left stands so to one that a crash could leave at `old`
 abbrev pub EachLater : (Image → Image → Type 0) → Medium → Medium → Type 0
 EachLater IsLater old new =
     EachImageSince old new (λ image. (earlier : Image) × old.images_now earlier × IsLater earlier image)

@@ -14,8 +14,8 @@ pub record HeapView : Type 0 where
   pub range : Range
   -- the root that tells of what is saved
   pub root : ℕ
-  -- the root that the next flip writes: the same, or the one that the heap was aimed at
-  pub aim : ℕ
+  -- the root that the next flip writes: the same, or the one that `set_next_root` has named
+  pub next_root : ℕ
   pub epoch : ℕ
   -- the objects, by rising number, with the puts and removals so far
   pub placed : List Placed
@@ -60,7 +60,7 @@ used_by heap = object_sectors heap.placed ++ heap.table
 pub record StaysInPlace (old new : HeapView) : Type 0 where
   pub range : new.range ≡ old.range
   pub root : new.root ≡ old.root
-  pub aim : new.aim ≡ old.aim
+  pub next_root : new.next_root ≡ old.next_root
   pub epoch : new.epoch ≡ old.epoch
   pub table : new.table ≡ old.table
 

@@ -17,9 +17,9 @@ use crate::opening::{read_parts, read_root, room_for};
 use crate::reading::{read_window, words_of};
 use crate::root::{Root, root_sector};
 use crate::table::{Table, WORDS, write_table};
-use crate::turning::{take_table, turn};
+use crate::turning::{save_table, take_table};
 use crate::uses::Uses;
-use crate::words::{object_len, place_of, push_wide, sectors_in, take_out, wide};
+use crate::words::{object_len, place_of, push_u64, sectors_in, take_out, u64_at};
 use crate::{HeapError, OpenError};
 use ipc_base::Objects;
 use ipc_disk::{DiskFault, Range, SectorDisk, write_durably};
@@ -34,7 +34,7 @@ pub struct Heap {
     /// The root that tells of what is saved.
     root: u32,
     /// The root that the next flip writes.
-    aim: u32,
+    next_root: u32,
     epoch: u64,
     /// The table, word by word.
     words: Vec<u32>,
@@ -54,7 +54,7 @@ impl Model for Heap {
     ghost view = { λ h. record {
       range = h.range;
       root = h.root;
-      aim = h.aim;
+      next_root = h.next_root;
       epoch = h.epoch;
       placed = placed_in h.words.items;
       table = h.table.items;
@@ -94,16 +94,16 @@ impl Heap {
         ensures counts { CountsCalls D.counts result (with_calls (object_sectors (O.objects objects.now)
             + (table_bytes (O.objects objects.now) + 507) / 508 + 1) 1) disk.old disk.new }
     {
-        let behind = write_objects(disk, range.first, objects)?;
+        let beyond = write_objects(disk, range.first, objects)?;
         let table = Laid {
             objects,
             first: range.first,
-            behind,
+            beyond,
         };
         write_table(disk, &table)?;
         let numbers = Root {
             epoch: 1,
-            first: behind,
+            first: beyond,
             len: 4 * table.len() as u32,
         };
         write_durably(disk, root, &root_sector(numbers))?;
@@ -122,7 +122,7 @@ impl Heap {
         // What is opened, and when it is damaged.
         ensures range { IfOk result (λ heap. heap.range ≡ range) }
         ensures root { IfOk result (λ heap. heap.root ≡ root) }
-        ensures aim { IfOk result (λ heap. heap.aim ≡ root) }
+        ensures next_root { IfOk result (λ heap. heap.next_root ≡ root) }
         ensures holds { IfOk result (λ heap. IsHonest (D.medium disk.old)
             → Holds range root heap.epoch (map_of heap (D.medium disk.old)) (D.medium disk.old).contents) }
         ensures matches { IfOk result (λ heap. IsHonest (D.medium disk.old) → IsDurable (D.medium disk.old)
@@ -146,7 +146,7 @@ impl Heap {
         Ok(Heap {
             range,
             root,
-            aim: root,
+            next_root: root,
             epoch: found.epoch,
             words: parts.words,
             table: parts.table,
@@ -179,7 +179,7 @@ impl Heap {
         for _ in 0..i {
             at += object_len(&self.words, at);
         }
-        Some((wide(&self.words, at), wide(&self.words, at + 2)))
+        Some((u64_at(&self.words, at), u64_at(&self.words, at + 2)))
     }
 
     /// How many bytes an object has, if it is there.
@@ -190,12 +190,12 @@ impl Heap {
         if place.len == 0 {
             return None;
         }
-        Some(wide(&self.words, place.at + 2))
+        Some(u64_at(&self.words, place.at + 2))
     }
 
     /// Each object has the sectors that its bytes take, and an honest disk has as many bytes of it.
     pub fn objects_have_their_bytes<D: SectorDisk>(&self, disk: &D)
-        requires { IsLaidOut self.now.range self.now.aim (D.size disk.now) }
+        requires { IsLaidOut self.now.range self.now.next_root (D.size disk.now) }
         ensures placed { ArePlaced self.now.range self.now.placed }
         ensures bytes { IsHonest (D.medium disk.now)
             → sizes_of self.now ≡ seen_as (λ bytes. length bytes) (map_of self.now (D.medium disk.now)) }
@@ -211,7 +211,7 @@ impl Heap {
         place: u64,
         into: &mut [u8; 512],
     ) -> Result<(), DiskFault>
-        requires laid_out { IsLaidOut self.now.range self.now.aim (D.size disk.old) }
+        requires laid_out { IsLaidOut self.now.range self.now.next_root (D.size disk.old) }
         requires object { is_some (value_at nat_eq (map_of self.now (D.medium disk.old)) object) ≡ true }
         ensures bytes { OnOk result (IsHonest (D.medium disk.old)
             → option_map (window place) (value_at nat_eq (map_of self.now (D.medium disk.old)) object)
@@ -219,7 +219,7 @@ impl Heap {
         ensures reads { OnlyReads D.size D.medium D.counts (IsErr result) disk.old disk.new }
     {
         let words = words_of(&self.words, object);
-        read_window(disk, &words[4..], wide(words, 2), place, into)
+        read_window(disk, &words[4..], u64_at(words, 2), place, into)
     }
 
     /// Puts the i-th of some objects into the map, in the place of the one of its number, if there is one. What is
@@ -231,7 +231,7 @@ impl Heap {
         objects: &O,
         i: u32,
     ) -> Result<(), HeapError>
-        requires laid_out { IsLaidOut self.old.range self.old.aim (D.size disk.old) }
+        requires laid_out { IsLaidOut self.old.range self.old.next_root (D.size disk.old) }
         requires object { i < length (O.objects objects.now) }
         // What the map is then.
         ensures map { OnOk result ((saved : PlainObjects) → HeapMatches self.old saved (D.medium disk.old)
@@ -264,8 +264,8 @@ impl Heap {
         let _count = objects.count();
         let number = objects.number(i);
         let end = self.words.len();
-        push_wide(&mut self.words, number);
-        push_wide(&mut self.words, objects.len(i));
+        push_u64(&mut self.words, number);
+        push_u64(&mut self.words, objects.len(i));
         match write_object(
             disk,
             self.range,
@@ -305,20 +305,20 @@ impl Heap {
 
     /// Aims the heap at another root: the next flip writes that sector, and leaves the root that tells of what is
     /// saved.
-    pub fn aim(&mut self, root: u32)
+    pub fn set_next_root(&mut self, root: u32)
         requires apart { IsOutside self.old.range root }
         requires other { root ≢ self.old.root }
-        ensures { self.new ≡ record self.old { aim = root } }
+        ensures { self.new ≡ record self.old { next_root = root } }
     {
-        self.aim = root;
+        self.next_root = root;
     }
 
     /// Turns the heap over: the map is what is saved, at a later epoch. A crash at any moment leaves all of what was
     /// saved at the old epoch, or all of the map at the new one. The sectors that nothing uses any more are free then,
-    /// and not before. If the heap was aimed at another root, what was saved stays under the old one as well, until a
+    /// and not before. If another root was named, what was saved stays under the old one as well, until a
     /// put or a flip that follows. It takes no memory. After an `Err` the heap has to be opened again.
     pub fn flip<D: SectorDisk>(&mut self, disk: &mut D, epoch: u64) -> Result<(), HeapError>
-        requires laid_out { IsLaidOut self.old.range self.old.aim (D.size disk.old) }
+        requires laid_out { IsLaidOut self.old.range self.old.next_root (D.size disk.old) }
         requires later { self.old.epoch < epoch }
         requires counted { 4 * length (table_words self.old.placed) < 2 ^ 32 }
         // What is there then.
@@ -332,20 +332,20 @@ impl Heap {
         // A crash at any moment of the call, also of one that fails.
         ensures any_moment { (saved : PlainObjects) → HeapMatches self.old saved (D.medium disk.old)
             → EachImageSince (D.medium disk.old) (D.medium disk.new)
-            (HoldsEither self.old.range self.old.root self.old.epoch saved self.old.aim epoch
+            (HoldsEither self.old.range self.old.root self.old.epoch saved self.old.next_root epoch
             (map_of self.old (D.medium disk.old))) }
-        ensures kept { self.old.aim ≢ self.old.root
+        ensures kept { self.old.next_root ≢ self.old.root
             → (saved : PlainObjects) → HeapMatches self.old saved (D.medium disk.old)
             → StaysSaved self.old.range self.old.root self.old.epoch saved (D.medium disk.old) (D.medium disk.new) }
-        ensures meanwhile { self.old.aim ≡ self.old.root
+        ensures meanwhile { self.old.next_root ≡ self.old.root
             → (saved : PlainObjects) → HeapMatches self.old saved (D.medium disk.old)
             → EachLater (KeepsUsedOrTurns self.old.range self.old.root) (D.medium disk.old) (D.medium disk.new) }
         ensures others { IsHonest (D.medium disk.old)
-            → LeavesAlone (λ i. IsKept self.old i × (i ≢ self.old.aim)) (D.medium disk.old) (D.medium disk.new) }
+            → LeavesAlone (λ i. IsKept self.old i × (i ≢ self.old.next_root)) (D.medium disk.old) (D.medium disk.new) }
         ensures range { self.new.range ≡ self.old.range }
-        ensures root { OnOk result (self.new.root ≡ self.old.aim) }
+        ensures root { OnOk result (self.new.root ≡ self.old.next_root) }
         ensures err_root { OnErr result (self.new.root ≡ self.old.root) }
-        ensures aim { self.new.aim ≡ self.old.aim }
+        ensures next_root { self.new.next_root ≡ self.old.next_root }
         ensures placed { self.new.placed ≡ self.old.placed }
         ensures table { OnOk result (length self.new.table
             ≡ table_sectors_for (length (table_words self.old.placed))) }
@@ -364,12 +364,12 @@ impl Heap {
             self.uses.give_back(self.range.first, &self.table);
             return Err(HeapError::Full);
         }
-        match turn(disk, &self.words, &self.table, self.aim, epoch) {
+        match save_table(disk, &self.words, &self.table, self.next_root, epoch) {
             Ok(()) => {
                 // What was to be saved next is saved, and the table's sectors are none of the map's.
                 self.uses.turn_over();
                 self.uses.give_back(self.range.first, &self.table);
-                self.root = self.aim;
+                self.root = self.next_root;
                 self.epoch = epoch;
                 Ok(())
             }

@@ -105,7 +105,7 @@ pub(crate) fn write_objects<D: SectorDisk, O: Objects>(
 ) -> Result<u32, DiskFault>
     requires { first + sectors_of (O.objects objects.now) ≤ D.size disk.old }
     ensures are { OnOk result (AreObjects (O.objects objects.now)) }
-    ensures behind { IfOk result (λ behind. behind ≡ first + sectors_of (O.objects objects.now)) }
+    ensures beyond { IfOk result (λ beyond. beyond ≡ first + sectors_of (O.objects objects.now)) }
     ensures written { OnOk result (IsHonest (D.medium disk.old)
         → map (object_on (D.medium disk.new).contents) (placed_after first (O.objects objects.now))
         ≡ O.objects objects.now) }
@@ -131,7 +131,7 @@ fn write_from<D: SectorDisk, O: Objects>(
 ) -> Result<u32, DiskFault>
     requires object { i < length (O.objects objects.now) }
     requires within { first + sectors_for (length (object_at (O.objects objects.now) i).1) ≤ D.size disk.old }
-    ensures behind { IfOk result (λ behind. behind
+    ensures beyond { IfOk result (λ beyond. beyond
         ≡ first + sectors_for (length (object_at (O.objects objects.now) i).1)) }
     ensures written { OnOk result (IsHonest (D.medium disk.old)
         → take (length (object_at (O.objects objects.now) i).1) (flat_map (sector_at (D.medium disk.new).contents)
@@ -157,24 +157,24 @@ fn write_from<D: SectorDisk, O: Objects>(
     Ok(first + count as u32)
 }
 
-/// The table of objects that stand one after another from a sector on, with the table behind them.
+/// The table of objects that stand one after another from a sector on, with the table after them.
 #[derive(Drop)]
 pub(crate) struct Laid<'a, O: Objects> {
     pub objects: &'a O,
     pub first: u32,
-    pub behind: u32,
+    pub beyond: u32,
 }
 
 impl<O: Objects> Table for Laid<'_, O> {
     ghost words = { λ laid. table_words (placed_after laid.first (O.objects laid.objects.now)) };
 
-    ghost sectors = { λ laid. range_with_len laid.behind
+    ghost sectors = { λ laid. range_with_len laid.beyond
         (table_sectors_for (length (table_words (placed_after laid.first (O.objects laid.objects.now))))) };
 
-    ghost sound = { λ laid. IsLaid laid.first laid.behind (O.objects laid.objects.now) };
+    ghost sound = { λ laid. IsLaid laid.first laid.beyond (O.objects laid.objects.now) };
 
     fn len(&self) -> usize {
-        1 + 4 * self.objects.count() as usize + (self.behind - self.first) as usize
+        1 + 4 * self.objects.count() as usize + (self.beyond - self.first) as usize
     }
 
     fn word(&self, i: usize) -> u32 {
@@ -195,7 +195,7 @@ impl<O: Objects> Table for Laid<'_, O> {
     }
 
     fn sector(&self, j: usize) -> u32 {
-        self.behind + j as u32
+        self.beyond + j as u32
     }
 }
 

@@ -18,7 +18,7 @@ use crate::OpenError;
 use crate::root::{Root, is_inside, root_in};
 use crate::table::WORDS;
 use crate::uses::{Use, Uses};
-use crate::words::wide;
+use crate::words::u64_at;
 use byteorder::{BigEndian, ByteOrder};
 use ipc_disk::{Range, SectorDisk};
 use std::alloc::{AllocError, Global};
@@ -227,7 +227,7 @@ fn note_objects(
             return Err(OpenError::Damaged { sector: begin });
         };
         note_sectors(words, table, at, sectors, range, uses)?;
-        last = Some(wide(words, at));
+        last = Some(u64_at(words, at));
         some_empty = some_empty || sectors == 0;
         at += 4 + sectors;
     }
@@ -243,8 +243,8 @@ fn sectors_of(words: &[u32], at: usize, last: Option<u64>) -> Option<usize>
     if left < 4 {
         return None;
     }
-    let number = wide(words, at);
-    let sectors = wide(words, at + 2).div_ceil(512);
+    let number = u64_at(words, at);
+    let sectors = u64_at(words, at + 2).div_ceil(512);
     if sectors > (left - 4) as u64 || last.is_some_and(|last| number <= last) {
         return None;
     }

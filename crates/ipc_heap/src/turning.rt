@@ -39,7 +39,7 @@ pub(crate) fn take_table(uses: &mut Uses, first: u32, count: usize, table: &mut 
 
 /// Writes a table of these words into these sectors, and a root that tells of it, with two syncs. A crash at any moment
 /// leaves the root as it was, or the new one with all of its table.
-pub(crate) fn turn<D: SectorDisk>(
+pub(crate) fn save_table<D: SectorDisk>(
     disk: &mut D,
     words: &[u32],
     table: &[u32],

@@ -7,7 +7,7 @@ ghost use Rattle.ipc_heap.specs.Relations.Words.{wide_at, object_len_at, placed_
 use ipc_disk::sectors_for_len;
 
 /// The number of two words, the high one first.
-pub(crate) fn wide(words: &[u32], at: usize) -> u64
+pub(crate) fn u64_at(words: &[u32], at: usize) -> u64
     requires { at + 1 < length words.now }
     ensures { result ≡ wide_at words.now at }
 {
@@ -19,7 +19,7 @@ pub(crate) fn object_len(words: &[u32], at: usize) -> usize
     requires { at + 3 < length words.now }
     ensures { result ≡ object_len_at words.now at }
 {
-    4 + sectors_for_len(wide(words, at + 2) as usize)
+    4 + sectors_for_len(u64_at(words, at + 2) as usize)
 }
 
 /// Where the object of a number begins, or would begin, and how many words it has: none, if it is not there.
@@ -36,7 +36,7 @@ pub(crate) fn place_of(words: &[u32], number: u64) -> Place
 {
     let mut at = 1;
     'objects: while at < words.len() {
-        let there = wide(words, at);
+        let there = u64_at(words, at);
         if there == number {
             let len = object_len(words, at);
             return Place { at, len };
@@ -63,7 +63,7 @@ pub(crate) fn sectors_in(words: &[u32], place: Place) -> &[u32]
 }
 
 /// Adds a number of two words at the end.
-pub(crate) fn push_wide(words: &mut Vec<u32>, number: u64)
+pub(crate) fn push_u64(words: &mut Vec<u32>, number: u64)
     requires { vec_len words.old + 2 ≤ vec_capacity words.old }
     ensures items { words.new.items ≡ words.old.items ++ number / 2 ^ 32 ∷ number % 2 ^ 32 ∷ [] }
     ensures capacity { vec_capacity words.new ≡ vec_capacity words.old }

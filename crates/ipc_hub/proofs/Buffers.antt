@@ -1,4 +1,4 @@
--- The front of a buffer: what stands there, what is written behind it, and what is taken off it.
+-- The front of a buffer: what stands there, what is written after it, and what is taken off it.
 use Rattle.std.proofs.Common.{◌≡◌, ℕ, [], ◌+◌, ◌-◌, ◌≤◌, List, ◌++◌, length, take, drop, sym, ap, ◌∙◌, arith, append_assoc}
 use Rattle.std.specs.Prelude.{Vec}
 use Rattle.std.specs.List.{copy_within}
@@ -16,7 +16,7 @@ same-outgoing a b v w f = λ i. record { visible = v i; waiting = w i; free = f 
 pub front-parts : (xs : List ℕ) (n end : ℕ) → n ≤ end → take n xs ++ drop n (take end xs) ≡ take end xs
 front-parts xs n end le = ap (λ (ws : List ℕ). ws ++ drop n (take end xs)) (sym (take-take n end xs le)) ∙ take-append-drop n (take end xs)
 
--- nothing of a front stands behind it
+-- nothing of a front stands after it
 pub front-rest : (xs : List ℕ) (end : ℕ) → end ≤ length xs → drop end (take end xs) ≡ []
 front-rest xs end long = drop_all end (take end xs) (omega (arith, length-take-le end xs long))
 
@@ -28,7 +28,7 @@ front-copied xs n m end le long =
     ∙ take-take m (end - n) (drop n xs) (omega arith)
     ∙ sym (drop-take n m xs)
 
--- bytes written behind a front
+-- bytes written after a front
 pub front-grown : (xs bytes ys zs : List ℕ) (end : ℕ) → end ≤ length xs
     → take (end + length bytes) (take end xs ++ ((bytes ++ ys) ++ zs)) ≡ take end xs ++ bytes
 front-grown xs bytes ys zs end long =
@@ -41,7 +41,7 @@ front-grown xs bytes ys zs end long =
 pub front-stays : (xs ys : List ℕ) (n end : ℕ) → n ≤ end → end ≤ length xs → take n (take end xs ++ ys) ≡ take n xs
 front-stays xs ys n end le long = take-append-le n (take end xs) ys (omega (arith, length-take-le end xs long)) ∙ take-take n end xs le
 
--- what a vector has when bytes were written behind a place in it
+-- what a vector has when bytes were written after a place in it
 pub written : {Z : Type 0} (v : Vec ℕ Z) (xs out bytes : List ℕ) (end : ℕ) → xs ≡ v.items → end ≤ length xs → length bytes ≤ length xs - end
     → out ≡ bytes ++ drop (length bytes) (take (length xs - end) (drop end xs))
     → (with_items v (take end xs ++ (out ++ drop (length xs - end) (drop end xs)))).items
@@ -49,14 +49,14 @@ pub written : {Z : Type 0} (v : Vec ℕ Z) (xs out bytes : List ℕ) (end : ℕ)
 written v xs out bytes end same long space is =
     let free : List ℕ = drop end xs in
     let rest : List ℕ = drop (length bytes) (take (length xs - end) free) in
-    let behind : List ℕ = drop (length xs - end) free in
-    let ws : List ℕ = take end xs ++ ((bytes ++ rest) ++ behind) in
+    let beyond : List ℕ = drop (length xs - end) free in
+    let ws : List ℕ = take end xs ++ ((bytes ++ rest) ++ beyond) in
     let size : length ws ≡ v.len = omega (
       arith,
       v.ok.0,
       ap length same,
-      length-append (take end xs) ((bytes ++ rest) ++ behind),
-      length-append (bytes ++ rest) behind,
+      length-append (take end xs) ((bytes ++ rest) ++ beyond),
+      length-append (bytes ++ rest) beyond,
       length-append bytes rest,
       length-take-le end xs long,
       length-drop end xs,
@@ -64,4 +64,4 @@ written v xs out bytes end same long space is =
       length-take-le (length xs - end) free (omega (arith, length-drop end xs)),
       length-drop (length xs - end) free,
     ) in
-    ap (λ (o : List ℕ). (with_items v (take end xs ++ (o ++ behind))).items) is ∙ with_items_is v ws size
+    ap (λ (o : List ℕ). (with_items v (take end xs ++ (o ++ beyond))).items) is ∙ with_items_is v ws size

@@ -19,8 +19,8 @@ use Rattle.ipc_engine.specs.Event.{PlainEvent, PlainOutcome, Tick, moment_of}
 use Rattle.ipc_engine.specs.Sound.{IsSound, NoneIsDue}
 use Rattle.ipc_engine.specs.Step.{Step, silent, step}
 use Rattle.ipc_engine.specs.View.{reply_of}
-use Rattle.ipc_hub.specs.declared.serving.Asked.{Asked}
-use Rattle.ipc_hub.specs.declared.serving.Asked.TheVariants as asks
+use Rattle.ipc_hub.specs.declared.serving.FrameOutcome.{FrameOutcome}
+use Rattle.ipc_hub.specs.declared.serving.FrameOutcome.TheVariants as asks
 use Rattle.ipc_hub.specs.Hub.{Hub, accepted, with_client, refusal, last_reply, break_off, on_event}
 use Rattle.ipc_hub.specs.Clients.{client_endpoint}
 use Rattle.ipc_hub.specs.View.{ConnectionView, HubView, HasNoFrame, kept as outbox_kept}
@@ -48,7 +48,7 @@ other-input limits owed v xs k more = record { input = more; last = k.last; over
 
 -- whether or not a frame was whole, what is left is none, and the process is the one that it had
 pub still-kept : {D : Type 0} (medium : D → Medium) (old new : StoreView D) (limits : Limits) (owed : Option ℕ → ℕ) (v : ConnectionView) (bytes : List ℕ)
-    (moment : ℕ) (asked : Asked) → IsSoundConnection limits owed v → ComesTo medium old new v.process (first bytes) moment asked
+    (moment : ℕ) (asked : FrameOutcome) → IsSoundConnection limits owed v → ComesTo medium old new v.process (first bytes) moment asked
     → IsSoundConnection limits owed (taken_off asked (record v { input = bytes })) × ((taken_off asked (record v { input = bytes })).process ≡ v.process)
 still-kept medium old new limits owed v bytes moment asks.More k comes = (other-input limits owed v bytes k comes.0, refl)
 still-kept medium old new limits owed v bytes moment asks.Served k comes = (other-input limits owed v [] k (first_short [] (omega arith)), refl)
@@ -68,7 +68,7 @@ pub goes-further : (old mid new : HubView) → mid.limits ≡ old.limits → key
 goes-further old mid new limits numbers g = record { limits = g.limits ∙ limits; numbers = g.numbers ∙ numbers; invariant = g.invariant }
 
 module _ {D : Type 0} {medium : D → Medium} {old new : StoreView D} {before after : Table} {conn : ℕ} {next : List ℕ} {moment : ℕ}
-    {asked : Asked} (r : Received medium old new before after conn next moment asked) where
+    {asked : FrameOutcome} (r : Received medium old new before after conn next moment asked) where
   -- the connection as it is now
   abbrev now_there : ConnectionView
   now_there = taken_off asked (record (r.was) { input = r.was.input ++ next })

@@ -82,8 +82,8 @@ entry-there (c ∷ cs) zero new within below above =
     let before : nat_lt new.number c.number ≡ true = let lt = above 0 c (omega arith) (omega arith) in grind (arith, nat_tests) in
     rw before refl
 entry-there (c ∷ cs) (suc p) new within below above =
-    let behind : nat_lt new.number c.number ≡ false = let lt = below 0 c (omega arith) in grind (arith, nat_tests) in
-    rw behind (ap (λ (t : Table). row c ∷ t) (entry-there cs p new (omega (arith, within))
+    let beyond : nat_lt new.number c.number ≡ false = let lt = below 0 c (omega arith) in grind (arith, nat_tests) in
+    rw beyond (ap (λ (t : Table). row c ∷ t) (entry-there cs p new (omega (arith, within))
     (λ k d lt. below (suc k) d (omega (arith, lt)))
     (λ k d le lt. above (suc k) d (omega (arith, le)) (omega (arith, lt)))))
 

@@ -24,7 +24,7 @@ use Rattle.ipc_hub.proofs.Kept.{comes_of}
 use Rattle.ipc_hub.proofs.Rows.{same_value}
 use Rattle.ipc_hub.proofs.Pieces.{KeepsNone, over_or_live, acts, bare, emptied, ended-stays, take_in-acts, take_in-nothing, take_in-pieces, request-keeps}
 
--- nothing is behind the requests, and nothing is kept
+-- nothing is after the requests, and nothing is kept
 ending-none : (limits : Limits) (h : Clients) (conn moment : ℕ) → KeepsNone h conn → on_ending kind limits h conn moment (Rest []) ≡ h
 ending-none limits h conn moment none =
     elim (over_or_live h conn) [

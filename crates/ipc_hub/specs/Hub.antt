@@ -81,7 +81,7 @@ abbrev pub first_of : List Bool → Bool
 first_of [] = false
 first_of (b ∷ bs) = b
 
--- so many answers: those of a list, and no where it has none
+-- so many answers: those of a list, and `false` after its end
 abbrev pub fitted : ℕ → List Bool → List Bool
 fitted zero bs = []
 fitted (suc n) bs = first_of bs ∷ fitted n (drop 1 bs)

@@ -14,7 +14,7 @@ use Rattle.ipc_hub.specs.declared.fault.ServeError.TheVariants.{Device, Stopped}
 pub record Outgoing : Type 0 where
   -- those that the client may see
   pub visible : List ℕ
-  -- those behind them, which wait to be released
+  -- those after them, which wait to be released
   pub waiting : List ℕ
   -- how many more have room
   pub free : ℕ
@@ -63,7 +63,7 @@ is_connected h conn = is_some (connection_of h conn)
 abbrev pub numbers_of : HubView → List ℕ
 numbers_of h = keys_of h.connections
 
--- the bytes that the client of a connection may see; none where no connection has the number
+-- the bytes that the client of a connection may see: none if no connection has the number
 abbrev pub output_of : HubView → ℕ → List ℕ
 output_of h conn = unwrap_or (option_map (λ c. c.outbox.visible) (connection_of h conn)) []
 

@@ -103,7 +103,7 @@ impl Session {
     };
 
     /// A session without a process. Replies of so many bytes have room in it, some others before them, and the last
-    /// frames behind them.
+    /// frames after them.
     pub(crate) fn new(alloc: Global, replies: usize) -> Result<Session, AllocError>
         requires { replies < 2 ^ 32 }
         ensures { IfOk result (IsNew replies) }
@@ -152,13 +152,13 @@ impl Session {
     }
 
     /// Whether it keeps no frame.
-    pub(crate) fn is_bare(&self) -> bool
+    pub(crate) fn has_no_frame(&self) -> bool
         ensures { IsTrue result ↔ (kept self.now.outbox ≡ []) }
     {
         self.outbox.is_empty()
     }
 
-    /// Whether what its process is owed has room, and behind it a reply of so many bytes and the last frames. What it
+    /// Whether what its process is owed has room, and after it a reply of so many bytes and the last frames. What it
     /// is owed is counted only where the most that any is owed has no room.
     pub(crate) fn has_space(&self, engine: &Engine, reply: u32) -> bool
         ensures { IsTrue result ↔ (owed_to engine.now.limits engine.now.state self.now.process + reply
@@ -224,7 +224,7 @@ impl Session {
 
     /// Is told the reply to its request. If it had no process, the request was a HELLO: it has the process that the
     /// reply names, or takes the reply if that names none.
-    pub(crate) fn hear_own(&mut self, reply: Option<&Outcome>)
+    pub(crate) fn take_reply(&mut self, reply: Option<&Outcome>)
         requires { self.old.process ≡ None
             → HasSpaceToGreet (option_map plain_outcome (option_copied reply)) self.old }
         ensures { self.new ≡ answered (option_map plain_outcome (option_copied reply.entry)) self.old }

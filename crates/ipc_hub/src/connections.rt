@@ -29,7 +29,7 @@ use std::marker::Model;
 pub(crate) struct Connections {
     items: Vec<Connection>,
     /// The place that is looked at before all others: where the connection was that was sought last.
-    recent: usize,
+    hint: usize,
 }
 
 impl Model for Connections {
@@ -50,7 +50,7 @@ impl Connections {
     {
         Connections {
             items: Vec::new(alloc),
-            recent: 0,
+            hint: 0,
         }
     }
 
@@ -63,11 +63,11 @@ impl Connections {
     }
 
     /// Whether a connection has the number, which is looked at before all others from now on.
-    pub(crate) fn seek(&mut self, conn: u32) -> bool
+    pub(crate) fn focus(&mut self, conn: u32) -> bool
         ensures found { result ≡ is_some (value_at nat_eq self.old conn) }
         ensures same { self.new ≡ self.old }
     {
-        self.recent = place_for(&self.items, conn);
+        self.hint = place_for(&self.items, conn);
         self.contains(conn)
     }
 
@@ -75,7 +75,7 @@ impl Connections {
     pub(crate) fn get(&self, conn: u32) -> Option<&Session>
         ensures { option_copied result ≡ value_at nat_eq self.now conn }
     {
-        let place = place_from(&self.items, self.recent, conn)?;
+        let place = place_from(&self.items, self.hint, conn)?;
         Some(&self.items[place].session)
     }
 
@@ -84,7 +84,7 @@ impl Connections {
         ensures* writes_back { sem 𝓛 (lends_session self.entry conn result) }
         ensures found { option_copied_mut result ≡ value_at nat_eq self.old conn }
     {
-        let place = place_from(&self.items, self.recent, conn)?;
+        let place = place_from(&self.items, self.hint, conn)?;
         let connection = &mut self.items[place];
         Some(&mut connection.session)
     }
@@ -117,16 +117,16 @@ impl Connections {
     }
 
     /// Whether no frame is kept of the connection that has the number, if there is one.
-    pub(crate) fn is_bare(&self, conn: u32) -> bool
+    pub(crate) fn has_no_frame(&self, conn: u32) -> bool
         ensures { IsTrue result ↔ IsBare (value_at nat_eq self.now conn) }
     {
         match self.get(conn) {
-            Some(session) => session.is_bare(),
+            Some(session) => session.has_no_frame(),
             None => true,
         }
     }
 
-    /// The bytes that the client of a connection may see; none where no connection has the number.
+    /// The bytes that the client of a connection may see. If no connection has the number, there are none.
     pub(crate) fn output(&self, conn: u32) -> &[u8]
         ensures { result.now ≡ output_in self.now conn }
     {
@@ -161,7 +161,7 @@ impl Connections {
         }
     }
 
-    /// Whether in a connection, if it goes on, what its process is owed has room, and behind it a reply of so many
+    /// Whether in a connection, if it goes on, what its process is owed has room, and after it a reply of so many
     /// bytes and the last frames.
     pub(crate) fn has_space(&self, conn: u32, engine: &Engine, reply: u32) -> bool
         ensures { IsTrue result ↔ HasSpaceFor (hub_view engine.now self.now) reply conn }
@@ -229,7 +229,7 @@ impl Connections {
         requires space { EachValue (HasSpaceIn (plain_outcome outcome.now)) self.old }
         ensures { self.new ≡ seen_as (put_for (plain_outcome outcome.now)) self.old }
     {
-        if let Some(place) = place_of_process(&self.items, self.recent, outcome.pid) {
+        if let Some(place) = place_of_process(&self.items, self.hint, outcome.pid) {
             let connection = &mut self.items[place];
             connection.session.push(&outcome.reply());
         }

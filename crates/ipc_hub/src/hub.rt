@@ -125,7 +125,7 @@ impl<D: SectorDisk> Hub<D> {
 
     /// Gives a connection the next bytes of its stream, at a moment. Answers how many it took: all of them if
     /// no frame of the connection is kept when it returns, or if the server has ended it. Requests are taken
-    /// while the longest reply has room behind the frames that are kept and those that are owed, and the longest record
+    /// while the longest reply has room after the frames that are kept and those that are owed, and the longest record
     /// among those that wait; of a connection that keeps at most 4096 bytes of frames at least one byte is taken. If
     /// the records of a tick and of a longest request may have no room, the call begins with a release; if later a
     /// longest record has none and no frame of the connection is kept, it releases then, and goes on. Either release
@@ -149,7 +149,7 @@ impl<D: SectorDisk> Hub<D> {
         if self.has_stopped() {
             return Err(ServeError::Stopped);
         }
-        if !self.seek(conn) {
+        if !self.focus(conn) {
             return Err(ServeError::Unknown);
         }
         if let Err(error) = self.advance(moment, LONGEST_RECORD as usize) {
@@ -165,11 +165,11 @@ impl<D: SectorDisk> Hub<D> {
     }
 
     // Whether a connection has the number. If so, it is looked for no more in what follows: it is looked at first.
-    fn seek(&mut self, conn: u32) -> bool
+    fn focus(&mut self, conn: u32) -> bool
         ensures found { result ≡ is_connected self.old.hub conn }
         ensures same { self.new ≡ self.old }
     {
-        self.connections.seek(conn)
+        self.connections.focus(conn)
     }
 
     // Takes in bytes of a piece, once time has passed. If the connection keeps no frame, all are to be taken. So if the
@@ -184,7 +184,7 @@ impl<D: SectorDisk> Hub<D> {
         if taken == piece.len() {
             return Ok(taken);
         }
-        if !self.connections.is_bare(conn) {
+        if !self.connections.has_no_frame(conn) {
             return Ok(taken);
         }
         if let Err(error) = self.make_last(false) {
@@ -253,7 +253,7 @@ impl<D: SectorDisk> Hub<D> {
 
     /// Makes all events that wait last, and lets their frames be seen. If the disk fails, the frames that could be seen
     /// stay, the others are dropped, an EIO frame is the last of each connection, which has ended, and the hub goes on
-    /// no more. The same comes, once and as `Stopped`, if the epochs are at their end.
+    /// no more. If the epochs are at their end the hub stops in this way too, and answers `Stopped`.
     pub fn release(&mut self) -> Result<(), CommitError>
         ensures ok { OnOk result ((limits : Limits) (h : Clients) → StoredMatches limits self.old h
             → StoredMatches limits self.new h) }
@@ -364,7 +364,7 @@ impl<D: SectorDisk> Hub<D> {
         self.connections.is_silent(place, conn)
     }
 
-    /// The bytes that the client of a connection may see; none where no connection has the number.
+    /// The bytes that the client of a connection may see. If no connection has the number, there are none.
     pub fn output(&self, conn: u32) -> &[u8]
         ensures shown { (limits : Limits) (confirmed : ℕ) (h : Clients) → HubMatches limits confirmed self.now.hub h
             → result.now ≡ shown_at confirmed h conn }

@@ -37,7 +37,7 @@ use ipc_wire::{Frame, Request, RequestKind, read_frame};
 
 /// What came of what stands at the front of a connection.
 #[derive(Clone, Copy)]
-pub(crate) enum Asked {
+pub(crate) enum FrameOutcome {
     /// No frame is whole yet.
     More,
     /// The machine took a step.
@@ -127,7 +127,7 @@ pub(crate) fn leave<D: SectorDisk>(
 }
 
 /// Takes the frame at the front of a connection off it, if it is whole, and asks the machine.
-fn ask<D: SectorDisk>(store: &mut Store<D>, session: &mut Session, moment: Moment) -> Asked
+fn ask<D: SectorDisk>(store: &mut Store<D>, session: &mut Session, moment: Moment) -> FrameOutcome
     requires ready { IsReadyFor store.old longest_record 1 }
     requires connected { IsConnected store.old.machine.state session.old.process }
     ensures comes { ComesTo D.medium store.old store.new session.old.process (first session.old.input) moment.0 result }
@@ -135,21 +135,22 @@ fn ask<D: SectorDisk>(store: &mut Store<D>, session: &mut Session, moment: Momen
 {
     let asked = come_to(store, session, moment);
     match asked {
-        Asked::More => {}
-        Asked::Served | Asked::NoMemory { .. } | Asked::Broken { .. } => session.drop_input(),
+        FrameOutcome::More => {}
+        FrameOutcome::Served | FrameOutcome::NoMemory { .. } | FrameOutcome::Broken { .. } =>
+            session.drop_input(),
     }
     asked
 }
 
 /// Reads what stands at the front of a connection. If that is a request which makes an event, the machine takes a step.
-fn come_to<D: SectorDisk>(store: &mut Store<D>, session: &Session, moment: Moment) -> Asked
+fn come_to<D: SectorDisk>(store: &mut Store<D>, session: &Session, moment: Moment) -> FrameOutcome
     requires ready { IsReadyFor store.old longest_record 1 }
     requires connected { IsConnected store.old.machine.state session.now.process }
     ensures { ComesTo D.medium store.old store.new session.now.process (first session.now.input) moment.0 result }
 {
     match read_frame(session.input()) {
-        Frame::More => Asked::More,
-        Frame::Fault { serial } => Asked::Broken { serial },
+        Frame::More => FrameOutcome::More,
+        Frame::Fault { serial } => FrameOutcome::Broken { serial },
         Frame::Whole { request, .. } => submit(store, session.process(), &request, moment),
     }
 }
@@ -160,7 +161,7 @@ fn submit<D: SectorDisk>(
     process: Option<Pid>,
     request: &Request<'_>,
     moment: Moment,
-) -> Asked
+) -> FrameOutcome
     requires ready { IsReadyFor store.old longest_record 1 }
     requires connected { IsConnected store.old.machine.state (pid_of process) }
     ensures { (used : ℕ) → ComesTo D.medium store.old store.new (pid_of process)
@@ -168,11 +169,11 @@ fn submit<D: SectorDisk>(
 {
     let serial = request.serial;
     let Some(event) = event_of(process, request, moment) else {
-        return Asked::Broken { serial };
+        return FrameOutcome::Broken { serial };
     };
     match store.step(event) {
-        Ok(()) => Asked::Served,
-        Err(StepError::NoMemory) => Asked::NoMemory { serial },
+        Ok(()) => FrameOutcome::Served,
+        Err(StepError::NoMemory) => FrameOutcome::NoMemory { serial },
         Err(StepError::Stopped) => unreachable!(),
     }
 }
@@ -185,7 +186,7 @@ fn answer(connections: &mut Connections, conn: u32, outcomes: &[Outcome])
         (with_answer (map plain_outcome outcomes.now) conn connections.old) }
 {
     if let Some(session) = connections.get_mut(conn) {
-        session.hear_own(outcomes.last());
+        session.take_reply(outcomes.last());
     }
     connections.deliver(outcomes);
 }
@@ -243,7 +244,7 @@ fn receive<D: SectorDisk>(
     conn: u32,
     piece: &[u8],
     moment: Moment,
-) -> (usize, Asked)
+) -> (usize, FrameOutcome)
     requires room { HasRoom (stored_view store.old connections.old) conn }
     requires live { is_open_in connections.old conn ≡ true }
     ensures received { Received D.medium store.old store.new connections.old connections.new
@@ -287,18 +288,18 @@ fn take<D: SectorDisk>(
     late_tick_does_nothing();
     let (count, asked) = receive(store, connections, conn, piece, moment);
     match asked {
-        Asked::More => {}
-        Asked::Served => answer(connections, conn, store.engine().outcomes()),
-        Asked::NoMemory { serial } => {
+        FrameOutcome::More => {}
+        FrameOutcome::Served => answer(connections, conn, store.engine().outcomes()),
+        FrameOutcome::NoMemory { serial } => {
             refuse(connections, conn, serial, Errno::ENOMEM);
             store.count_refusal(Errno::ENOMEM);
         }
-        Asked::Broken { serial } => break_off(store, connections, conn, serial, moment),
+        FrameOutcome::Broken { serial } => break_off(store, connections, conn, serial, moment),
     }
     count
 }
 
-/// Whether a request of a connection has room: its event in the store, and its reply behind what its process is owed.
+/// Whether a request of a connection has room: its event in the store, and its reply after what its process is owed.
 fn has_room<D: SectorDisk>(store: &Store<D>, connections: &Connections, conn: u32) -> bool
     ensures room { IsTrue result ↔ (IsReadyFor store.now longest_record 1
         × HasSpaceFor (hub_view store.now.machine connections.now) (longest_reply store.now.machine.limits) conn) }
@@ -311,7 +312,7 @@ fn has_room<D: SectorDisk>(store: &Store<D>, connections: &Connections, conn: u3
         && connections.has_space(conn, store.engine(), reply)
 }
 
-/// Takes bytes of a piece while a request has room for its event and, behind what its process is owed, for its reply,
+/// Takes bytes of a piece while a request has room for its event and, after what its process is owed, for its reply,
 /// and serves each request that they complete; of a connection that has ended it takes and drops all. Answers how many
 /// bytes it took: all of them if the connection keeps no frame then, unless the store has run out of room. A request of
 /// a process of which no call waits may leave no frame, and the next one leaves one.

@@ -101,7 +101,7 @@ pub later-kind : {X : Type 0} (first next : ℕ) (bytes_of : X → List ℕ) (xs
 later-kind first next bytes_of [] le = tt
 later-kind first next bytes_of (x ∷ xs) le = λ id few same. omega (arith, le, few, same)
 
--- and so with others behind them
+-- and so with others after them
 pub later-both : {X : Type 0} (first next : ℕ) (bytes_of : X → List ℕ) (xs : List (ℕ × X)) (more : PlainObjects) → first + 2 ^ 32 ≤ next → IsOther first more
     → IsOther first (map (object_in next bytes_of) xs ++ more)
 later-both first next bytes_of [] more le other = other

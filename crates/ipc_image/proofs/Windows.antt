@@ -94,7 +94,7 @@ passed-full w bytes_of xs i full some more =
 pub window-shown : (place : ℕ) (text : List ℕ) → window 0 (passed text (at_place place)).bytes ≡ window place text
 window-shown place text = rw (take-take 512 512 (drop place text) (omega arith)) refl
 
--- a piece that is copied into the bytes behind those that are shown
+-- a piece that is copied into the bytes after those that are shown
 pub copied : (filled count : ℕ) (old piece : List ℕ) → length old ≡ 512 → filled ≤ 512 → count ≡ min (length piece) (512 - filled)
     → take (filled + count) (put_mid filled (filled + count - filled) old (take count piece)) ≡ take filled old ++ take (512 - filled) piece
 copied filled count old piece long within is =

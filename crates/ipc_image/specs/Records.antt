@@ -1,4 +1,4 @@
--- The records of events, as they stand in a batch directly behind each other: the length of what follows (four bytes),
+-- The records of events, as they stand in a batch directly after each other: the length of what follows (four bytes),
 -- the kind (one), the moment (eight), and what else the event says.
 use Rattle.std.specs.Prelude.{◌≡◌, ◌<◌, ◌+◌, ◌^◌, ℕ, List, [], ◌∷◌, ◌++◌, length, take}
 use Rattle.std.specs.Int.{w32, w64, to_be_bytes}

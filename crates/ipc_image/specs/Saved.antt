@@ -412,7 +412,7 @@ FitsProcess p = IsTree process_shape (process_tree p) × All FitsDescriptor p.1.
 abbrev pub FitsAdjustment : Adjustment → Type 0
 FitsAdjustment x = IsKept x.1.1 × IsTree adjustment_shape (adjustment_numbers x)
 
--- its request has a frame and waits on that object, and its deadline, if it has one, is not the number of none
+-- its request has a frame and waits on that object; a deadline is not the number that stands for no deadline
 pub record FitsWaiting (w : PlainWaiting) : Type 0 where
   pub tree : IsTree waiting_shape (waiting_tree w)
   pub frame : HasFrame w.call
@@ -483,7 +483,7 @@ pub record HasAllPlaces (s : State) : Type 0 where
   pub pids : HaveDistinctPids s.wait
   pub adjustment_count : length (adjustments_in s.undo) < 2 ^ 32
   pub adjustments : All FitsAdjustment (adjustments_in s.undo)
-  -- each process has adjustments, if only none, and nobody else has; no two have the same pid
+  -- each process has an entry of adjustments, which may be empty, and nobody else has; pids differ
   pub undo_pids : keys_of s.undo ≡ keys_of s.processes.entries
   pub distinct : IsDistinct nat_eq (keys_of s.undo)
   pub queues : All (FitsIn FitsQueue) s.msg.entries

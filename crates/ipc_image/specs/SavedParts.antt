@@ -41,8 +41,8 @@ use Rattle.ipc_state.specs.Opening.{object_as}
 use Rattle.ipc_state.specs.State.{State}
 use Rattle.ipc_state.specs.Tables.{item_row}
 use Rattle.ipc_state.specs.Waiting.{PlainWaiting, awaited_by}
-use Rattle.ipc_image.specs.declared.state_objects.Thing.{Thing}
-use Rattle.ipc_image.specs.declared.state_objects.Thing.TheVariants as thing
+use Rattle.ipc_image.specs.declared.state_objects.OwnObject.{OwnObject}
+use Rattle.ipc_image.specs.declared.state_objects.OwnObject.TheVariants as thing
 use Rattle.ipc_image.specs.Kind.{FitsIn}
 use Rattle.ipc_image.specs.Saved.{Adjustment, process_bytes, waiting_bytes, message_bytes, queue_object, FitsQueue}
 use Rattle.ipc_image.specs.Saved.{semaphore_bytes, set_object, FitsSet, mq_message_bytes, mq_object, FitsMq, saved}
@@ -154,7 +154,7 @@ pub record Stands (objects : PlainObjects) (IsMark : ℕ → Mark → Type 0) (a
   pub marks : (m : Mark) → IsMark at m ↔ IsOfIt m
 
 -- the object of what has one
-abbrev pub object_of : Thing → ℕ × List ℕ
+abbrev pub object_of : OwnObject → ℕ × List ℕ
 object_of (thing.MsgQueue q) = queue_object (item_row q.now)
 object_of (thing.Semset e) = set_object (item_row e.now)
 object_of (thing.Mq e) = mq_object (item_row e.now)
@@ -163,22 +163,22 @@ object_of (thing.Pshm e) = pshm_object (item_row e.now)
 object_of (thing.Shm e) = shm_object (item_row e.now)
 
 -- each of its numbers has its place
-abbrev pub FitsThing : Thing → Type 0
-FitsThing (thing.MsgQueue q) = FitsIn FitsQueue (item_row q.now)
-FitsThing (thing.Semset e) = FitsIn FitsSet (item_row e.now)
-FitsThing (thing.Mq e) = FitsIn FitsMq (item_row e.now)
-FitsThing (thing.Psem e) = FitsIn FitsPsem (item_row e.now)
-FitsThing (thing.Pshm e) = FitsIn FitsSegment (item_row e.now)
-FitsThing (thing.Shm e) = FitsIn FitsShm (item_row e.now)
+abbrev pub FitsOwnObject : OwnObject → Type 0
+FitsOwnObject (thing.MsgQueue q) = FitsIn FitsQueue (item_row q.now)
+FitsOwnObject (thing.Semset e) = FitsIn FitsSet (item_row e.now)
+FitsOwnObject (thing.Mq e) = FitsIn FitsMq (item_row e.now)
+FitsOwnObject (thing.Psem e) = FitsIn FitsPsem (item_row e.now)
+FitsOwnObject (thing.Pshm e) = FitsIn FitsSegment (item_row e.now)
+FitsOwnObject (thing.Shm e) = FitsIn FitsShm (item_row e.now)
 
 -- the mark is of its parts
-abbrev pub IsMarkOfThing : Thing → Mark → Type 0
-IsMarkOfThing (thing.MsgQueue q) m = IsMarkOfQueue (item_row q.now) m
-IsMarkOfThing (thing.Semset e) m = IsMarkOfSet (item_row e.now) m
-IsMarkOfThing (thing.Mq e) m = IsMarkOfMq (item_row e.now) m
-IsMarkOfThing (thing.Psem e) m = Unit {0}
-IsMarkOfThing (thing.Pshm e) m = Unit {0}
-IsMarkOfThing (thing.Shm e) m = Unit {0}
+abbrev pub IsMarkOfOwnObject : OwnObject → Mark → Type 0
+IsMarkOfOwnObject (thing.MsgQueue q) m = IsMarkOfQueue (item_row q.now) m
+IsMarkOfOwnObject (thing.Semset e) m = IsMarkOfSet (item_row e.now) m
+IsMarkOfOwnObject (thing.Mq e) m = IsMarkOfMq (item_row e.now) m
+IsMarkOfOwnObject (thing.Psem e) m = Unit {0}
+IsMarkOfOwnObject (thing.Pshm e) m = Unit {0}
+IsMarkOfOwnObject (thing.Shm e) m = Unit {0}
 
 -- this is the i-th object, and of what it is each number has its place
 pub record IsFound (s : State) (i : ℕ) (o : ℕ × List ℕ) (IsOfIt : Mark → Type 0) (Fits : Type 0) : Type 0 where

@@ -5,7 +5,7 @@
 //!
 //! | word | what it is |
 //! |---|---|
-//! | `Thing` | one object of the state that has an object of the device for itself, of any kind |
+//! | `OwnObject` | one object of the state that has an object of the device for itself, of any kind |
 //! | `Stored` | the trait of those: their bytes in a window, how they are read back, which numbers their objects have |
 //! | `Entry` | one with a key or a name, beside who may use it; of `ipc_state` |
 //! | `Kind` | the trait of what an `Entry` with a key holds: its own numbers and its parts |

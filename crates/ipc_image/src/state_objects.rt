@@ -6,7 +6,7 @@ ghost use Rattle.ipc_base.specs.Limits.{ArePassed};
 ghost use Rattle.ipc_base.specs.Objects.{Fit};
 ghost use Rattle.ipc_state.specs.State.{start};
 ghost use Rattle.ipc_image.specs.Saved.{later_in, later_objects, saved, StandForState};
-ghost use Rattle.ipc_image.specs.SavedParts.{IsFound, IsMarkOf, IsMarkOfLater, IsMarkOfThing, FitsThing};
+ghost use Rattle.ipc_image.specs.SavedParts.{IsFound, IsMarkOf, IsMarkOfLater, IsMarkOfOwnObject, FitsOwnObject};
 ghost use Rattle.ipc_image.specs.SavedParts.{Stands, object_of};
 ghost use Rattle.ipc_image.specs.Sizes.{area_of};
 ghost use Rattle.ipc_image.specs.Window.{passed};
@@ -48,7 +48,7 @@ pub struct StateObjects<'a> {
 
 /// What has an object of its own.
 #[derive(Clone, Copy)]
-pub(crate) enum Thing<'a> {
+pub(crate) enum OwnObject<'a> {
     MsgQueue(&'a Item<KeyedEntry<MsgQueue>>),
     Semset(&'a Item<KeyedEntry<SemSet>>),
     Mq(&'a Item<NamedEntry<Mq>>),
@@ -163,13 +163,13 @@ impl<'a> Objects for StateObjects<'a> {
         if i < ALWAYS {
             return u64::from(i);
         }
-        match thing_at(self, i) {
-            Thing::MsgQueue(queue) => KeyedEntry::<MsgQueue>::FIRST + u64::from(queue.number),
-            Thing::Semset(set) => KeyedEntry::<SemSet>::FIRST + u64::from(set.number),
-            Thing::Mq(mq) => NamedEntry::<Mq>::FIRST + u64::from(mq.number),
-            Thing::Psem(sem) => NamedEntry::<NamedSem>::FIRST + u64::from(sem.number),
-            Thing::Pshm(segment) => NamedEntry::<Segment>::FIRST + u64::from(segment.number),
-            Thing::Shm(shm) => KeyedEntry::<SysSegment>::FIRST + u64::from(shm.number),
+        match own_object_at(self, i) {
+            OwnObject::MsgQueue(queue) => KeyedEntry::<MsgQueue>::FIRST + u64::from(queue.number),
+            OwnObject::Semset(set) => KeyedEntry::<SemSet>::FIRST + u64::from(set.number),
+            OwnObject::Mq(mq) => NamedEntry::<Mq>::FIRST + u64::from(mq.number),
+            OwnObject::Psem(sem) => NamedEntry::<NamedSem>::FIRST + u64::from(sem.number),
+            OwnObject::Pshm(segment) => NamedEntry::<Segment>::FIRST + u64::from(segment.number),
+            OwnObject::Shm(shm) => KeyedEntry::<SysSegment>::FIRST + u64::from(shm.number),
         }
     }
 
@@ -183,7 +183,7 @@ impl<'a> Objects for StateObjects<'a> {
             1 => 4 + list_len(&InSlice(self.processes)),
             2 => 4 + list_len(&InSlice(self.waits)),
             3 => adjustments_len(self.undo),
-            _ => thing_len(&thing_at(self, i)),
+            _ => own_object_len(&own_object_at(self, i)),
         }
     }
 
@@ -199,74 +199,74 @@ impl<'a> Objects for StateObjects<'a> {
 }
 
 // What has the i-th object.
-fn thing_at<'a, 'b>(objects: &'b StateObjects<'a>, i: u32) -> Thing<'a>
+fn own_object_at<'a, 'b>(objects: &'b StateObjects<'a>, i: u32) -> OwnObject<'a>
     requires thing { 4 ≤ i }
     requires object { i < length (saved objects.now) }
-    ensures { IsFound objects.now i (object_of result) (IsMarkOfThing result) (FitsThing result) }
+    ensures { IsFound objects.now i (object_of result) (IsMarkOfOwnObject result) (FitsOwnObject result) }
 {
     let at = (i - ALWAYS) as usize;
     if at < objects.queues.len() {
-        return Thing::MsgQueue(&objects.queues[at]);
+        return OwnObject::MsgQueue(&objects.queues[at]);
     }
     let at = at - objects.queues.len();
     if at < objects.sets.len() {
-        return Thing::Semset(&objects.sets[at]);
+        return OwnObject::Semset(&objects.sets[at]);
     }
     later_at(objects, at - objects.sets.len())
 }
 
 // What has an object among those of later kinds, by its place among them.
-fn later_at<'a, 'b>(objects: &'b StateObjects<'a>, at: usize) -> Thing<'a>
+fn later_at<'a, 'b>(objects: &'b StateObjects<'a>, at: usize) -> OwnObject<'a>
     requires { at < length (later_objects (later_in objects.now)) }
     ensures stands { Stands (later_objects (later_in objects.now))
-        (IsMarkOfLater (later_in objects.now)) at (object_of result) (IsMarkOfThing result) }
-    ensures fits { FitsThing result }
+        (IsMarkOfLater (later_in objects.now)) at (object_of result) (IsMarkOfOwnObject result) }
+    ensures fits { FitsOwnObject result }
 {
     if at < objects.mqs.len() {
-        return Thing::Mq(&objects.mqs[at]);
+        return OwnObject::Mq(&objects.mqs[at]);
     }
     let at = at - objects.mqs.len();
     if at < objects.sems.len() {
-        return Thing::Psem(&objects.sems[at]);
+        return OwnObject::Psem(&objects.sems[at]);
     }
     let at = at - objects.sems.len();
     if at < objects.segments.len() {
-        return Thing::Pshm(&objects.segments[at]);
+        return OwnObject::Pshm(&objects.segments[at]);
     }
-    Thing::Shm(&objects.shms[at - objects.segments.len()])
+    OwnObject::Shm(&objects.shms[at - objects.segments.len()])
 }
 
 // How many bytes its object has.
-fn thing_len(thing: &Thing<'_>) -> u64
-    requires fits { FitsThing thing.now }
+fn own_object_len(thing: &OwnObject<'_>) -> u64
+    requires fits { FitsOwnObject thing.now }
     requires short { length (object_of thing.now).1 < 2 ^ 64 }
     ensures { result ≡ length (object_of thing.now).1 }
 {
     match thing {
-        Thing::MsgQueue(queue) => queue.value.len(),
-        Thing::Semset(set) => set.value.len(),
-        Thing::Mq(mq) => mq.value.len(),
-        Thing::Psem(sem) => sem.value.len(),
-        Thing::Pshm(segment) => segment.value.len(),
-        Thing::Shm(shm) => shm.value.len(),
+        OwnObject::MsgQueue(queue) => queue.value.len(),
+        OwnObject::Semset(set) => set.value.len(),
+        OwnObject::Mq(mq) => mq.value.len(),
+        OwnObject::Psem(sem) => sem.value.len(),
+        OwnObject::Pshm(segment) => segment.value.len(),
+        OwnObject::Shm(shm) => shm.value.len(),
     }
 }
 
 // Its object passes the window. The mark is of its parts.
-fn put_thing(window: &mut Window, thing: &Thing<'_>, mark: &mut Mark)
-    requires fits { FitsThing thing.now }
+fn put_own_object(window: &mut Window, thing: &OwnObject<'_>, mark: &mut Mark)
+    requires fits { FitsOwnObject thing.now }
     requires short { length (object_of thing.now).1 < 2 ^ 64 }
-    requires mark { IsMarkOfThing thing.now mark.old }
+    requires mark { IsMarkOfOwnObject thing.now mark.old }
     ensures passed { window.new ≡ passed (object_of thing.now).1 window.old }
-    ensures mark { IsMarkOfThing thing.now mark.new }
+    ensures mark { IsMarkOfOwnObject thing.now mark.new }
 {
     match thing {
-        Thing::MsgQueue(queue) => queue.value.put(window, mark),
-        Thing::Semset(set) => set.value.put(window, mark),
-        Thing::Mq(mq) => mq.value.put(window, mark),
-        Thing::Psem(sem) => sem.value.put(window, mark),
-        Thing::Pshm(segment) => segment.value.put(window, mark),
-        Thing::Shm(shm) => shm.value.put(window, mark),
+        OwnObject::MsgQueue(queue) => queue.value.put(window, mark),
+        OwnObject::Semset(set) => set.value.put(window, mark),
+        OwnObject::Mq(mq) => mq.value.put(window, mark),
+        OwnObject::Psem(sem) => sem.value.put(window, mark),
+        OwnObject::Pshm(segment) => segment.value.put(window, mark),
+        OwnObject::Shm(shm) => shm.value.put(window, mark),
     }
 }
 
@@ -283,6 +283,6 @@ fn put_object(window: &mut Window, objects: &StateObjects<'_>, i: u32, mark: &mu
         1 => put_counted(window, &InSlice(objects.processes), mark),
         2 => put_counted(window, &InSlice(objects.waits), mark),
         3 => put_adjustments(window, objects.undo),
-        _ => put_thing(window, &thing_at(objects, i), mark),
+        _ => put_own_object(window, &own_object_at(objects, i), mark),
     }
 }

@@ -9,7 +9,8 @@ use Rattle.ipc_disk.specs.declared.range.Range.{Range}
 use Rattle.ipc_disk.specs.Medium.{Image, Medium, Stays}
 use Rattle.ipc_disk.specs.Range.{IsInside}
 use Rattle.ipc_disk.specs.Since.{EachImageSince, LeavesAlone}
-use Rattle.ipc_disk.proofs.CallerLemmas.{EachImageSince-now, LeavesAlone-keeps, sector_at-same, stands-same, StandsAt-front}
+use Rattle.ipc_disk.proofs.CallerLemmas.{EachImageSince-join, EachImageSince-now, EachImageSince-weaken, LeavesAlone-keeps}
+use Rattle.ipc_disk.proofs.CallerLemmas.{sector_at-same, stands-same, StandsAt-front}
 use Rattle.ipc_journal.specs.declared.journal.Journal.{Journal}
 use Rattle.ipc_disk.specs.Standing.{sectors_for, sector_at}
 use Rattle.ipc_journal.specs.Journal.{sectors_of, epoch_in, used_in, length_in}
@@ -17,7 +18,7 @@ use Rattle.ipc_disk.specs.Standing.{piece, StandsAt}
 use Rattle.ipc_journal.specs.Journal.{header_bytes, header_used, IsBatch, Fill, Holds}
 use Rattle.ipc_journal.specs.View.{range_of, epoch_of, used_of}
 use Rattle.ipc_journal.specs.Matches.{HoldsOneMoreOrNot, JournalMatches}
-use Rattle.ipc_journal.specs.Meanwhile.{IsReadFrom, KeepsBatches, Stand}
+use Rattle.ipc_journal.specs.Meanwhile.{ComesInOrder, IsReadFrom, KeepsBatches, Stand}
 
 module _ (range : Range) where
   -- where the batches end
@@ -40,7 +41,7 @@ module _ (range : Range) where
         Fill-same (place + sectors_for (length batch)) end batches a b same fill.2,
       )
 
-  -- one more batch behind them
+  -- one more batch after them
   pub Fill-push : (place end : ℕ) (batches : List (List ℕ)) (batch : List ℕ) (image : Image) → Fill range place end batches image
       → IsBatch batch → StandsAt (range.first + 1 + end) batch image
       → Fill range place (end + sectors_for (length batch)) (batches ++ batch ∷ []) image
@@ -261,7 +262,18 @@ module _ (range : Range) (epoch : ℕ) where
       let two = next (batches ++ one.0) one.1 in
       (one.0 ++ two.0, subst (λ (l : List (List ℕ)). Holds range epoch l c) (append_assoc batches one.0 two.0) two.1)
 
--- while a batch is appended
+-- while a batch is appended each image has it or not
+pub ComesInOrder-moment : {D : Type 0} (medium : D → Medium) (journal : Journal) (batches : List (List ℕ)) (batch : List ℕ) (old new : D)
+    → ComesInOrder medium journal batches batch old new → EachImageSince (medium old) (medium new) (HoldsOneMoreOrNot journal batches batch)
+ComesInOrder-moment medium journal batches batch old new (inl same) =
+    EachImageSince-weaken (medium old) (medium new) _ (HoldsOneMoreOrNot journal batches batch) same (λ image holds. inl holds)
+ComesInOrder-moment medium journal batches batch old new (inr (between, same, more)) =
+    let P : Image → Type 0 = HoldsOneMoreOrNot journal batches batch in
+    EachImageSince-join (medium old) (medium between) (medium new) P
+    (EachImageSince-weaken (medium old) (medium between) _ P same (λ image holds. inl holds))
+    (EachImageSince-weaken (medium between) (medium new) _ P more (λ image both. both.1))
+
+-- and it keeps the batches of before
 pub KeepsBatches-append : (journal : Journal) (batches : List (List ℕ)) (batch : List ℕ) (old : Medium) → JournalMatches journal batches old
     → (earlier later : Image) → old.images_now earlier → HoldsOneMoreOrNot journal batches batch later
     → KeepsBatches (range_of journal) (epoch_of journal) earlier later

@@ -7,6 +7,7 @@ use Rattle.ipc_disk.specs.Medium.{Image, Medium, SetOrNot}
 use Rattle.ipc_disk.specs.Since.{EachImageSince}
 use Rattle.ipc_disk.specs.Standing.{sectors_for, StandsAt}
 use Rattle.ipc_journal.specs.Journal.{sectors_of, epoch_in, used_in, header_bytes, header_epoch, header_used, IsBatch, Fill, Holds}
+use Rattle.ipc_journal.specs.Meanwhile.{Stand}
 use Rattle.ipc_journal.proofs.CallerLemmas.{Fill-end, Fill-same, Fill-push, Holds-fill, Holds-header}
 use Rattle.ipc_disk.proofs.CallerLemmas.{EachImageSince-set, sector_at-set_same, sector_at-set_other}
 
@@ -37,19 +38,24 @@ moment-made range epoch old new has fits long run =
     (λ image now. inr (Holds-header range epoch (slice_set image range.first (header_bytes epoch 0)) has fits
     (sector_at-set_same image range.first (header_bytes epoch 0) (long image now))))
 
--- a batch is there from the moment that the header says so
-pub Holds-push : (range : Range) (epoch : ℕ) (batches : List (List ℕ)) (batch sector : List ℕ) (image : Image) → range.first < length image
-    → sectors_of batches + sectors_for (length batch) < range.count → IsBatch batch → StandsAt (range.first + 1 + sectors_of batches) batch image
-    → epoch_in sector ≡ epoch → used_in sector ≡ sectors_of batches + sectors_for (length batch) → Holds range epoch batches image
-    → Holds range epoch (batches ++ batch ∷ []) (slice_set image range.first sector)
-Holds-push range epoch batches batch sector image lt room is stands e u holds =
+-- its sectors stand, whether or not the header says so
+pub Stand-push : (range : Range) (epoch : ℕ) (batches : List (List ℕ)) (batch : List ℕ) (image : Image) → IsBatch batch
+    → StandsAt (range.first + 1 + sectors_of batches) batch image → Holds range epoch batches image → Stand range (batches ++ batch ∷ []) image
+Stand-push range epoch batches batch image is stands holds =
+    subst (λ (n : ℕ). Fill range 0 n (batches ++ batch ∷ []) image) (sym (sectors_of-push batches batch))
+    (Fill-push range 0 (sectors_of batches) batches batch image (Holds-fill range epoch batches image holds) is stands)
+
+-- batches that stand are there from the moment that the header says so
+pub Holds-set : (range : Range) (epoch : ℕ) (batches : List (List ℕ)) (sector : List ℕ) (image : Image) → range.first < length image
+    → sectors_of batches < range.count → Stand range batches image → epoch_in sector ≡ epoch → used_in sector ≡ sectors_of batches
+    → Holds range epoch batches (slice_set image range.first sector)
+Holds-set range epoch batches sector image lt room stand e u =
     let new = slice_set image range.first sector in
     let header = sector_at-set_same image range.first sector lt in
-    let pushed = Fill-push range 0 (sectors_of batches) batches batch image (Holds-fill range epoch batches image holds) is stands in
-    let kept = Fill-same range 0 (sectors_of batches + sectors_for (length batch)) (batches ++ batch ∷ []) image new
-    (λ j low high. sym (sector_at-set_other image range.first j sector (λ same. absurd (omega (arith, same, low))))) pushed in
+    let kept = Fill-same range 0 (sectors_of batches) batches image new
+    (λ j low high. sym (sector_at-set_other image range.first j sector (λ same. absurd (omega (arith, same, low))))) stand in
     inr (record {
       current = ap epoch_in header ∙ e;
       within = subst (λ (n : ℕ). n < range.count) (sym (ap used_in header ∙ u)) room;
-      filled = subst (λ (n : ℕ). Fill range 0 n (batches ++ batch ∷ []) new) (sym (ap used_in header ∙ u)) kept;
+      filled = subst (λ (n : ℕ). Fill range 0 n batches new) (sym (ap used_in header ∙ u)) kept;
     })

@@ -1,5 +1,4 @@
 -- Lemmas on sectors of images, and on what a journal's images hold.
-mod Append
 pub mod CallerLemmas
 mod Headers
 mod Images

@@ -1,5 +1,5 @@
 -- What the sectors of a journal mean. The first sector of its range is the header: the epoch in 8 bytes, and in 4
--- how many of the sectors behind it, the body, are used. There stand the batches, each from a sector of its own on.
+-- how many of the sectors after it, the body, are used. There stand the batches, each from a sector of its own on.
 -- Numbers have their highest byte first.
 use Rattle.std.specs.Prelude.{◌≡◌, ◌⊎◌, ℕ, ◌+◌, ◌≤◌, ◌<◌, List, [], ◌∷◌, ◌++◌, length, drop, replicate}
 use Rattle.byteorder.specs.Endian.{big_bytes, big_number}
@@ -36,7 +36,7 @@ header_epoch range image = epoch_in (sector_at image range.first)
 abbrev pub header_used : Range → Image → ℕ
 header_used range image = used_in (sector_at image range.first)
 
--- a batch: its first four bytes are the number of the bytes behind them
+-- a batch: its first four bytes are the number of the bytes after them
 pub record IsBatch (batch : List ℕ) : Type 0 where
   pub field : 4 ≤ length batch
   pub right : length_in batch + 4 ≡ length batch
@@ -58,7 +58,7 @@ pub record IsCurrent (range : Range) (epoch : ℕ) (batches : List (List ℕ)) (
   pub within : header_used range image < range.count
   pub filled : Fill range 0 (header_used range image) batches image
 
--- at this epoch the journal of the image is these batches: none where the header is of an earlier epoch
+-- at this epoch the journal of the image is these batches; with a header of an earlier epoch it has none
 abbrev pub Holds : Range → ℕ → List (List ℕ) → Image → Type 0
 Holds range epoch batches image =
     (IsOlder range epoch image × (batches ≡ [])) ⊎ IsCurrent range epoch batches image

@@ -7,6 +7,7 @@ use Rattle.ipc_disk.specs.Since.{EachImageSince}
 use Rattle.ipc_disk.specs.Standing.{sector_at}
 use Rattle.ipc_journal.specs.declared.journal.Journal.{Journal}
 use Rattle.ipc_journal.specs.Journal.{Fill, Holds, sectors_of}
+use Rattle.ipc_journal.specs.Matches.{HoldsOneMoreOrNot}
 use Rattle.ipc_journal.specs.View.{epoch_of, range_of}
 
 -- the sectors of these batches are there, whether or not a header counts them
@@ -27,10 +28,11 @@ pub record IsReadFrom (range : Range) (epoch : ℕ) (first read : Image) : Type 
       × (sector_at read i ≡ sector_at later i)
 
 -- A batch comes: up to some moment each image has the batches of before, and from then on the sectors of this one stand
--- too. Or that moment never came.
+-- too, and it is one more of them or not. Or that moment never came.
 abbrev pub ComesInOrder : {D : Type 0} → (D → Medium) → Journal → List (List ℕ) → List ℕ → D → D → Type 0
 ComesInOrder {D} medium journal batches batch old new =
     EachImageSince (medium old) (medium new) (Holds (range_of journal) (epoch_of journal) batches)
     ⊎ ((between : D)
     × EachImageSince (medium old) (medium between) (Holds (range_of journal) (epoch_of journal) batches)
-    × EachImageSince (medium between) (medium new) (Stand (range_of journal) (batches ++ batch ∷ [])))
+    × EachImageSince (medium between) (medium new)
+    (λ image. Stand (range_of journal) (batches ++ batch ∷ []) image × HoldsOneMoreOrNot journal batches batch image))

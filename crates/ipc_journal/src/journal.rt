@@ -38,7 +38,7 @@ impl Journal {
     ghost use Rattle.ipc_journal.specs.Journal.{Holds, header_epoch, header_used, sectors_of};
     ghost use Rattle.ipc_journal.specs.Journal.{header_bytes, length_in, IsBatch};
     ghost use Rattle.ipc_journal.specs.View.{range_of, epoch_of, used_of, Fits};
-    ghost use Rattle.ipc_journal.specs.Matches.{JournalMatches, HoldsOneMoreOrNot};
+    ghost use Rattle.ipc_journal.specs.Matches.{JournalMatches};
     ghost use Rattle.ipc_journal.specs.Meanwhile.{ComesInOrder};
 
     /// Writes the header of an empty journal of this epoch. It does not sync.
@@ -97,8 +97,7 @@ impl Journal {
         ensures same { IsSameDisk D.size D.medium disk.old disk.new }
         ensures counts { CountsCalls D.counts result (with_calls 1 1) disk.old disk.new }
     {
-        Journal::put_header(disk, range, epoch)?;
-        disk.sync()?;
+        write_durably(disk, range.first, &header_sector(epoch, 0))?;
         Ok(Journal {
             range,
             epoch,
@@ -219,16 +218,8 @@ impl Journal {
             ≡ header_bytes (epoch_of self.new) (used_of self.new)) }
         ensures durable { OnOk result (IsDurable (D.medium disk.new)) }
         ensures kept { OnErr result (self.new ≡ self.old) }
-        // A crash at any moment of the call, also of one that fails.
+        // A crash at any moment of the call, also of one that fails; its sectors stand before a header counts it.
         ensures any_moment { (batches : List (List ℕ)) → JournalMatches self.old batches (D.medium disk.old)
-            → EachImageSince (D.medium disk.old) (D.medium disk.new)
-            (HoldsOneMoreOrNot self.old batches batch.now) }
-        ensures left { (batches : List (List ℕ)) (image : Image)
-            → JournalMatches self.old batches (D.medium disk.old)
-            → (D.medium disk.new).images_now image
-            → HoldsOneMoreOrNot self.old batches batch.now image }
-        // Its sectors stand before a header counts it.
-        ensures stands_first { (batches : List (List ℕ)) → JournalMatches self.old batches (D.medium disk.old)
             → ComesInOrder D.medium self.old batches batch.now disk.old disk.new }
         ensures others { IsHonest (D.medium disk.old)
             → LeavesAlone (IsOutside (range_of self.old)) (D.medium disk.old) (D.medium disk.new) }
@@ -247,8 +238,8 @@ impl Journal {
     }
 
     /// The batch that begins at `place`, with its length field, into the front of `into`; its length, and `place`
-    /// behind it. `None` if no more sectors are used. `Damaged` names the first sector of a batch whose length does
-    /// not fit what is used, or `into`. Behind a batch `into` is as it was; after `None` and `Damaged` all of it is,
+    /// after it. `None` if no more sectors are used. `Damaged` names the first sector of a batch whose length does
+    /// not fit what is used, or `into`. After a batch `into` is as it was; after `None` and `Damaged` all of it is,
     /// and `place` too. After `Device` the bytes in `into` are any, and `place` is as it was.
     pub fn next_batch<D: SectorDisk>(
         &self,
@@ -280,7 +271,7 @@ impl Journal {
             ((range_of self.now).first + 1 + place.old.sector)) + 4) }
         ensures least { IfOk result (λ found. (len : ℕ) → found ≡ Some len → 4 ≤ len) }
         ensures fits { IfOk result (λ found. (len : ℕ) → found ≡ Some len → len ≤ length into.old) }
-        ensures behind { IfOk result (λ found. (len : ℕ) → found ≡ Some len
+        ensures beyond { IfOk result (λ found. (len : ℕ) → found ≡ Some len
             → drop len into.new ≡ drop len into.old) }
         ensures passes { IfOk result (λ found. (len : ℕ) → found ≡ Some len
             → place.new.sector ≡ place.old.sector + sectors_for len) }

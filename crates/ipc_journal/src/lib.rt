@@ -15,18 +15,18 @@
 //!   of a crash in the call is one of before or holds the empty journal (`any_moment`), and differs from one of before
 //!   in the header at most (`header_or_not`).
 //! - `append`: at every moment of the call each image that a crash may leave holds the batches of before, with the new
-//!   one or without (`any_moment`, `left`). The sectors of the batch stand before a header counts it: up to some moment
-//!   each image has the batches of before, and from then on the sectors of the new one are there as well
-//!   (`stands_first`, `ComesInOrder` of `specs/Meanwhile.antt`). Once it is Ok every image has the new batch
-//!   (`acknowledged`), which stands on the disk to the byte (`written`), the header counts it (`header`), and a crash
-//!   leaves what is read (`durable`). It makes one write for each sector of the batch and one more, and two syncs
-//!   (`counts`). If it fails, the value is as it was (`kept`).
+//!   one or without. The sectors of the batch stand before a header counts it: up to some moment each image has the
+//!   batches of before, and from then on the sectors of the new one are there as well (`any_moment`, `ComesInOrder` of
+//!   `specs/Meanwhile.antt`). Once it is Ok every image has the new batch (`acknowledged`), which stands on the disk to
+//!   the byte (`written`), the header counts it (`header`), and a crash leaves what is read (`durable`). It makes one
+//!   write for each sector of the batch and one more, and two syncs (`counts`). If it fails, the value is as it was
+//!   (`kept`).
 //! - `open` finds the batches that every image holds (`stands`), and reads a header of an earlier epoch as empty
 //!   (`older`). It is `Damaged` only at a later epoch or at a count that is too large (`damaged`), with the header's
 //!   sector (`named`).
 //! - `next_batch` gives the batches in order (`in_order`), each of at least four bytes (`least`), and then `None`
 //!   (`end`). After `None` the place and the buffer are as they were (`none`); after a batch the bytes of the buffer
-//!   that follow it are (`behind`); after `Damaged` all of the buffer is (`untouched`). It is `Damaged` only if a batch
+//!   that follow it are (`beyond`); after `Damaged` all of the buffer is (`untouched`). It is `Damaged` only if a batch
 //!   passes what is used or what the buffer holds (`damaged`), with the batch's first sector (`named`). After an error
 //!   the place is as it was (`kept`).
 //! - `fits` is exact, `used` is how many sectors batches take, and `range` are its sectors. `turn` empties the journal

@@ -44,8 +44,8 @@ use Rattle.ipc_script.proofs.HubAndClients.{connected, few_frames, no_frame}
 use Rattle.ipc_script.proofs.UnchangedHeads.{heads, heads_feed, steady, same_open}
 
 -- after a text, what comes
-abbrev pub behind : List ℕ → Progress → Progress
-behind text p = record { text = text ++ p.text; run = p.run }
+abbrev pub beyond : List ℕ → Progress → Progress
+beyond text p = record { text = text ++ p.text; run = p.run }
 
 -- some pieces are fed, and some bytes are left
 pub record PartlyFed {D : Type 0} (medium : D → Medium) (limits : Limits) (r : Run) (sender : Sender) (bytes : List ℕ)
@@ -61,7 +61,7 @@ pub record PartlyFed {D : Type 0} (medium : D → Medium) (limits : Limits) (r :
   pub written : Appends before after text
   pub runs : (others : List ℕ) (more : Cut) → 0 < length others
       → fed_in_pieces limits r sender.moment.0 sender.conn (first ++ others) (pieces ++ more)
-      ≡ behind text (fed_in_pieces limits now sender.moment.0 sender.conn others more)
+      ≡ beyond text (fed_in_pieces limits now sender.moment.0 sender.conn others more)
   pub lasts : LastsAs medium r.hub now.hub old.store hub.store
   pub fails : FailsWithin medium limits sender.number r (Data sender.moment.0 sender.conn bytes) old.store hub.store
   pub done : IsDone limits r (Data sender.moment.0 sender.conn bytes) (length first) (record { text = text; run = now })
@@ -144,29 +144,29 @@ module _ {D : Type 0} (medium : D → Medium) (limits : Limits) (r : Run) (sende
       whole = append_assoc p.first front (drop taken rest) ∙ ap (λ (bs : List ℕ). p.first ++ bs) (take-append-drop taken rest) ∙ p.all
 
       runs_on : (others : List ℕ) (more : Cut) → 0 < length others → fed_so ((p.first ++ front) ++ others) ((p.pieces ++ piece ∷ []) ++ more)
-          ≡ behind (p.text ++ step.text) (fed_in_pieces limits step.run sender.moment.0 sender.conn others more)
+          ≡ beyond (p.text ++ step.text) (fed_in_pieces limits step.run sender.moment.0 sender.conn others more)
       runs_on others more left =
           let then : Progress = fed_in_pieces limits step.run sender.moment.0 sender.conn others more in
           ap (λ (bs : List ℕ). fed_so bs ((p.pieces ++ piece ∷ []) ++ more)) (append_assoc p.first front others)
           ∙ (ap (fed_so (p.first ++ (front ++ others))) (append_assoc p.pieces (piece ∷ []) more)
           ∙ (p.runs (front ++ others) (piece ∷ more) (omega (arith, length-append front others, left))
-          ∙ (ap (behind p.text) (first_piece limits p.now sender.moment.0 sender.conn front q.refused others takes_some left more)
+          ∙ (ap (beyond p.text) (first_piece limits p.now sender.moment.0 sender.conn front q.refused others takes_some left more)
           ∙ ap (λ (t : List ℕ). record { text = t; run = then.run }) (sym (append_assoc p.text step.text then.text)))))
 
-      runs_to : fed_so (p.first ++ front) (p.pieces ++ last ∷ []) ≡ behind p.text step
+      runs_to : fed_so (p.first ++ front) (p.pieces ++ last ∷ []) ≡ beyond p.text step
       runs_to =
-          p.runs front (last ∷ []) takes_some ∙ ap (behind p.text) (last_piece limits p.now sender.moment.0 sender.conn front q.refused)
+          p.runs front (last ∷ []) takes_some ∙ ap (beyond p.text) (last_piece limits p.now sender.moment.0 sender.conn front q.refused)
 
       lasts_now : LastsAs medium r.hub step.run.hub old.store new
       lasts_now = lasts-as-both medium r.hub p.now.hub step.run.hub old.store hub.store new p.lasts q.lasts
 
       -- the first bytes of the line are fed, the last of them in this piece
-      fed_to : fed_so (take (length (p.first ++ front)) bytes) (p.pieces ++ last ∷ []) ≡ behind p.text step
+      fed_to : fed_so (take (length (p.first ++ front)) bytes) (p.pieces ++ last ∷ []) ≡ beyond p.text step
       fed_to =
           ap (λ (bs : List ℕ). fed_so bs (p.pieces ++ last ∷ [])) (ap (take (length (p.first ++ front))) (sym whole)
           ∙ take-append_seam (p.first ++ front) (drop taken rest)) ∙ runs_to
 
-      done_so : IsDone limits r line (length (p.first ++ front)) (behind p.text step)
+      done_so : IsDone limits r line (length (p.first ++ front)) (beyond p.text step)
       done_so =
           subst (IsDone limits r line (length (p.first ++ front))) fed_to
           (bytes_fed sender.moment.0 sender.conn (length (p.first ++ front)) bytes (p.pieces ++ last ∷ []))
@@ -177,7 +177,7 @@ module _ {D : Type 0} (medium : D → Medium) (limits : Limits) (r : Run) (sende
             goes = λ stop. cc;
             count = length (p.first ++ front);
             cut = p.pieces ++ last ∷ [];
-            part = behind p.text step;
+            part = beyond p.text step;
             done = rw open_all (ap (λ (x : Progress). Ok x) fed_to);
             lasts = lasts_now;
           })
@@ -236,7 +236,7 @@ module _ {D : Type 0} (medium : D → Medium) (limits : Limits) (r : Run) (sende
           let cut : Cut = p.pieces ++ last taken next.store s.piece ∷ [] in
           let all : p.first ++ take taken rest ≡ bytes = ap (λ (bs : List ℕ). p.first ++ bs) last_one ∙ p.all in (
             cut,
-            behind p.text now,
+            beyond p.text now,
             rw (open_all taken next.store s.piece) (ap (λ (x : Progress). Ok x) (ap (λ (bs : List ℕ). fed_so bs cut) (sym all)
                 ∙ runs_to taken next.store s.piece)),
             (s.matches.0, Appends-trans w0 w1 w2 p.text now.text p.written s.matches.1),

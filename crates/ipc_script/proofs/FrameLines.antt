@@ -23,7 +23,7 @@ use Rattle.ipc_base.proofs.CallerLemmas.{at-with as value_here, own as put_same,
 use Rattle.ipc_script.proofs.HubAndClients.{partner-at}
 use Rattle.ipc_script.proofs.WrittenText.{part_after, part_more}
 
--- some frames are written and taken: what is behind them now, and the text so far
+-- some frames are written and taken: what is after them now, and the text so far
 pub record Partly (limits : Limits) (h : Clients) (conn : ℕ) (hub : HubView) (before after : Option (List ℕ)) : Type 0 where
   pub now : Clients
   pub text : List ℕ

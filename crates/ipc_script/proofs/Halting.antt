@@ -194,10 +194,10 @@ halts-in limits r line hub opened w0 w1 w2 h part = record {
   written = Appends-trans w0 w1 w2 h.part.text part.0 h.written part.3;
 }
 
--- behind the text of the lines before
-pub halts-behind : (limits : Limits) (r : Run) (line : PlainLine) (n : ℕ) (text : List ℕ) (w0 w1 w2 : Option (List ℕ)) → Appends w0 w1 text
+-- after the text of the lines before
+pub halts-beyond : (limits : Limits) (r : Run) (line : PlainLine) (n : ℕ) (text : List ℕ) (w0 w1 w2 : Option (List ℕ)) → Appends w0 w1 text
     → HaltsIn limits r line n [] w1 w2 → HaltsIn limits r line n text w0 w2
-halts-behind limits r line n text w0 w1 w2 told h = record {
+halts-beyond limits r line n text w0 w1 w2 told h = record {
   place = h.place;
   part = h.part;
   done = h.done;

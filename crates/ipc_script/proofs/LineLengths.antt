@@ -88,8 +88,8 @@ unfolding line_of words_of
 line-gives text = words-give (length text) (slice_split (λ b. b == 32) text) (split-short text)
 
 -- what a line may use is so many numbers at most for each byte that it takes off a text
-pub cost-fits : (text : List ℕ) (line : PlainLine) {behind all : ℕ} → line_of text ≡ Some line → length text + behind ≤ all → behind < all
-    → line_cost line ≤ byte_cost * (all - behind)
+pub cost-fits : (text : List ℕ) (line : PlainLine) {beyond all : ℕ} → line_of text ≡ Some line → length text + beyond ≤ all → beyond < all
+    → line_cost line ≤ byte_cost * (all - beyond)
 cost-fits text line is parts shorter =
     let gives : Gives (length text) line = subst (λ (o : Option PlainLine). IfSome o (Gives (length text))) is (line-gives text) in
     omega (arith, gives, parts, shorter)

@@ -10,9 +10,9 @@ pub last_word : (text first : List ℕ) (rest : Option (Bor (List ℕ))) → wor
 last_word text first rest h e = h ∙ ap (λ o. first ∷ words_after o) e
 
 -- a word, and what the rest has
-pub next_word : (text first : List ℕ) (rest : Option (Bor (List ℕ))) (behind : Bor (List ℕ)) (words : List (List ℕ))
-    → words_of text ≡ first ∷ words_after rest → rest ≡ Some behind → words_of behind.now ≡ words → words_of text ≡ first ∷ words
-next_word text first rest behind words h e f = h ∙ ap (λ o. first ∷ words_after o) e ∙ ap (λ ws. first ∷ ws) f
+pub next_word : (text first : List ℕ) (rest : Option (Bor (List ℕ))) (beyond : Bor (List ℕ)) (words : List (List ℕ))
+    → words_of text ≡ first ∷ words_after rest → rest ≡ Some beyond → words_of beyond.now ≡ words → words_of text ≡ first ∷ words
+next_word text first rest beyond words h e f = h ∙ ap (λ o. first ∷ words_after o) e ∙ ap (λ ws. first ∷ ws) f
 
 pub from_words : (text : List ℕ) (words : List (List ℕ)) → words_of text ≡ words → line_of text ≡ line_of_words words
 unfolding line_of

@@ -45,9 +45,9 @@ pub spends-more : {D : Type 0} {counts : D → Counts} {n : ℕ} (all : ℕ) {ol
 spends-more all spent fits = record { running = spent.running; failures = spent.failures; numbers = omega (arith, spent.numbers, fits) }
 
 -- what is left after a call
-pub left-behind : {D : Type 0} {counts : D → Counts} {n k : ℕ} (rest : ℕ) {old new : StoreView D} → HasNumbers n old → Spends counts k old new
+pub left-beyond : {D : Type 0} {counts : D → Counts} {n k : ℕ} (rest : ℕ) {old new : StoreView D} → HasNumbers n old → Spends counts k old new
     → k + rest ≤ n → HasNumbers rest new
-left-behind rest has spent fits = record { running = spent.running; left = omega (arith, has.left, spent.numbers, fits) }
+left-beyond rest has spent fits = record { running = spent.running; left = omega (arith, has.left, spent.numbers, fits) }
 
 -- nothing was used yet
 pub spends-none : {D : Type 0} {counts : D → Counts} {n k : ℕ} {store : StoreView D} → HasNumbers n store → Spends counts k store store
@@ -69,9 +69,9 @@ module _ {D : Type 0} (medium : D → Medium) (counts : D → Counts) (n : ℕ) 
   halted-by commit.Stopped (inr last) = absurd (omega (arith, has.left, last.1))
 
 -- a failure that is counted after calls without one is the first
-pub failed-behind : {D : Type 0} {counts : D → Counts} {n : ℕ} {old mid : StoreView D} (e : ScriptFault) (after : ℕ) → Spends counts n old mid
+pub failed-beyond : {D : Type 0} {counts : D → Counts} {n : ℕ} {old mid : StoreView D} (e : ScriptFault) (after : ℕ) → Spends counts n old mid
     → DiskFailed e (counts mid.disk).failures after → DiskFailed e (counts old.disk).failures after
-failed-behind e after spent failed = subst (λ (before : ℕ). DiskFailed e before after) spent.failures failed
+failed-beyond e after spent failed = subst (λ (before : ℕ). DiskFailed e before after) spent.failures failed
 
 -- a young store has numbers enough for a script that is not too long
 pub young-has : {D : Type 0} (store : StoreView D) (script : List ℕ) → IsYoung store → length script ≤ longest_script

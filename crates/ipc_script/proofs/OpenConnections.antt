@@ -80,11 +80,11 @@ keys_entry [] n x apart = refl
 keys_entry (e ∷ es) n x apart =
     elim (test (nat_lt n e.0)) [
       | inl before ↦
-          let behind : nat_lt e.0 n ≡ false = grind (arith, nat_tests, before) in
-          rw before (rw behind refl)
-      | inr behind ↦
-          let before : nat_lt e.0 n ≡ true = grind (arith, nat_tests, behind, apart.0) in
-          rw behind (rw before (ap (λ (ks : List ℕ). e.0 ∷ ks) (keys_entry es n x apart.1)))
+          let beyond : nat_lt e.0 n ≡ false = grind (arith, nat_tests, before) in
+          rw before (rw beyond refl)
+      | inr beyond ↦
+          let before : nat_lt e.0 n ≡ true = grind (arith, nat_tests, beyond, apart.0) in
+          rw beyond (rw before (ap (λ (ks : List ℕ). e.0 ∷ ks) (keys_entry es n x apart.1)))
     ]
 
 -- a connection was opened

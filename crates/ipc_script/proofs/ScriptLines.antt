@@ -103,16 +103,16 @@ module _ {D : Type 0} (limits : Limits) (h : Clients) (script : List ℕ) (mediu
     ran more = ap (λ (ls : List (List ℕ)). run_lines limits 1 (start_run h) ls (p.done ++ more)) p.lines ∙ p.runs (lines_of rest) more
 
     -- one line more
-    pub run_more : (line behind : List ℕ) → lines_of rest ≡ line ∷ lines_of behind → (cut : Cut) (q : Progress)
+    pub run_more : (line beyond : List ℕ) → lines_of rest ≡ line ∷ lines_of beyond → (cut : Cut) (q : Progress)
         → text_done limits number p.now (line_of line) cut ≡ Ok q
         → (next : StoredHub D) (changed : List Opened) (w2 : Option (List ℕ)) → RunMatchesBetween limits next changed q.run → Appends w1 w2 q.text
         → HasRunLines medium limits old h (number + 1) (p.first ++ line ∷ []) next.store q.run (p.text ++ q.text)
-        → PartlyRun limits h script medium old (number + 1) next changed behind w0 w2
-    run_more line behind lines cut q is next changed w2 at wrote lived =
+        → PartlyRun limits h script medium old (number + 1) next changed beyond w0 w2
+    run_more line beyond lines cut q is next changed w2 at wrote lived =
         record {
           now = q.run;
           first = p.first ++ line ∷ [];
-          lines = p.lines ∙ ap (λ (ls : List (List ℕ)). p.first ++ ls) lines ∙ sym (append_assoc p.first (line ∷ []) (lines_of behind));
+          lines = p.lines ∙ ap (λ (ls : List (List ℕ)). p.first ++ ls) lines ∙ sym (append_assoc p.first (line ∷ []) (lines_of beyond));
           done = p.done ++ cut ∷ [];
           text = p.text ++ q.text;
           at = at;
@@ -133,12 +133,12 @@ module _ {D : Type 0} (limits : Limits) (h : Clients) (script : List ℕ) (mediu
         }
 
     -- the server was dropped, and its device opened again
-    pub run_stopped : (line behind : List ℕ) → lines_of rest ≡ line ∷ lines_of behind → line_of line ≡ Some Stop → (next : StoredHub D)
+    pub run_stopped : (line beyond : List ℕ) → lines_of rest ≡ line ∷ lines_of beyond → line_of line ≡ Some Stop → (next : StoredHub D)
         → StoredMatches limits next (no_clients (restart p.now.hub.state) (Restart ∷ [])) → (closed : StoreView D) → Takes medium hub.store [] closed
         → closed.machine.state ≡ p.now.hub.state → IsReopened medium closed next.store
-        → PartlyRun limits h script medium old (number + 1) next [] behind w0 w1
-    run_stopped line behind lines is next matches closed took state again =
-        run_more line behind lines [] (record { text = []; run = stopped p.now }) (ap (λ (o : Option PlainLine). text_done limits number p.now o []) is)
+        → PartlyRun limits h script medium old (number + 1) next [] beyond w0 w1
+    run_stopped line beyond lines is next matches closed took state again =
+        run_more line beyond lines [] (record { text = []; run = stopped p.now }) (ap (λ (o : Option PlainLine). text_done limits number p.now o []) is)
         next [] w1 (starts limits (no_clients (restart p.now.hub.state) (Restart ∷ [])) next matches refl) (Appends-nil w1)
         (subst (HasRunLines medium limits old h (number + 1) (p.first ++ line ∷ []) next.store (stopped p.now)) (sym (append-nil p.text))
         (line_again number p.first line hub.store closed next.store p.now p.text p.lived is took state again))
@@ -156,11 +156,11 @@ module _ {D : Type 0} (limits : Limits) (h : Clients) (script : List ℕ) (mediu
     abbrev pub Failed : StoreView D → Type 0
     Failed closed = Takes medium hub.store [] closed ⊎ TakesNext medium limits number p.now (lines_of rest) hub.store closed
 
-    pub failed : (line behind : List ℕ) → lines_of rest ≡ line ∷ lines_of behind → (form : PlainLine) → line_of line ≡ Some form → (closed : StoreView D)
+    pub failed : (line beyond : List ℕ) → lines_of rest ≡ line ∷ lines_of beyond → (form : PlainLine) → line_of line ≡ Some form → (closed : StoreView D)
         → FailsWithin medium limits number p.now form hub.store closed → Failed closed
-    failed line behind lines form is closed (inl none) = inl none
-    failed line behind lines form is closed (inr part) =
-        inr (record { line = line; behind = lines_of behind; next = lines; form = form; is = is; part = part })
+    failed line beyond lines form is closed (inl none) = inl none
+    failed line beyond lines form is closed (inr part) =
+        inr (record { line = line; beyond = lines_of beyond; next = lines; form = form; is = is; part = part })
 
     -- what was run so far, and what the store took then
     pub ends_after : (closed : StoreView D) (w2 : Option (List ℕ)) (result : Result ⊤ ScriptFault) → WritesMore w1 w2 [] → OnOk result (lines_of rest ≡ [])
@@ -199,15 +199,15 @@ module _ {D : Type 0} (limits : Limits) (h : Clients) (script : List ℕ) (mediu
         }
 
     -- a line that is refused
-    pub run_refused : (line behind : List ℕ) → lines_of rest ≡ line ∷ lines_of behind → (e : ScriptFault)
+    pub run_refused : (line beyond : List ℕ) → lines_of rest ≡ line ∷ lines_of beyond → (e : ScriptFault)
         → ((cut : Cut) → text_done limits number p.now (line_of line) cut ≡ Err e)
         → (w2 : Option (List ℕ)) → Appends w1 w2 [] → EndsAs limits h script w0 w2 (Some e)
-    run_refused line behind lines e is w2 wrote =
+    run_refused line beyond lines e is w2 wrote =
         let ends : run_lines limits 1 (start_run h) (lines_of script) p.done ≡ record { text = p.text ++ []; fault = Some e } =
         ap (run_lines limits 1 (start_run h) (lines_of script)) (sym (append-nil p.done))
         ∙ (ran []
         ∙ (ap (λ (ls : List (List ℕ)). later p.text (run_lines limits number p.now ls [])) lines
-        ∙ ap (λ r. later p.text (then_next r (λ now. run_lines limits (number + 1) now (lines_of behind) []))) (is (first_cut [])))) in (
+        ∙ ap (λ r. later p.text (then_next r (λ now. run_lines limits (number + 1) now (lines_of beyond) []))) (is (first_cut [])))) in (
           p.done,
           (
             subst (Appends w0 w2) (sym (ap (λ (o : Outcome). o.text) ends)) (Appends-trans w0 w1 w2 p.text [] p.written wrote),
@@ -217,10 +217,10 @@ module _ {D : Type 0} (limits : Limits) (h : Clients) (script : List ℕ) (mediu
         )
 
     -- a line of which a beginning is written
-    pub run_broken : (line behind : List ℕ) → lines_of rest ≡ line ∷ lines_of behind → (cut : Cut) → (w2 : Option (List ℕ))
+    pub run_broken : (line beyond : List ℕ) → lines_of rest ≡ line ∷ lines_of beyond → (cut : Cut) → (w2 : Option (List ℕ))
         → WritesPart w1 w2 (text_of (text_done limits number p.now (line_of line) cut)) → BreaksOff limits h script w0 w2
-    run_broken line behind lines cut w2 part =
-        let next : Run → Outcome = λ now. run_lines limits (number + 1) now (lines_of behind) [] in
+    run_broken line beyond lines cut w2 part =
+        let next : Run → Outcome = λ now. run_lines limits (number + 1) now (lines_of beyond) [] in
         let done : Result Progress ScriptFault = text_done limits number p.now (line_of line) cut in
         let ends : run_lines limits 1 (start_run h) (lines_of script) (p.done ++ cut ∷ []) ≡ later p.text (then_next done next) =
         ran (cut ∷ []) ∙ ap (λ (ls : List (List ℕ)). later p.text (run_lines limits number p.now ls (cut ∷ []))) lines in (
@@ -267,34 +267,34 @@ module _ {D : Type 0} (medium : D → Medium) (limits : Limits) (number : ℕ) (
 
 -- ---- lines that are `stop`
 
-module _ (rest line behind : List ℕ) (lines : lines_of rest ≡ line ∷ lines_of behind) where
-  may-all : (old : Medium) → MayStop old rest → All (λ (l : List ℕ). line_of l ≢ Some Stop) (line ∷ lines_of behind) ⊎ IsHonest old
+module _ (rest line beyond : List ℕ) (lines : lines_of rest ≡ line ∷ lines_of beyond) where
+  may-all : (old : Medium) → MayStop old rest → All (λ (l : List ℕ). line_of l ≢ Some Stop) (line ∷ lines_of beyond) ⊎ IsHonest old
   may-all old may = subst (λ (ls : List (List ℕ)). All (λ (l : List ℕ). line_of l ≢ Some Stop) ls ⊎ IsHonest old) lines may
 
   -- if the first line is one, the disk is honest
   pub may-here : (old : Medium) → MayStop old rest → line_of line ≡ Some Stop → IsHonest old
   may-here old may is =
       elim (may-all old may) [
-        | inl none ↦ absurd (All-head (λ (l : List ℕ). line_of l ≢ Some Stop) line (lines_of behind) none is)
+        | inl none ↦ absurd (All-head (λ (l : List ℕ). line_of l ≢ Some Stop) line (lines_of beyond) none is)
         | inr honest ↦ honest
       ]
 
   -- an honest disk stays so from line to line
-  pub may-behind : (old new : Medium) → MayStop old rest → (IsHonest old → IsHonest new) → MayStop new behind
-  may-behind old new may keeps =
+  pub may-beyond : (old new : Medium) → MayStop old rest → (IsHonest old → IsHonest new) → MayStop new beyond
+  may-beyond old new may keeps =
       elim (may-all old may) [
-        | inl none ↦ inl (All-tail (λ (l : List ℕ). line_of l ≢ Some Stop) line (lines_of behind) none)
+        | inl none ↦ inl (All-tail (λ (l : List ℕ). line_of l ≢ Some Stop) line (lines_of beyond) none)
         | inr honest ↦ inr (keeps honest)
       ]
 
--- no line of a script is `stop`, so the first is none, and none behind it is
-pub no-stop-here : (rest line behind : List ℕ) → lines_of rest ≡ line ∷ lines_of behind → HasNoStop rest → line_of line ≢ Some Stop
-no-stop-here rest line behind is none =
-    All-head (λ (l : List ℕ). line_of l ≢ Some Stop) line (lines_of behind) (subst (All (λ (l : List ℕ). line_of l ≢ Some Stop)) is none)
+-- no line of a script is `stop`, so the first is none, and none after it is
+pub no-stop-here : (rest line beyond : List ℕ) → lines_of rest ≡ line ∷ lines_of beyond → HasNoStop rest → line_of line ≢ Some Stop
+no-stop-here rest line beyond is none =
+    All-head (λ (l : List ℕ). line_of l ≢ Some Stop) line (lines_of beyond) (subst (All (λ (l : List ℕ). line_of l ≢ Some Stop)) is none)
 
-pub no-stop-behind : (rest line behind : List ℕ) → lines_of rest ≡ line ∷ lines_of behind → HasNoStop rest → HasNoStop behind
-no-stop-behind rest line behind is none =
-    All-tail (λ (l : List ℕ). line_of l ≢ Some Stop) line (lines_of behind) (subst (All (λ (l : List ℕ). line_of l ≢ Some Stop)) is none)
+pub no-stop-beyond : (rest line beyond : List ℕ) → lines_of rest ≡ line ∷ lines_of beyond → HasNoStop rest → HasNoStop beyond
+no-stop-beyond rest line beyond is none =
+    All-tail (λ (l : List ℕ). line_of l ≢ Some Stop) line (lines_of beyond) (subst (All (λ (l : List ℕ). line_of l ≢ Some Stop)) is none)
 
 -- a line is not `stop`
 pub goes_on : (o : Option PlainLine) (form : PlainLine) → o ≡ Some form → form ≢ Stop → o ≢ Some Stop

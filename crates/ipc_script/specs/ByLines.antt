@@ -62,8 +62,8 @@ ByEnd (Err (Unknown number)) F P = P
 pub record TakesNext {D : Type 0} (medium : D → Medium) (limits : Limits) (number : ℕ) (r : Run)
     (rest : List (List ℕ)) (last closed : StoreView D) : Type 0 where
   pub line : List ℕ
-  pub behind : List (List ℕ)
-  pub next : rest ≡ line ∷ behind
+  pub beyond : List (List ℕ)
+  pub next : rest ≡ line ∷ beyond
   pub form : PlainLine
   pub is : line_of line ≡ Some form
   pub part : TakesPart medium limits number r form last closed

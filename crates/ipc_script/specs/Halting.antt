@@ -29,7 +29,7 @@ pub data IsBegun (limits : Limits) (r : Run) (place : ℕ) : PlainLine → Run �
 abbrev pub last_words : ℕ → Run → List ℕ
 last_words confirmed r = (report (record r { hub = fail confirmed r.hub })).text
 
--- The disk failed within a line, when so many events were confirmed. Behind the text of the lines before stands what
+-- The disk failed within a line, when so many events were confirmed. After the text of the lines before stands what
 -- was done of this one and written, and then what the connections had to say, as far as memory and the writer allowed.
 pub record HaltsIn (limits : Limits) (r : Run) (line : PlainLine) (confirmed : ℕ) (text : List ℕ)
     (before after : Option (List ℕ)) : Type 0 where
@@ -43,12 +43,12 @@ pub record HaltsIn (limits : Limits) (r : Run) (line : PlainLine) (confirmed : �
   pub begins : words ++ others ≡ last_words confirmed now
   pub written : Appends before after (text ++ (part.text ++ words))
 
--- the same of the next of some lines
+-- the disk failed within the next of some lines
 pub record HaltsNext (limits : Limits) (r : Run) (rest : List (List ℕ)) (confirmed : ℕ) (text : List ℕ)
     (before after : Option (List ℕ)) : Type 0 where
   pub line : List ℕ
-  pub behind : List (List ℕ)
-  pub next : rest ≡ line ∷ behind
+  pub beyond : List (List ℕ)
+  pub next : rest ≡ line ∷ beyond
   pub form : PlainLine
   pub is : line_of line ≡ Some form
   pub halts : HaltsIn limits r form confirmed text before after

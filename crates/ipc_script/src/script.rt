@@ -96,7 +96,7 @@ fn run_lines<D: SectorDisk, W: Write>(
     let mut rest = script;
     let mut number: u64 = 0;
     'lines: while !rest.is_empty() {
-        let (text, behind) = first_line(rest);
+        let (text, beyond) = first_line(rest);
         number += 1;
         let Some(line) = line_of(text) else {
             return (Err(ScriptFault::BadLine(number)), hub.close().close());
@@ -110,7 +110,7 @@ fn run_lines<D: SectorDisk, W: Write>(
         } else if let Err(fault) = run_line(alloc, &mut hub, &mut opened, line, number, writer) {
             return (Err(fault), hub.close().close());
         }
-        rest = behind;
+        rest = beyond;
     }
     (Ok(()), hub.close().close())
 }

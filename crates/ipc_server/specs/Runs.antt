@@ -42,7 +42,7 @@ RunsCalls medium moment old new =
     (limits : Limits) (h : Clients) → StoredMatches limits old h
     → (acts : List Act) × CallsMade medium moment limits old new h acts
 
--- The same, and this holds of them.
+-- Some calls were made at one moment, and this holds of them.
 abbrev pub RunsSuch : {D : Type 0} → (D → Medium) → ℕ → StoredHub D → StoredHub D → (List Act → Type 0) → Type 0
 RunsSuch medium moment old new Such =
     (limits : Limits) (h : Clients) → StoredMatches limits old h

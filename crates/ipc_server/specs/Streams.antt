@@ -33,7 +33,7 @@ HasMoved Moves None (Some now) bytes = ⊥
 HasMoved {C} Moves (Some was) None bytes = (last : C) × Moves was last bytes
 HasMoved Moves (Some was) (Some now) bytes = Moves was now bytes
 
--- so it is of each number
+-- the client of each number moved its bytes
 abbrev pub HaveMoved : {C : Type 0} → (C → C → List ℕ → Type 0) → (ℕ → List ℕ) → Slab C → Slab C → Type 0
 HaveMoved Moves bytes old new = (number : ℕ) → HasMoved Moves (get old number) (get new number) (bytes number)
 
@@ -83,7 +83,7 @@ pub record SendsEach {D S : Type 0} (contents : S → Option (List ℕ)) (old ne
   pub sends : Sends old new told
   pub sent : HaveOwnNumbers (clients_of clients) → AreSent contents clients next told
 
--- the same, once all that was accepted was made to last
+-- All that was accepted was made durable, and then clients were sent what they may see, each by its own socket.
 pub record AnswersEach {D S : Type 0} (medium : D → Medium) (contents : S → Option (List ℕ)) (old new : StoredHub D)
     (clients next : Slab (Client S)) : Type 0 where
   pub told : List Act

@@ -52,7 +52,7 @@
 //! - **As many turns as a server is asked for** (`Server::serve`, `specs/Served.antt`): if it is Ok, so many turns went
 //!   on, one after another, each as its clause says, at moments that do not fall, also if the clock does; after each of
 //!   them no event waits (`ok`). If not, fewer went on, and the fault has broken off the next one (`err`).
-//! - **The same of turns on demand** (`Server::serve_on_demand`): its clauses are those of `serve`. How long a wait
+//! - **Turns on demand** (`Server::serve_on_demand`): its clauses are those of `serve`. How long a wait
 //!   before a turn may be is exactly the definition's (`Server::longest_wait`, `specs/Rest.antt`): none if and only if
 //!   there is work already (`IsBusy`: a turn has left connections that may wait, or has something to do with a client,
 //!   as to feed a piece of it; or the server goes on no more), and else until the earliest deadline of the calls that

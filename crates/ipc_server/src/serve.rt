@@ -38,8 +38,8 @@ impl<D: SectorDisk> Server<D> {
         Ok(())
     }
 
-    /// The same, on demand: before each turn it waits until there is something to do, for a minute at
-    /// most, and only then takes the turn's moment. The observer also sees the server while it waits, as
+    /// Serves for so many turns, on demand: before each turn it waits until there is something to do, for a
+    /// minute at most, and only then takes the turn's moment. The observer also sees the server while it waits, as
     /// often as it asks for.
     pub fn serve_on_demand<O: Observer<D>>(
         &mut self,

@@ -85,7 +85,7 @@ impl<D: SectorDisk> Model for Server<D> {
 #[derive(Drop)]
 pub struct Unserved<D: SectorDisk> {
     // First, as the largest: clang takes many minutes over a value of this size that may stand at
-    // one offset or, in another variant of a result, some bytes behind it.
+    // one offset or, in another variant of a result, some bytes after it.
     pub hub: Hub<D>,
     pub error: ServerError,
     pub listener: UnixListener,
@@ -115,7 +115,7 @@ fn watch<R: Net + AllocGlobal>(
 
 // Notes what the system has told: that a read of a client may give something, or that connections may
 // wait.
-fn hear<S>(events: &Events, clients: &mut Slab<Client<S>>, may_accept: &mut bool)
+fn note_events<S>(events: &Events, clients: &mut Slab<Client<S>>, may_accept: &mut bool)
     ensures { KeepsClients clients.old clients.new }
 {
     for event in events {
@@ -188,7 +188,7 @@ impl<D: SectorDisk> Server<D> {
         // Each client was sent what it may see, or its socket is full or has failed, or its writes
         // are used.
         ensures written { OnOk result (EachClient (WasWritten self.new.hub.hub) self.new.clients) }
-        // The same if the disk has failed, which each client is told.
+        // If the disk has failed, each client was sent what tells of it, or its socket is full or has failed.
         ensures told { IfErr result (λ fault. fault ≡ ServeFault.Device
             → EachClient (WasWritten self.new.hub.hub) self.new.clients) }
         // A client whose socket has failed before is let go.
@@ -308,7 +308,7 @@ impl<D: SectorDisk> Server<D> {
         if self.poll.poll(&mut self.events, Some(longest)).is_err() {
             return Err(ServeFault::Socket);
         }
-        hear(&self.events, &mut self.clients, &mut self.may_accept);
+        note_events(&self.events, &mut self.clients, &mut self.may_accept);
         Ok(())
     }
 

@@ -2,7 +2,7 @@
 use Rattle.std.proofs.Common.{◌≡◌, ◌∙◌, ℕ, ◌+◌, Bool, true, false, not, ◌&&◌, ◌||◌, List, [], ◌∷◌, nat_lt, refl, ap, arith}
 use Rattle.std.specs.Prelude.{max, nat_le}
 use Rattle.std.specs.List.{fold, list_all, list_any}
-use Rattle.ipc_wire.specs.declared.sixes.SemBuf.{SemBuf}
+use Rattle.ipc_wire.specs.declared.sem_bufs.SemBuf.{SemBuf}
 use Rattle.sysv_sem.specs.Operation.{is_patient}
 use Rattle.ipc_state.specs.declared.operations.Demands.{Demands}
 use Rattle.ipc_state.specs.Demands.{demanding, demands_of, is_read, no_demands, operation_of}

@@ -62,8 +62,8 @@ put-in low (r ∷ rs) high place new rising is fd =
         → table_of (insert (r ∷ rs) place new) ≡ with_entry (table_of (r ∷ rs)) new.fd new.descriptor
     by_test true t zero is fd rest = absurd (omega (arith, least (low + 1) (table_of rs), is))
     by_test true t (suc p) is fd rest =
-        let behind : nat_lt new.fd r.fd ≡ false = grind (arith, nat_tests) in
-        rw behind (ap (λ (es : Table). descriptor_row r ∷ es) (rest p (omega (arith, is)) (omega (arith, fd))))
+        let beyond : nat_lt new.fd r.fd ≡ false = grind (arith, nat_tests) in
+        rw beyond (ap (λ (es : Table). descriptor_row r ∷ es) (rest p (omega (arith, is)) (omega (arith, fd))))
     by_test false t zero is fd rest = let before : nat_lt new.fd r.fd ≡ true = grind (arith, nat_tests, rising.0) in rw before refl
     by_test false t (suc p) is fd rest = absurd (omega (arith, is))
 

@@ -1,7 +1,7 @@
 -- The semaphores that a list of operations names, as bits of a word. Two semaphores of a set of at most 64 share none.
 use Rattle.std.specs.Prelude.{ℕ, List, bit_or}
 use Rattle.std.specs.List.{fold}
-use Rattle.ipc_wire.specs.declared.sixes.SemBuf.{SemBuf}
+use Rattle.ipc_wire.specs.declared.sem_bufs.SemBuf.{SemBuf}
 pub use Rattle.sysv_sem.specs.Bits.{bit_of}
 
 -- a word with the semaphore of an operation

@@ -3,7 +3,7 @@
 use Rattle.std.specs.Prelude.{◌+◌, max, Bool, true, false, not, ◌&&◌, ◌||◌, pos, List}
 use Rattle.std.specs.List.{fold}
 use Rattle.std.specs.Ordering.{int_eq}
-use Rattle.ipc_wire.specs.declared.sixes.SemBuf.{SemBuf}
+use Rattle.ipc_wire.specs.declared.sem_bufs.SemBuf.{SemBuf}
 use Rattle.sysv_sem.specs.declared.operation.Operation.{Operation}
 use Rattle.sysv_sem.specs.Operation.{is_patient}
 use Rattle.ipc_state.specs.declared.operations.Demands.{Demands}

@@ -105,7 +105,7 @@ ended s (Ok d) = Finishes (done_firing d.state d.body d.fired)
 ended s (Err (Fails e)) = Finishes (refused s e)
 ended s (Err Blocks) = Waits
 
--- the same of the answer of a program's call, which left this state and fired this registration, if one
+-- what comes of the answer of a call of the code, which left this state and fired this registration, if one
 abbrev pub finish_firing : State → Result (Body (Vec ℕ)) Errno → Option Registration → Finish
 finish_firing s (Ok body) fired = done_firing s (body_of (λ text. text.items) body) fired
 finish_firing s (Err e) fired = refused s e

@@ -91,7 +91,7 @@ without_registrations goes o = record { next = o.next; entries = seen_as (deregi
 
 -- ---- descriptors
 
--- those of a process, none where no process has the number
+-- the descriptors of a process: none if no process has the number
 abbrev pub descriptors_of : List (ℕ × Process) → ℕ → Table
 descriptors_of processes pid = unwrap_or (option_map (λ p. p.descriptors) (value_at nat_eq processes pid)) []
 

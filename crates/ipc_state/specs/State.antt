@@ -102,7 +102,7 @@ without_due s = record s { wait = calls_left (record { 0 = s.clock }) s.wait }
 
 -- ---- adjustments
 
--- those of a process, none where no process has the number
+-- the adjustments of a process: none if no process has the number
 abbrev pub undo_of : State → ℕ → Undo
 undo_of s pid = unwrap_or (value_at nat_eq s.undo pid) fin.empty
 

@@ -45,7 +45,7 @@ pub struct Descriptors {
     /// Not set unless the numbers rise: those that were read may stand in any order until they are tested.
     rise: bool,
     /// Where one was found last. There one is looked for first, so that a call finds its descriptor once.
-    recent: Cell<usize>,
+    hint: Cell<usize>,
 }
 
 impl Model for Descriptors {
@@ -69,7 +69,7 @@ impl Descriptors {
         Ok(Descriptors {
             rows: Vec::with_capacity(alloc, MOST_DESCRIPTORS)?,
             rise: true,
-            recent: Cell::new(0),
+            hint: Cell::new(0),
         })
     }
 
@@ -98,8 +98,8 @@ impl Descriptors {
     pub fn get(&self, fd: u32) -> Option<Descriptor>
         ensures { result ≡ value_at nat_eq self.now fd }
     {
-        let place = place_of(&self.rows, fd, self.rise, self.recent.get())?;
-        self.recent.set(place);
+        let place = place_of(&self.rows, fd, self.rise, self.hint.get())?;
+        self.hint.set(place);
         Some(self.rows[place].descriptor)
     }
 
@@ -123,7 +123,7 @@ impl Descriptors {
     pub fn set_flags(&mut self, fd: u32, flags: u32)
         ensures { self.new ≡ with_flags self.old fd flags }
     {
-        if let Some(place) = place_of(&self.rows, fd, self.rise, self.recent.get()) {
+        if let Some(place) = place_of(&self.rows, fd, self.rise, self.hint.get()) {
             self.rows[place].descriptor.flags = flags;
         }
     }
@@ -133,7 +133,7 @@ impl Descriptors {
         ensures descriptor { result ≡ value_at nat_eq self.old fd }
         ensures others { self.new ≡ without nat_eq self.old fd }
     {
-        let place = place_of(&self.rows, fd, self.rise, self.recent.get())?;
+        let place = place_of(&self.rows, fd, self.rise, self.hint.get())?;
         Some(self.rows.remove(place).descriptor)
     }
 
@@ -165,12 +165,12 @@ impl Descriptors {
 }
 
 /// The place of the first row that has a number. Where the numbers rise, there is no other.
-fn place_of(rows: &[DescriptorRow], fd: u32, rise: bool, recent: usize) -> Option<usize>
+fn place_of(rows: &[DescriptorRow], fd: u32, rise: bool, hint: usize) -> Option<usize>
     requires { rise ≡ true → IsRising 0 (keys_of (map descriptor_row rows.now)) (2 ^ 32) }
     ensures { result ≡ position (λ r. r.fd == fd) rows.now }
 {
-    if rise && recent < rows.len() && rows[recent].fd == fd {
-        return Some(recent);
+    if rise && hint < rows.len() && rows[hint].fd == fd {
+        return Some(hint);
     }
     rows.iter().position(|row| row.fd == fd)
 }

@@ -129,8 +129,8 @@ impl State {
 }
 
 impl<B: Bound, T: Leaves> ObjectTable<B, T> {
-    /// Those go that do not stay by themselves and on which no descriptor of these processes is open. Nothing is ready
-    /// then.
+    /// Takes the objects away that do not stay by themselves and on which no descriptor of these processes is open.
+    /// Nothing is ready then.
     pub(crate) fn sweep(&mut self, processes: &[Item<Process>], kind: ObjectKind)
         ensures { self.new
             ≡ record {
@@ -145,7 +145,7 @@ impl<B: Bound, T: Leaves> ObjectTable<B, T> {
 }
 
 impl<B: Bound, T: Leaves> Rows<Entry<B, T>> {
-    /// The same.
+    /// Takes the objects away that do not stay by themselves and on which no descriptor of these processes is open.
     fn sweep(&mut self, processes: &[Item<Process>], kind: ObjectKind)
         ensures rows { map item_row self.new.items
             ≡ filter (stays_by (λ e. keeps_by B.same B.none e.bound (T.leaves e.object)) kind

@@ -158,7 +158,7 @@ impl State {
         self.mq.restore(number, entry)
     }
 
-    /// Registrations go that this process made, or any, by this descriptor, or any. It takes no memory.
+    /// Takes the registrations away that this process made, or any, by this descriptor, or any. It takes no memory.
     pub(crate) fn deregister(&mut self, pid: Option<u32>, fd: Option<u32>)
         ensures { self.new ≡ record self.old { state = deregistered_by pid fd self.old.state } }
     {
@@ -201,7 +201,7 @@ impl State {
 }
 
 impl ObjectTable<Name, Mq> {
-    /// Registrations go that this process made, or any, by this descriptor, or any.
+    /// Takes the registrations away that this process made, or any, by this descriptor, or any.
     fn deregister(&mut self, pid: Option<u32>, fd: Option<u32>)
         ensures { self.new ≡ record self.old { objects = without_registrations (is_by pid fd) self.old.objects } }
     {
@@ -210,7 +210,7 @@ impl ObjectTable<Name, Mq> {
 }
 
 impl Rows<Entry<Name, Mq>> {
-    /// The same.
+    /// Takes the registrations away that this process made, or any, by this descriptor, or any.
     fn deregister(&mut self, pid: Option<u32>, fd: Option<u32>)
         ensures rows { map item_row self.new.items
             ≡ seen_as (deregistered (is_by pid fd)) (map item_row self.old.items) }
@@ -221,7 +221,7 @@ impl Rows<Entry<Name, Mq>> {
 }
 
 impl Renew for Mq {
-    type Asked = (u32, u32);
+    type Spec = (u32, u32);
 
     ghost MayBe = { λ asked. ⊤ };
 

@@ -134,7 +134,7 @@ impl State {
 }
 
 impl Renew for MsgQueue {
-    type Asked = (u32, Moment);
+    type Spec = (u32, Moment);
 
     ghost MayBe = { λ asked. ⊤ };
 

@@ -35,14 +35,14 @@ use std::marker::Model;
 /// An object that is made ready before it is known what is asked of it.
 pub(crate) trait Renew: Drop {
     /// What is asked.
-    type Asked;
+    type Spec;
 
-    ghost MayBe: { Self.Asked → Type 0 };
+    ghost MayBe: { Self.Spec → Type 0 };
 
-    ghost renewed: { Self → Self.Asked → Self };
+    ghost renewed: { Self → Self.Spec → Self };
 
     /// Makes it what is asked. It takes no memory.
-    fn make(&mut self, asked: Self::Asked)
+    fn make(&mut self, asked: Self::Spec)
         requires { MayBe asked }
         ensures { self.new ≡ renewed self.old asked };
 }
@@ -267,7 +267,7 @@ impl<B: Bound, T: Drop> ObjectTable<B, T> {
 
 impl<B: Bound, T: Renew> ObjectTable<B, T> {
     /// Adds the one that is ready, made what is asked, under the next number, which it gives. It takes no memory.
-    pub(crate) fn add(&mut self, perm: Perm, asked: T::Asked) -> u32
+    pub(crate) fn add(&mut self, perm: Perm, asked: T::Spec) -> u32
         requires ready { is_some self.old.ready ≡ true }
         requires unused { IfSome self.old.ready (λ r. number_of B.same B.none self.old.objects r.0 ≡ None) }
         requires positive { ArePositive self.old.objects.entries }

@@ -2,12 +2,12 @@
 //! set, and whether they are patient.
 
 ghost use Rattle.std.specs.Prelude.{◌≡◌, ◌%◌, length};
-ghost use Rattle.ipc_wire.specs.Sixes.{bytes_of, operations_in};
+ghost use Rattle.ipc_wire.specs.SemBufs.{bytes_of, operations_in};
 ghost use Rattle.ipc_state.specs.Bits as defined;
 ghost use Rattle.ipc_state.specs.Demands as demanded;
 
 use ipc_base::SemFlags;
-use ipc_wire::{SemBuf, Sixes};
+use ipc_wire::{SemBuf, SemBufs};
 use std::alloc::{AllocError, Global};
 use sysv_sem::{Operation, bit_of};
 
@@ -23,7 +23,7 @@ pub fn operation_of(operation: SemBuf) -> Operation
 }
 
 /// The semaphores that operations name, as bits of a word.
-pub fn bits_of(operations: &Sixes<'_>) -> u64
+pub fn bits_of(operations: &SemBufs<'_>) -> u64
     ensures { result ≡ defined.bits_of (operations_in (bytes_of operations.now)) }
 {
     let mut word = 0;
@@ -34,7 +34,7 @@ pub fn bits_of(operations: &Sixes<'_>) -> u64
 }
 
 /// What a list of operations demands of its set: how many semaphores, whether an operation reads its semaphore, and
-/// whether one alters it. And whether each is patient.
+/// whether one alters it; also whether each is patient.
 #[derive(Clone, Copy)]
 struct Demands {
     semaphores: u32,
@@ -44,7 +44,7 @@ struct Demands {
 }
 
 impl Demands {
-    /// The same, and what an operation more demands.
+    /// What the operations so far demand, with one operation more.
     fn with(self, operation: SemBuf) -> Demands
         ensures { result ≡ demanded.demanding self operation }
     {
@@ -59,7 +59,7 @@ impl Demands {
 }
 
 /// What operations demand of their set.
-fn demands_of(operations: &Sixes<'_>) -> Demands
+fn demands_of(operations: &SemBufs<'_>) -> Demands
     ensures { result ≡ demanded.demands_of (operations_in (bytes_of operations.now)) }
 {
     let mut demands = Demands {
@@ -90,13 +90,13 @@ impl Operations {
     ghost use Rattle.std.specs.Prelude.{IfOk, not, pos, nat_lt};
     ghost use Rattle.std.specs.List.{list_all, list_any};
     ghost use Rattle.std.specs.Ordering.{int_eq};
-    ghost use Rattle.ipc_wire.specs.Sixes.{bytes_of, operations_in};
+    ghost use Rattle.ipc_wire.specs.SemBufs.{bytes_of, operations_in};
     ghost use Rattle.ipc_state.specs.Bits as defined;
     ghost use Rattle.ipc_state.specs.Demands.{operation_of};
     ghost use Rattle.sysv_sem.specs.Operation.{is_patient};
 
-    /// The same operations as these. Refused for want of memory.
-    pub fn new(alloc: Global, operations: &Sixes<'_>) -> Result<Operations, AllocError>
+    /// A copy of these operations. Refused for want of memory.
+    pub fn new(alloc: Global, operations: &SemBufs<'_>) -> Result<Operations, AllocError>
         ensures { IfOk result (λ kept. kept.bytes.items ≡ bytes_of operations.now) }
     {
         Ok(Operations {
@@ -107,10 +107,10 @@ impl Operations {
     }
 
     /// The operations.
-    pub fn lend(&self) -> Sixes<'_>
+    pub fn lend(&self) -> SemBufs<'_>
         ensures { bytes_of result ≡ self.now.bytes.items }
     {
-        Sixes::new(&self.bytes).unwrap()
+        SemBufs::new(&self.bytes).unwrap()
     }
 
     /// The semaphores that they name, as bits of a word. This takes no longer with more operations.

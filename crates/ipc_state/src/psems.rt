@@ -106,7 +106,7 @@ impl State {
 }
 
 impl Renew for NamedSem {
-    type Asked = u32;
+    type Spec = u32;
 
     ghost MayBe = { λ value. value ≤ sem_value_max };
 

@@ -133,7 +133,7 @@ impl State {
 }
 
 impl Renew for Segment {
-    type Asked = Global;
+    type Spec = Global;
 
     ghost MayBe = { λ alloc. ⊤ };
 

@@ -25,7 +25,7 @@ pub(crate) struct Rows<T> {
     rise: bool,
     /// Where one was found last. There one is looked for first, so that a call which comes back to its object finds it
     /// at once.
-    recent: Cell<usize>,
+    hint: Cell<usize>,
 }
 
 impl<T> Model for Rows<T> {
@@ -50,7 +50,7 @@ impl<T> Rows<T> {
         Rows {
             items: Vec::new(alloc),
             rise: true,
-            recent: Cell::new(0),
+            hint: Cell::new(0),
         }
     }
 
@@ -85,9 +85,9 @@ impl<T> Rows<T> {
         if !self.rise {
             return self.items.iter().position(|item| item.number == number);
         }
-        let found = place_of(&self.items, number, self.recent.get());
+        let found = place_of(&self.items, number, self.hint.get());
         if let Some(place) = found {
-            self.recent.set(place);
+            self.hint.set(place);
         }
         found
     }
@@ -165,12 +165,12 @@ fn place_for<T>(items: &[Item<T>], number: u32) -> usize
 /// The place of the one that has a number, where the numbers rise. It is looked for first where one was found last, and
 /// then where it stands as long as none was removed: as many places from the front as its number says, and the newest
 /// last.
-fn place_of<T>(items: &[Item<T>], number: u32, recent: usize) -> Option<usize>
+fn place_of<T>(items: &[Item<T>], number: u32, hint: usize) -> Option<usize>
     requires { IsRising 0 (keys_of (map item_row items.now)) (2 ^ 32) }
     ensures { result ≡ position (λ e. e.number == number) items.now }
 {
-    if recent < items.len() && items[recent].number == number {
-        return Some(recent);
+    if hint < items.len() && items[hint].number == number {
+        return Some(hint);
     }
     let near = items.len().min(number as usize);
     if 0 < near && items[near - 1].number == number {

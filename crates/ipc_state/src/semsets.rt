@@ -135,7 +135,7 @@ impl State {
 }
 
 impl Renew for SemSet {
-    type Asked = Moment;
+    type Spec = Moment;
 
     ghost MayBe = { λ asked. ⊤ };
 

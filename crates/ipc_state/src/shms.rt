@@ -157,7 +157,7 @@ fn is_bound_so(entry: &KeyedEntry<SysSegment>) -> bool
 }
 
 impl Renew for SysSegment {
-    type Asked = (Pid, Moment);
+    type Spec = (Pid, Moment);
 
     ghost MayBe = { λ asked. ⊤ };
 

@@ -43,7 +43,7 @@ pub struct State {
     pub(crate) semset: Keyed<SemSet>,
     pub(crate) shm: Keyed<SysSegment>,
     pub(crate) mq: Named<Mq>,
-    /// The same of a POSIX queue.
+    /// A POSIX queue that was ready and was not used.
     pub(crate) spare_mq: Option<Mq>,
     pub(crate) psem: Named<NamedSem>,
     pub(crate) pshm: Named<Segment>,

@@ -29,7 +29,7 @@ filled-bytes bytes len count filled =
 pub lent : (n : ℕ) (new old : List ℕ) → length new ≡ n → take n (new ++ drop (length new) old) ≡ new
 lent n new old is = take_at new (drop (length new) old) n is
 
--- a record put behind a batch, and the new length before it
+-- a record put after a batch, and the new length before it
 pub put_behind : (old front new rec rest : List ℕ) (len : ℕ) → 4 ≤ len → len ≤ length old → length front ≡ 4
     → new ≡ front ++ drop 4 (take len old ++ (rec ++ rest))
     → new ≡ (front ++ (drop 4 (take len old) ++ rec)) ++ rest

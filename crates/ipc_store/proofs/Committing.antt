@@ -22,7 +22,8 @@ use Rattle.ipc_journal.specs.declared.journal.Journal.{Journal}
 use Rattle.ipc_journal.specs.Journal.{length_in, IsBatch, Holds}
 use Rattle.ipc_journal.specs.View.{range_of, epoch_of, used_of}
 use Rattle.ipc_journal.specs.Matches.{JournalMatches, HoldsOneMoreOrNot}
-use Rattle.ipc_journal.proofs.CallerLemmas.{Holds-turned, EachImageSince-alone, JournalMatches-alone, JournalMatches-turned}
+use Rattle.ipc_journal.specs.Meanwhile.{ComesInOrder}
+use Rattle.ipc_journal.proofs.CallerLemmas.{ComesInOrder-moment, Holds-turned, EachImageSince-alone, JournalMatches-alone, JournalMatches-turned}
 use Rattle.ipc_state.specs.State.{State}
 use Rattle.ipc_engine.specs.Engine.{Machine}
 use Rattle.ipc_engine.specs.Event.{PlainEvent}
@@ -166,10 +167,10 @@ module _ {D : Type 0} (old new : Medium) (store : StoreView D) (base : State) (p
         (run store.machine.limits base pending).state (leads-more old store base pending at size))
 
     -- at any moment
-    pub any_moment-append : ((batches : List (List ℕ)) → JournalMatches store.journal batches old
+    either-append : ((batches : List (List ℕ)) → JournalMatches store.journal batches old
         → EachImageSince old new (HoldsOneMoreOrNot store.journal batches batch))
         → EachImageSince old new (Either store base pending)
-    any_moment-append moments =
+    either-append moments =
         let one_more : Image → Type 0 = HoldsOneMoreOrNot store.journal (map batch_bytes at.device.batches) batch in
         let both = EachImageSince-both old new (IsPlace store.machine.limits store.checkpoint) HasObjectsThere places objects in
         EachImageSince-weaken old new (λ image. (IsPlace store.machine.limits store.checkpoint image × HasObjectsThere image) × one_more image)
@@ -301,3 +302,15 @@ module _ {D : Type 0} (old new : Medium) (store : StoreView D) (base : State) (p
       waits = record { records = refl; count = refl; each = All-nil HasRecord; named = tt; state = at.waits.state };
       tracked = λ o off e is. is;
     }
+
+-- a batch is appended: at any moment
+pub any_moment-append : {D : Type 0} (medium : D → Medium) (store : StoreView D) (new : D) (base : State) (pending : List PlainEvent)
+    → StoreMatches (medium store.disk) store base pending → 4 + length store.records ≤ most_bytes
+    → (batch : List ℕ) → batch ≡ big_bytes 4 (length store.records) ++ store.records
+    → LeavesAlone (IsOutside (range_of store.journal)) (medium store.disk) (medium new)
+    → ((batches : List (List ℕ)) → JournalMatches store.journal batches (medium store.disk)
+    → ComesInOrder medium store.journal batches batch store.disk new)
+    → EachImageSince (medium store.disk) (medium new) (Either store base pending)
+any_moment-append medium store new base pending at size batch is alone comes =
+    either-append (medium store.disk) (medium new) store base pending at size batch is alone
+    (λ batches was. ComesInOrder-moment medium store.journal batches batch store.disk new (comes batches was))

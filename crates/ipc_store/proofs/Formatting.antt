@@ -101,7 +101,7 @@ is-prepared limits s objects old mid new has header same there stand =
           ∙ at);
     }
 
--- a sector behind the first
+-- a sector after the first
 abbrev IsPast : ℕ → ℕ → Type 0
 IsPast first i = first < i
 

@@ -79,4 +79,8 @@ told-refusals (Err errors.NoMemory) image tells = λ limits s honest stands. inr
 pub told-refused : {H : Type 0} (r : Result Machine OpenError) (image : Image) → (H → Tells r image)
     → IfErr r (λ error. H → IsRefusal format image error)
 told-refused (Ok machine) image tells = tt
-told-refused (Err error) image tells = tells
+told-refused (Err errors.Device) image tells = λ honest. tt
+told-refused (Err errors.NotFormatted) image tells = tells
+told-refused (Err (errors.Version found)) image tells = tells
+told-refused (Err (errors.Damaged sector)) image tells = tells
+told-refused (Err errors.NoMemory) image tells = tells

@@ -24,7 +24,7 @@ use Rattle.ipc_journal.specs.Journal.{Holds}
 use Rattle.ipc_journal.specs.Matches.{HoldsOneMoreOrNot, JournalMatches}
 use Rattle.ipc_journal.specs.Meanwhile.{ComesInOrder, IsReadFrom, KeepsBatches}
 use Rattle.ipc_journal.specs.View.{epoch_of, range_of}
-use Rattle.ipc_journal.proofs.CallerLemmas.{EachImageSince-alone, Holds-fill, Holds-read}
+use Rattle.ipc_journal.proofs.CallerLemmas.{ComesInOrder-moment, EachImageSince-alone, Holds-fill, Holds-read}
 use Rattle.ipc_journal.proofs.CallerLemmas.{KeepsBatches-append, KeepsBatches-refl, KeepsBatches-same, KeepsBatches-then}
 use Rattle.ipc_state.specs.State.{State}
 use Rattle.ipc_engine.specs.Event.{PlainEvent}
@@ -262,16 +262,15 @@ module _ {D : Type 0} (medium : D → Medium) (store : StoreView D) where
   pub readable-append : (new : D) (batch : List ℕ) → batch ≡ big_bytes 4 (length store.records) ++ store.records
       → (IsHonest (medium store.disk) → LeavesAlone (IsOutside (range_of store.journal)) (medium store.disk) (medium new))
       → ((batches : List (List ℕ)) → JournalMatches store.journal batches (medium store.disk)
-      → EachImageSince (medium store.disk) (medium new) (HoldsOneMoreOrNot store.journal batches batch))
-      → ((batches : List (List ℕ)) → JournalMatches store.journal batches (medium store.disk)
       → ComesInOrder medium store.journal batches batch store.disk new) → StaysReadable medium store new
-  readable-append new batch is alone moments orders = record {
+  readable-append new batch is alone comes = record {
     goes_on = λ base pending at.
         goes-on-append (medium store.disk) (medium new) store base pending at batch (alone at.device.honest)
-        (moments (map batch_bytes at.device.batches) at.device.appended);
+        (ComesInOrder-moment medium store.journal (map batch_bytes at.device.batches) batch store.disk new
+        (comes (map batch_bytes at.device.batches) at.device.appended));
     stands_first = λ base pending at.
         subst (λ (b : List ℕ). ComesInOrder medium store.journal (map batch_bytes at.device.batches) b store.disk new)
-        (is ∙ bytes-are (medium store.disk) store base pending at) (orders (map batch_bytes at.device.batches) at.device.appended);
+        (is ∙ bytes-are (medium store.disk) store base pending at) (comes (map batch_bytes at.device.batches) at.device.appended);
   }
 
   pub readable-save : (new : D) → (IsHonest (medium store.disk)

@@ -168,7 +168,7 @@ field_below size at batch image shaped long stands i =
 number_is : (bytes : List ℕ) → big_number 4 bytes ≡ from_be_bytes w32 (take 4 bytes)
 number_is bytes = sym (big_from-take 0 4 4 bytes (omega arith)) ∙ omega arith
 
--- bytes that are as long as they say, behind whose length the records of events stand, are their batch
+-- bytes that are as long as they say, after whose length the records of events stand, are their batch
 batch_is : (batch : List ℕ) (events : List PlainEvent) → IsBatch batch → ((i : ℕ) → slice_index (take 4 batch) i < 256)
     → drop 4 batch ≡ records_of events → batch ≡ batch_bytes events
 unfolding batch_bytes length_in

@@ -26,7 +26,7 @@ use Rattle.ipc_store.specs.Batch.{batch_bytes, AreBatchOf, most_bytes}
 abbrev pub journal_range : Range
 journal_range = record { first = journal_first; count = journal_count }
 
--- the object area of a device of so many sectors, behind the journal to the end
+-- the object area of a device of so many sectors, after the journal to the end
 abbrev pub objects_range : ℕ → Range
 objects_range sectors = record { first = objects_first; count = sectors - objects_first }
 
@@ -175,7 +175,7 @@ HasNoBatchOfAt most limits s range place used image =
     → used < place + sectors_for (length (batch_bytes events))
 
 -- Where a damage is first seen: in sector 0, which is no superblock of this device; in the root or the sectors of the
--- objects, which are none; in the root, whose objects stand for no state; in the header of the journal; or behind
+-- objects, which are none; in the root, whose objects stand for no state; in the header of the journal; or after
 -- good batches, where more is used but no batch of events that can come there stands within it.
 pub data IsFirstFaultIn (form : Format) (image : Image) : ℕ → Type 0 where
   Superblock : ((limits : Limits) → ¬ IsDeviceIn form limits image) → IsFirstFaultIn form image 0

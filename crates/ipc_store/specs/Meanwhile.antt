@@ -41,7 +41,7 @@ pub record StaysReadable {D : Type 0} (medium : D → Medium) (store : StoreView
       (at : StoreMatches (medium store.disk) store base pending)
       → ComesInOrder medium store.journal (map batch_bytes at.device.batches) (batch_bytes pending) store.disk new
 
--- it goes on, and the root is the same
+-- the later image goes on from the earlier one, and has its root
 abbrev pub HasOneRoot : Image → Image → Type 0
 HasOneRoot earlier later = GoesOn earlier later × (sector_at earlier format.root ≡ sector_at later format.root)
 

@@ -60,6 +60,7 @@ pub(crate) fn load_superblock<D: SectorDisk>(
     // Refusals.
     ensures refused { IfErr result (λ error. IsHonest (D.medium disk.old)
         → IsSuperblockRefusal form (D.medium disk.old).contents error) }
+    ensures faults { IsErrOf result OpenError.NoMemory → ⊥ }
     // It only reads.
     ensures reads { OnlyReads D.size D.medium D.counts (IsErrOf result OpenError.Device) disk.old disk.new }
 {
@@ -102,8 +103,8 @@ pub(crate) fn load_objects<D: SectorDisk>(
         × (IsHonest (D.medium disk.old)
         → HoldsObjects layout (saved_epoch found.0) objects (D.medium disk.old).contents)) }
     // Refusals: there are none, or they stand for no state.
-    ensures refused { IfErr result (λ error. IsHonest (D.medium disk.old)
-        → IsDamage (IsObjectDamage form limits layout (D.medium disk.old).contents) error) }
+    ensures refused { IfErr result (IsDamage (λ sector. IsHonest (D.medium disk.old)
+        → IsObjectDamage form limits layout (D.medium disk.old).contents sector)) }
     // It only reads.
     ensures reads { OnlyReads D.size D.medium D.counts (IsErrOf result OpenError.Device) disk.old disk.new }
 {
@@ -140,10 +141,10 @@ pub(crate) fn load_base<D: SectorDisk>(
         → superblock.sectors ≡ named_sectors (D.medium disk.old).contents
         → HasBaseIn form superblock.limits (saved_epoch found.0) found.1.state (D.medium disk.old).contents) }
     // Refusals.
-    ensures refused { IfErr result (λ error. IsHonest (D.medium disk.old)
+    ensures refused { IfErr result (IsDamage (λ sector. IsHonest (D.medium disk.old)
         → IsDeviceIn form superblock.limits (D.medium disk.old).contents
         → superblock.sectors ≡ named_sectors (D.medium disk.old).contents
-        → IsDamage (HasNoBase form superblock.limits (D.medium disk.old).contents) error) }
+        → HasNoBase form superblock.limits (D.medium disk.old).contents sector)) }
     // It only reads.
     ensures reads { OnlyReads D.size D.medium D.counts (IsErrOf result OpenError.Device) disk.old disk.new }
 {
@@ -178,10 +179,10 @@ pub(crate) fn load_journal<D: SectorDisk>(
         → header_epoch journal_range (D.medium disk.old).contents ≡ epoch_of journal) }
     ensures room { length room.new ≡ length room.old }
     // Refusals.
-    ensures refused { IfErr result (λ error. (form : AnyForm) → IsFormat form → form.batch ≡ length room.old
-        → IsHonest (D.medium disk.old)
+    ensures refused { IfErr result (IsDamage (λ sector. (form : AnyForm) → IsFormat form
+        → form.batch ≡ length room.old → IsHonest (D.medium disk.old)
         → HasBaseIn form engine.old.limits (saved_epoch checkpoint.now) engine.old.state (D.medium disk.old).contents
-        → IsDamage (IsFoundDamaged form (D.medium disk.old).contents) error) }
+        → IsFoundDamaged form (D.medium disk.old).contents sector)) }
     // It only reads.
     ensures reads { OnlyReads D.size D.medium D.counts (IsErrOf result OpenError.Device) disk.old disk.new }
 {

@@ -21,13 +21,13 @@ use ipc_engine::Engine;
 use ipc_image::{FORMAT, SUPERBLOCK};
 use std::alloc::{AllocError, Global};
 
-/// How often it is looked at a device that is written meanwhile.
+/// How often a device is read that is written meanwhile.
 const MOST_LOOKS: u32 = 100;
 
 /// The machine that a device stands for as it is now, without a restart. Nothing but reads reaches the disk, so another
 /// may have the device, and may write it meanwhile. What is read counts if the superblock and the root are the same
-/// before and after: objects are saved where none are, and then a new root tells of them. Otherwise it is looked anew,
-/// a hundred times at most, and so if a read fails. `Device` if none of them counts.
+/// before and after: a save writes objects into free sectors, and then a new root tells of them. Otherwise, or if a
+/// read fails, the device is read again, a hundred times at most. `Device` if none of the reads counts.
 pub fn look<D: SectorDisk>(alloc: Global, disk: &mut D) -> Result<Engine, OpenError>
     // The state for which the disk stands, if nobody writes it meanwhile.
     ensures ok { IfOk result (λ engine. IsHonest (D.medium disk.old)

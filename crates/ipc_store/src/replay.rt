@@ -38,9 +38,9 @@ pub(crate) fn replay<D: SectorDisk>(
         × Replays (length room.old) engine.old.limits engine.old.state journal.now (D.medium disk.old).contents
         batches engine.new.state) }
     // Some bytes are no such batches; the fault is in the first batch that goes wrong.
-    ensures refused { IfErr result (λ error. IsHonest (D.medium disk.old)
-        → IsDamage (IsBadAt (length room.old) engine.old.limits engine.old.state journal.now
-        (D.medium disk.old).contents) error) }
+    ensures refused { IfErr result (IsDamage (λ sector. IsHonest (D.medium disk.old)
+        → IsBadAt (length room.old) engine.old.limits engine.old.state journal.now
+        (D.medium disk.old).contents sector)) }
     // It only reads.
     ensures reads { OnlyReads D.size D.medium D.counts (IsErrOf result OpenError.Device) disk.old disk.new }
     ensures room { length room.new ≡ length room.old }

@@ -30,7 +30,7 @@ ghost use Rattle.ipc_store.specs.Image.{NamesAll, StandsFor, StandsForIn};
 ghost use Rattle.ipc_store.specs.Relations.Format.{EachNow};
 ghost use Rattle.ipc_store.specs.Relations.Loading.{IsDamage, OnlySyncs};
 ghost use Rattle.ipc_store.specs.Results.{upgraded_disk};
-ghost use Rattle.ipc_store.specs.Relations.Upgrade.{wide_layout, HasOld, IsNamed, IsReadOld, IsRoomRefusal};
+ghost use Rattle.ipc_store.specs.Relations.Upgrade.{whole_layout, HasOld, IsNamed, IsReadOld, IsRoomRefusal};
 ghost use Rattle.ipc_store.specs.Upgrade.{HasNoNextEpoch, IsUpgraded, UpgradesTo};
 ghost use Rattle.ipc_store.specs.declared.fault.UpgradeError.TheVariants as errors;
 
@@ -118,7 +118,7 @@ fn read_old<D: SectorDisk>(
     // The objects lie where the new ones will, with room for these beside them.
     ensures passed { IfOk result (λ found. ArePassed limits.now) }
     ensures room { IfOk result (λ found. need_of limits.now ≤ D.size disk.old) }
-    ensures layout { IfOk result (λ found. saved_layout found.0 ≡ wide_layout limits.now (D.size disk.old)) }
+    ensures layout { IfOk result (λ found. saved_layout found.0 ≡ whole_layout limits.now (D.size disk.old)) }
     ensures root { IfOk result (λ found. saved_root found.0 ≡ format_one.root) }
     ensures spare { IfOk result (λ found. HasSpare found.0) }
     ensures later { IfOk result (λ found. epoch_of found.0 < last_epoch) }
@@ -182,7 +182,7 @@ fn read_state<D: SectorDisk>(
     requires there { superblock.sectors ≤ D.size disk.old }
     requires greater { AreAtLeast limits.now superblock.limits }
     requires room { need_of limits.now ≤ D.size disk.old }
-    ensures layout { IfOk result (λ found. saved_layout found.0 ≡ wide_layout limits.now (D.size disk.old)) }
+    ensures layout { IfOk result (λ found. saved_layout found.0 ≡ whole_layout limits.now (D.size disk.old)) }
     ensures root { IfOk result (λ found. saved_root found.0 ≡ format_one.root) }
     ensures spare { IfOk result (λ found. HasSpare found.0) }
     ensures later { IfOk result (λ found. epoch_of found.0 < last_epoch) }
@@ -191,14 +191,14 @@ fn read_state<D: SectorDisk>(
     ensures read { IfOk result (λ found. IsHonest (D.medium disk.old) → IsDurable (D.medium disk.old)
         → IsNamed superblock (D.medium disk.old).contents → IsReadOld (D.medium disk.new) found.0 found.1) }
     // Refusals.
-    ensures refused { IfErr result (λ error. IsHonest (D.medium disk.old) → IsDurable (D.medium disk.old)
-        → IsNamed superblock (D.medium disk.old).contents
-        → IsDamage (IsOldDamage (D.medium disk.old).contents) error) }
+    ensures refused { IfErr result (IsDamage (λ sector. IsHonest (D.medium disk.old)
+        → IsDurable (D.medium disk.old) → IsNamed superblock (D.medium disk.old).contents
+        → IsOldDamage (D.medium disk.old).contents sector)) }
     // It only reads.
     ensures reads { OnlyReads D.size D.medium D.counts (IsErrOf result OpenError.Device) disk.old disk.new }
 {
     load_base(alloc, disk, FORMAT_ONE, superblock)?;
-    let (checkpoint, mut engine) = load_wide(alloc, disk, limits, superblock.limits)?;
+    let (checkpoint, mut engine) = load_whole(alloc, disk, limits, superblock.limits)?;
     go_through_journal(alloc, disk, &checkpoint, &mut engine)?;
     Ok((checkpoint, engine))
 }
@@ -220,7 +220,7 @@ fn test_room(limits: &Limits, own: &Limits, sectors: u32) -> Result<(), UpgradeE
 }
 
 // The old objects, as they lie on the whole disk, on which there is room for those of the new limits beside them.
-fn load_wide<D: SectorDisk>(
+fn load_whole<D: SectorDisk>(
     alloc: Global,
     disk: &mut D,
     limits: &Limits,
@@ -229,7 +229,7 @@ fn load_wide<D: SectorDisk>(
     requires passed { ArePassed limits.now }
     requires own { ArePassed own }
     requires room { need_of limits.now ≤ D.size disk.old }
-    ensures layout { IfOk result (λ found. saved_layout found.0 ≡ wide_layout limits.now (D.size disk.old)) }
+    ensures layout { IfOk result (λ found. saved_layout found.0 ≡ whole_layout limits.now (D.size disk.old)) }
     ensures root { IfOk result (λ found. saved_root found.0 ≡ format_one.root) }
     ensures limits { IfOk result (λ found. found.1.limits ≡ own) }
     ensures changed { IfOk result (λ found. found.1.changed ≡ []) }
@@ -238,10 +238,10 @@ fn load_wide<D: SectorDisk>(
         × (free_of found.0 + sectors_of objects ≡ (saved_layout found.0).range.count)
         × (IsHonest (D.medium disk.old) → IsDurable (D.medium disk.old)
         → CheckpointMatches found.0 objects (D.medium disk.new))) }
-    ensures refused { IfErr result (λ error. IsHonest (D.medium disk.old)
+    ensures refused { IfErr result (IsDamage (λ sector. IsHonest (D.medium disk.old)
         → (epoch : ℕ) (objects : PlainObjects) (s : State)
-        → HoldsObjects (wide_layout limits.now (D.size disk.old)) epoch objects (D.medium disk.old).contents
-        → StandForStateIn format_one own s objects → IsDamage (λ sector. ⊥) error) }
+        → HoldsObjects (whole_layout limits.now (D.size disk.old)) epoch objects (D.medium disk.old).contents
+        → StandForStateIn format_one own s objects → ⊥)) }
     ensures reads { OnlyReads D.size D.medium D.counts (IsErrOf result OpenError.Device) disk.old disk.new }
 {
     let layout = Layout {
@@ -268,9 +268,10 @@ fn go_through_journal<D: SectorDisk>(
         × (IsHonest (D.medium disk.old) → IsDurable (D.medium disk.old) → (batches : List (List PlainEvent))
         × HasBatches (epoch_of checkpoint.now) batches (D.medium disk.old).contents
         × LeadToBy format_one.batch engine.old.limits engine.old.state batches s)) }
-    ensures refused { IfErr result (λ error. IsHonest (D.medium disk.old) → IsDurable (D.medium disk.old)
+    ensures refused { IfErr result (IsDamage (λ sector. IsHonest (D.medium disk.old)
+        → IsDurable (D.medium disk.old)
         → HasBaseIn format_one engine.old.limits (epoch_of checkpoint.now) engine.old.state (D.medium disk.old).contents
-        → IsDamage (IsOldDamage (D.medium disk.old).contents) error) }
+        → IsOldDamage (D.medium disk.old).contents sector)) }
     ensures reads { OnlyReads D.size D.medium D.counts (IsErrOf result OpenError.Device) disk.old disk.new }
 {
     let mut room = room_for(alloc, FORMAT_ONE.batch as usize)?;
@@ -294,7 +295,7 @@ fn write_new<D: SectorDisk>(
 ) -> Result<(), DiskFault>
     requires passed { ArePassed limits.now }
     requires room { need_of limits.now ≤ D.size disk.old }
-    requires layout { saved_layout checkpoint ≡ wide_layout limits.now (D.size disk.old) }
+    requires layout { saved_layout checkpoint ≡ whole_layout limits.now (D.size disk.old) }
     requires root { saved_root checkpoint ≡ format_one.root }
     requires spare { HasSpare checkpoint }
     requires later { epoch_of checkpoint < last_epoch }
@@ -339,7 +340,7 @@ fn save_beside<D: SectorDisk>(
     ensures counts { CountsFault D.counts result disk.old disk.new }
 {
     let mut checkpoint = checkpoint;
-    checkpoint.aim(FORMAT.root);
+    checkpoint.set_next_root(FORMAT.root);
     let epoch = checkpoint.epoch() + 1;
     checkpoint.save(disk, &objects_of(engine), epoch)?;
     Ok(())

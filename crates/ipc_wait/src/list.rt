@@ -7,7 +7,7 @@ ghost use Rattle.ipc_wait.specs.Waits.{HaveDistinctPids, is_of, waiting_call_of,
 ghost use Rattle.ipc_wait.specs.Waits.{calls_due, calls_left, has_come, earlier, next_deadline};
 
 use crate::of::Of;
-use crate::pids::{index_of, place_in, put_in};
+use crate::pids::{place_in, put_in, sorted_pids};
 use ipc_base::{Moment, Pid};
 use std::alloc::{AllocError, Global};
 use std::marker::Model;
@@ -78,7 +78,7 @@ impl<O: Copy + Eq, C: Drop> WaitList<O, C> {
         ensures some { IfOk result (λ r. IfSome r (λ list. list.calls ≡ calls.items)) }
         ensures none { IfOk result (λ r. IfNone r (¬ HaveDistinctPids calls.items)) }
     {
-        let Some(pids) = index_of(alloc, &calls)? else {
+        let Some(pids) = sorted_pids(alloc, &calls)? else {
             return Ok(None);
         };
         let earliest = earliest_of(&calls);

@@ -2,7 +2,7 @@
 use Rattle.std.proofs.Common.{◌≡◌, ℕ, refl, ◌+◌, ◌/◌, ◌≤◌, ◌<◌, List, [], ◌++◌, length, take, drop, Some, sym, ap, subst, ◌∙◌, arith}
 use Rattle.std.proofs.lemmas.List.{append-nil, length-take-le}
 use Rattle.ipc_base.proofs.CallerLemmas.{AreBytes}
-use Rattle.ipc_wire.specs.Pairs.{numbers_in}
+use Rattle.ipc_wire.specs.Values.{numbers_in}
 use Rattle.ipc_wire.specs.Reply.{PlainReply, body_bytes, reply_bytes}
 use Rattle.ipc_wire.specs.Sizes.{greatest_frame}
 use Rattle.ipc_wire.specs.Request.{PlainRequest}
@@ -23,7 +23,7 @@ first_short = frames.first_short
 pub missing_some : (bytes : List ℕ) → first bytes ≡ More → (0 < missing bytes) × (length bytes + missing bytes ≤ greatest_frame)
 missing_some = frames.missing_some
 
--- no byte stands behind a frame that became whole with bytes of which no more came than were missing
+-- no byte stands after a frame that became whole with bytes of which no more came than were missing
 pub whole_last : (bytes more : List ℕ) (used : ℕ) (request : PlainRequest) → first bytes ≡ More → length more ≤ missing bytes
     → first (bytes ++ more) ≡ Whole used request → used ≡ length (bytes ++ more)
 whole_last = frames.whole_last
@@ -43,7 +43,7 @@ whole_alone bytes used request fits e =
 pub first_takes : (bytes : List ℕ) → TakesBytes (first bytes) (length bytes)
 first_takes = frames.first_takes
 
--- a stream is its first frame and the stream behind it
+-- a stream is its first frame and the stream after it
 pub stream_step : (bytes : List ℕ) → stream_of bytes ≡ begins_with (first bytes) bytes (λ used. stream_of (drop used bytes))
 stream_step = streams.stream_step
 

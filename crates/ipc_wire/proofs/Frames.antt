@@ -203,7 +203,7 @@ missing_some bytes waits =
           (sym (first_long bytes long) ∙ waits))
     ]
 
--- a frame is whole with its last byte: no byte stands behind it where no more came than were missing
+-- a frame is whole with its last byte: no byte stands after it where no more came than were missing
 pub whole_last : (bytes more : List ℕ) (used : ℕ) (request : PlainRequest) → first bytes ≡ More → length more ≤ missing bytes
     → first (bytes ++ more) ≡ Whole used request → used ≡ length (bytes ++ more)
 unfolding missing

@@ -2,7 +2,7 @@
 use Rattle.std.proofs.Common.{◌≡◌, ℕ, zero, suc, ◌+◌, ◌*◌, ◌/◌, ◌<◌, List, [], ◌∷◌, length, get_or, Some, refl, arith}
 use Rattle.std.specs.Int.{w16, from_be_bytes}
 use Rattle.std.specs.Prelude.{slice_get}
-use Rattle.ipc_wire.specs.Pairs.{numbers_in}
+use Rattle.ipc_wire.specs.Values.{numbers_in}
 
 -- they are half as many as the bytes
 pub numbers_count : (bytes : List ℕ) → length (numbers_in bytes) ≡ length bytes / 2

@@ -25,7 +25,7 @@ part_bytes at n bytes fits = bytes-take n (drop at bytes) (bytes-drop at bytes f
 length_part : (at n : ℕ) (bytes : List ℕ) → at + n ≤ length bytes → length (part at n bytes) ≡ n
 length_part at n bytes enough = length-take-le n (drop at bytes) (omega (arith, length-drop at bytes))
 
--- the next part behind those before
+-- the next part after those before
 grows : (at n : ℕ) (bytes : List ℕ) → take at bytes ++ part at n bytes ≡ take (at + n) bytes
 grows at n bytes =
     ap (λ (x : List ℕ). x ++ part at n bytes) (sym (take-take at (at + n) bytes (omega arith)))
@@ -51,9 +51,9 @@ chosen false x y z e = inr (refl, e)
 side : (a a' b b' : List ℕ) → a ≡ a' → b ≡ b' → a ++ b ≡ a' ++ b'
 side a a' b b' p q = ap (λ (x : List ℕ). x ++ b) p ∙ ap (λ (x : List ℕ). a' ++ x) q
 
--- a field behind those before
-behind : (at n : ℕ) (bytes front field : List ℕ) → front ≡ take at bytes → field ≡ part at n bytes → front ++ field ≡ take (at + n) bytes
-behind at n bytes front field p q = side front (take at bytes) field (part at n bytes) p q ∙ grows at n bytes
+-- a field after those before
+beyond : (at n : ℕ) (bytes front field : List ℕ) → front ≡ take at bytes → field ≡ part at n bytes → front ++ field ≡ take (at + n) bytes
+beyond at n bytes front field p q = side front (take at bytes) field (part at n bytes) p q ∙ grows at n bytes
 
 -- ---- frames
 
@@ -172,7 +172,7 @@ request_back bytes used request fits e =
                   let header : to_be_bytes w32 (5 + length (fields_of request.kind)) ≡ take 4 bytes = ap (to_be_bytes w32) count
                   ∙ number_back 0 bytes fits long in
                   let all : to_be_bytes w32 (5 + length (fields_of request.kind)) ++ spelled ≡ take (4 + size) bytes =
-                  behind 4 size bytes (to_be_bytes w32 (5 + length (fields_of request.kind))) spelled header (sym read.text_is) in
+                  beyond 4 size bytes (to_be_bytes w32 (5 + length (fields_of request.kind))) spelled header (sym read.text_is) in
                   (ap (λ (n : ℕ). take n bytes) used_is ∙ sym all, read.has)
             ]
           ]

@@ -2,8 +2,8 @@
 use Rattle.std.proofs.Common.{◌≡◌, ℕ, zero, suc, ◌+◌, ◌*◌, ◌/◌, ◌<◌, List, [], ◌∷◌, length, get_or, Some, refl, arith}
 use Rattle.std.specs.Int.{w16, from_be_bytes, cast_signed}
 use Rattle.std.specs.Prelude.{slice_get}
-use Rattle.ipc_wire.specs.declared.sixes.SemBuf.{SemBuf}
-use Rattle.ipc_wire.specs.Sixes.{operations_in}
+use Rattle.ipc_wire.specs.declared.sem_bufs.SemBuf.{SemBuf}
+use Rattle.ipc_wire.specs.SemBufs.{operations_in}
 
 -- they are a sixth as many as the bytes
 pub operations_count : (bytes : List ℕ) → length (operations_in bytes) ≡ length bytes / 6

@@ -12,7 +12,7 @@ use Rattle.ipc_wire.specs.Spelling.{opcode_of, fields_of, frame, HasFrame}
 use Rattle.ipc_wire.proofs.Frames.{first_long, is_out_of_range, sized}
 use Rattle.ipc_wire.proofs.Rows.{kind_again}
 
--- what stands behind the length
+-- what stands after the length
 abbrev pub text_of : ℕ → ℕ → List ℕ → List ℕ
 text_of serial opcode fields = to_be_bytes w32 serial ++ opcode ∷ fields
 

@@ -56,10 +56,10 @@ pieces_by zero bytes more (Whole used request) le e =
     absurd (omega (arith, takes.0, takes.1))
 pieces_by (suc n) bytes more (Whole used request) le e =
     let takes : TakesBytes (Whole used request) (length bytes) = rw e at (first_takes bytes) in
-    let behind = pieces_by n (drop used bytes) more (first (drop used bytes)) (omega (arith, takes.0, length-drop used bytes)) refl in
+    let beyond = pieces_by n (drop used bytes) more (first (drop used bytes)) (omega (arith, takes.0, length-drop used bytes)) refl in
     begun (bytes ++ more) (Whole used request) (whole_stays bytes more used request e)
     ∙ ap (λ (x : List ℕ). in_front request (stream_of x)) (drop-append-le used bytes more takes.1)
-    ∙ ap (in_front request) behind
+    ∙ ap (in_front request) beyond
     ∙ sym (continued_front request (stream_of (drop used bytes)).requests (stream_of (drop used bytes)).ending more)
     ∙ sym (ap (λ (s : Stream). continued_by s more) (begun bytes (Whole used request) e))
 

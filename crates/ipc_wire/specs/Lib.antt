@@ -1,9 +1,9 @@
 pub mod Fields
 pub mod OneProof
-pub mod Pairs
+pub mod Values
 pub mod Posix
 pub mod Reply
-pub mod Sixes
+pub mod SemBufs
 pub mod Request
 pub mod Sizes
 pub mod Spelling

@@ -5,9 +5,9 @@ use Rattle.ipc_wire.specs.declared.request.SysvCall.{SysvCall}
 use Rattle.ipc_wire.specs.declared.request.SysvCall.TheVariants as calls
 use Rattle.ipc_wire.specs.declared.request.RequestKind.{RequestKind}
 use Rattle.ipc_wire.specs.declared.request.RequestKind.TheVariants as kinds
-use Rattle.ipc_wire.specs.Pairs.{bytes_of}
+use Rattle.ipc_wire.specs.Values.{bytes_of}
 use Rattle.ipc_wire.specs.Posix.{PlainPosix, plain_posix}
-use Rattle.ipc_wire.specs.Sixes as sixes
+use Rattle.ipc_wire.specs.SemBufs as sixes
 
 -- the System V calls
 pub data PlainSysv : Type 0 where
@@ -18,12 +18,12 @@ pub data PlainSysv : Type 0 where
   MsgctlSet : (id uid gid mode qbytes : ℕ) → PlainSysv
   MsgctlRmid : (id : ℕ) → PlainSysv
   Semget : (key nsems : ℤ) → (flags : ℕ) → PlainSysv
-  -- the operations are the bytes that spell them: `operations_in` of Sixes.antt reads them
+  -- the operations are the bytes that spell them: `operations_in` of SemBufs.antt reads them
   Semop : (id timeout : ℕ) → (operations : List ℕ) → PlainSysv
   SemctlGetVal SemctlGetPid SemctlGetNcnt SemctlGetZcnt : (id num : ℕ) → PlainSysv
   SemctlSetVal : (id num : ℕ) → (value : ℤ) → PlainSysv
   SemctlGetAll : (id : ℕ) → PlainSysv
-  -- the values are the bytes that spell them: `numbers_in` of Pairs.antt reads them
+  -- the values are the bytes that spell them: `numbers_in` of Values.antt reads them
   SemctlSetAll : (id : ℕ) → (values : List ℕ) → PlainSysv
   SemctlStat : (id : ℕ) → PlainSysv
   SemctlSet : (id uid gid mode : ℕ) → PlainSysv

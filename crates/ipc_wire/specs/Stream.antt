@@ -56,7 +56,7 @@ abbrev pub request_or_fault : ℕ → ℕ → Option PlainKind → PlainFrame
 request_or_fault used serial None = Fault serial
 request_or_fault used serial (Some kind) = Whole used (record { serial = serial; kind = kind })
 
--- the frame of which these bytes stand behind the length
+-- the frame of which these bytes stand after the length
 unfoldable pub frame_of : List ℕ → PlainFrame
 frame_of text =
     if u32_at 0 text == 0 then Fault 0
@@ -89,7 +89,7 @@ TakesBytes (Fault serial) available = Unit {0}
 
 -- ---- the whole stream
 
--- What stands behind the last whole request: bytes that are no whole frame yet, or a fault.
+-- What stands after the last whole request: bytes that are no whole frame yet, or a fault.
 pub data Ending : Type 0 where
   Rest : (bytes : List ℕ) → Ending
   Broken : (serial : ℕ) → Ending
@@ -98,23 +98,23 @@ pub record Stream : Type 0 where
   pub requests : List PlainRequest
   pub ending : Ending
 
--- The stream that begins with a frame, where behind gives the stream behind so many bytes.
+-- The stream that begins with a frame, where after gives the stream after so many bytes.
 abbrev pub begins_with : PlainFrame → List ℕ → (ℕ → Stream) → Stream
-begins_with More bytes behind = record { requests = []; ending = Rest bytes }
-begins_with (Fault serial) bytes behind = record { requests = []; ending = Broken serial }
-begins_with (Whole used request) bytes behind =
-    record { requests = request ∷ (behind used).requests; ending = (behind used).ending }
+begins_with More bytes beyond = record { requests = []; ending = Rest bytes }
+begins_with (Fault serial) bytes beyond = record { requests = []; ending = Broken serial }
+begins_with (Whole used request) bytes beyond =
+    record { requests = request ∷ (beyond used).requests; ending = (beyond used).ending }
 
 -- at most so many requests
 unfoldable pub stream_within : ℕ → List ℕ → Stream
 stream_within zero bytes = record { requests = []; ending = Rest bytes }
 stream_within (suc n) bytes = begins_with (first bytes) bytes (λ used. stream_within n (drop used bytes))
 
--- The requests of a stream and what stands behind them; each request takes bytes, so its length bounds their number.
+-- The requests of a stream and what stands after them; each request takes bytes, so its length bounds their number.
 unfoldable pub stream_of : List ℕ → Stream
 stream_of bytes = stream_within (length bytes) bytes
 
--- The stream when more bytes come: they follow the rest; behind a fault nothing is read.
+-- The stream when more bytes come: they follow the rest; after a fault nothing is read.
 abbrev pub continued : List PlainRequest → Ending → List ℕ → Stream
 continued requests (Rest bytes) more =
     record { requests = requests ++ (stream_of (bytes ++ more)).requests; ending = (stream_of (bytes ++ more)).ending }

@@ -6,14 +6,13 @@ ghost use Rattle.ipc_wire.specs.Request.{plain_kind};
 ghost use Rattle.ipc_wire.specs.Stream.{kind_of, made_by};
 ghost use Rattle.ipc_wire.specs.Table as table;
 
-use crate::pairs::Pairs;
 use crate::posix::PosixCall;
 use crate::request::{RequestKind, SysvCall};
+use crate::sem_bufs::SemBufs;
 use crate::shm_fields::{
     read_attached_read, read_attached_write, read_shmat, read_shmctl_rmid, read_shmctl_set,
     read_shmctl_stat, read_shmdt, read_shmget,
 };
-use crate::sixes::Sixes;
 use crate::spelling::{
     ATTACHED_READ, ATTACHED_WRITE, CLOSE, FTRUNCATE, HELLO, INTERRUPT, MQ_GETATTR, MQ_NOTIFY,
     MQ_OPEN, MQ_RECEIVE, MQ_SEND, MQ_SETATTR, MQ_UNLINK, MSGCTL_RMID, MSGCTL_SET, MSGCTL_STAT,
@@ -22,6 +21,7 @@ use crate::spelling::{
     SEMCTL_SET, SEMCTL_SET_ALL, SEMCTL_SET_VAL, SEMCTL_STAT, SEMGET, SEMOP, SHM_OPEN, SHM_READ,
     SHM_STAT, SHM_UNLINK, SHM_WRITE, SHMAT, SHMCTL_RMID, SHMCTL_SET, SHMCTL_STAT, SHMDT, SHMGET,
 };
+use crate::values::Values;
 use ipc_base::{Cred, Cursor, GetFlags, Id, MsgFlags, OpenFlags};
 
 /// What a request with this opcode asks, or `None` where none has it or its fields have another size.
@@ -218,7 +218,7 @@ fn read_semop(fields: &[u8]) -> Option<RequestKind<'_>>
     let mut cursor = Cursor::new(fields);
     let id = Id(cursor.u32()?);
     let timeout = cursor.u64()?;
-    let operations = Sixes::new(cursor.rest())?;
+    let operations = SemBufs::new(cursor.rest())?;
     Some(RequestKind::Sysv(SysvCall::Semop {
         id,
         timeout,
@@ -285,7 +285,7 @@ fn read_semctl_set_all(fields: &[u8]) -> Option<RequestKind<'_>>
 {
     let mut cursor = Cursor::new(fields);
     let id = Id(cursor.u32()?);
-    let values = Pairs::new(cursor.rest())?;
+    let values = Values::new(cursor.rest())?;
     Some(RequestKind::Sysv(SysvCall::SemctlSetAll { id, values }))
 }
 

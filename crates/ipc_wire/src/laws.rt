@@ -28,20 +28,20 @@ pub fn frame_is_bounded()
         → first (bytes ++ more) ≡ Whole used request → used ≡ length (bytes ++ more) }
 {}
 
-/// A stream is its first frame and the stream behind it.
+/// A stream is its first frame and the stream after it.
 pub fn stream_begins()
     ensures { (bytes : List ℕ) →
         stream_of bytes ≡ begins_with (first bytes) bytes (λ used. stream_of (drop used bytes)) }
 {}
 
 /// A stream that comes in two pieces has the requests of the first piece, and then those of its rest with the
-/// second piece behind it.
+/// second piece after it.
 pub fn stream_in_pieces()
     ensures { (bytes more : List ℕ) →
         stream_of (bytes ++ more) ≡ continued (stream_of bytes).requests (stream_of bytes).ending more }
 {}
 
-/// The frame of a request is read as that request, whatever stands behind it.
+/// The frame of a request is read as that request, whatever stands after it.
 pub fn spelled_request_is_read()
     ensures { (request : PlainRequest) (rest : List ℕ) → HasFrame request →
         first (frame request ++ rest) ≡ Whole (length (frame request)) request }

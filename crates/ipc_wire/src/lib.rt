@@ -3,8 +3,8 @@
 //! Where a rule stands (definition, code, proof):
 //!
 //! - A row of the table of requests: 'A call more' in docs/CHANGING.md has its files; its name: `src/names.rt`
-//! - What may follow the fields of a request: `Rest` in `specs/Fields.antt`; its units `specs/Pairs.antt`,
-//!   `specs/Sixes.antt`
+//! - What may follow the fields of a request: `Rest` in `specs/Fields.antt`; its units `specs/Values.antt`,
+//!   `specs/SemBufs.antt`
 //! - How a stream is cut into frames: `specs/Stream.antt`, `src/reading.rt`
 //! - A longer frame: `greatest_length` in `specs/Sizes.antt`, `GREATEST_LENGTH` in `src/reading.rt`
 //! - A body of a reply that is numbers or bytes: `push_fields` in `src/record.rt`; the call fills it
@@ -48,15 +48,15 @@
 mod fields;
 mod laws;
 mod names;
-mod pairs;
 mod posix;
 mod reading;
 mod record;
 mod reply;
 mod request;
+mod sem_bufs;
 mod shm_fields;
-mod sixes;
 mod spelling;
+mod values;
 mod writing;
 
 pub use laws::{
@@ -64,7 +64,6 @@ pub use laws::{
     stream_begins, stream_in_pieces,
 };
 pub use names::request_name;
-pub use pairs::Pairs;
 pub use posix::PosixCall;
 pub use reading::{
     GREATEST_FRAME, GREATEST_LENGTH, LEAST_LENGTH, bytes_missing, read_frame, read_request,
@@ -72,6 +71,7 @@ pub use reading::{
 pub use record::{Record, push_fields};
 pub use reply::{Body, Reply};
 pub use request::{Frame, Request, RequestKind, SysvCall};
-pub use sixes::{SemBuf, Sixes};
+pub use sem_bufs::{SemBuf, SemBufs};
 pub use spelling::{RequestParts, request_len, request_parts};
+pub use values::Values;
 pub use writing::{reply_len, write_reply};

@@ -12,10 +12,10 @@ use crate::fields::read_kind;
 use crate::request::{Frame, Request};
 use ipc_base::Cursor;
 
-/// The least length of a request, in bytes behind the length itself: a serial and an opcode.
+/// The least length of a request, in bytes after the length itself: a serial and an opcode.
 pub const LEAST_LENGTH: u32 = 5;
 
-/// The greatest length of a request, in bytes behind the length itself.
+/// The greatest length of a request, in bytes after the length itself.
 pub const GREATEST_LENGTH: u32 = 65792;
 
 /// The bytes of the longest whole frame, its length with it.
@@ -76,7 +76,7 @@ pub fn read_request(text: &[u8]) -> Option<Request<'_>>
     }
 }
 
-/// The frame of which these bytes stand behind the length.
+/// The frame of which these bytes stand after the length.
 #[tactic(auto, unfolding(crate::specs::Stream::frame_of, crate::specs::Stream::u32_at))]
 fn whole_frame(text: &[u8]) -> Frame<'_>
     requires { (least_length ≤ length text.now) × (length text.now ≤ greatest_length) }

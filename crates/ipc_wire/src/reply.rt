@@ -33,7 +33,7 @@ pub enum Body<T> {
 }
 
 impl Body<Vec<u8>> {
-    /// The same body, with its bytes where they lie.
+    /// This body, with its bytes borrowed.
     pub fn borrowed(&self) -> Body<&[u8]>
         ensures { plain_body result ≡ body_of (λ bytes. bytes.items) self.now }
     {

@@ -5,9 +5,9 @@ ghost use Rattle.ipc_wire.specs.OneProof.{HasFrame-prop};
 ghost use Rattle.ipc_wire.specs.Request.{plain_kind};
 ghost use Rattle.ipc_wire.specs.Spelling.{HasFrame, request_bytes};
 
-use crate::pairs::Pairs;
 use crate::posix::PosixCall;
-use crate::sixes::Sixes;
+use crate::sem_bufs::SemBufs;
+use crate::values::Values;
 use ipc_base::{Cred, GetFlags, Id, MsgFlags, ShmFlags};
 
 /// What a client asks, under a serial by which it knows the reply, and the bytes in which it came: those of its frame
@@ -103,7 +103,7 @@ pub enum SysvCall<'a> {
     Semop {
         id: Id,
         timeout: u64,
-        operations: Sixes<'a>,
+        operations: SemBufs<'a>,
     },
     /// GETVAL of semctl(2).
     SemctlGetVal {
@@ -138,7 +138,7 @@ pub enum SysvCall<'a> {
     /// SETALL of semctl(2); the values are the rest of the frame, and there may be none.
     SemctlSetAll {
         id: Id,
-        values: Pairs<'a>,
+        values: Values<'a>,
     },
     /// IPC_STAT of semctl(2).
     SemctlStat {
@@ -206,6 +206,6 @@ pub enum Frame<'a> {
     More,
     /// A request, and how many bytes its frame takes, from 9 to 65796.
     Whole { used: usize, request: Request<'a> },
-    /// No request, whatever comes behind. The serial of the frame, or 0 where it has none.
+    /// No request, and none whatever bytes follow: the serial of the frame, or 0 if the serial is not there.
     Fault { serial: u32 },
 }

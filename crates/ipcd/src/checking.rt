@@ -59,7 +59,7 @@ impl fmt::Display for Finding {
                 f,
                 "fit to be served: version {}, {sectors} sectors, {} limits, {objects} objects",
                 FORMAT.version,
-                limits_name(*small)
+                size_name(*small)
             ),
             Finding::NotFormatted { sectors } => write!(
                 f,
@@ -84,7 +84,7 @@ impl fmt::Display for Finding {
 }
 
 // What the limits of a device are called.
-fn limits_name(small: bool) -> &'static str
+fn size_name(small: bool) -> &'static str
     ensures { result.now ≡ limits_text small }
 {
     if small { "small" } else { "standard" }

@@ -63,7 +63,6 @@ pub fn open_store<D: SectorDisk + Drop>(alloc: Global, disk: D) -> Result<Store<
     // If the disk stands for the state after some events, they are the history, and then the restart.
     ensures history { IfOk result (λ store. (past : Past) → StandsAfter past (D.medium disk)
         → Keeps (D.medium store.disk) store (reopened past)) }
-    ensures named { IfErr result (λ fault. (error : OpenError) × (fault ≡ of_open_error error)) }
     ensures refused { IfErr result (λ fault. (error : OpenError) × (fault ≡ of_open_error error)
         × (IsHonest (D.medium disk) → IsRefusal format (D.medium disk).contents error
         ⊎ (IsAtEnd (D.medium disk).contents × (error ≡ errors.Damaged format.root)))) }
@@ -143,7 +142,6 @@ fn upgrade_disk<D: SectorDisk + Drop>(alloc: Global, disk: D, limits: &Limits) -
     ensures ok { IfOk result (λ made. IsHonest (D.medium disk)
         → IsUpgraded limits.now (D.medium disk) (D.medium made)) }
     ensures size { IfOk result (λ made. D.size made ≡ D.size disk) }
-    ensures named { IfErr result (λ fault. (error : UpgradeError) × (fault ≡ of_upgrade_error error)) }
     ensures refused { IfErr result (λ fault. (error : UpgradeError) × (fault ≡ of_upgrade_error error)
         × (IsHonest (D.medium disk)
         → IsUpgradeRefusal limits.now (D.size disk) (D.medium disk).contents error)) }

@@ -295,13 +295,13 @@ fn write_device<D: SectorDisk, W: Write>(
 
 /// The objects of one kind, and what they hold.
 #[derive(Clone, Copy)]
-struct Stock {
+struct KindTotals {
     objects: u64,
     bytes: u128,
 }
 
-impl Stock {
-    const NONE: Stock = Stock {
+impl KindTotals {
+    const NONE: KindTotals = KindTotals {
         objects: 0,
         bytes: 0,
     };
@@ -315,27 +315,27 @@ impl Stock {
 
 /// The objects of all kinds, the messages of both kinds of queues, and the semaphores of all sets.
 #[derive(Drop)]
-struct Stocks {
-    msg: Stock,
-    sem: Stock,
-    pmq: Stock,
-    psm: Stock,
-    shm: Stock,
-    seg: Stock,
+struct Totals {
+    msg: KindTotals,
+    sem: KindTotals,
+    pmq: KindTotals,
+    psm: KindTotals,
+    shm: KindTotals,
+    seg: KindTotals,
     sent: usize,
     queued: usize,
     semaphores: usize,
 }
 
 // Counts what a listing has.
-fn stocks_of<N>(rows: &[Row<N>]) -> Stocks {
-    let mut stocks = Stocks {
-        msg: Stock::NONE,
-        sem: Stock::NONE,
-        pmq: Stock::NONE,
-        psm: Stock::NONE,
-        shm: Stock::NONE,
-        seg: Stock::NONE,
+fn totals_of<N>(rows: &[Row<N>]) -> Totals {
+    let mut totals = Totals {
+        msg: KindTotals::NONE,
+        sem: KindTotals::NONE,
+        pmq: KindTotals::NONE,
+        psm: KindTotals::NONE,
+        shm: KindTotals::NONE,
+        seg: KindTotals::NONE,
         sent: 0,
         queued: 0,
         semaphores: 0,
@@ -347,35 +347,35 @@ fn stocks_of<N>(rows: &[Row<N>]) -> Stocks {
                 messages,
                 ..
             } => {
-                stocks.msg.add(*bytes);
-                stocks.sent = stocks.sent.saturating_add(*messages);
+                totals.msg.add(*bytes);
+                totals.sent = totals.sent.saturating_add(*messages);
             }
             Row::Sem { nsems, .. } => {
-                stocks.sem.add(0);
-                stocks.semaphores = stocks.semaphores.saturating_add(*nsems);
+                totals.sem.add(0);
+                totals.semaphores = totals.semaphores.saturating_add(*nsems);
             }
             Row::Pmq { messages, .. } => {
-                stocks.pmq.add(0);
-                stocks.queued = stocks.queued.saturating_add(*messages);
+                totals.pmq.add(0);
+                totals.queued = totals.queued.saturating_add(*messages);
             }
-            Row::Psm { .. } => stocks.psm.add(0),
-            Row::Shm { length, .. } => stocks.shm.add(*length as u128),
-            Row::Seg { length, .. } => stocks.seg.add(*length as u128),
+            Row::Psm { .. } => totals.psm.add(0),
+            Row::Shm { length, .. } => totals.shm.add(*length as u128),
+            Row::Seg { length, .. } => totals.seg.add(*length as u128),
         }
     }
-    stocks
+    totals
 }
 
 // The objects of each kind, as `ipcd list` names it, and what they hold, against the limits.
 fn write_objects<W: Write>(alloc: Global, w: &mut W, engine: &Engine) -> io::Result<()> {
     let limits = engine.limits();
-    let stocks = {
+    let totals = {
         let rows = engine.list(alloc)?;
-        stocks_of(rows.as_slice())
+        totals_of(rows.as_slice())
     };
-    write_counts(w, limits, &stocks)?;
-    write_messages(w, limits, &stocks)?;
-    write_bytes(w, limits, &stocks, queued_bytes(engine.state()))?;
+    write_counts(w, limits, &totals)?;
+    write_messages(w, limits, &totals)?;
+    write_bytes(w, limits, &totals, queued_bytes(engine.state()))?;
     write_queues(w, engine.state())?;
     write_numbers_left(w, engine.state())
 }
@@ -482,7 +482,7 @@ fn queued_bytes(state: &State) -> usize {
     bytes
 }
 
-fn write_counts<W: Write>(w: &mut W, limits: &Limits, stocks: &Stocks) -> io::Result<()> {
+fn write_counts<W: Write>(w: &mut W, limits: &Limits, totals: &Totals) -> io::Result<()> {
     let name = "ipcd_objects";
     write_head(
         w,
@@ -490,12 +490,12 @@ fn write_counts<W: Write>(w: &mut W, limits: &Limits, stocks: &Stocks) -> io::Re
         Kind::Gauge,
         "Objects of a kind, as `ipcd list` names it.",
     )?;
-    write_kind(w, name, "msg", stocks.msg.objects)?;
-    write_kind(w, name, "sem", stocks.sem.objects)?;
-    write_kind(w, name, "pmq", stocks.pmq.objects)?;
-    write_kind(w, name, "psm", stocks.psm.objects)?;
-    write_kind(w, name, "shm", stocks.shm.objects)?;
-    write_kind(w, name, "seg", stocks.seg.objects)?;
+    write_kind(w, name, "msg", totals.msg.objects)?;
+    write_kind(w, name, "sem", totals.sem.objects)?;
+    write_kind(w, name, "pmq", totals.pmq.objects)?;
+    write_kind(w, name, "psm", totals.psm.objects)?;
+    write_kind(w, name, "shm", totals.shm.objects)?;
+    write_kind(w, name, "seg", totals.seg.objects)?;
     let name = "ipcd_objects_limit";
     write_head(w, name, Kind::Gauge, "The most objects of a kind.")?;
     write_kind(w, name, "msg", limits.msgmni)?;
@@ -506,17 +506,17 @@ fn write_counts<W: Write>(w: &mut W, limits: &Limits, stocks: &Stocks) -> io::Re
     write_kind(w, name, "seg", limits.shmmni)
 }
 
-fn write_messages<W: Write>(w: &mut W, limits: &Limits, stocks: &Stocks) -> io::Result<()> {
+fn write_messages<W: Write>(w: &mut W, limits: &Limits, totals: &Totals) -> io::Result<()> {
     let name = "ipcd_messages";
     write_head(w, name, Kind::Gauge, "Messages in queues of a kind.")?;
-    write_kind(w, name, "msg", stocks.sent)?;
-    write_kind(w, name, "pmq", stocks.queued)?;
+    write_kind(w, name, "msg", totals.sent)?;
+    write_kind(w, name, "pmq", totals.queued)?;
     write_one(
         w,
         "ipcd_semaphores",
         Kind::Gauge,
         "Semaphores of all sets.",
-        stocks.semaphores,
+        totals.semaphores,
     )?;
     write_one(
         w,
@@ -530,15 +530,15 @@ fn write_messages<W: Write>(w: &mut W, limits: &Limits, stocks: &Stocks) -> io::
 fn write_bytes<W: Write>(
     w: &mut W,
     limits: &Limits,
-    stocks: &Stocks,
+    totals: &Totals,
     queued: usize,
 ) -> io::Result<()> {
     let name = "ipcd_bytes";
     write_head(w, name, Kind::Gauge, "Bytes that objects of a kind hold.")?;
-    write_kind(w, name, "msg", stocks.msg.bytes)?;
+    write_kind(w, name, "msg", totals.msg.bytes)?;
     write_kind(w, name, "pmq", queued)?;
-    write_kind(w, name, "shm", stocks.shm.bytes)?;
-    write_kind(w, name, "seg", stocks.seg.bytes)?;
+    write_kind(w, name, "shm", totals.shm.bytes)?;
+    write_kind(w, name, "seg", totals.seg.bytes)?;
     let name = "ipcd_bytes_limit";
     write_head(
         w,

@@ -114,7 +114,7 @@ fn answer(
         Request::Replay { small } => replay(rt, *small),
         Request::Run { device } => run(rt, device),
         Request::Dump { device } => dump_file(rt, device),
-        Request::Look { device } => list(rt, device),
+        Request::ListObjects { device } => list(rt, device),
         Request::Format {
             device,
             small,

@@ -56,7 +56,7 @@ fn may_unlink(cred: Cred, perm: &Perm) -> bool
 }
 
 /// The object that an open finds by its name; none, if it may make one.
-pub(crate) fn seek<T>(
+pub(crate) fn lookup<T>(
     objects: &Named<T>,
     name: &[u8],
     flags: OpenFlags,

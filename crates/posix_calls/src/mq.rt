@@ -163,7 +163,7 @@ fn give_up(queue: &mut Mq, pid: Pid)
     }
 }
 
-/// The same of a queue that is there.
+/// Takes away the registration of the process with a queue that is there, if it has one.
 fn unregister(state: &mut State, pid: Pid, number: u32)
     requires { is_some (entry_of state.old.state.mq number) ≡ true }
     ensures { (q : Queue) → mq_object state.old.state number ≡ Some q

@@ -12,7 +12,7 @@ ghost use Rattle.ipc_state.specs.State.{has_all_descriptors, is_process};
 ghost use Rattle.posix_calls.specs.Mq as defined;
 ghost use Rattle.ipc_state.specs.Steps.{result_of};
 
-use crate::access::{asked_by, open_on, seek, usable};
+use crate::access::{asked_by, lookup, open_on, usable};
 use ipc_base::{Cred, Errno, Limits, OpenFlags, Pid};
 use ipc_keys::{NameKind, check_name};
 use ipc_state::{Answer, Object, ObjectKind, State};
@@ -76,7 +76,7 @@ fn open(
     if state.has_all_descriptors(pid) {
         return Err(Errno::EMFILE);
     }
-    let Some(number) = seek(state.named_mqs(), name, flags)? else {
+    let Some(number) = lookup(state.named_mqs(), name, flags)? else {
         return make_mq(state, cred, pid, flags, wanted);
     };
     open_mq(state, cred, pid, flags, number)

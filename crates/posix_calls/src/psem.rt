@@ -18,7 +18,7 @@ ghost use Rattle.ipc_state.specs.Touching.{psem_value};
 ghost use Rattle.posix_calls.specs.Open as opening;
 ghost use Rattle.posix_calls.specs.Psem as defined;
 
-use crate::access::{described_or, open_on, seek, unlinkable, usable};
+use crate::access::{described_or, lookup, open_on, unlinkable, usable};
 use ipc_base::{Cred, Errno, OpenFlags, Pid};
 use ipc_keys::{NameKind, check_name};
 use ipc_perm::Access;
@@ -100,7 +100,7 @@ fn open(
     if state.has_all_descriptors(pid) {
         return Err(Errno::EMFILE);
     }
-    let Some(number) = seek(state.psems(), name, flags)? else {
+    let Some(number) = lookup(state.psems(), name, flags)? else {
         return make_semaphore(state, cred, pid, mode, value);
     };
     open_at(state, cred, pid, number)

@@ -22,7 +22,7 @@ ghost use Rattle.posix_calls.specs.Seen.{segment_of};
 ghost use Rattle.posix_calls.specs.Open as opening;
 ghost use Rattle.posix_calls.specs.Pshm as defined;
 
-use crate::access::{asked_by, described, open_on, seek, unlinkable, usable, writes};
+use crate::access::{asked_by, described, lookup, open_on, unlinkable, usable, writes};
 use bitflags::Flags;
 use ipc_base::{Cred, Errno, Field, OpenFlags, Pid};
 use ipc_keys::{NameKind, check_name};
@@ -63,7 +63,7 @@ fn open_pshm(state: &State, pid: Pid, fd: u32) -> Result<FoundPshm<'_>, Errno>
     })
 }
 
-/// The same, if it is open to write.
+/// The segment on which a descriptor of the process is open, if it is open to write.
 fn writable(state: &State, pid: Pid, fd: u32) -> Result<FoundPshm<'_>, Errno>
     ensures found { segment_of result ≡ defined.writable state.now.state pid.0 fd }
     ensures there { IfOk result (λ found. entry_of state.now.state.pshm found.number ≡ Some found.entry.now) }
@@ -113,7 +113,7 @@ fn open(state: &mut State, cred: Cred, pid: Pid, flags: OpenFlags, mode: u32, na
     if state.has_all_descriptors(pid) {
         return Err(Errno::EMFILE);
     }
-    let Some(number) = seek(state.pshms(), name, flags)? else {
+    let Some(number) = lookup(state.pshms(), name, flags)? else {
         return make_pshm(state, cred, pid, flags, mode);
     };
     open_at(state, cred, pid, flags, number)

@@ -3,7 +3,7 @@ use Rattle.std.proofs.Common.{◌≡◌, ◌∙◌, ℕ, pos, Bool, true, false,
 use Rattle.std.specs.List.{list_all, list_any}
 use Rattle.std.specs.Ordering.{int_eq}
 use Rattle.std.proofs.lemmas.List.Folds.{list_all-map}
-use Rattle.ipc_wire.specs.declared.sixes.SemBuf.{SemBuf}
+use Rattle.ipc_wire.specs.declared.sem_bufs.SemBuf.{SemBuf}
 use Rattle.sysv_sem.specs.declared.operation.Operation.{Operation}
 use Rattle.sysv_calls.specs.Access.{read, write}
 use Rattle.sysv_calls.specs.Semop.{asked, operation_of}

@@ -17,7 +17,7 @@ use Rattle.ipc_base.specs.Table.{seen_as, value_at}
 use Rattle.ipc_base.proofs.CallerLemmas.{at-map, other-push, other-with, value_at-without}
 use Rattle.ipc_perm.specs.declared.perm.Perm.{Perm}
 use Rattle.ipc_perm.specs.Perm.{owned_by, asked_by}
-use Rattle.ipc_wire.specs.Pairs.{numbers_in}
+use Rattle.ipc_wire.specs.Values.{numbers_in}
 use Rattle.ipc_wire.specs.declared.reply.Body.TheVariants.{Empty, Number, Record}
 use Rattle.sem_undo.specs.Undo.{Key, Undo, adjustment, cleared}
 use Rattle.sem_undo.proofs.CallerLemmas.{cleared_others}

@@ -19,7 +19,7 @@ use Rattle.ipc_base.proofs.CallerLemmas.{at-map, at-with, other-with}
 use Rattle.ipc_wire.specs.Posix.{PlainPosix}
 use Rattle.ipc_wire.specs.Request.{PlainSysv, PlainKind, Sysv, Posix}
 use Rattle.ipc_wire.specs.Request as requests
-use Rattle.ipc_wire.specs.Sixes.{operations_in}
+use Rattle.ipc_wire.specs.SemBufs.{operations_in}
 use Rattle.sem_undo.specs.Undo.{Key, Undo, adjustment, cleared}
 use Rattle.sem_undo.proofs.CallerLemmas.{key_total, key_other}
 use Rattle.sysv_msg.specs.Queue.{PlainMessage, Queue, full, is_sought, sent, taken}

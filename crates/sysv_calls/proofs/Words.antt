@@ -7,7 +7,7 @@ use Rattle.std.specs.List.{fold}
 use Rattle.std.proofs.lemmas.List.Elements.{All-nil, All-cons, All-weaker}
 use Rattle.std.proofs.lemmas.Nat.{and_comm, pow_pos}
 use Rattle.std.proofs.lemmas.Nat.Bits.{bit_at_and, bit_at_or, bit_at-zero, same_from_bits}
-use Rattle.ipc_wire.specs.declared.sixes.SemBuf.{SemBuf}
+use Rattle.ipc_wire.specs.declared.sem_bufs.SemBuf.{SemBuf}
 use Rattle.ipc_state.specs.Bits.{bit_of, bits_of, with_bit}
 
 -- two words share no bit

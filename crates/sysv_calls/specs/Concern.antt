@@ -3,7 +3,7 @@
 use Rattle.std.specs.Prelude.{Bool, true, false, not, ◌==◌, bit_and, bit_or}
 use Rattle.ipc_wire.specs.Request.{PlainKind, Sysv}
 use Rattle.ipc_wire.specs.Request as requests
-use Rattle.ipc_wire.specs.Sixes.{operations_in}
+use Rattle.ipc_wire.specs.SemBufs.{operations_in}
 use Rattle.sysv_msg.specs.Queue.{is_sought}
 use Rattle.ipc_state.specs.Bits.{bit_of, bits_of}
 use Rattle.sysv_calls.specs.declared.concern.Change.{Change}

@@ -9,7 +9,7 @@ use Rattle.ipc_base.specs.declared.identity.Cred.{Cred}
 use Rattle.ipc_base.specs.declared.limits.Limits.{Limits}
 use Rattle.ipc_base.specs.Numbers.{record_bytes}
 use Rattle.ipc_perm.specs.Perm.{perm_of, owned_by, asked_by, may}
-use Rattle.ipc_wire.specs.Pairs.{numbers_in}
+use Rattle.ipc_wire.specs.Values.{numbers_in}
 use Rattle.ipc_wire.specs.declared.reply.Body.TheVariants.{Empty, Number, Record}
 use Rattle.sysv_sem.specs.declared.set.Semaphore.{Semaphore}
 use Rattle.sysv_sem.specs.Operation.{most_value}

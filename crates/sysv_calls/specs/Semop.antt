@@ -12,7 +12,7 @@ use Rattle.ipc_perm.specs.Perm.{may}
 use Rattle.ipc_wire.specs.declared.reply.Body.TheVariants.{Empty, Number}
 use Rattle.ipc_wire.specs.Request.{PlainKind, Sysv}
 use Rattle.ipc_wire.specs.Request as requests
-use Rattle.ipc_wire.specs.Sixes.{operations_in}
+use Rattle.ipc_wire.specs.SemBufs.{operations_in}
 use Rattle.sem_undo.specs.Undo.{Undo, adjustment, subtracted}
 use Rattle.sysv_sem.specs.declared.operation.Operation.{Operation}
 use Rattle.sysv_sem.specs.Operation.{Outcome, Done as IsDone, Blocks as Stops, Fails as IsRefused, has_undo, outcome}

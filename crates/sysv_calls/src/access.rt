@@ -54,7 +54,7 @@ pub(crate) fn owned<T>(objects: &Keyed<T>, cred: Cred, id: Id) -> Result<&KeyedE
 }
 
 /// The object that a get finds by its key; none, if it may make one.
-pub(crate) fn seek<T>(objects: &Keyed<T>, key: i32, flags: GetFlags) -> Result<Option<Id>, Errno>
+pub(crate) fn lookup<T>(objects: &Keyed<T>, key: i32, flags: GetFlags) -> Result<Option<Id>, Errno>
     requires { ArePositive objects.now.objects.entries }
     ensures { sought_of result ≡ defined.sought objects.now.objects key flags.0 }
 {

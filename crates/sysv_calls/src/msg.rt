@@ -18,7 +18,7 @@ ghost use Rattle.ipc_state.specs.Steps.{attempted, plain_halt, seen};
 ghost use Rattle.ipc_state.specs.Spare.{IsSpare, KeepsBuffer};
 ghost use Rattle.sysv_msg.specs.Queue.{Queue, most_messages, plain, sent, taken};
 
-use crate::access::{accessible, owned, push_perm, seek};
+use crate::access::{accessible, lookup, owned, push_perm};
 use bitflags::Flags;
 use ipc_base::{Cred, Errno, Field, GetFlags, Id, MsgFlags, Pid};
 use ipc_perm::{Access, Perm};
@@ -47,7 +47,7 @@ fn get_queue(state: &mut State, cred: Cred, key: i32, flags: GetFlags) -> Answer
         (defined.msgget state.old.limits state.old.state cred key flags.0) }
     ensures held { state.new ≡ record state.old { state = state.new.state; ready = state.new.ready } }
 {
-    let Some(id) = seek(state.msg(), key, flags)? else {
+    let Some(id) = lookup(state.msg(), key, flags)? else {
         return make_queue(state, cred, key, flags);
     };
     accessible(state.msg(), cred, false, id, Access::asked_by(flags.0))?;

@@ -5,7 +5,7 @@ ghost use Rattle.std.specs.Prelude.{length, map, take, vec_len, vec_capacity};
 ghost use Rattle.ipc_base.specs.Limits.{ArePassed};
 ghost use Rattle.ipc_base.specs.Numbers.{record_bytes};
 ghost use Rattle.ipc_base.specs.declared.field.Field.TheVariants.{U16};
-ghost use Rattle.ipc_wire.specs.Pairs.{bytes_of, numbers_in};
+ghost use Rattle.ipc_wire.specs.Values.{bytes_of, numbers_in};
 ghost use Rattle.ipc_state.specs.Finish.{Finishes, ended, finish_of};
 ghost use Rattle.ipc_state.specs.Held.{Ready, left};
 ghost use Rattle.ipc_state.specs.Keyed.{keyed};
@@ -17,11 +17,11 @@ ghost use Rattle.ipc_state.specs.Steps.{result_of, seen};
 ghost use Rattle.sysv_calls.specs.Sem as defined;
 ghost use Rattle.ipc_state.specs.Spare.{IsSpare, KeepsBuffer};
 
-use crate::access::{accessible, owned, push_perm, seek};
+use crate::access::{accessible, lookup, owned, push_perm};
 use ipc_base::{Cred, Errno, Field, GetFlags, Id, Limits, Pid};
 use ipc_perm::{Access, Perm, may};
 use ipc_state::{Answer, Keyed, State, take_spare};
-use ipc_wire::{Body, Pairs, push_fields};
+use ipc_wire::{Body, Values, push_fields};
 use std::alloc::AllocError;
 use sysv_sem::{MOST_VALUE, SemSet, Semaphore};
 
@@ -65,7 +65,7 @@ fn get_set(state: &mut State, cred: Cred, key: i32, nsems: i32, flags: GetFlags)
     let Some(count) = count_of(state.limits(), nsems) else {
         return Err(Errno::EINVAL);
     };
-    let Some(id) = seek(state.semset(), key, flags)? else {
+    let Some(id) = lookup(state.semset(), key, flags)? else {
         return make_set(state, cred, key, count, flags);
     };
     if has_fewer(state.semset(), id, count) {
@@ -225,7 +225,7 @@ pub(crate) fn semctl_setall(
     cred: Cred,
     pid: Pid,
     id: Id,
-    values: &Pairs<'_>,
+    values: &Values<'_>,
 ) -> Answer
     requires sound { HasSoundParts state.old.limits state.old.state }
     ensures finish { Finishes (finish_of state.new.state result) ≡ ended state.old.state
@@ -243,7 +243,7 @@ pub(crate) fn semctl_setall(
 }
 
 /// Whether all values of a set may be set to these: the tests of SETALL, as semctl(2) has it.
-fn ready_to_set(state: &State, cred: Cred, id: Id, values: &Pairs<'_>) -> Result<(), Errno>
+fn ready_to_set(state: &State, cred: Cred, id: Id, values: &Values<'_>) -> Result<(), Errno>
     ensures tests { result_of result
         ≡ seen (λ e. tt) (defined.settable state.now.state cred id.0 (numbers_in (bytes_of values.now))) }
     ensures passed { OnOk result (ArePassed state.now.limits) }
@@ -264,7 +264,7 @@ fn ready_to_set(state: &State, cred: Cred, id: Id, values: &Pairs<'_>) -> Result
 }
 
 /// Whether each is a value that a semaphore may have.
-fn are_values(values: &Pairs<'_>) -> bool
+fn are_values(values: &Values<'_>) -> bool
     ensures { result ≡ defined.are_values (numbers_in (bytes_of values.now)) }
 {
     for place in 0..values.len() {
@@ -276,7 +276,7 @@ fn are_values(values: &Pairs<'_>) -> bool
 }
 
 /// Puts the values to the front of a buffer that has room for them.
-fn put_values(values: &Pairs<'_>, all: &mut [u16])
+fn put_values(values: &Values<'_>, all: &mut [u16])
     requires { length (numbers_in (bytes_of values.now)) ≤ length all.old }
     ensures { take (length (numbers_in (bytes_of values.now))) all.new ≡ numbers_in (bytes_of values.now) }
 {

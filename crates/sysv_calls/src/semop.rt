@@ -6,7 +6,7 @@ ghost use Rattle.std.specs.List.{fold, list_all};
 ghost use Rattle.ipc_base.specs.Limits.{ArePassed};
 ghost use Rattle.ipc_base.specs.Table.{value_at};
 ghost use Rattle.ipc_perm.specs.Perm.{may as may_use};
-ghost use Rattle.ipc_wire.specs.Sixes.{bytes_of};
+ghost use Rattle.ipc_wire.specs.SemBufs.{bytes_of};
 ghost use Rattle.sysv_sem.specs.Operation.{has_undo, outcome, trial_of};
 ghost use Rattle.sysv_sem.specs.Set.{Set, values_of};
 ghost use Rattle.ipc_state.specs.Keyed.{KeyedEntry};
@@ -26,27 +26,27 @@ use bitflags::Flags;
 use ipc_base::{Cred, Errno, Id, Pid, SemFlags};
 use ipc_perm::{Access, Perm, may};
 use ipc_state::{Answer, Halt, Operations, ParkedKind, ParkedSysv, State, operation_of};
-use ipc_wire::{Body, Sixes};
+use ipc_wire::{Body, SemBufs};
 use sysv_sem::{Operation, OperationList, SemSet, Trial};
 
 /// The most operations of a list, under any limits.
 const MOST_OPERATIONS: usize = 32;
 
-/// Operations on their way to be performed: none of them yet.
+/// Room for the operations of a list.
 const NO_OPERATIONS: [Operation; MOST_OPERATIONS] = [Operation {
     num: 0,
     sem_op: 0,
     flags: SemFlags(0),
 }; MOST_OPERATIONS];
 
-/// Who no process is.
+/// Credentials that no process has.
 const NOBODY: Cred = Cred {
     uid: 65534,
     gid: 65534,
 };
 
 /// The operation at this place of a request; the first is at 0.
-fn operation_at(operations: &Sixes<'_>, place: usize) -> Operation
+fn operation_at(operations: &SemBufs<'_>, place: usize) -> Operation
     requires { place < length (operations_of (bytes_of operations.now)) }
     ensures { slice_get (operations_of (bytes_of operations.now)) place ≡ Some result }
 {
@@ -55,14 +55,14 @@ fn operation_at(operations: &Sixes<'_>, place: usize) -> Operation
 
 /// The operations of a request as they lie in it, for the process that asks.
 #[derive(Clone, Copy)]
-struct Asked<'a> {
+struct ListFor<'a> {
     state: &'a State,
     pid: Pid,
     id: Id,
-    operations: Sixes<'a>,
+    operations: SemBufs<'a>,
 }
 
-impl OperationList for Asked<'_> {
+impl OperationList for ListFor<'_> {
     ghost operations = { λ a. operations_of (bytes_of a.operations) };
 
     ghost adjustments = { λ a. held_by a.state.now.state a.pid.0 a.id.0 };
@@ -139,7 +139,7 @@ fn try_on(set: &SemSet, state: &State, pid: Pid, id: Id, operations: &Operations
     ensures { result ≡ trial_of (outcome (values_of set.now) (held_by state.now.state pid.0 id.0)
         (operations_of operations.now.bytes.items)) }
 {
-    set.try_list(&Asked {
+    set.try_list(&ListFor {
         state,
         pid,
         id,
@@ -214,7 +214,7 @@ pub(crate) fn ready_to_operate(
 }
 
 /// Puts the operations of a request to the front of a buffer that has room for them.
-fn put_operations(operations: &Sixes<'_>, all: &mut [Operation])
+fn put_operations(operations: &SemBufs<'_>, all: &mut [Operation])
     requires { length (operations_of (bytes_of operations.now)) ≤ length all.old }
     ensures operations { take (length (operations_of (bytes_of operations.now))) all.new
         ≡ operations_of (bytes_of operations.now) }
@@ -226,7 +226,7 @@ fn put_operations(operations: &Sixes<'_>, all: &mut [Operation])
 }
 
 /// Performs the operations of a request, which may be performed.
-pub(crate) fn operate(state: &mut State, pid: Pid, id: Id, operations: &Sixes<'_>)
+pub(crate) fn operate(state: &mut State, pid: Pid, id: Id, operations: &SemBufs<'_>)
     requires sound { HasSoundParts state.old.limits state.old.state }
     requires ready { IsReady state.old.limits state.old.state pid.0 id.0 (operations_of (bytes_of operations.now)) }
     ensures { (found : KeyedEntry Set × List ℕ)

@@ -20,7 +20,7 @@ ghost use Rattle.sysv_calls.specs.Records.{segment_fields};
 ghost use Rattle.sysv_calls.specs.Seen.{segment_of};
 ghost use Rattle.sysv_calls.specs.Shm as defined;
 
-use crate::access::{accessible, owned, push_perm, seek};
+use crate::access::{accessible, lookup, owned, push_perm};
 use bitflags::Flags;
 use ipc_base::{Cred, Errno, Field, GetFlags, Id, Pid, ShmFlags};
 use ipc_perm::{Access, Perm};
@@ -83,7 +83,7 @@ fn get_segment(
         (defined.shmget state.old.limits state.old.state cred pid.0 key size flags.0) }
     ensures held { state.new ≡ record state.old { state = state.new.state; ready = state.new.ready } }
 {
-    let Some(id) = seek(state.shm(), key, flags)? else {
+    let Some(id) = lookup(state.shm(), key, flags)? else {
         return make_segment(state, cred, pid, key, size, flags);
     };
     if is_shorter(state.shm(), id, size) {
@@ -289,7 +289,7 @@ fn attached_by(state: &State, pid: Pid, attachment: u32) -> Result<FoundShm<'_>,
     })
 }
 
-/// The same, if it is attached to write.
+/// The segment that is attached by a descriptor of the process, if it is attached to write.
 fn writable(state: &State, pid: Pid, attachment: u32) -> Result<FoundShm<'_>, Errno>
     ensures found { segment_of result ≡ defined.writable state.now.state pid.0 attachment }
     ensures there { IfOk result (λ found. shm_of state.now.state found.id.0 ≡ Some found.entry.now) }

@@ -31,7 +31,7 @@ fn first(messages: &Arrivals<Message>) -> Option<usize>
     if messages.is_empty() { None } else { Some(0) }
 }
 
-/// The least type of the messages; none where there is no message.
+/// The least type of the messages, if there is a message.
 fn least_type(messages: &Arrivals<Message>) -> Option<i64>
     ensures empty { IfNone result (length messages.now.items ≡ 0) }
     ensures least { IfSome result (λ least. All (λ m. least ≤ℤ m.mtype) messages.now.items) }

@@ -33,8 +33,8 @@ abbrev pub placed_after : ℕ → PlainObjects → List Placed
 placed_after first [] = []
 placed_after first (o ∷ os) = placed_at first o ∷ placed_after (first + sectors_for (length o.1)) os
 
--- their table stands behind them, and all of them have numbers
-pub record IsLaid (first behind : ℕ) (objects : PlainObjects) : Type 0 where
+-- their table stands after them, and all of them have numbers
+pub record IsLaid (first beyond : ℕ) (objects : PlainObjects) : Type 0 where
   pub are : AreObjects objects
-  pub last : behind ≡ first + object_sectors objects
-  pub fit : behind + table_sectors_for (length (table_words (placed_after first objects))) < 2 ^ 32
+  pub last : beyond ≡ first + object_sectors objects
+  pub fit : beyond + table_sectors_for (length (table_words (placed_after first objects))) < 2 ^ 32

@@ -38,7 +38,7 @@ less count o = record { visible = drop count o.visible; waiting = o.waiting; fre
 abbrev pub retracted : Outgoing → Outgoing
 retracted o = record { visible = o.visible; waiting = []; free = o.free + length o.waiting }
 
--- the same of a connection
+-- a connection of which all that waits was let out
 abbrev pub released : ConnectionView → ConnectionView
 released c = record c { outbox = all_seen c.outbox }
 
@@ -53,7 +53,7 @@ pushed r c = record c { outbox = with_bytes c.outbox (reply_bytes r) }
 abbrev pub closed : ConnectionView → ConnectionView
 closed c = record c { process = None; input = []; ended = true }
 
--- what a hub does with a connection: a frame is put behind those that it keeps, whatever event it belongs to
+-- what a hub does with a connection: a frame is put after those that it keeps, whatever event it belongs to
 abbrev pub view_endpoint : Endpoint ConnectionView
 view_endpoint = record {
   process = λ c. c.process;
@@ -93,7 +93,7 @@ HasSpare c = last_frame ≤ c.outbox.free
 abbrev pub IsShort : PlainOutcome → Type 0
 IsShort o = 6 + length (body_bytes o.body) < 2 ^ 32
 
--- a reply has room in the outbox, and the last frames behind it
+-- a reply has room in the outbox, and the last frames after it
 abbrev pub HasSpace : PlainOutcome → ConnectionView → Type 0
 HasSpace o c = length (reply_bytes (reply_of o)) + last_frames ≤ c.outbox.free
 
@@ -130,11 +130,11 @@ abbrev pub unanswered_of : State → Option ℕ → ℕ
 unanswered_of s None = 0
 unanswered_of s (Some pid) = unanswered s pid
 
--- the same of the process of a connection
+-- how many requests of the process of a connection are not answered yet
 abbrev pub unanswered_at : HubView → ℕ → ℕ
 unanswered_at h conn = unanswered_of h.state (process_in h.connections conn)
 
--- in a connection that goes on, what its process is owed has room, and behind it a reply of so many bytes and the last
+-- in a connection that goes on, what its process is owed has room, and after it a reply of so many bytes and the last
 -- frames
 abbrev pub HasSpaceAt : HubView → ℕ → Option ConnectionView → Type 0
 HasSpaceAt h reply r =

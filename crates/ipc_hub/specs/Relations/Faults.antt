@@ -43,7 +43,7 @@ Halts medium counts old new commit.Device = FailsBy medium counts old new commit
 Halts medium counts old new commit.Stopped =
     (HasStopped old × (new ≡ old)) ⊎ FailsBy medium counts old new commit.Stopped
 
--- so is a call that names a connection, or because none has its number
+-- a call that names a connection is refused so, or because no connection has the number
 abbrev pub Refuses : {D : Type 0} → (D → Medium) → (D → Counts) → StoredHub D → StoredHub D → ℕ
     → ServeError → Type 0
 Refuses medium counts old new conn Unknown =

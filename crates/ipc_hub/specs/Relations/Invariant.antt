@@ -22,7 +22,7 @@ pub record AreOwn (s : State) (table : Table) : Type 0 where
   pub connected : (conn pid : ℕ) → process_in table conn ≡ Some pid → is_process s pid ≡ true
   pub one : AreApart table
 
--- The bytes kept of a request are no whole frame. There is room for what the process is owed, and behind it for the
+-- The bytes kept of a request are no whole frame. There is room for what the process is owed, and after it for the
 -- frames that may still be the last: both, or one where the server has ended the connection, which has no process then.
 -- The most that a process is owed, the longest reply and both have room in an outbox that keeps a little, so that this
 -- always takes a request.
@@ -33,7 +33,7 @@ pub record IsSoundConnection (limits : Limits) (owed : Option ℕ → ℕ) (c : 
   pub spare : HasSpare c
   pub size : ahead + most_owed limits + longest_reply limits + last_frames ≤ length (kept c.outbox) + c.outbox.free
 
--- the same in a hub, of what it owes
+-- a connection of a hub is sound for what the hub owes
 abbrev pub IsSoundIn : HubView → ConnectionView → Type 0
 IsSoundIn h = IsSoundConnection h.limits (owed_to h.limits h.state)
 
@@ -56,13 +56,13 @@ pub record HubInvariant (h : HubView) : Type 0 where
 abbrev pub StoredInvariant : {D : Type 0} → StoredHub D → Type 0
 StoredInvariant v = v.store.stopped ≡ false → HubInvariant v.hub
 
--- the same connections go on
+-- a hub has the connections that it had
 pub record Continues (old new : HubView) : Type 0 where
   pub limits : new.limits ≡ old.limits
   pub numbers : keys_of new.connections ≡ keys_of old.connections
   pub invariant : HubInvariant new
 
--- the same connections, or all that they keep is seen
+-- the connections are as they were, or all that they keep is seen
 abbrev pub SameButSeen : HubView → HubView → Type 0
 SameButSeen old new =
     (new.connections ≡ old.connections) ⊎ (new.connections ≡ seen_as released old.connections)

@@ -66,14 +66,14 @@ abbrev pub Serves : {D : Type 0} → (D → Medium) → StoredHub D → StoredHu
 Serves medium old new call =
     (limits : Limits) (h : Clients) → StoredMatches limits old h → Comes medium limits old new h (call limits h)
 
--- the same of a feed that took these bytes: some of the requests in them may have been refused for memory
+-- a feed took these bytes, as the definitions have it: some of the requests in them may have been refused for memory
 abbrev pub ServesFeed : {D : Type 0} → (D → Medium) → StoredHub D → StoredHub D → ℕ → List ℕ → ℕ
     → Type 0
 ServesFeed medium old new conn bytes moment =
     (limits : Limits) (h : Clients) → StoredMatches limits old h
     → (refused : List Bool) × Comes medium limits old new h (feed limits h conn bytes moment refused)
 
--- the same of bytes that are taken in once time has passed
+-- bytes were taken in once time had passed, as the definitions have it
 abbrev pub ServesBytes : {D : Type 0} → (D → Medium) → StoredHub D → StoredHub D → ℕ → List ℕ → ℕ
     → Type 0
 ServesBytes medium old new conn bytes moment =

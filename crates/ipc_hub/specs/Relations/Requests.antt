@@ -17,8 +17,8 @@ use Rattle.ipc_engine.specs.Step.{step}
 use Rattle.ipc_image.specs.Format.{longest_record}
 use Rattle.ipc_image.specs.Records.{record_bytes, HasRecord}
 use Rattle.ipc_store.specs.View.{StoreView, HasRoomFor, IsReadyFor, events_left}
-use Rattle.ipc_hub.specs.declared.serving.Asked.{Asked}
-use Rattle.ipc_hub.specs.declared.serving.Asked.TheVariants as asked
+use Rattle.ipc_hub.specs.declared.serving.FrameOutcome.{FrameOutcome}
+use Rattle.ipc_hub.specs.declared.serving.FrameOutcome.TheVariants as asked
 use Rattle.ipc_hub.specs.Hub.{accept, event_of}
 use Rattle.ipc_hub.specs.View.{ConnectionView, HubView, StoredHub, HasNoFrame}
 use Rattle.ipc_hub.specs.Relations.Rows.{Becomes, Table, hub_of, hub_view, stored_view}
@@ -46,7 +46,7 @@ pub record RunsOut {D : Type 0} (old new : StoredHub D) (conn moment taken : ℕ
   pub awaits : Awaits new.hub conn moment
   pub left : 1 ≤ events_left new.store
 
--- A request of the connection with a number has room: its event in the store, and its reply behind what its process is
+-- A request of the connection with a number has room: its event in the store, and its reply after what its process is
 -- owed.
 pub record HasRoom {D : Type 0} (v : StoredHub D) (conn : ℕ) : Type 0 where
   pub passed : ArePassed v.hub.limits
@@ -120,7 +120,7 @@ IsBroken frame process moment serial =
 -- What came of what stands at the front of the bytes of a process, or of none: no whole frame yet, a step, a want of
 -- memory, or a fault.
 abbrev pub ComesTo : {D : Type 0} → (D → Medium) → StoreView D → StoreView D → Option ℕ → PlainFrame
-    → ℕ → Asked → Type 0
+    → ℕ → FrameOutcome → Type 0
 ComesTo medium old new process frame moment asked.More = (frame ≡ More) × (new ≡ old)
 ComesTo medium old new process frame moment asked.Served =
     (e : PlainEvent) × (IsRequest frame process moment (Some e) × Steps medium old new e)
@@ -129,7 +129,7 @@ ComesTo medium old new process frame moment (asked.Broken serial) =
     (new ≡ old) × IsBroken frame process moment serial
 
 -- the connection of which a whole frame was taken off
-abbrev pub taken_off : Asked → ConnectionView → ConnectionView
+abbrev pub taken_off : FrameOutcome → ConnectionView → ConnectionView
 taken_off asked.More c = c
 taken_off asked.Served c = record c { input = [] }
 taken_off (asked.NoMemory serial) c = record c { input = [] }
@@ -141,7 +141,7 @@ taken_off (asked.Broken serial) c = record c { input = [] }
 -- bytes up to the end of a frame at most; this came of them, and a whole frame was taken off it. What holds of the hub
 -- still holds.
 pub record Received {D : Type 0} (medium : D → Medium) (old new : StoreView D) (before after : Table) (conn : ℕ)
-    (bytes : List ℕ) (moment : ℕ) (asked : Asked) : Type 0 where
+    (bytes : List ℕ) (moment : ℕ) (asked : FrameOutcome) : Type 0 where
   pub passed : ArePassed old.machine.limits
   pub sound : IsSound old.machine.limits old.machine.state
   pub was : ConnectionView

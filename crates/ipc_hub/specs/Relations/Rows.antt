@@ -25,7 +25,7 @@ rows connections = map row connections
 abbrev pub hub_view : Machine → Table → HubView
 hub_view engine table = record { limits = engine.limits; state = engine.state; connections = table }
 
--- the same over its store
+-- a hub over its store
 abbrev pub stored_view : {D : Type 0} → StoreView D → Table → StoredHub D
 stored_view store table = record { hub = hub_view store.machine table; store = store }
 

@@ -61,7 +61,7 @@ plain_one s tree Fits known one x y more others fit also same =
     let trees = tree_one s (tree x) (tree y) more others (known x fit) (known y also) same in
     (one x y fit also trees.0, trees.1)
 
--- so is a counted list of them
+-- bytes are those of one counted list of such values
 pub counted_one : {X : Type 0} (bytes_of : X → List ℕ) (P : X → Type 0)
     → ((x y : X) (more others : List ℕ) → P x → P y → bytes_of x ++ more ≡ bytes_of y ++ others
     → (x ≡ y) × (more ≡ others))

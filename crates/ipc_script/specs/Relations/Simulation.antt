@@ -39,7 +39,7 @@ SimulatesLine medium limits number r line old hub opened before after (Ok _) =
 SimulatesLine medium limits number r line old hub opened before after (Err e) =
     LineStops medium limits number r line old hub before after e
 
--- the same of all lines of a script
+-- all lines of a script do what the definitions say
 abbrev pub SimulatesScript : Limits → Clients → List ℕ → Option (List ℕ) → Option (List ℕ)
     → Result ⊤ ScriptFault → Type 0
 SimulatesScript limits h script before after (Ok _) = EndsAs limits h script before after None

@@ -21,8 +21,8 @@ use Rattle.ipc_store.specs.Image.{layout_of, named_sectors, HasBatches, HasObjec
 
 -- where the objects of the version before are read once more, and where those of today are written: on all of the disk,
 -- with the old root
-abbrev pub wide_layout : Limits → ℕ → Layout
-wide_layout limits sectors = record (layout_of limits sectors) { root = format_one.root }
+abbrev pub whole_layout : Limits → ℕ → Layout
+whole_layout limits sectors = record (layout_of limits sectors) { root = format_one.root }
 
 -- the superblock is that of the image, which is a device of the old version
 abbrev pub IsNamed : Superblock → Image → Type 0

@@ -22,7 +22,7 @@ known g c honest =
 
 pub read-requires-clause-laid_out : goal.read-requires-clause-laid_out
 read-requires-clause-laid_out g c =
-    subst (λ (n : ℕ). IsLaidOut c.args.heap.now.range c.args.heap.now.aim n) (sym c.loop-k.invariant.reads.same.sectors) c.requires.laid_out
+    subst (λ (n : ℕ). IsLaidOut c.args.heap.now.range c.args.heap.now.next_root n) (sym c.loop-k.invariant.reads.same.sectors) c.requires.laid_out
 
 pub read-requires-clause-object : goal.read-requires-clause-object
 read-requires-clause-object g c =

@@ -40,7 +40,7 @@ loop-number-init g c = record {
 
 pub read_object-requires-clause-laid_out : goal.read_object-requires-clause-laid_out
 read_object-requires-clause-laid_out g c =
-    subst (λ (n : ℕ). IsLaidOut c.args.heap.now.range c.args.heap.now.aim n) (sym c.loop-number.invariant.reads.same.sectors) c.requires.laid_out
+    subst (λ (n : ℕ). IsLaidOut c.args.heap.now.range c.args.heap.now.next_root n) (sym c.loop-number.invariant.reads.same.sectors) c.requires.laid_out
 
 pub read_object-requires-clause-object : goal.read_object-requires-clause-object
 read_object-requires-clause-object g c =

@@ -26,9 +26,7 @@ device Full some = absurd (some refl)
 
 pub loop-i-init : goal.loop-i-init
 loop-i-init g c =
-    let first = g.D.SectorDisk.medium c.args.disk.now in
-    put-none g.D.SectorDisk.size g.D.SectorDisk.medium g.D.SectorDisk.counts (g.O.Objects.objects c.args.objects.now) (g.O.Objects.differs c.args.objects.now)
-    c.args.heap.now c.args.disk.now c.objects_have_their_bytes.ensures.placed c.objects_have_their_bytes.ensures.bytes c.requires.no_others
+    put-none c.objects_have_their_bytes.ensures.placed c.objects_have_their_bytes.ensures.bytes c.requires.no_others
     (g.met.D.SectorDisk.in_range c.args.disk.now) (λ image left. g.met.D.SectorDisk.only_now c.args.disk.now image left)
 
 module _ (g : Over) (c : In-loop-i g) where
@@ -44,23 +42,19 @@ module _ (g : Over) (c : In-loop-i g) where
 pub put-requires-clause-laid_out : goal.put-requires-clause-laid_out
 put-requires-clause-laid_out g c =
     let so_far = c.loop-i.invariant in
-    subst (λ (n : ℕ). IsLaidOut c.loop-i.heap.range c.loop-i.heap.aim n) (sym so_far.same.sectors)
-    (subst (λ (r : ℕ). IsLaidOut c.loop-i.heap.range r (g.D.SectorDisk.size c.args.disk.now)) (sym so_far.stays.aim)
-    (subst (λ (r : Range). IsLaidOut r c.args.heap.now.aim (g.D.SectorDisk.size c.args.disk.now)) (sym so_far.stays.range) c.requires.laid_out))
+    subst (λ (n : ℕ). IsLaidOut c.loop-i.heap.range c.loop-i.heap.next_root n) (sym so_far.same.sectors)
+    (subst (λ (r : ℕ). IsLaidOut c.loop-i.heap.range r (g.D.SectorDisk.size c.args.disk.now)) (sym so_far.stays.next_root)
+    (subst (λ (r : Range). IsLaidOut r c.args.heap.now.next_root (g.D.SectorDisk.size c.args.disk.now)) (sym so_far.stays.range) c.requires.laid_out))
 
 pub loop-i-preserved : goal.loop-i-preserved
 loop-i-preserved g c =
     let m = (goal.at.loop-i-preserved g c).In-loop-i in
-    let first = g.D.SectorDisk.medium c.args.disk.now in
     let now = g.D.SectorDisk.medium c.loop-i.disk in
     let o : ℕ × List ℕ = object g m in
-    let differs = g.O.Objects.differs c.args.objects.now in
     elim c.if-not-is_kept.branch [
       | then-not-is_kept+in_default w ↦
           rw (w.heap-is, w.disk-is)
-          (put-more g.D.SectorDisk.size g.D.SectorDisk.medium g.D.SectorDisk.counts (os g m) differs c.args.heap.now c.args.disk.now
-          c.count-i-end.ensures.objects c.loop-i.i c.loop-i.heap c.loop-i.disk c.loop-i.invariant o (at g m) w.put.new.disk
-          w.put.ensures.any_moment w.put.ensures.others w.put.new.self w.put.ensures.stays
+          (put-more c.count-i-end.ensures.objects c.loop-i.invariant (at g m) w.put.ensures.any_moment w.put.ensures.others w.put.ensures.stays
           w.objects_have_their_bytes-then-not-is_kept.ensures.placed w.objects_have_their_bytes-then-not-is_kept.ensures.bytes
           (if-some (λ p. sizes_of w.put.new.self ≡ with_object (sizes_of c.loop-i.heap) p.0 (length p.1)) _ o (at g m) w.in_default.ensures.sizes)
           w.in_default.ensures.matches
@@ -76,31 +70,24 @@ loop-i-preserved g c =
       | else-not-is_kept w ↦
           let kept = c.is_kept.ensures.kept w.if-not-is_kept.false in
           rw (w.heap-is, w.disk-is)
-          (put-kept g.D.SectorDisk.size g.D.SectorDisk.medium g.D.SectorDisk.counts (os g m) differs c.args.heap.now c.args.disk.now
-          c.count-i-end.ensures.objects c.loop-i.i c.loop-i.heap c.loop-i.disk c.loop-i.invariant o (at g m) kept.0
+          (put-kept c.count-i-end.ensures.objects c.loop-i.invariant (at g m) kept.0
           (if-some (λ p. value_at nat_eq (sizes_of c.loop-i.heap) p.0 ≡ Some (length p.1)) _ o (at g m) kept.1))
     ]
 
 pub returns-in-Err-clause-any_moment : goal.returns-in-Err-clause-any_moment
 returns-in-Err-clause-any_moment g c =
-    let m = (goal.at.returns-in-Err-clause-any_moment g c).In-loop-i in
-    put-moment g.D.SectorDisk.size g.D.SectorDisk.medium g.D.SectorDisk.counts (os g m) (g.O.Objects.differs c.args.objects.now) c.args.heap.now c.args.disk.now
-    c.count-i-end.ensures.objects c.loop-i.i c.loop-i.heap c.loop-i.disk c.loop-i.invariant (object g m) (at g m) c.put.new.disk
-    c.put.ensures.any_moment c.put.ensures.others
+    put-moment c.count-i-end.ensures.objects c.loop-i.invariant (at g (goal.at.returns-in-Err-clause-any_moment g c).In-loop-i) c.put.ensures.any_moment
+    c.put.ensures.others
 
 pub returns-in-Err-clause-meanwhile : goal.returns-in-Err-clause-meanwhile
 returns-in-Err-clause-meanwhile g c =
-    let m = (goal.at.returns-in-Err-clause-meanwhile g c).In-loop-i in
-    put-meanwhile g.D.SectorDisk.size g.D.SectorDisk.medium g.D.SectorDisk.counts (os g m) (g.O.Objects.differs c.args.objects.now) c.args.heap.now
-    c.args.disk.now c.count-i-end.ensures.objects c.loop-i.i c.loop-i.heap c.loop-i.disk c.loop-i.invariant (object g m) (at g m) c.put.new.disk
-    c.put.ensures.any_moment c.put.ensures.others
+    put-meanwhile c.count-i-end.ensures.objects c.loop-i.invariant (at g (goal.at.returns-in-Err-clause-meanwhile g c).In-loop-i) c.put.ensures.any_moment
+    c.put.ensures.others
 
 pub returns-in-Err-clause-others : goal.returns-in-Err-clause-others
 returns-in-Err-clause-others g c =
-    let m = (goal.at.returns-in-Err-clause-others g c).In-loop-i in
-    put-others g.D.SectorDisk.size g.D.SectorDisk.medium g.D.SectorDisk.counts (os g m) (g.O.Objects.differs c.args.objects.now) c.args.heap.now c.args.disk.now
-    c.count-i-end.ensures.objects c.loop-i.i c.loop-i.heap c.loop-i.disk c.loop-i.invariant (object g m) (at g m) c.put.new.disk
-    c.put.ensures.any_moment c.put.ensures.others
+    put-others c.count-i-end.ensures.objects c.loop-i.invariant (at g (goal.at.returns-in-Err-clause-others g c).In-loop-i) c.put.ensures.any_moment
+    c.put.ensures.others
 
 pub returns-in-Err-clause-counts : goal.returns-in-Err-clause-counts
 returns-in-Err-clause-counts g c =
@@ -119,15 +106,11 @@ returns-in-Err-clause-counts g c =
 
 pub returns-clause-sizes : goal.returns-clause-sizes
 returns-clause-sizes g c =
-    put-sizes g.D.SectorDisk.size g.D.SectorDisk.medium g.D.SectorDisk.counts (g.O.Objects.objects c.args.objects.now)
-    (g.O.Objects.differs c.args.objects.now) c.args.heap.now c.args.disk.now c.count-i-end.ensures.objects c.loop-i.i c.loop-i.heap c.loop-i.disk
-    c.loop-i.invariant (omega (arith, c.loop-i-test.false, c.count-i-end.ensures.count))
+    put-sizes c.count-i-end.ensures.objects c.loop-i.invariant (omega (arith, c.loop-i-test.false, c.count-i-end.ensures.count))
 
 pub returns-clause-map : goal.returns-clause-map
 returns-clause-map g c =
-    put-map g.D.SectorDisk.size g.D.SectorDisk.medium g.D.SectorDisk.counts (g.O.Objects.objects c.args.objects.now)
-    (g.O.Objects.differs c.args.objects.now) c.args.heap.now c.args.disk.now c.count-i-end.ensures.objects c.loop-i.i c.loop-i.heap c.loop-i.disk
-    c.loop-i.invariant (omega (arith, c.loop-i-test.false, c.count-i-end.ensures.count))
+    put-map c.count-i-end.ensures.objects c.loop-i.invariant (omega (arith, c.loop-i-test.false, c.count-i-end.ensures.count))
 
 pub returns-clause-spends : goal.returns-clause-spends
 returns-clause-spends g c =

@@ -25,7 +25,7 @@ use Rattle.clap.specs.Simple.{HasMatchesOf}
 use Rattle.clap.proofs.OnLiterals.{clap_on_literals}
 use Rattle.ipc_command.specs.Command.{PlainRequest, plain_request, asked, declared, is_no_flag, parsed_number}
 use Rattle.ipc_command.specs.Command.{small_words, sectors_words, turns_words, metrics_words, AsksFor, IsTakenAs}
-use Rattle.ipc_command.specs.Command.PlainRequest.{Replay, Format, Upgrade, Run, Dump, Look, Backup, Check, Serve}
+use Rattle.ipc_command.specs.Command.PlainRequest.{Replay, Format, Upgrade, Run, Dump, ListObjects, Backup, Check, Serve}
 use Rattle.ipc_command.proofs.command.parse.Goals as goal
 
 abbrev standard_words : List ℕ → List Text
@@ -85,7 +85,7 @@ dump-taken : (name device : List ℕ) → IsValue device → takes declared (nam
 unfolding clap_on_literals
 dump-taken name device v = rw (v.dashes, v.long, v.short) refl
 
-list-read : (name device : List ℕ) → IsValue device → asked (subcommand_of declared (name ∷ codes "list" ∷ device ∷ [])) ≡ Look device
+list-read : (name device : List ℕ) → IsValue device → asked (subcommand_of declared (name ∷ codes "list" ∷ device ∷ [])) ≡ ListObjects device
 unfolding clap_on_literals
 list-read name device v = rw (v.dashes, v.long, v.short) refl
 
@@ -284,7 +284,7 @@ replay-only (request.Format device b sectors) small is = cc
 replay-only (request.Upgrade device b sectors) small is = cc
 replay-only (request.Run device) small is = cc
 replay-only (request.Dump device) small is = cc
-replay-only (request.Look device) small is = cc
+replay-only (request.ListObjects device) small is = cc
 replay-only (request.Backup device copy) small is = cc
 replay-only (request.Check device) small is = cc
 replay-only (request.Serve device socket turns metrics) small is = cc

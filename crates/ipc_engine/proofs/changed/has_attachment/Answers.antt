@@ -7,4 +7,5 @@ use Rattle.ipc_engine.proofs.changed.has_attachment.Goals as goal
 
 pub returns : goal.returns
 returns c =
-    c.some_is_attachment.ensures ∙ any-rows descriptor_row (λ d. is_segment d.1.on.kind) c.rows.result.now ∙ ap (list_any (λ d. is_segment d.1.on.kind)) c.rows.ensures
+    c.some_is_attachment.ensures ∙ any-rows descriptor_row (λ d. is_segment d.1.on.kind) c.rows.result.now
+    ∙ ap (list_any (λ d. is_segment d.1.on.kind)) c.rows.ensures

@@ -7,4 +7,5 @@ use Rattle.ipc_engine.proofs.changed.has_open.Goals as goal
 
 pub returns : goal.returns
 returns c =
-    c.some_is_on.ensures ∙ any-rows descriptor_row (λ d. is_on c.args.this d.1.on) c.rows.result.now ∙ ap (list_any (λ d. is_on c.args.this d.1.on)) c.rows.ensures
+    c.some_is_on.ensures ∙ any-rows descriptor_row (λ d. is_on c.args.this d.1.on) c.rows.result.now
+    ∙ ap (list_any (λ d. is_on c.args.this d.1.on)) c.rows.ensures

@@ -97,8 +97,8 @@ loop-k-preserved g c =
       mark = c.bytes.ensures.mark;
     }
 
-pub returns-clause-behind : goal.returns-clause-behind
-returns-clause-behind g c =
+pub returns-clause-beyond : goal.returns-clause-beyond
+returns-clause-beyond g c =
     let bytes : List ℕ = (object_at (g.O.Objects.objects c.args.objects.now) c.args.i).1 in
     let range : Range = record { first = c.args.first; count = sectors_for (length bytes) } in
     let long : length bytes ≡ c.len.result =

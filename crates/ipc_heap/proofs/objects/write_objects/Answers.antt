@@ -1,4 +1,4 @@
--- Each object is written behind those before it.
+-- Each object is written after those before it.
 use Rattle.std.proofs.Common.{◌≡◌, ℕ, ◌+◌, ◌/◌, ◌<◌, List, [], ◌++◌, ◌∷◌, length, refl, inl, inr, ⊎_elim, map, sym, ap, subst, ◌∙◌, take, arith}
 use Rattle.std.specs.Prelude.{flat_map}
 use Rattle.std.specs.List.{range_with_len}
@@ -68,7 +68,7 @@ loop-i-preserved g c =
     let new = g.D.SectorDisk.medium c.write_from.new.disk in
     let front : take (c.loop-i.i + 1) os ≡ take c.loop-i.i os ++ o ∷ [] = take_more os c.loop-i.i (0, []) less in
     record {
-      place = omega (arith, c.in_ok-at.ensures.behind, c.loop-i.invariant.place, more);
+      place = omega (arith, c.in_ok-at.ensures.beyond, c.loop-i.invariant.place, more);
       wrote = subst (λ (n : ℕ).
           Wrote g.D.SectorDisk.size g.D.SectorDisk.medium g.D.SectorDisk.counts (IsOutside whole) n c.args.disk.now c.write_from.new.disk) (sym more)
           (wrote-then g.D.SectorDisk.size g.D.SectorDisk.medium g.D.SectorDisk.counts (IsOutside whole) (IsOutside part)
@@ -87,8 +87,8 @@ loop-i-preserved g c =
           (c.in_ok-at.ensures.written mid)));
     }
 
-pub returns-clause-behind : goal.returns-clause-behind
-returns-clause-behind g c =
+pub returns-clause-beyond : goal.returns-clause-beyond
+returns-clause-beyond g c =
     let os = g.O.Objects.objects c.args.objects.now in
     let whole : Range = record { first = c.args.first; count = object_sectors os } in
     let all : take c.loop-i.i os ≡ os = take_all c.loop-i.i os (omega (arith, c.loop-i-test.false, c.count-i-end.ensures.count)) in

@@ -42,7 +42,7 @@ loop-preserved c =
           (sym w.some_empty-is) (by_zero c.loop.some_empty c.in-Some.sectors w.if-some_empty.false)
     ] in
     subst (λ (o : Option ℕ). AreGone c.args.range c.args.table.now c.args.words.now c.note_sectors.new.uses (c.loop.counter + 1)
-    (c.loop.at + (4 + c.in-Some.sectors)) o c.if-some_empty.some_empty) (ap (λ (n : ℕ). Some n) (sym c.wide.ensures))
+    (c.loop.at + (4 + c.in-Some.sectors)) o c.if-some_empty.some_empty) (ap (λ (n : ℕ). Some n) (sym c.u64_at.ensures))
     (gone-more c.args.range c.args.table.now c.args.words.now c.loop.uses c.loop.counter c.loop.at c.loop.last c.loop.some_empty c.loop.invariant
     c.in-Some.sectors c.in-Some.ensures c.note_sectors.new.uses c.if-some_empty.some_empty (λ i. omega (arith, c.type_inv.words i))
     (c.in_ok-note_sectors.ensures.noted (object_sectors c.loop.invariant.placed) c.loop.invariant.noted) either)

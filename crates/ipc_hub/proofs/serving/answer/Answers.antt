@@ -25,19 +25,19 @@ told c =
     elim c.match-get_mut.branch [
       | in-Some w ↦
           let was = w.in-Some.session.now in
-          let now = w.hear_own.new.self in
+          let now = w.take_reply.new.self in
           w.connections-is
           ∙ put-changed (answered (last_reply (map plain_outcome c.args.outcomes.now))) c.args.connections.now _ c.args.conn was now
           (c.get_mut.follows.holds now) w.in-Some.ensures.found
-          (w.hear_own.ensures ∙ ap (λ (r : Option PlainOutcome). answered r was)
+          (w.take_reply.ensures ∙ ap (λ (r : Option PlainOutcome). answered r was)
           (last-is c.args.outcomes.now (option_copied w.last.result) w.last.ensures.value))
       | in_default w ↦
           w.connections-is ∙ c.get_mut.follows.holds-at-none
           ∙ same-changed _ c.args.connections.now c.args.conn w.in_default.ensures.found
     ]
 
-pub hear_own-requires : goal.hear_own-requires
-hear_own-requires c none =
+pub take_reply-requires : goal.take_reply-requires
+take_reply-requires c none =
     subst (λ (r : Option PlainOutcome). HasSpaceToGreet r c.in-Some.session.now)
     (sym (last-is c.args.outcomes.now (option_copied c.last.result) c.last.ensures.value))
     ((rw (sym c.in-Some.ensures.found) at c.requires.space.own) none)

@@ -17,8 +17,8 @@ use Rattle.ipc_hub.specs.View.{ConnectionView}
 use Rattle.ipc_hub.specs.Relations.Delivery.{owed_to}
 use Rattle.ipc_hub.specs.Relations.Invariant.{IsSoundConnection, IsSoundIn, IsConnected}
 use Rattle.ipc_hub.specs.Relations.Requests.{ComesTo, HasRoom, Received, taken_off}
-use Rattle.ipc_hub.specs.declared.serving.Asked.{Asked}
-use Rattle.ipc_hub.specs.declared.serving.Asked.TheVariants as asks
+use Rattle.ipc_hub.specs.declared.serving.FrameOutcome.{FrameOutcome}
+use Rattle.ipc_hub.specs.declared.serving.FrameOutcome.TheVariants as asks
 use Rattle.ipc_hub.specs.Relations.Rows.{Table, hub_view, stored_view, is_open_in}
 use Rattle.ipc_hub.proofs.Rows.{same_value, same-value, process_of}
 use Rattle.ipc_hub.proofs.Keeping.{change-invariant, connected-in, live-at}
@@ -66,7 +66,7 @@ kept old before conn was room found = each-at (IsSoundIn (hub_view old.machine b
 
 -- what a connection has received, by what came of it and how it stands in the table then
 received : {D : Type 0} (medium : D → Medium) (old new : StoreView D) (before after : Table) (conn : ℕ) (was : ConnectionView) (bytes : List ℕ)
-    (moment : ℕ) (asked : Asked) → HasRoom (stored_view old before) conn → is_open_in before conn ≡ true → value_at nat_eq before conn ≡ Some was
+    (moment : ℕ) (asked : FrameOutcome) → HasRoom (stored_view old before) conn → is_open_in before conn ≡ true → value_at nat_eq before conn ≡ Some was
     → ComesTo medium old new was.process (first (was.input ++ bytes)) moment asked
     → ((used : ℕ) (request : PlainRequest) → first (was.input ++ bytes) ≡ Whole used request → used ≡ length (was.input ++ bytes))
     → after ≡ with_value nat_eq before conn (taken_off asked (record was { input = was.input ++ bytes }))
@@ -94,7 +94,7 @@ received medium old new before after conn was bytes moment asked room goes_on fo
 
 -- a whole frame was served from the piece, of a connection that kept no bytes: it is as it was
 off-piece : {D : Type 0} (medium : D → Medium) (old new : StoreView D) (was : ConnectionView) (used : ℕ) (request : PlainRequest) (moment : ℕ)
-    (asked : Asked) (bytes : List ℕ) → was.input ≡ [] → ComesTo medium old new was.process (Whole used request) moment asked
+    (asked : FrameOutcome) (bytes : List ℕ) → was.input ≡ [] → ComesTo medium old new was.process (Whole used request) moment asked
     → was ≡ taken_off asked (record was { input = bytes })
 off-piece medium old new was used request moment asks.More bytes none comes = absurd (let more = comes.0 in cc)
 off-piece medium old new was used request moment asks.Served bytes none comes = ap (λ (l : List ℕ). record was { input = l }) none

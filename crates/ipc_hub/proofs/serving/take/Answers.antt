@@ -53,7 +53,8 @@ pub returns-in-NoMemory-clause-took : goal.returns-in-NoMemory-clause-took
 returns-in-NoMemory-clause-took g c =
     let received = rw c.in-NoMemory.is at c.receive-count.ensures.received in
     let late = c.late_tick_does_nothing.ensures in
-    rw (c.count_refusal.ensures, c.refuse.ensures) (refused-took g.met.D.SectorDisk.only_now received (none-waits g.met.D.SectorDisk.only_now received late.tick late.sound))
+    rw (c.count_refusal.ensures, c.refuse.ensures)
+    (refused-took g.met.D.SectorDisk.only_now received (none-waits g.met.D.SectorDisk.only_now received late.tick late.sound))
 
 pub returns-in-Broken-clause-took : goal.returns-in-Broken-clause-took
 returns-in-Broken-clause-took g c =

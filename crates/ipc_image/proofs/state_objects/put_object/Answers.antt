@@ -50,10 +50,10 @@ returns-in-3-clause-passed c =
     ∙ ap Some (ap (λ (t : State). passed (adjustments_bytes t.undo) c.args.window.now) (sym c.objects.view_is) ∙ sym c.put_adjustments.ensures))
 
 pub returns-in_default-clause-passed : goal.returns-in_default-clause-passed
-returns-in_default-clause-passed c = ap (option_map (after c.args.window.now)) c.thing_at.ensures.object ∙ ap Some (sym c.put_thing.ensures.passed)
+returns-in_default-clause-passed c = ap (option_map (after c.args.window.now)) c.own_object_at.ensures.object ∙ ap Some (sym c.put_own_object.ensures.passed)
 
-pub put_thing-requires-clause-mark : goal.put_thing-requires-clause-mark
-put_thing-requires-clause-mark c = (c.thing_at.ensures.stands.marks c.args.mark.now).0 (c.requires.mark.things (omega arith))
+pub put_own_object-requires-clause-mark : goal.put_own_object-requires-clause-mark
+put_own_object-requires-clause-mark c = (c.own_object_at.ensures.stands.marks c.args.mark.now).0 (c.requires.mark.things (omega arith))
 
 pub returns-in-1-clause-mark : goal.returns-in-1-clause-mark
 returns-in-1-clause-mark c = record {
@@ -66,5 +66,5 @@ pub returns-in_default-clause-mark : goal.returns-in_default-clause-mark
 returns-in_default-clause-mark c = record {
   processes = λ one. absurd (omega (arith, one));
   waits = λ two. absurd (omega (arith, two));
-  things = λ le. (c.thing_at.ensures.stands.marks c.put_thing.new.mark).1 c.put_thing.ensures.mark;
+  things = λ le. (c.own_object_at.ensures.stands.marks c.put_own_object.new.mark).1 c.put_own_object.ensures.mark;
 }

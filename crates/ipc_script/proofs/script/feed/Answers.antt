@@ -5,7 +5,7 @@ use Rattle.std.proofs.lemmas.Result.{err_from_is_err_and}
 use Rattle.ipc_script.proofs.FedPieces.{fed_begun, fed_more, fed_all, fed_refused, fed_halted, all_taken, rest_length}
 use Rattle.ipc_script.proofs.FaultCases.{fault-is, on-device}
 use Rattle.ipc_script.specs.declared.fault.ScriptFault.TheVariants.{Device}
-use Rattle.ipc_script.proofs.NumbersSpent.{spends-none, spends-both, spends-more, left-behind, failed-behind}
+use Rattle.ipc_script.proofs.NumbersSpent.{spends-none, spends-both, spends-more, left-beyond, failed-beyond}
 use Rattle.ipc_script.proofs.Lasting.{commits-after}
 use Rattle.ipc_script.proofs.script.feed.Goals as goal
 
@@ -45,7 +45,7 @@ pieces-preserved g c = record {
   left = omega (arith, c.pieces.invariant.left, rest_length c.pieces.rest.now c.in_ok-taken.taken);
   spends = λ has.
       let before = c.pieces.invariant.spends has in
-      let here = left-behind (4 + length c.pieces.rest.now) has before (omega (arith, c.pieces.invariant.left)) in
+      let here = left-beyond (4 + length c.pieces.rest.now) has before (omega (arith, c.pieces.invariant.left)) in
       spends-both _ before (c.in_ok-taken.ensures.spends here)
       (omega (arith, c.pieces.invariant.left, c.in_ok-taken.ensures.within, rest_length c.pieces.rest.now c.in_ok-taken.taken));
   committed = λ none. c.in_ok-taken.ensures.commits (c.pieces.invariant.committed none);
@@ -72,13 +72,13 @@ pub returns-in_err-taken-clause-costs : goal.returns-in_err-taken-clause-costs
 returns-in_err-taken-clause-costs g c = λ has.
     let q = err_from_is_err_and c.from_residual.result c.from_residual.ensures.1 in
     let before = c.pieces.invariant.spends has in
-    let here = left-behind (4 + length c.pieces.rest.now) has before (omega (arith, c.pieces.invariant.left)) in
-    rw (q.1, q.2) (failed-behind c.in_err-taken.field-0.0 _ before (c.in_err-taken.ensures.disk here))
+    let here = left-beyond (4 + length c.pieces.rest.now) has before (omega (arith, c.pieces.invariant.left)) in
+    rw (q.1, q.2) (failed-beyond c.in_err-taken.field-0.0 _ before (c.in_err-taken.ensures.disk here))
 
 pub returns-then-is_empty-clause-costs : goal.returns-then-is_empty-clause-costs
 returns-then-is_empty-clause-costs g c = λ has.
     let before = c.pieces.invariant.spends has in
-    let here = left-behind (4 + length c.pieces.rest.now) has before (omega (arith, c.pieces.invariant.left)) in
+    let here = left-beyond (4 + length c.pieces.rest.now) has before (omega (arith, c.pieces.invariant.left)) in
     spends-both _ before (c.in_ok-taken.ensures.spends here) (omega (arith, c.pieces.invariant.left, c.in_ok-taken.ensures.within))
 
 pub returns-clause-costs : goal.returns-clause-costs
@@ -98,7 +98,7 @@ returns-in_err-taken-clause-halted g c is has limits r b =
     let q = err_from_is_err_and c.from_residual.result c.from_residual.ensures.1 in
     let device : c.in_err-taken.field-0.0 ≡ Device = sym q.2 ∙ fault-is c.from_residual.result q.0 Device q.1 is in
     let p = c.pieces.invariant.runs limits r b in
-    let here = left-behind (4 + length c.pieces.rest.now) has (c.pieces.invariant.spends has) (omega (arith, c.pieces.invariant.left)) in
+    let here = left-beyond (4 + length c.pieces.rest.now) has (c.pieces.invariant.spends has) (omega (arith, c.pieces.invariant.left)) in
     fed_halted g.D.SectorDisk.medium limits r c.args.sender c.args.bytes.now c.args.hub.now c.feed_some.new.hub c.pieces.hub c.pieces.opened
     c.feed_some.new.opened c.pieces.rest.now _ _ _ p.2 (c.in_err-taken.ensures.halted (ap (λ e. Err e) device) here limits p.2.now p.2.at)
     (on-device _ _ _ c.in_err-taken.field-0.0 device c.in_err-taken.ensures.err).1

@@ -7,7 +7,7 @@ use Rattle.ipc_hub.specs.Relations.Faults.{RefusesFeed}
 use Rattle.ipc_script.proofs.HubAndClients.{connected, is_known, is_unknown, is_its_fault, is_failed}
 use Rattle.ipc_script.proofs.FedPieces.{feeds_some, feeds_part, feeds_halt, halted_now, halted_piece, piece_taken}
 use Rattle.ipc_script.proofs.FaultCases.{by_fault, fault-is}
-use Rattle.ipc_script.proofs.NumbersSpent.{left-behind}
+use Rattle.ipc_script.proofs.NumbersSpent.{left-beyond}
 use Rattle.ipc_script.specs.declared.fault.ScriptFault.TheVariants.{Device}
 use Rattle.ipc_script.specs.Relations.Faults.{of_serve_error}
 use Rattle.ipc_script.proofs.Lasting.{commits-empty}
@@ -82,7 +82,7 @@ returns-in_err-report-in-Ok-clause-halted g c is has limits r b =
     let q = err_from_is_err_and c.from_residual.result c.from_residual.ensures.1 in
     let device : c.in_err-report-in-Ok.field-0.0 ≡ Device = sym q.2 ∙ fault-is c.from_residual.result q.0 Device q.1 is in
     let conn = c.args.sender.conn in
-    let left = left-behind 1 has c.in-Ok.ensures.spends (omega (arith, c.in-Ok.ensures.within)) in
+    let left = left-beyond 1 has c.in-Ok.ensures.spends (omega (arith, c.in-Ok.ensures.within)) in
     feeds_halt g.D.SectorDisk.medium limits r c.args.sender c.args.bytes.now c.in-Ok.taken
     c.args.hub.now c.feed.new.self c.report.new.hub c.args.opened.now b c.in-Ok.ensures.ok c.in-Ok.ensures.starts
     (is_known c.args.hub.now conn c.feed.result _ c.in-Ok.is c.feed.ensures.stopped c.feed.ensures.unknown) c.report.ensures.takes

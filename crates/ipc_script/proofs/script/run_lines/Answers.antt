@@ -11,16 +11,16 @@ use Rattle.ipc_script.specs.Script.{Cut, Progress, WritesPart, line_done, text_d
 use Rattle.ipc_script.specs.ByLines.HasRunLines.{Line}
 use Rattle.ipc_script.specs.Relations.Simulation.{text_of}
 use Rattle.ipc_script.proofs.FaultCases.{by_fault}
-use Rattle.ipc_script.proofs.ScriptLines.{run_begun, run_more, run_stopped, run_refused, run_broken, run_halted, run_ended, no_lines, may-here, may-behind}
-use Rattle.ipc_script.proofs.ScriptLines.{no-stop-here, no-stop-behind, run_came, ends_after, as_left, Failed, failed, goes_on, stops_grown, stops_lasts}
+use Rattle.ipc_script.proofs.ScriptLines.{run_begun, run_more, run_stopped, run_refused, run_broken, run_halted, run_ended, no_lines, may-here, may-beyond}
+use Rattle.ipc_script.proofs.ScriptLines.{no-stop-here, no-stop-beyond, run_came, ends_after, as_left, Failed, failed, goes_on, stops_grown, stops_lasts}
 use Rattle.ipc_hub.specs.Clients.{Clients}
 use Rattle.ipc_script.specs.Relations.Lasts.{FailsWithin}
 use Rattle.ipc_script.proofs.Lasting.{lasts-none, lasts-both, commits-after, committed-unless, ends-any, ends-by}
 use Rattle.ipc_script.proofs.Stopping.{unless, lives-none, lives-more, lives-stop}
-use Rattle.ipc_script.proofs.Halting.{halts-behind, halts-none}
+use Rattle.ipc_script.proofs.Halting.{halts-beyond, halts-none}
 use Rattle.ipc_script.proofs.WrittenText.{part_none, grown_none}
 use Rattle.ipc_script.proofs.LineLengths.{cost-fits}
-use Rattle.ipc_script.proofs.NumbersSpent.{young-has, spends-none, spends-both, left-behind, failed-behind}
+use Rattle.ipc_script.proofs.NumbersSpent.{young-has, spends-none, spends-both, left-beyond, failed-beyond}
 use Rattle.ipc_script.proofs.script.run_lines.Goals as goal
 
 pub lines-init : goal.lines-init
@@ -81,36 +81,36 @@ pub lines-preserved-in-Ok : goal.lines-preserved-in-Ok
 lines-preserved-in-Ok g c =
     let rest = c.lines.rest.now in
     let text = c.first_line.result.0.now in
-    let behind = c.first_line.result.1.now in
+    let beyond = c.first_line.result.1.now in
     let old = g.D.SectorDisk.medium c.lines.hub.store.disk in
     let stop : line_of text ≡ Some Stop = sym c.line_of.ensures ∙ ap (option_map plain_line) (c.in-Some.is ∙ ap Some c.in-Stop.is) in
     record {
       few = omega (arith, c.lines.invariant.few, c.first_line.ensures.shorter);
-      may = λ may. may-behind rest text behind c.first_line.ensures.lines old (g.D.SectorDisk.medium c.in-Ok.next.store.disk)
+      may = λ may. may-beyond rest text beyond c.first_line.ensures.lines old (g.D.SectorDisk.medium c.in-Ok.next.store.disk)
           (c.lines.invariant.may may) c.in-Ok.ensures.honest;
       left = omega (arith, c.lines.invariant.left, c.first_line.ensures.shorter);
       spends = λ has may.
-          let honest = may-here rest text behind c.first_line.ensures.lines old (c.lines.invariant.may may) stop in
+          let honest = may-here rest text beyond c.first_line.ensures.lines old (c.lines.invariant.may may) stop in
           let before = c.lines.invariant.spends has may in
-          let here = left-behind 3 has before (omega (arith, c.lines.invariant.left, c.first_line.ensures.shorter)) in
+          let here = left-beyond 3 has before (omega (arith, c.lines.invariant.left, c.first_line.ensures.shorter)) in
           spends-both _ before (c.in-Ok.ensures.spends honest here) (omega (arith, c.lines.invariant.left, c.first_line.ensures.shorter));
-      none = λ stops. no-stop-behind rest text behind c.first_line.ensures.lines (c.lines.invariant.none stops);
-      lasts = λ limits h matches none stops. absurd (no-stop-here rest text behind c.first_line.ensures.lines (c.lines.invariant.none stops) stop);
+      none = λ stops. no-stop-beyond rest text beyond c.first_line.ensures.lines (c.lines.invariant.none stops);
+      lasts = λ limits h matches none stops. absurd (no-stop-here rest text beyond c.first_line.ensures.lines (c.lines.invariant.none stops) stop);
       lives = λ limits h matches none may.
-          let honest = may-here rest text behind c.first_line.ensures.lines old (c.lines.invariant.may may) stop in
+          let honest = may-here rest text beyond c.first_line.ensures.lines old (c.lines.invariant.may may) stop in
           let again = c.in-Ok.ensures.stops honest in
           lives-stop g.D.SectorDisk.medium c.args.hub.store g.met.D.SectorDisk.only_now c.lines.hub.store again.0 c.in-Ok.next.store
           (c.lines.invariant.lives limits h matches none may) ([], again.1) again.3;
       committed = λ may waits.
-          let honest = may-here rest text behind c.first_line.ensures.lines old (c.lines.invariant.may may) stop in
+          let honest = may-here rest text beyond c.first_line.ensures.lines old (c.lines.invariant.may may) stop in
           (c.in-Ok.ensures.stops honest).3.opens.found.2.waits.count;
       runs = λ limits h matches none may.
           let p = c.lines.invariant.runs limits h matches none may in
-          let honest = may-here rest text behind c.first_line.ensures.lines old (c.lines.invariant.may may) stop in
+          let honest = may-here rest text beyond c.first_line.ensures.lines old (c.lines.invariant.may may) stop in
           let again = c.in-Ok.ensures.stops honest in
           rw c.clear.ensures.items
           (run_stopped limits h c.args.script.now g.D.SectorDisk.medium c.args.hub.store (c.lines.number + 1)
-          c.lines.hub c.lines.opened.items rest _ _ p text behind c.first_line.ensures.lines stop
+          c.lines.hub c.lines.opened.items rest _ _ p text beyond c.first_line.ensures.lines stop
           c.in-Ok.next (c.in-Ok.ensures.ok limits p.now.hub p.at.run.matches honest) again.0 again.1
           (again.2 limits p.now.hub p.at.run.matches) again.3);
     }
@@ -119,7 +119,7 @@ lines-preserved-in-Ok g c =
 pub lines-preserved : goal.lines-preserved
 lines-preserved g c = record {
   few = omega (arith, c.lines.invariant.few, c.first_line.ensures.shorter);
-  may = λ may. may-behind c.lines.rest.now c.first_line.result.0.now c.first_line.result.1.now c.first_line.ensures.lines
+  may = λ may. may-beyond c.lines.rest.now c.first_line.result.0.now c.first_line.result.1.now c.first_line.ensures.lines
       (g.D.SectorDisk.medium c.lines.hub.store.disk) (g.D.SectorDisk.medium c.run_line.new.hub.store.disk)
       (c.lines.invariant.may may) c.in_default-run_line.ensures.honest;
   left = omega (arith, c.lines.invariant.left, c.first_line.ensures.shorter);
@@ -127,9 +127,9 @@ lines-preserved g c = record {
       let cost = cost-fits c.first_line.result.0.now (plain_line c.in-Some.line) (sym c.line_of.ensures ∙ ap (option_map plain_line) c.in-Some.is)
       c.first_line.ensures.parts c.first_line.ensures.shorter in
       let before = c.lines.invariant.spends has may in
-      let here = left-behind _ has before (omega (arith, c.lines.invariant.left, cost)) in
+      let here = left-beyond _ has before (omega (arith, c.lines.invariant.left, cost)) in
       spends-both _ before (c.in_default-run_line.ensures.costs here) (omega (arith, c.lines.invariant.left, c.first_line.ensures.shorter, cost));
-  none = λ stops. no-stop-behind c.lines.rest.now c.first_line.result.0.now c.first_line.result.1.now c.first_line.ensures.lines
+  none = λ stops. no-stop-beyond c.lines.rest.now c.first_line.result.0.now c.first_line.result.1.now c.first_line.ensures.lines
       (c.lines.invariant.none stops);
   lasts = λ limits h matches none stops.
       let p = c.lines.invariant.runs limits h matches none (inl stops) in
@@ -154,7 +154,7 @@ lines-preserved g c = record {
       let has = young-has c.args.hub.store c.args.script.now young c.requires in
       let cost = cost-fits c.first_line.result.0.now (plain_line c.in-Some.line) (sym c.line_of.ensures ∙ ap (option_map plain_line) c.in-Some.is)
       c.first_line.ensures.parts c.first_line.ensures.shorter in
-      (c.in_default-run_line.ensures.costs (left-behind _ has (c.lines.invariant.spends has may) (omega (arith, c.lines.invariant.left, cost)))).running));
+      (c.in_default-run_line.ensures.costs (left-beyond _ has (c.lines.invariant.spends has may) (omega (arith, c.lines.invariant.left, cost)))).running));
 }
 
 none-left : (n : ℕ) → true ≡ (n == 0) → n ≡ 0
@@ -174,8 +174,8 @@ returns-in-Err-clause-disk g c has may =
     let honest = may-here c.lines.rest.now c.first_line.result.0.now c.first_line.result.1.now c.first_line.ensures.lines
     (g.D.SectorDisk.medium c.lines.hub.store.disk) (c.lines.invariant.may may) stop in
     let before = c.lines.invariant.spends has may in
-    failed-behind c.in-Err.fault _ before
-    (c.in-Err.ensures.disk honest (left-behind 3 has before (omega (arith, c.lines.invariant.left, c.first_line.ensures.shorter))))
+    failed-beyond c.in-Err.fault _ before
+    (c.in-Err.ensures.disk honest (left-beyond 3 has before (omega (arith, c.lines.invariant.left, c.first_line.ensures.shorter))))
 
 -- a line was not run
 pub returns-in-Err-run_line-clause-disk : goal.returns-in-Err-run_line-clause-disk
@@ -183,9 +183,9 @@ returns-in-Err-run_line-clause-disk g c has may =
     let cost = cost-fits c.first_line.result.0.now (plain_line c.in-Some.line) (sym c.line_of.ensures ∙ ap (option_map plain_line) c.in-Some.is)
     c.first_line.ensures.parts c.first_line.ensures.shorter in
     let before = c.lines.invariant.spends has may in
-    let here = left-behind _ has before (omega (arith, c.lines.invariant.left, cost)) in
+    let here = left-beyond _ has before (omega (arith, c.lines.invariant.left, cost)) in
     rw (c.close-in-Err-run_line-2.ensures.disk, c.close-in-Err-run_line.ensures.store)
-    (failed-behind c.in-Err-run_line.fault _ before (c.in-Err-run_line.ensures.costs here))
+    (failed-beyond c.in-Err-run_line.fault _ before (c.in-Err-run_line.ensures.costs here))
 
 -- what is left: of a text that is no line, of a line that was not run, and at the end
 pub returns-in_default-clause-leaves : goal.returns-in_default-clause-leaves
@@ -211,9 +211,9 @@ pub returns-in-Err-clause-leaves : goal.returns-in-Err-clause-leaves
 returns-in-Err-clause-leaves g c = λ limits h matches none may.
     let rest = c.lines.rest.now in
     let text = c.first_line.result.0.now in
-    let behind = c.first_line.result.1.now in
+    let beyond = c.first_line.result.1.now in
     let stop : line_of text ≡ Some Stop = sym c.line_of.ensures ∙ ap (option_map plain_line) (c.in-Some.is ∙ ap Some c.in-Stop.is) in
-    let honest = may-here rest text behind c.first_line.ensures.lines (g.D.SectorDisk.medium c.lines.hub.store.disk) (c.lines.invariant.may may) stop in
+    let honest = may-here rest text beyond c.first_line.ensures.lines (g.D.SectorDisk.medium c.lines.hub.store.disk) (c.lines.invariant.may may) stop in
     let left = c.in-Err.ensures.left honest in
     record {
       closed = left.0;
@@ -224,14 +224,14 @@ returns-in-Err-clause-leaves g c = λ limits h matches none may.
           (ends-by ⊤ ⊤ ⊥ _ _ c.in-Err.fault (λ _. inl left.1) (λ _. inl left.1) (λ never. absurd never) c.in-Err.ensures.err)
           (λ is young. record {
             line = text;
-            behind = lines_of behind;
+            beyond = lines_of beyond;
             next = c.first_line.ensures.lines;
             form = Stop;
             is = stop;
             halts = halts-none limits _ Stop left.0.confirmed _ _ _ (c.lines.invariant.runs limits h matches none may).written;
           });
       handed = ends-by ⊤ ⊤ ⊥ _ _ c.in-Err.fault (λ _. left.2) (λ _. left.2) (λ never. absurd never) c.in-Err.ensures.err;
-      one = λ stops. absurd (no-stop-here rest text behind c.first_line.ensures.lines (c.lines.invariant.none stops) stop);
+      one = λ stops. absurd (no-stop-here rest text beyond c.first_line.ensures.lines (c.lines.invariant.none stops) stop);
       committed = unless c.in-Err.fault _ _ (λ empty _. empty) left.3;
       state = tt;
     }
@@ -264,14 +264,14 @@ returns-in-Err-run_line-clause-leaves g c = λ limits h matches none may.
           (λ failed young.
           let cost = cost-fits c.first_line.result.0.now form is c.first_line.ensures.parts c.first_line.ensures.shorter in
           let before = c.lines.invariant.spends (young-has c.args.hub.store c.args.script.now young c.requires) may in
-          let here = left-behind _ (young-has c.args.hub.store c.args.script.now young c.requires) before
+          let here = left-beyond _ (young-has c.args.hub.store c.args.script.now young c.requires) before
           (omega (arith, c.lines.invariant.left, cost)) in record {
             line = c.first_line.result.0.now;
-            behind = lines_of c.first_line.result.1.now;
+            beyond = lines_of c.first_line.result.1.now;
             next = c.first_line.ensures.lines;
             form = form;
             is = is;
-            halts = halts-behind limits p.now form closed.confirmed p.text _ _ _ p.written
+            halts = halts-beyond limits p.now form closed.confirmed p.text _ _ _ p.written
                 (c.in-Err-run_line.ensures.halted failed here limits p.now p.at);
           });
       handed = ends-any _ _ e (inl handed) handed;

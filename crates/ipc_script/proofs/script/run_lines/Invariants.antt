@@ -31,6 +31,6 @@ invariant-lines g l = record {
       (g.W.Write.contents l.fn.writer) (g.W.Write.contents l.writer);
 }
 
--- the text behind the lines so far
+-- the text after the lines so far
 abbrev pub decreases-lines : goal.decreases-lines
 decreases-lines g l = length l.rest

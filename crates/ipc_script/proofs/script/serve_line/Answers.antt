@@ -21,7 +21,7 @@ use Rattle.ipc_script.proofs.script.serve_line.Goals.{in-Open+in_ok-open-in-Open
 use Rattle.ipc_script.proofs.Lasting.{lasts-as-none, lasts-as-come, takes-same, takes-halted, commits-all}
 use Rattle.ipc_script.proofs.FaultCases.{device-then, fault-is}
 use Rattle.ipc_script.proofs.Halting.{halted-at, halts-fails, matches-failed}
-use Rattle.ipc_script.proofs.NumbersSpent.{goes-on, left-behind}
+use Rattle.ipc_script.proofs.NumbersSpent.{goes-on, left-beyond}
 use Rattle.ipc_script.proofs.WrittenText.{grown_none}
 use Rattle.ipc_script.specs.Halting.{IsBegun}
 use Rattle.ipc_script.specs.Halting.IsBegun.{None as none_begun, Opens as open_begun, Ends as end_begun, Ticks as tick_begun}
@@ -195,20 +195,20 @@ returns-clause-halted g c is has limits r b =
       | in-End+in_ok-close-in-End w ↦
           let some : HasNumbers 3 c.args.hub.now.store = record { running = has.running; left = omega (arith, has.left) } in
           let all : HasNumbers 4 c.args.hub.now.store = record { running = has.running; left = omega (arith, has.left) } in
-          let few = left-behind 1 all (w.in_ok-close-in-End.ensures.costs some) (omega arith) in
+          let few = left-beyond 1 all (w.in_ok-close-in-End.ensures.costs some) (omega arith) in
           rw w.in-End.is (halted (End w.in-End.moment w.in-End.conn) _
           (rw (← w.hub-is, ← w.opened-is) at (w.in_ok-close-in-End.ensures.ok limits r b).1) (rw w.hub-is few)
           (end_begun w.in-End.moment w.in-End.conn))
       | in-Tick+in-Ok w ↦
           let all : HasNumbers 4 c.args.hub.now.store = record { running = has.running; left = omega (arith, has.left) } in
-          let few = left-behind 1 all w.in-Ok.ensures.spends (omega arith) in
+          let few = left-beyond 1 all w.in-Ok.ensures.spends (omega arith) in
           let come = w.in-Ok.ensures.ok limits r.hub b.run.matches in
           let i = steady limits c.args.hub.now w.tick.new.self c.args.opened.now.items r (tick limits r.hub w.in-Tick.moment) b.run
           (heads_tick limits 0 w.in-Tick.moment r.hub) come.matches in
           rw w.in-Tick.is (halted (Tick w.in-Tick.moment) _ (rw (← w.hub-is, ← w.opened-is) at i) (rw w.hub-is few) (tick_begun w.in-Tick.moment))
       | in-Save+in-Ok-save w ↦
           let all : HasNumbers 4 c.args.hub.now.store = record { running = has.running; left = omega (arith, has.left) } in
-          let few = left-behind 1 all w.in-Ok-save.ensures.spends (omega arith) in
+          let few = left-beyond 1 all w.in-Ok-save.ensures.spends (omega arith) in
           let i = still_matches limits c.args.hub.now w.save.new.self c.args.opened.now.items r (w.in-Ok-save.ensures.ok limits r.hub) b.run in
           rw w.in-Save.is (halted Save r (rw (← w.hub-is, ← w.opened-is) at i) (rw w.hub-is few) (none_begun Save))
     ])

@@ -11,9 +11,9 @@ there [] i d within = absurd (omega (arith, within))
 there (row ∷ rows) zero d within = refl
 there (row ∷ rows) (suc i) d within = there rows i d (omega (arith, within))
 
-pub returns-then-rows-recent : goal.returns-then-rows-recent
-returns-then-rows-recent c =
+pub returns-then-rows-hint : goal.returns-then-rows-hint
+returns-then-rows-hint c =
     let rows = c.args.rows.now in
-    let is = there rows c.args.recent _ c.if-recent-rows.true in
-    sym (ap (λ (n : ℕ). position (λ (r : DescriptorRow). nat_eq r.fd n) rows) (sym c.if-rows-recent.true)
-    ∙ first-at descriptor_row rows c.args.recent (2 ^ 32) _ (c.requires c.if-rise.true) c.if-recent-rows.true is)
+    let is = there rows c.args.hint _ c.if-hint-rows.true in
+    sym (ap (λ (n : ℕ). position (λ (r : DescriptorRow). nat_eq r.fd n) rows) (sym c.if-rows-hint.true)
+    ∙ first-at descriptor_row rows c.args.hint (2 ^ 32) _ (c.requires c.if-rise.true) c.if-hint-rows.true is)

@@ -4,8 +4,8 @@ use Rattle.std.specs.List.{fold}
 use Rattle.std.proofs.lemmas.List.{take_all}
 use Rattle.std.proofs.lemmas.List.Sums.{fold_more}
 use Rattle.std.proofs.lemmas.Option.{unwrap_or-slice_get}
-use Rattle.ipc_wire.specs.Sixes.{bytes_of, operations_in}
-use Rattle.ipc_wire.specs.declared.sixes.SemBuf.{SemBuf}
+use Rattle.ipc_wire.specs.SemBufs.{bytes_of, operations_in}
+use Rattle.ipc_wire.specs.declared.sem_bufs.SemBuf.{SemBuf}
 use Rattle.ipc_state.specs.Bits.{bit_of, with_bit}
 use Rattle.ipc_state.proofs.operations.bits_of.Goals as goal
 

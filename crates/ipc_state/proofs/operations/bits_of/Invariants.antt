@@ -1,6 +1,6 @@
 use Rattle.std.proofs.Common.{◌≡◌, ◌≤◌, length, take}
 use Rattle.std.specs.List.{fold}
-use Rattle.ipc_wire.specs.Sixes.{bytes_of, operations_in}
+use Rattle.ipc_wire.specs.SemBufs.{bytes_of, operations_in}
 use Rattle.ipc_state.specs.Bits.{with_bit}
 use Rattle.ipc_state.proofs.operations.bits_of.Given as goal
 

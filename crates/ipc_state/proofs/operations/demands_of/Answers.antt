@@ -2,8 +2,8 @@ use Rattle.std.proofs.Common.{◌∙◌, ◌<◌, List, length, take, ap, sym, r
 use Rattle.std.proofs.lemmas.List.{take_all}
 use Rattle.std.proofs.lemmas.List.Sums.{fold_more}
 use Rattle.std.proofs.lemmas.Option.{get_or_from_slice_get}
-use Rattle.ipc_wire.specs.Sixes.{bytes_of, operations_in}
-use Rattle.ipc_wire.specs.declared.sixes.SemBuf.{SemBuf}
+use Rattle.ipc_wire.specs.SemBufs.{bytes_of, operations_in}
+use Rattle.ipc_wire.specs.declared.sem_bufs.SemBuf.{SemBuf}
 use Rattle.ipc_state.specs.declared.operations.Demands.{Demands}
 use Rattle.ipc_state.specs.Demands.{demanding, demands_of, no_demands}
 use Rattle.ipc_state.proofs.operations.demands_of.Goals as goal

@@ -1,5 +1,5 @@
 use Rattle.std.proofs.Common.{◌≡◌, take}
-use Rattle.ipc_wire.specs.Sixes.{bytes_of, operations_in}
+use Rattle.ipc_wire.specs.SemBufs.{bytes_of, operations_in}
 use Rattle.ipc_state.specs.Demands.{demands_of}
 use Rattle.ipc_state.proofs.operations.demands_of.Given as goal
 

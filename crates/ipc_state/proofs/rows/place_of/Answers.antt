@@ -12,10 +12,10 @@ found : {T : Type 0} (xs : List (Item T)) (place n : ℕ) (was : Item T) → IsR
 found xs place n was rising inside is number =
     sym (ap (λ (m : ℕ). position (λ (e : Item _). nat_eq e.number m) xs) (sym number) ∙ first-at item_row xs place (2 ^ 32) was rising inside is)
 
-pub returns-then-items-recent : goal.returns-then-items-recent
-returns-then-items-recent g c =
-    let number = ap (λ (e : Item _). e.number) c.index-items-recent.is ∙ c.if-items-recent.true in
-    found c.args.items.now c.args.recent c.args.number c.index-items-recent.result c.requires c.if-recent-items.true c.index-items-recent.is number
+pub returns-then-items-hint : goal.returns-then-items-hint
+returns-then-items-hint g c =
+    let number = ap (λ (e : Item _). e.number) c.index-items-hint.is ∙ c.if-items-hint.true in
+    found c.args.items.now c.args.hint c.args.number c.index-items-hint.result c.requires c.if-hint-items.true c.index-items-hint.is number
 
 pub returns-then-items-near : goal.returns-then-items-near
 returns-then-items-near g c =

@@ -22,14 +22,14 @@ load_objects-requires-clause-laid_out g c =
 
 pub returns-clause-refused : goal.returns-clause-refused
 returns-clause-refused g c = IfErr-weaker c.load_objects.result _ _
-    (λ error is honest device named.
+    (λ error. damage-map _ _ error
+    (λ sector damage honest device named.
     let form = c.args.form in
     let limits = c.args.superblock.limits in
     let image : Image = (g.D.SectorDisk.medium c.args.disk.now).contents in
     let here : c.layout_in-layout.result ≡ layout_in form limits (named_sectors image) =
     c.layout_in-layout.ensures.exact ∙ ap (layout_in form limits) named in
-    damage-map _ (HasNoBase form limits image) error
-    (λ sector damage. elim damage [
+    elim (damage honest) [
       | inl none ↦ record {
         none = λ epoch base has. none.none epoch has.objects (subst (λ (l : Layout). Holds l epoch has.objects image) (sym here) has.there);
         first = IsFirstFaultIn.Objects limits sector device (subst (λ (l : Layout). IsFirstDamage l image sector) here none.first);
@@ -43,8 +43,7 @@ returns-clause-refused g c = IfErr-weaker c.load_objects.result _ _
             (IsFirstFaultIn.NoState limits others.epoch others.objects device
             (subst (λ (l : Layout). Holds l others.epoch others.objects image) here others.there) others.none);
       }
-    ])
-    (is honest))
+    ]))
     c.load_objects.ensures.refused
 
 pub returns-clause-there : goal.returns-clause-there

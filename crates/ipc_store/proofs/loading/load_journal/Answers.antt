@@ -10,7 +10,6 @@ use Rattle.ipc_store.specs.Batch.{batch_bytes}
 use Rattle.ipc_store.specs.Image.{HasBatches, HasNoHeader}
 use Rattle.ipc_store.specs.View.{of_journal_error}
 use Rattle.ipc_store.specs.Relations.Replay.{IsOpened, Replays, IsGoodUpTo}
-use Rattle.ipc_store.specs.Relations.Loading.{IsFoundDamaged}
 use Rattle.ipc_store.proofs.Faults.{journal-device, opened-damage}
 use Rattle.ipc_store.proofs.Opened.{header-damaged, is_opened, batch-damaged, batches-hold, current-is}
 use Rattle.ipc_store.proofs.Refusals.{damage-map, passed}
@@ -34,12 +33,11 @@ fits g c honest =
 pub returns-in_err-journal-clause-refused : goal.returns-in_err-journal-clause-refused
 returns-in_err-journal-clause-refused g c =
     passed _ c.from_residual.result (of_journal_error c.in_err-journal.field-0.0) c.from_residual.ensures.1
-    (λ form known most honest has.
+    (opened-damage c.in_err-journal.field-0.0 _
+    (λ sector is form known most honest has.
     let image : Image = (g.D.SectorDisk.medium c.args.disk.now).contents in
     let few : length image < 2 ^ 32 =
     omega (arith, (g.met.D.SectorDisk.shaped c.args.disk.now image honest.reads).count, g.met.D.SectorDisk.fits c.args.disk.now) in
-    opened-damage c.in_err-journal.field-0.0 (IsFoundDamaged form image)
-    (λ sector is.
     header-damaged form known c.args.engine.now.limits (saved_epoch c.args.checkpoint.now) c.args.engine.now.state image few has sector
     (c.in_err-journal.ensures.named sector (ap Err is))
     (subst (λ (n : ℕ). HasNoHeader n image) c.epoch.ensures (c.in_err-journal.ensures.damaged sector (ap Err is) honest))))
@@ -52,16 +50,15 @@ returns-in_err-journal-clause-reads g c =
 pub returns-in_err-replay-clause-refused : goal.returns-in_err-replay-clause-refused
 returns-in_err-replay-clause-refused g c =
     passed _ c.from_residual-in_err-replay.result c.in_err-replay.field-0.0 c.from_residual-in_err-replay.ensures.1
-    (λ form known most honest has.
+    (damage-map _ _ c.in_err-replay.field-0.0
+    (λ sector found-bad form known most honest has.
     let here = (goal.at.returns-in_err-replay-clause-refused g c).In_ok-journal in
     let image : Image = (g.D.SectorDisk.medium c.args.disk.now).contents in
     let limits = c.args.engine.now.limits in
     let s = c.args.engine.now.state in
     let journal = c.in_ok-journal.journal in
     let same = c.open.ensures.stays.contents honest in
-    let still = c.open.ensures.stays.time.honest.0 honest in
-    damage-map _ (IsFoundDamaged form image) c.in_err-replay.field-0.0
-    (λ sector damage.
+    let damage = found-bad (c.open.ensures.stays.time.honest.0 honest) in
     batch-damaged form known limits (saved_epoch c.args.checkpoint.now) s image (fits g here honest) has journal c.in_ok-journal.ensures.range
     (c.in_ok-journal.ensures.epoch ∙ c.epoch.ensures) (opened_on g here honest)
     (λ batches t found. damage.none batches t
@@ -70,7 +67,7 @@ returns-in_err-replay-clause-refused g c =
     sector
     (subst (λ (n : ℕ). IsGoodUpTo n limits s journal image sector) (sym most)
     (subst (λ (x : Image). IsGoodUpTo (length c.args.room.now) limits s journal x sector) same damage.first)))
-    (c.in_err-replay.ensures.refused still))
+    c.in_err-replay.ensures.refused)
 
 pub returns-clause-stands : goal.returns-clause-stands
 returns-clause-stands g c = λ honest.

@@ -17,8 +17,8 @@ returns-in-Ok-clause-there g c = (c.in_ok-checkpoint.objects, c.in-Ok.ensures.st
 pub returns-in_err-checkpoint-clause-refused : goal.returns-in_err-checkpoint-clause-refused
 returns-in_err-checkpoint-clause-refused g c =
     passed _ c.from_residual.result (of_load_error c.in_err-checkpoint.field-0.0) c.from_residual.ensures.1
-    (λ honest. loaded-damage c.in_err-checkpoint.field-0.0 _
-    (λ sector is. inl (record {
+    (loaded-damage c.in_err-checkpoint.field-0.0 _
+    (λ sector is honest. inl (record {
       none = c.in_err-checkpoint.ensures.damaged sector (ap Err is) honest;
       first = c.in_err-checkpoint.ensures.first sector (ap Err is) honest;
     })))

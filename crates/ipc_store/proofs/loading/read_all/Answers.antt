@@ -91,8 +91,10 @@ returns-in_err-checkpoint-clause-refused g c =
     let error = c.in_err-checkpoint.field-0.0 in
     subst (λ (i : Image). IsRefusal format i error) (s1.contents honest)
     (damage-refused format image error (damage-map _ (IsFoundDamaged format image) error
-    (λ sector has. (base-damaged format (inr refl) c.in_ok-superblock.superblock.limits image few names.0 has.none, has.first))
-    (c.in_err-checkpoint.ensures.refused h1 names.0 names.1))))
+    (λ sector damage.
+    let has = damage h1 names.0 names.1 in
+    (base-damaged format (inr refl) c.in_ok-superblock.superblock.limits image few names.0 has.none, has.first))
+    c.in_err-checkpoint.ensures.refused)))
 
 pub returns-in_err-checkpoint-clause-reads : goal.returns-in_err-checkpoint-clause-reads
 returns-in_err-checkpoint-clause-reads g c =
@@ -112,9 +114,10 @@ returns-in_err-journal-clause-refused g c =
     let from = c.in_ok-checkpoint.engine.state in
     let error = c.in_err-journal.field-0.0 in
     subst (λ (i : Image). IsRefusal format i error) (s2.contents honest)
-    (damage-refused format m2.contents error
-    (c.in_err-journal.ensures.refused format (inr refl) (sym c.requires) h2
-    (subst (λ (l : Limits). HasBase l (saved_epoch checkpoint) from m2.contents) (sym c.in_ok-checkpoint.ensures.limits) (has g here honest)))))
+    (damage-refused format m2.contents error (damage-map _ (IsFoundDamaged format m2.contents) error
+    (λ sector damage. damage format (inr refl) (sym c.requires) h2
+    (subst (λ (l : Limits). HasBase l (saved_epoch checkpoint) from m2.contents) (sym c.in_ok-checkpoint.ensures.limits) (has g here honest)))
+    c.in_err-journal.ensures.refused)))
 
 pub returns-in_err-journal-clause-reads : goal.returns-in_err-journal-clause-reads
 returns-in_err-journal-clause-reads g c =

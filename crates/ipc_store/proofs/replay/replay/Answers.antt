@@ -17,7 +17,7 @@ use Rattle.ipc_journal.specs.View.{range_of, used_of}
 use Rattle.ipc_state.specs.State.{State}
 use Rattle.ipc_engine.specs.Event.{PlainEvent}
 use Rattle.ipc_store.specs.View.{of_journal_error}
-use Rattle.ipc_store.specs.Relations.Replay.{AreRecords, IsBadAt}
+use Rattle.ipc_store.specs.Relations.Replay.{AreRecords}
 use Rattle.ipc_store.proofs.Loaded.{OnlyReads-never}
 use Rattle.ipc_store.proofs.Faults.{journal-device, ok-device, opened-damage, read-device, damaged-device, memory-device}
 use Rattle.ipc_store.proofs.Refusals.{passed}
@@ -88,7 +88,8 @@ loop-len-init g c = record {
 pub returns-in_err-len-clause-refused : goal.returns-in_err-len-clause-refused
 returns-in_err-len-clause-refused g c =
     passed _ c.from_residual.result (of_journal_error c.in_err-len.field-0.0) c.from_residual.ensures.1
-    (λ honest.
+    (opened-damage c.in_err-len.field-0.0 _
+    (λ sector is honest.
     let inv = c.loop-len.invariant in
     let image = (g.D.SectorDisk.medium c.args.disk.now).contents in
     let journal = c.args.journal.now in
@@ -99,9 +100,6 @@ returns-in_err-len-clause-refused g c =
       | inl lt ↦ lt
       | inr le ↦ absurd (not_none c.in_err-len.field-0.0 (c.in_err-len.ensures.end le))
     ] in
-    opened-damage c.in_err-len.field-0.0
-    (IsBadAt (length c.args.room.now) c.args.engine.now.limits c.args.engine.now.state journal image)
-    (λ sector is.
     let was = ap (λ (x : JournalError). Err x) is in
     let at : sector ≡ (range_of journal).first + 1 + place = c.in_err-len.ensures.named sector was in
     let bad = c.in_err-len.ensures.damaged sector was (stays.time.honest.0 honest) in

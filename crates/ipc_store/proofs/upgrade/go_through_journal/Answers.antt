@@ -41,9 +41,9 @@ led g c honest durable =
 pub returns-in_err-load_journal-clause-refused : goal.returns-in_err-load_journal-clause-refused
 returns-in_err-load_journal-clause-refused g c =
     passed _ c.from_residual-in_err-load_journal.result c.in_err-load_journal.field-0.0 c.from_residual-in_err-load_journal.ensures.1
-    (λ honest durable has.
-    damage-map _ (IsOldDamage (g.D.SectorDisk.medium c.args.disk.now).contents) c.in_err-load_journal.field-0.0 (λ sector is. inl is)
-    (c.in_err-load_journal.ensures.refused format_one (inl refl) (sym (ap length c.deref_mut.ensures.value ∙ c.in_ok-room.ensures)) honest has))
+    (damage-map _ _ c.in_err-load_journal.field-0.0
+    (λ sector is honest durable has. inl (is format_one (inl refl) (sym (ap length c.deref_mut.ensures.value ∙ c.in_ok-room.ensures)) honest has))
+    c.in_err-load_journal.ensures.refused)
 
 pub returns-then-epoch-eq18446744073709551615-clause-refused : goal.returns-then-epoch-eq18446744073709551615-clause-refused
 returns-then-epoch-eq18446744073709551615-clause-refused g c = λ honest durable has.

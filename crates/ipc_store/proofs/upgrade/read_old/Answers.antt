@@ -4,12 +4,12 @@ use Rattle.ipc_disk.specs.Medium.{Image, IsHonest, IsDurable, Stays}
 use Rattle.ipc_disk.proofs.CallerLemmas.{OnlyReads-as, OnlyReads-ok}
 use Rattle.ipc_image.specs.Greater.{AreAtLeast}
 use Rattle.ipc_store.specs.Refusals.{IsOldDamage}
-use Rattle.ipc_store.specs.Relations.Loading.{IsDamage, OnlySyncs}
+use Rattle.ipc_store.specs.Relations.Loading.{OnlySyncs}
 use Rattle.ipc_store.specs.Relations.Upgrade.{IsNamed}
 use Rattle.ipc_store.specs.View.{of_open_error}
 use Rattle.ipc_store.specs.declared.fault.UpgradeError.TheVariants as errors
 use Rattle.ipc_store.proofs.Faults.{passed-same, passed_on, upgrade-device}
-use Rattle.ipc_store.proofs.Refusals.{damage-upgrade, no-room, passed}
+use Rattle.ipc_store.proofs.Refusals.{damage-map, damage-upgrade, no-room, passed}
 use Rattle.ipc_store.proofs.Loaded.{OnlySyncs-as, OnlySyncs-never, OnlySyncs-ok, OnlySyncs-then}
 use Rattle.ipc_store.proofs.upgrade.read_old.Given.{Over}
 use Rattle.ipc_store.proofs.upgrade.read_old.Goals as goal
@@ -44,8 +44,10 @@ returns-in_err-found-clause-refused g c =
       room = c.in_ok-superblock.ensures.room;
     })
     fault
-    (subst (λ (i : Image). IsDamage (IsOldDamage i) fault) ((reads-limits g here honest).contents honest)
-    (c.in_err-found.ensures.refused (honest-then g here honest) (durable-then g here honest) (named-then g here honest))))
+    (damage-map _ (IsOldDamage image) fault
+    (λ sector damage. subst (λ (i : Image). IsOldDamage i sector) ((reads-limits g here honest).contents honest)
+    (damage (honest-then g here honest) (durable-then g here honest) (named-then g here honest)))
+    c.in_err-found.ensures.refused))
 
 pub returns-in_err-found-clause-small : goal.returns-in_err-found-clause-small
 returns-in_err-found-clause-small g c = λ need is.

@@ -22,8 +22,7 @@ use Rattle.ipc_image.specs.declared.superblock.Superblock.{Superblock}
 use Rattle.ipc_image.proofs.CallerLemmas.{each-at-least, old-saved-fits}
 use Rattle.ipc_store.specs.Image.{layout_in, named_sectors, objects_range, HasBaseIn, HasBatches, LeadToBy}
 use Rattle.ipc_store.specs.Refusals.{IsOldDamage}
-use Rattle.ipc_store.specs.Relations.Loading.{IsDamage}
-use Rattle.ipc_store.specs.Relations.Upgrade.{wide_layout, HasOld, IsNamed}
+use Rattle.ipc_store.specs.Relations.Upgrade.{whole_layout, HasOld, IsNamed}
 use Rattle.ipc_store.proofs.Devices.{has-spare}
 use Rattle.ipc_store.proofs.Faults.{ok-device, passed-device}
 use Rattle.ipc_store.proofs.Greater.{area-greater, restart-waits, sound-greater}
@@ -41,7 +40,7 @@ few g d honest = omega (arith, (g.met.D.SectorDisk.shaped d (g.D.SectorDisk.medi
 -- the objects of the device, as a wider range has them
 module _ (limits own : Limits) (superblock : Superblock) (size : ℕ) (image : Image) (named : IsNamed superblock image) (there : superblock.sectors ≤ size) where
   pub seen-from-all : (epoch : ℕ) (objects : PlainObjects) → Holds (layout_in format_one superblock.limits superblock.sectors) epoch objects image
-      → Holds (wide_layout limits size) epoch objects image
+      → Holds (whole_layout limits size) epoch objects image
   seen-from-all epoch objects =
       Holds-wider (objects_range superblock.sectors) (objects_range size) format_one.root epoch objects image
       (λ i inside. (inside.0, omega (arith, inside.1, there)))
@@ -76,7 +75,7 @@ module _ (g : Over) (c : In_ok-checkpoint g) (honest : IsHonest (g.D.SectorDisk.
   mid = g.D.SectorDisk.medium c.load_base.new.disk
 
   abbrev wide : Medium
-  wide = g.D.SectorDisk.medium c.load_wide.new.disk
+  wide = g.D.SectorDisk.medium c.load_whole.new.disk
 
   honest-mid : IsHonest mid
   honest-mid = (c.load_base.ensures.reads.stays honest).time.honest.0 honest
@@ -85,7 +84,7 @@ module _ (g : Over) (c : In_ok-checkpoint g) (honest : IsHonest (g.D.SectorDisk.
   durable-mid = stays-durable old mid honest (c.load_base.ensures.reads.stays honest) durable
 
   stays-wide : Stays mid wide
-  stays-wide = c.load_wide.ensures.reads.stays honest-mid
+  stays-wide = c.load_whole.ensures.reads.stays honest-mid
 
   same-wide : wide.contents ≡ old.contents
   same-wide = stays-wide.contents honest-mid ∙ (c.load_base.ensures.reads.stays honest).contents honest
@@ -116,11 +115,11 @@ module _ (g : Over) (c : In_ok-checkpoint g) (honest : IsHonest (g.D.SectorDisk.
       let placed : Holds (layout_in format_one c.args.superblock.limits c.args.superblock.sectors) (epoch_of first) its old.contents =
       in-place c.args.superblock.limits c.args.superblock.sectors first its old mid c.in_ok-load_base.ensures.layout
       (c.in_ok-load_base.ensures.base.3 honest durable) honest-mid ((c.load_base.ensures.reads.stays honest).contents honest) in
-      let seen : Holds (wide_layout c.args.limits.now size) epoch objects old.contents =
-      subst (λ (i : Image). Holds (wide_layout c.args.limits.now size) epoch objects i) same-wide
+      let seen : Holds (whole_layout c.args.limits.now size) epoch objects old.contents =
+      subst (λ (i : Image). Holds (whole_layout c.args.limits.now size) epoch objects i) same-wide
       (subst (λ (l : Layout). Holds l epoch objects wide.contents) c.in_ok-checkpoint.ensures.layout
       (CheckpointMatches-holds c.in_ok-checkpoint.checkpoint objects wide matches wide.contents honest-wide.reads)) in
-      let one = Holds-one (wide_layout c.args.limits.now size) (epoch_of first) epoch its objects old.contents
+      let one = Holds-one (whole_layout c.args.limits.now size) (epoch_of first) epoch its objects old.contents
       (seen-from-all c.args.limits.now c.args.superblock.limits c.args.superblock size old.contents named
       (omega (arith, c.requires.there, c.load_base.ensures.reads.same.sectors)) (epoch_of first) its placed) seen in
       subst (λ (n : ℕ). Holds (layout_in format_one c.args.superblock.limits n) epoch objects old.contents) named.1
@@ -140,28 +139,30 @@ module _ (g : Over) (c : In_ok-checkpoint g) (honest : IsHonest (g.D.SectorDisk.
 pub returns-in_err-load_base-clause-refused : goal.returns-in_err-load_base-clause-refused
 returns-in_err-load_base-clause-refused g c =
     passed _ c.from_residual.result c.in_err-load_base.field-0.0 c.from_residual.ensures.1
-    (λ honest durable named.
-    damage-map _ (IsOldDamage (g.D.SectorDisk.medium c.args.disk.now).contents) c.in_err-load_base.field-0.0
-    (λ sector has. inl (base-damaged format_one (inl refl) c.args.superblock.limits _ (few g c.args.disk.now honest) named.0 has.none, has.first))
-    (c.in_err-load_base.ensures.refused honest named.0 named.1))
+    (damage-map _ _ c.in_err-load_base.field-0.0
+    (λ sector damage honest durable named.
+    let has = damage honest named.0 named.1 in
+    inl (base-damaged format_one (inl refl) c.args.superblock.limits _ (few g c.args.disk.now honest) named.0 has.none, has.first))
+    c.in_err-load_base.ensures.refused)
 
 pub returns-in_err-checkpoint-clause-refused : goal.returns-in_err-checkpoint-clause-refused
 returns-in_err-checkpoint-clause-refused g c =
     passed _ c.from_residual-in_err-checkpoint.result c.in_err-checkpoint.field-0.0 c.from_residual-in_err-checkpoint.ensures.1
-    (λ honest durable named.
+    (damage-map _ _ c.in_err-checkpoint.field-0.0
+    (λ sector damage honest durable named. absurd (
     let here = (goal.at.returns-in_err-checkpoint-clause-refused g c).In_ok-load_base in
     let disk = c.load_base.new.disk in
     let limits : Limits = c.args.limits.now in
     let base = c.in_ok-load_base.ensures.base in
-    let wide : Layout = wide_layout limits (g.D.SectorDisk.size disk) in
-    damage-map (λ sector. ⊥) _ c.in_err-checkpoint.field-0.0 (λ sector never. absurd never)
-    (c.in_err-checkpoint.ensures.refused ((c.load_base.ensures.reads.stays honest).time.honest.0 honest)
+    let wide : Layout = whole_layout limits (g.D.SectorDisk.size disk) in
+    damage ((c.load_base.ensures.reads.stays honest).time.honest.0 honest)
     (epoch_of c.in_ok-load_base.field-0.0) base.0 c.in_ok-load_base.field-0.1.state
     (subst (λ (i : Image). Holds wide (epoch_of c.in_ok-load_base.field-0.0) base.0 i) (sym ((c.load_base.ensures.reads.stays honest).contents honest))
     (seen-from-all limits c.args.superblock.limits c.args.superblock (g.D.SectorDisk.size disk)
     (g.D.SectorDisk.medium c.args.disk.now).contents named (omega (arith, c.requires.there, c.load_base.ensures.reads.same.sectors))
     (epoch_of c.in_ok-load_base.field-0.0) base.0 (base-there g here honest durable)))
     base.1))
+    c.in_err-checkpoint.ensures.refused)
 
 -- the reads so far, none of which failed
 base-reads : (g : Over) (c : In_ok-load_base g)
@@ -170,13 +171,13 @@ base-reads g c = OnlyReads-ok (ok-device _) c.in_ok-load_base.ensures.reads
 
 pub returns-in_err-checkpoint-clause-reads : goal.returns-in_err-checkpoint-clause-reads
 returns-in_err-checkpoint-clause-reads g c =
-    let device = passed-device c.load_wide.result c.from_residual-in_err-checkpoint.result c.in_err-checkpoint.field-0.0 c.in_err-checkpoint.was
+    let device = passed-device c.load_whole.result c.from_residual-in_err-checkpoint.result c.in_err-checkpoint.field-0.0 c.in_err-checkpoint.was
     c.from_residual-in_err-checkpoint.ensures.1 in
     OnlyReads-then (base-reads g (goal.at.returns-in_err-checkpoint-clause-reads g c).In_ok-load_base)
-    (OnlyReads-as device.0 device.1 c.load_wide.ensures.reads)
+    (OnlyReads-as device.0 device.1 c.load_whole.ensures.reads)
 
 wide-reads : (g : Over) (c : In_ok-checkpoint g)
-    → OnlyReads g.D.SectorDisk.size g.D.SectorDisk.medium g.D.SectorDisk.counts ⊥ c.args.disk.now c.load_wide.new.disk
+    → OnlyReads g.D.SectorDisk.size g.D.SectorDisk.medium g.D.SectorDisk.counts ⊥ c.args.disk.now c.load_whole.new.disk
 wide-reads g c = OnlyReads-then (OnlyReads-ok (ok-device _) c.in_ok-load_base.ensures.reads) (OnlyReads-ok (ok-device _) c.in_ok-checkpoint.ensures.reads)
 
 pub returns-in_err-go_through_journal-clause-reads : goal.returns-in_err-go_through_journal-clause-reads
@@ -195,18 +196,19 @@ pub returns-in_err-go_through_journal-clause-refused : goal.returns-in_err-go_th
 returns-in_err-go_through_journal-clause-refused g c =
     passed _ c.from_residual-in_err-go_through_journal.result c.in_err-go_through_journal.field-0.0
     c.from_residual-in_err-go_through_journal.ensures.1
-    (λ honest durable named.
+    (damage-map _ _ c.in_err-go_through_journal.field-0.0
+    (λ sector damage honest durable named.
     let here = (goal.at.returns-in_err-go_through_journal-clause-refused g c).In_ok-checkpoint in
-    let error = c.in_err-go_through_journal.field-0.0 in
     let engine = c.in_ok-checkpoint.engine in
     let at : ℕ = epoch_of c.in_ok-checkpoint.checkpoint in
     let same = same-wide g here honest durable named in
-    subst (λ (i : Image). IsDamage (IsOldDamage i) error) same
-    (c.in_err-go_through_journal.ensures.refused (honest-wide g here honest durable named)
+    subst (λ (i : Image). IsOldDamage i sector) same
+    (damage (honest-wide g here honest durable named)
     (durable-wide g here honest durable named)
-    (subst (λ (l : Limits). HasBaseIn format_one l at engine.state (g.D.SectorDisk.medium c.load_wide.new.disk).contents)
+    (subst (λ (l : Limits). HasBaseIn format_one l at engine.state (g.D.SectorDisk.medium c.load_whole.new.disk).contents)
     (sym c.in_ok-checkpoint.ensures.limits)
     (subst (λ (i : Image). HasBaseIn format_one c.args.superblock.limits at engine.state i) (sym same) (wide-base g here honest durable named)))))
+    c.in_err-go_through_journal.ensures.refused)
 
 pub returns-clause-spare : goal.returns-clause-spare
 returns-clause-spare g c =
@@ -217,7 +219,7 @@ returns-clause-spare g c =
     let fit : Fit (area_of own) base.0 =
     subst (λ (o : PlainObjects). Fit (area_of own) o) (sym stand.are) (old-saved-fits own c.in_ok-checkpoint.engine.state c.requires.own.passed stand.sound) in
     let less = area-greater own limits (each-at-least limits own c.requires.greater) in
-    let layout : Layout = wide_layout limits (g.D.SectorDisk.size c.load_base.new.disk) in
+    let layout : Layout = whole_layout limits (g.D.SectorDisk.size c.load_base.new.disk) in
     has-spare layout c.in_ok-checkpoint.checkpoint base.0 c.in_ok-checkpoint.ensures.layout (omega (arith, fit, less))
     (base.2 ∙ ap (λ (l : Layout). l.range.count) c.in_ok-checkpoint.ensures.layout)
 
@@ -234,7 +236,7 @@ returns-clause-sound g c =
 pub returns-clause-read : goal.returns-clause-read
 returns-clause-read g c = λ honest durable named.
     let here = (goal.at.returns-clause-read g c).In_ok-checkpoint in
-    let wide : Medium = g.D.SectorDisk.medium c.load_wide.new.disk in
+    let wide : Medium = g.D.SectorDisk.medium c.load_whole.new.disk in
     let new : Medium = g.D.SectorDisk.medium c.go_through_journal.new.disk in
     let own : Limits = c.args.superblock.limits in
     let machine = c.go_through_journal.new.engine in

@@ -20,12 +20,12 @@ invariant_of-result c =
     let short : length fields ≤ greatest_fields = omega (arith, ap length left, c.requires.1, length-drop 1 (drop 4 text), length-drop 4 text) in
     let below : c.in-Some.serial < 2 ^ 32 = omega arith in
     let read : kind_of c.in-Some-u8.opcode fields ≡ Some kind = sym c.read_kind.ensures ∙ ap (option_map plain_kind) c.in-Some-read_kind.is in
-    let behind : c.u32.new.self ≡ drop 4 text = c.in-Some.ensures.2 ∙ ap (drop 4) c.new-cursor.ensures in
+    let beyond : c.u32.new.self ≡ drop 4 text = c.in-Some.ensures.2 ∙ ap (drop 4) c.new-cursor.ensures in
     let whole_fields : fields ≡ drop 5 text = left ∙ drop-drop 1 4 text in
     let whole : frame_of text ≡ Whole (4 + length text) (record { serial = c.in-Some.serial; kind = kind }) =
     frame_read text c.in-Some.serial c.in-Some-u8.opcode kind
     (c.in-Some.ensures.1 ∙ ap (λ (l : List ℕ). from_be_bytes w32 (take 4 l)) c.new-cursor.ensures)
-    (c.in-Some-u8.ensures.1 ∙ ap (λ (l : List ℕ). slice_index (take 1 l) 0) behind
+    (c.in-Some-u8.ensures.1 ∙ ap (λ (l : List ℕ). slice_index (take 1 l) 0) beyond
     ∙ get_or-take 1 (drop 4 text) 0 0 (omega arith) ∙ get_or-drop 4 text 0 0) (omega arith) (ap (kind_of c.in-Some-u8.opcode) (sym whole_fields) ∙ read) in
     record {
       frame = kind_framed c.in-Some-u8.opcode c.in-Some.serial fields kind (omega arith) below fit short read;

@@ -15,9 +15,6 @@ is_small (upgrade.Damaged sector) need is = cc
 is_small upgrade.Device need is = cc
 is_small upgrade.NoMemory need is = cc
 
-pub returns-in-Err-clause-named : goal.returns-in-Err-clause-named
-returns-in-Err-clause-named g c = (c.in-Err.unupgraded.error, c.from.ensures)
-
 pub returns-in-Err-clause-refused : goal.returns-in-Err-clause-refused
 returns-in-Err-clause-refused g c = (c.in-Err.unupgraded.error, c.from.ensures, c.in-Err.ensures.refused)
 

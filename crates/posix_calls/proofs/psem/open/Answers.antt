@@ -6,7 +6,7 @@ use Rattle.ipc_state.specs.Named.{Named}
 use Rattle.ipc_state.proofs.CallerLemmas.{kind-positive}
 use Rattle.posix_calls.proofs.psem.open.Goals as goal
 
-pub seek-requires : goal.seek-requires
-seek-requires c =
+pub lookup-requires : goal.lookup-requires
+lookup-requires c =
     subst (λ (o : Named ℕ). ArePositive o.entries) (sym c.psems.ensures.objects)
     (kind-positive c.args.state.now.limits c.args.state.now.state (kinds.Named names.Psem) c.requires.sound)

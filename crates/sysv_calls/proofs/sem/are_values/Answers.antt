@@ -6,7 +6,7 @@ use Rattle.std.proofs.lemmas.Bool.Decides.{nat_tests}
 use Rattle.std.proofs.lemmas.List.{take_more, take_all}
 use Rattle.std.proofs.lemmas.List.Folds.{list_all_at, list_all-append}
 use Rattle.std.proofs.lemmas.Option.{unwrap_or-slice_get}
-use Rattle.ipc_wire.specs.Pairs.{bytes_of, numbers_in}
+use Rattle.ipc_wire.specs.Values.{bytes_of, numbers_in}
 use Rattle.sysv_sem.specs.Operation.{most_value}
 use Rattle.sysv_calls.proofs.sem.are_values.Goals.{After-at}
 use Rattle.sysv_calls.proofs.sem.are_values.Goals as goal

@@ -1,7 +1,7 @@
 use Rattle.std.proofs.Common.{◌≡◌, true, take}
 use Rattle.std.specs.Prelude.{nat_le}
 use Rattle.std.specs.List.{list_all}
-use Rattle.ipc_wire.specs.Pairs.{bytes_of, numbers_in}
+use Rattle.ipc_wire.specs.Values.{bytes_of, numbers_in}
 use Rattle.sysv_sem.specs.Operation.{most_value}
 use Rattle.sysv_calls.proofs.sem.are_values.Given as goal
 

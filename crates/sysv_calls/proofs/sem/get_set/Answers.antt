@@ -11,7 +11,7 @@ use Rattle.sysv_calls.specs.Access.{accessible, sought}
 use Rattle.sysv_calls.specs.Seen.{attempt_of, sought_of}
 use Rattle.sysv_calls.specs.Sem.{count_of, has_fewer}
 use Rattle.sysv_calls.proofs.Reaching.{place-reserved}
-use Rattle.sysv_calls.proofs.sem.get_set.Goals.{After-semset, After-seek, After-has_fewer, After-accessible}
+use Rattle.sysv_calls.proofs.sem.get_set.Goals.{After-semset, After-lookup, After-has_fewer, After-accessible}
 use Rattle.sysv_calls.proofs.sem.get_set.Goals as goal
 
 -- how many are asked for
@@ -19,7 +19,7 @@ counts : (c : After-semset) → count_of c.args.state.now.limits c.args.nsems �
 counts c = search rules
 
 -- what is found
-finds : (c : After-seek) → sought c.args.state.now.state.semset c.args.key c.args.flags.0 ≡ sought_of c.seek.result
+finds : (c : After-lookup) → sought c.args.state.now.state.semset c.args.key c.args.flags.0 ≡ sought_of c.lookup.result
 finds c = search rules
 
 -- whether it is large enough
@@ -31,8 +31,8 @@ has : (c : After-accessible) → accessible false c.args.state.now.state.semset 
     ≡ attempt_of c.accessible.result
 has c = search rules
 
-pub seek-requires : goal.seek-requires
-seek-requires c = held-positive c.semset.result.now c.args.state.now.state.semset c.semset.ensures.sets c.requires.sound.semset.held.bound
+pub lookup-requires : goal.lookup-requires
+lookup-requires c = held-positive c.semset.result.now c.args.state.now.state.semset c.semset.ensures.sets c.requires.sound.semset.held.bound
 
 pub make_set-requires-clause-ready : goal.make_set-requires-clause-ready
 make_set-requires-clause-ready c some =
@@ -45,14 +45,14 @@ make_set-requires-clause-ready c some =
 pub returns-then-has_fewer-clause-finish : goal.returns-then-has_fewer-clause-finish
 returns-then-has_fewer-clause-finish c =
     let g = goal.at.returns-then-has_fewer-clause-finish c in
-    let found = finds g.After-seek ∙ ap sought_of (c.in_ok-id.was ∙ ap Ok c.in-Some-2.is) in
+    let found = finds g.After-lookup ∙ ap sought_of (c.in_ok-id.was ∙ ap Ok c.in-Some-2.is) in
     let small = lacks g.After-has_fewer ∙ c.if-has_fewer.true in
     rw (counts g.After-semset) (rw found (rw small refl))
 
 pub returns-in_err-accessible-clause-finish : goal.returns-in_err-accessible-clause-finish
 returns-in_err-accessible-clause-finish c =
     let g = goal.at.returns-in_err-accessible-clause-finish c in
-    let found = finds g.After-seek ∙ ap sought_of (c.in_ok-id.was ∙ ap Ok c.in-Some-2.is) in
+    let found = finds g.After-lookup ∙ ap sought_of (c.in_ok-id.was ∙ ap Ok c.in-Some-2.is) in
     let large = lacks g.After-has_fewer ∙ c.if-has_fewer.false in
     let is : c.from_residual-in_err-accessible.result ≡ Err c.in_err-accessible.field-0.0 = search rules in
     let no = has g.After-accessible ∙ ap attempt_of c.in_err-accessible.was in
@@ -61,7 +61,7 @@ returns-in_err-accessible-clause-finish c =
 pub returns-clause-finish : goal.returns-clause-finish
 returns-clause-finish c =
     let g = goal.at.returns-clause-finish c in
-    let found = finds g.After-seek ∙ ap sought_of (c.in_ok-id.was ∙ ap Ok c.in-Some-2.is) in
+    let found = finds g.After-lookup ∙ ap sought_of (c.in_ok-id.was ∙ ap Ok c.in-Some-2.is) in
     let large = lacks g.After-has_fewer ∙ c.if-has_fewer.false in
     let is = has g.After-accessible ∙ ap attempt_of c.in_ok-accessible.was in
     rw (counts g.After-semset) (rw found (rw large (rw is refl)))

@@ -2,7 +2,7 @@ use Rattle.std.proofs.Common.{◌≡◌, ◌∙◌, ◌++◌, ◌∷◌, [], ◌
 use Rattle.std.specs.Prelude.{unwrap_or, Option}
 use Rattle.std.proofs.lemmas.List.{take_more, take_more_set, take_all}
 use Rattle.std.proofs.lemmas.Option.{unwrap_or-slice_get}
-use Rattle.ipc_wire.specs.Pairs.{bytes_of, numbers_in}
+use Rattle.ipc_wire.specs.Values.{bytes_of, numbers_in}
 use Rattle.sysv_calls.proofs.sem.put_values.Goals as goal
 
 pub loop-place-init : goal.loop-place-init

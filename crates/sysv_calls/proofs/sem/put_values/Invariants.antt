@@ -1,5 +1,5 @@
 use Rattle.std.proofs.Common.{◌≡◌, ◌≤◌, length, take}
-use Rattle.ipc_wire.specs.Pairs.{bytes_of, numbers_in}
+use Rattle.ipc_wire.specs.Values.{bytes_of, numbers_in}
 use Rattle.sysv_calls.proofs.sem.put_values.Given as goal
 
 -- those before this one are put

@@ -1,5 +1,5 @@
 use Rattle.std.proofs.Common.{◌∙◌, sym}
-use Rattle.ipc_wire.specs.Sixes.{operations_in}
+use Rattle.ipc_wire.specs.SemBufs.{operations_in}
 use Rattle.ipc_perm.specs.Perm.{may as may_use}
 use Rattle.sysv_calls.proofs.Asking.{allowed, asked-all}
 use Rattle.sysv_calls.proofs.semop.are_allowed.Goals as goal

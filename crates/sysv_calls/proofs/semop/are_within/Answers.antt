@@ -1,6 +1,6 @@
 use Rattle.std.proofs.Common.{◌∙◌, nat_lt, sym}
 use Rattle.std.proofs.lemmas.List.Folds.{list_all-map}
-use Rattle.ipc_wire.specs.Sixes.{operations_in}
+use Rattle.ipc_wire.specs.SemBufs.{operations_in}
 use Rattle.sysv_sem.specs.declared.operation.Operation.{Operation}
 use Rattle.sysv_calls.specs.Semop.{operation_of}
 use Rattle.sysv_calls.proofs.semop.are_within.Goals as goal

@@ -2,7 +2,7 @@ use Rattle.std.proofs.Common.{◌≡◌, ◌∙◌, ◌-◌, ℕ, true, List, So
 use Rattle.std.specs.Prelude.{slice_get}
 use Rattle.std.proofs.lemmas.List.Folds.{list_all-map}
 use Rattle.std.proofs.lemmas.List.Sums.{AllPass-from_list_all}
-use Rattle.ipc_wire.specs.Sixes.{operations_in}
+use Rattle.ipc_wire.specs.SemBufs.{operations_in}
 use Rattle.sysv_sem.specs.Operation.{is_patient}
 use Rattle.sysv_calls.specs.Semop.{decided, operation_of, operations_of}
 use Rattle.sysv_calls.proofs.Stopping.{patient-gives, patient-waits}

@@ -1,7 +1,7 @@
 use Rattle.std.proofs.Common.{◌≡◌, ◌∙◌, ℕ, List, take, ap, sym, subst, rules}
 use Rattle.std.specs.List.{fold}
 use Rattle.std.proofs.lemmas.List.{length-map}
-use Rattle.ipc_wire.specs.Sixes.{bytes_of, operations_in}
+use Rattle.ipc_wire.specs.SemBufs.{bytes_of, operations_in}
 use Rattle.sysv_sem.specs.declared.operation.Operation.{Operation}
 use Rattle.sysv_sem.specs.Operation.{outcome}
 use Rattle.sysv_sem.specs.Set.{Set, carried, values_of}

@@ -2,7 +2,7 @@ use Rattle.std.proofs.Common.{◌∙◌, Some, ap, sym, arith}
 use Rattle.std.specs.Prelude.{option_map}
 use Rattle.std.proofs.lemmas.List.{length-map}
 use Rattle.std.proofs.lemmas.Option.{slice_get-map}
-use Rattle.ipc_wire.specs.Sixes.{bytes_of, operations_in}
+use Rattle.ipc_wire.specs.SemBufs.{bytes_of, operations_in}
 use Rattle.sysv_calls.specs.Semop.{operation_of}
 use Rattle.sysv_calls.proofs.semop.operation_at.Goals as goal
 

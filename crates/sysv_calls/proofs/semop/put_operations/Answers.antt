@@ -1,7 +1,7 @@
 use Rattle.std.proofs.Common.{◌≡◌, ◌∙◌, ◌++◌, ◌∷◌, [], ◌<◌, ◌≤◌, ℕ, List, length, take, ap, sym, subst, refl, arith}
 use Rattle.std.proofs.lemmas.List.{length-map, take_more, take_more_set, take_all}
 use Rattle.std.proofs.lemmas.Option.{get_or_from_slice_get}
-use Rattle.ipc_wire.specs.Sixes.{bytes_of, operations_in}
+use Rattle.ipc_wire.specs.SemBufs.{bytes_of, operations_in}
 use Rattle.sysv_sem.specs.declared.operation.Operation.{Operation}
 use Rattle.sysv_calls.specs.Semop.{operation_of, operations_of}
 use Rattle.sysv_calls.proofs.semop.put_operations.Goals as goal

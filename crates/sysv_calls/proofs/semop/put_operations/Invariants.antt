@@ -1,5 +1,5 @@
 use Rattle.std.proofs.Common.{◌≡◌, take}
-use Rattle.ipc_wire.specs.Sixes.{bytes_of}
+use Rattle.ipc_wire.specs.SemBufs.{bytes_of}
 use Rattle.sysv_calls.specs.Semop.{operations_of}
 use Rattle.sysv_calls.proofs.semop.put_operations.Given as goal
 

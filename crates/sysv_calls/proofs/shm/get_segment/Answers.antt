@@ -6,11 +6,11 @@ use Rattle.ipc_state.proofs.CallerLemmas.{held-positive}
 use Rattle.sysv_calls.specs.Access.{accessible, sought}
 use Rattle.sysv_calls.specs.Seen.{attempt_of, sought_of}
 use Rattle.sysv_calls.specs.Shm.{is_shorter}
-use Rattle.sysv_calls.proofs.shm.get_segment.Goals.{After-seek, After-is_shorter, After-accessible}
+use Rattle.sysv_calls.proofs.shm.get_segment.Goals.{After-lookup, After-is_shorter, After-accessible}
 use Rattle.sysv_calls.proofs.shm.get_segment.Goals as goal
 
 -- what is found
-finds : (c : After-seek) → sought c.args.state.now.state.shm c.args.key c.args.flags.0 ≡ sought_of c.seek.result
+finds : (c : After-lookup) → sought c.args.state.now.state.shm c.args.key c.args.flags.0 ≡ sought_of c.lookup.result
 finds c = search rules
 
 -- whether it is large enough
@@ -22,20 +22,20 @@ has : (c : After-accessible) → accessible false c.args.state.now.state.shm c.a
     ≡ attempt_of c.accessible.result
 has c = search rules
 
-pub seek-requires : goal.seek-requires
-seek-requires c = held-positive c.shm.result.now c.args.state.now.state.shm c.shm.ensures.segments c.requires.sound.shm.held.bound
+pub lookup-requires : goal.lookup-requires
+lookup-requires c = held-positive c.shm.result.now c.args.state.now.state.shm c.shm.ensures.segments c.requires.sound.shm.held.bound
 
 pub returns-then-is_shorter-clause-finish : goal.returns-then-is_shorter-clause-finish
 returns-then-is_shorter-clause-finish c =
     let g = goal.at.returns-then-is_shorter-clause-finish c in
-    let found = finds g.After-seek ∙ ap sought_of (c.in_ok-id.was ∙ ap Ok c.in-Some.is) in
+    let found = finds g.After-lookup ∙ ap sought_of (c.in_ok-id.was ∙ ap Ok c.in-Some.is) in
     let small = lacks g.After-is_shorter ∙ c.if-is_shorter.true in
     rw found (rw small refl)
 
 pub returns-in_err-accessible-clause-finish : goal.returns-in_err-accessible-clause-finish
 returns-in_err-accessible-clause-finish c =
     let g = goal.at.returns-in_err-accessible-clause-finish c in
-    let found = finds g.After-seek ∙ ap sought_of (c.in_ok-id.was ∙ ap Ok c.in-Some.is) in
+    let found = finds g.After-lookup ∙ ap sought_of (c.in_ok-id.was ∙ ap Ok c.in-Some.is) in
     let large = lacks g.After-is_shorter ∙ c.if-is_shorter.false in
     let is : c.from_residual-in_err-accessible.result ≡ Err c.in_err-accessible.field-0.0 = search rules in
     let no = has g.After-accessible ∙ ap attempt_of c.in_err-accessible.was in
@@ -44,7 +44,7 @@ returns-in_err-accessible-clause-finish c =
 pub returns-clause-finish : goal.returns-clause-finish
 returns-clause-finish c =
     let g = goal.at.returns-clause-finish c in
-    let found = finds g.After-seek ∙ ap sought_of (c.in_ok-id.was ∙ ap Ok c.in-Some.is) in
+    let found = finds g.After-lookup ∙ ap sought_of (c.in_ok-id.was ∙ ap Ok c.in-Some.is) in
     let large = lacks g.After-is_shorter ∙ c.if-is_shorter.false in
     let is = has g.After-accessible ∙ ap attempt_of c.in_ok-accessible.was in
     rw found (rw large (rw is refl))

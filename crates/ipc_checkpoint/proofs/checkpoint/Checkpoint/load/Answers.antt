@@ -63,7 +63,7 @@ returns-clause-matches g c = λ honest durable.
     let call = c.read_objects.ensures.reads.stays here in
     record {
       matches = subst (λ (l : PlainObjects). HeapMatches h l new) (sym objects) (HeapMatches-stays h (map_of h mid) mid new call matches);
-      under = c.in_ok-heap.ensures.root ∙ sym c.in_ok-heap.ensures.aim;
+      under = c.in_ok-heap.ensures.root ∙ sym c.in_ok-heap.ensures.next_root;
       map = ap (λ (i : Image). map (object_on i) h.placed) (call.contents here) ∙ sym objects;
       inside = c.in_ok-objects.ensures.placed.inside;
       free = its-free h c.in_ok-objects.objects c.in_ok-objects.ensures.placed (sym c.in_ok-objects.ensures.sizes) h

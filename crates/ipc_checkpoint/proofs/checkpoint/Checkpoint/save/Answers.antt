@@ -13,101 +13,108 @@ use Rattle.ipc_heap.proofs.CallerLemmas.{EachLater-weaken}
 use Rattle.ipc_checkpoint.specs.Matches.{CheckpointMatches, IsSavedUnder}
 use Rattle.ipc_checkpoint.specs.Meanwhile.{KeepsUsed, KeepsUsedOrTurns}
 use Rattle.ipc_checkpoint.specs.View.{CheckpointView, layout_of}
-use Rattle.ipc_checkpoint.proofs.Saves.{counted-two, free-new, kept-new, laid-one, matches-new, moment-mid, moment-new, moment-saved, not-full}
-use Rattle.ipc_checkpoint.proofs.Saves.{meanwhile-mid, meanwhile-new, only-one, others-mid, others-new}
-use Rattle.ipc_checkpoint.proofs.Saves.{room-one, writes-new}
+use Rattle.ipc_checkpoint.proofs.Saves.{PutAll, PutSome, Started, counted-two, free-new, kept-new, laid-one, matches-new, meanwhile-mid, meanwhile-new}
+use Rattle.ipc_checkpoint.proofs.Saves.{moment-mid, moment-new, moment-saved, not-full, only-one, others-mid, others-new, room-one, writes-new}
 use Rattle.ipc_checkpoint.proofs.checkpoint.Checkpoint.save.Given.{Over}
 use Rattle.ipc_checkpoint.proofs.checkpoint.Checkpoint.save.Goals as goal
-use Rattle.ipc_checkpoint.proofs.checkpoint.Checkpoint.save.Goals.{After-keep_those_of, in-Ok, in-Err}
+use Rattle.ipc_checkpoint.proofs.checkpoint.Checkpoint.save.Goals.{After-keep_those_of, After-put_changed, In_ok-put_changed, in-Ok, in-Err}
 
-module _ (g : Over) (c : After-keep_those_of g) where
-  abbrev size : ℕ
-  size = g.D.SectorDisk.size c.args.disk.now
+-- what the objects lack is taken out
+started : (g : Over) (c : After-keep_those_of g)
+    → Started (g.D.SectorDisk.size c.args.disk.now) c.args.self.now (g.O.Objects.objects c.args.objects.now) c.keep_those_of.new.heap
+started g c =
+    let os : PlainObjects = g.O.Objects.objects c.args.objects.now in
+    let one : HeapView = c.keep_those_of.new.heap in
+    let same : c.self.inside.heap ≡ c.args.self.now.heap = ap (λ (v : CheckpointView). v.heap) c.self.view_is in
+    record {
+      are = c.count-count.ensures.objects;
+      laid = c.requires.laid_out;
+      fits = c.requires.fits;
+      spare = c.requires.old_fits;
+      keeps = subst (λ (h : HeapView). Keeps (λ n. is_some (value_at nat_eq os n)) h one) same c.keep_those_of.ensures.keeps;
+      more = subst (λ (h : HeapView). free h ≤ free one) same c.keep_those_of.ensures.free;
+    }
 
-  abbrev os : PlainObjects
-  os = g.O.Objects.objects c.args.objects.now
+-- some of those that have changed are put in
+some : (g : Over) (c : After-put_changed g)
+    → PutSome c.keep_those_of.new.heap (g.D.SectorDisk.medium c.args.disk.now) (g.D.SectorDisk.medium c.put_changed.new.disk)
+some g c = record {
+  moment = c.put_changed.ensures.any_moment;
+  meanwhile = c.put_changed.ensures.meanwhile;
+  others = c.put_changed.ensures.others;
+}
 
-  abbrev one : HeapView
-  one = c.keep_those_of.new.heap
-
-  same : c.self.inside.heap ≡ c.args.self.now.heap
-  same = ap (λ (v : CheckpointView). v.heap) c.self.view_is
-
-  keeps : Keeps (λ n. is_some (value_at nat_eq os n)) c.args.self.now.heap one
-  keeps = subst (λ (h : HeapView). Keeps (λ n. is_some (value_at nat_eq os n)) h one) same c.keep_those_of.ensures.keeps
-
-  more : free c.args.self.now.heap ≤ free one
-  more = subst (λ (h : HeapView). free h ≤ free one) same c.keep_those_of.ensures.free
+-- or all
+all : (g : Over) (c : In_ok-put_changed g)
+    → PutAll (g.O.Objects.objects c.args.objects.now) (g.O.Objects.differs c.args.objects.now) c.keep_those_of.new.heap c.put_changed.new.heap
+    (g.D.SectorDisk.medium c.args.disk.now) (g.D.SectorDisk.medium c.put_changed.new.disk)
+all g c = record {
+  some = record {
+    moment = c.put_changed.ensures.any_moment;
+    meanwhile = c.put_changed.ensures.meanwhile;
+    others = c.put_changed.ensures.others;
+  };
+  stays = c.put_changed.ensures.stays;
+  placed = c.in_ok-put_changed.ensures.placed;
+  sizes = c.in_ok-put_changed.ensures.sizes;
+  spends = c.in_ok-put_changed.ensures.spends;
+  matches = c.in_ok-put_changed.ensures.matches;
+  map = c.in_ok-put_changed.ensures.map;
+}
 
 pub put_changed-requires-clause-laid_out : goal.put_changed-requires-clause-laid_out
-put_changed-requires-clause-laid_out g c =
-    let m = (goal.at.put_changed-requires-clause-laid_out g c).After-keep_those_of in
-    laid-one (size g m) c.args.self.now (os g m) (g.O.Objects.differs c.args.objects.now) c.count-count.ensures.objects c.requires.laid_out c.requires.fits
-    c.requires.old_fits (one g m) (keeps g m) (more g m)
+put_changed-requires-clause-laid_out g c = laid-one (started g (goal.at.put_changed-requires-clause-laid_out g c).After-keep_those_of)
 
 pub put_changed-requires-clause-no_others : goal.put_changed-requires-clause-no_others
-put_changed-requires-clause-no_others g c =
-    let m = (goal.at.put_changed-requires-clause-no_others g c).After-keep_those_of in
-    only-one (size g m) c.args.self.now (os g m) (g.O.Objects.differs c.args.objects.now) c.count-count.ensures.objects c.requires.laid_out c.requires.fits
-    c.requires.old_fits (one g m) (keeps g m) (more g m)
+put_changed-requires-clause-no_others g c = only-one (started g (goal.at.put_changed-requires-clause-no_others g c).After-keep_those_of)
 
 pub put_changed-requires-clause-room : goal.put_changed-requires-clause-room
-put_changed-requires-clause-room g c =
-    let m = (goal.at.put_changed-requires-clause-room g c).After-keep_those_of in
-    room-one (size g m) c.args.self.now (os g m) (g.O.Objects.differs c.args.objects.now) c.count-count.ensures.objects c.requires.laid_out c.requires.fits
-    c.requires.old_fits (one g m) (keeps g m) (more g m)
+put_changed-requires-clause-room g c = room-one (started g (goal.at.put_changed-requires-clause-room g c).After-keep_those_of)
+
+-- ---- the disk fails while they are put in
 
 pub returns-in_err-put_changed-clause-any_moment : goal.returns-in_err-put_changed-clause-any_moment
 returns-in_err-put_changed-clause-any_moment g c = λ saved at.
-    let m = (goal.at.returns-in_err-put_changed-clause-any_moment g c).After-keep_those_of in
-    moment-mid (size g m) c.args.self.now (os g m) (g.O.Objects.differs c.args.objects.now) c.count-count.ensures.objects c.requires.laid_out c.requires.fits
-    c.requires.old_fits (one g m) (keeps g m) (more g m) (g.D.SectorDisk.medium c.args.disk.now) (g.D.SectorDisk.medium c.put_changed.new.disk)
-    c.put_changed.ensures.any_moment c.put_changed.ensures.others saved at c.args.epoch
+    let at-goal = goal.at.returns-in_err-put_changed-clause-any_moment g c in
+    moment-mid (started g at-goal.After-keep_those_of) (some g at-goal.After-put_changed) saved at c.args.epoch
 
 pub returns-in_err-put_changed-clause-meanwhile : goal.returns-in_err-put_changed-clause-meanwhile
 returns-in_err-put_changed-clause-meanwhile g c = λ saved at.
-    let m = (goal.at.returns-in_err-put_changed-clause-meanwhile g c).After-keep_those_of in
+    let at-goal = goal.at.returns-in_err-put_changed-clause-meanwhile g c in
     EachLater-weaken (KeepsUsed (layout_of c.args.self.now)) (KeepsUsedOrTurns (layout_of c.args.self.now)) (g.D.SectorDisk.medium c.args.disk.now)
     (g.D.SectorDisk.medium c.put_changed.new.disk)
-    (meanwhile-mid (size g m) c.args.self.now (os g m) (g.O.Objects.differs c.args.objects.now) c.count-count.ensures.objects c.requires.laid_out
-    c.requires.fits c.requires.old_fits (one g m) (keeps g m) (more g m) (g.D.SectorDisk.medium c.args.disk.now)
-    (g.D.SectorDisk.medium c.put_changed.new.disk) c.put_changed.ensures.any_moment c.put_changed.ensures.others c.put_changed.ensures.meanwhile saved at)
-    (λ a b kept. inl kept)
+    (meanwhile-mid (started g at-goal.After-keep_those_of) (some g at-goal.After-put_changed) saved at) (λ a b kept. inl kept)
 
 pub returns-in_err-put_changed-clause-others : goal.returns-in_err-put_changed-clause-others
 returns-in_err-put_changed-clause-others g c =
-    let m = (goal.at.returns-in_err-put_changed-clause-others g c).After-keep_those_of in
-    others-mid (size g m) c.args.self.now (os g m) (g.O.Objects.differs c.args.objects.now) c.count-count.ensures.objects c.requires.laid_out c.requires.fits
-    c.requires.old_fits (one g m) (keeps g m) (more g m) (g.D.SectorDisk.medium c.args.disk.now) (g.D.SectorDisk.medium c.put_changed.new.disk)
-    c.put_changed.ensures.any_moment c.put_changed.ensures.others
+    let at-goal = goal.at.returns-in_err-put_changed-clause-others g c in
+    others-mid (started g at-goal.After-keep_those_of) (some g at-goal.After-put_changed)
+
+pub returns-in_err-put_changed-clause-kept : goal.returns-in_err-put_changed-clause-kept
+returns-in_err-put_changed-clause-kept g c = λ root saved at other part within now.
+    let at-goal = goal.at.returns-in_err-put_changed-clause-kept g c in
+    moment-saved (started g at-goal.After-keep_those_of) (some g at-goal.After-put_changed) saved at part within now
+
+-- ---- the heap is turned over
 
 pub flip-requires-clause-counted : goal.flip-requires-clause-counted
 flip-requires-clause-counted g c =
-    let m = (goal.at.flip-requires-clause-counted g c).After-keep_those_of in
-    counted-two (size g m) c.args.self.now (os g m) (g.O.Objects.differs c.args.objects.now) c.count-count.ensures.objects c.requires.laid_out c.requires.fits
-    c.requires.old_fits (one g m) (keeps g m) (more g m) (g.D.SectorDisk.medium c.args.disk.now) (g.D.SectorDisk.medium c.put_changed.new.disk)
-    c.put_changed.ensures.any_moment c.put_changed.ensures.others c.put_changed.new.heap c.put_changed.ensures.stays
-    c.in_ok-put_changed.ensures.placed c.in_ok-put_changed.ensures.sizes c.in_ok-put_changed.ensures.spends
+    let at-goal = goal.at.flip-requires-clause-counted g c in
+    counted-two (started g at-goal.After-keep_those_of) (all g at-goal.In_ok-put_changed)
 
 -- an error that is not for want of sectors is the disk's
 device : (e : HeapError) → (IsErrOf {T = Unit {0}} (Err e) Full → ⊥) → IsErrOf {T = Unit {0}} (Err e) Device
 device Device some = refl
 device Full some = absurd (some refl)
 
-pub returns-clause-aimed : goal.returns-clause-aimed
-returns-clause-aimed g c =
-    let m = (goal.at.returns-clause-aimed g c).After-keep_those_of in
+pub returns-clause-moved : goal.returns-clause-moved
+returns-clause-moved g c =
+    let at-goal = goal.at.returns-clause-moved g c in
     elim c.match-flip.branch [
       | in-Ok w ↦ rw w.result-is
           (λ root saved at there.
-          matches-new (size g m) c.args.self.now (os g m) (g.O.Objects.differs c.args.objects.now) c.count-count.ensures.objects c.requires.laid_out
-          c.requires.fits c.requires.old_fits (one g m) (keeps g m) (more g m)
-          (g.D.SectorDisk.medium c.args.disk.now) (g.D.SectorDisk.medium c.put_changed.new.disk)
-          c.put_changed.ensures.any_moment c.put_changed.ensures.others c.put_changed.new.heap c.put_changed.ensures.stays
-          c.in_ok-put_changed.ensures.placed c.in_ok-put_changed.ensures.sizes c.in_ok-put_changed.ensures.spends
-          (g.D.SectorDisk.medium c.flip.new.disk) c.args.epoch c.flip.new.self
-          c.in_ok-put_changed.ensures.matches c.in_ok-put_changed.ensures.map c.requires.unchanged
-          c.flip.ensures.placed c.flip.ensures.range w.in-Ok.ensures.table w.in-Ok.ensures.free w.in-Ok.ensures.root c.flip.ensures.aim
+          matches-new (started g at-goal.After-keep_those_of) (all g at-goal.In_ok-put_changed) (g.D.SectorDisk.medium c.flip.new.disk) c.flip.new.self
+          c.flip.ensures.placed c.flip.ensures.range w.in-Ok.ensures.table w.in-Ok.ensures.free w.in-Ok.ensures.root c.flip.ensures.next_root
           w.in-Ok.ensures.matches w.in-Ok.ensures.map c.self.inside.area saved at there)
       | in-Err w ↦ rw w.result-is tt
     ]
@@ -121,88 +128,51 @@ returns-clause-matches g c =
     → OthersAreThere (g.O.Objects.differs c.args.objects.now) os saved → Then)
     → (saved : PlainObjects) → CheckpointMatches c.args.self.now saved old → Then =
     λ all saved at. all (layout_of c.args.self.now).root saved at (c.requires.unchanged saved at) in
-    on_ok_weaker _ own (returns-clause-aimed g c)
+    on_ok_weaker _ own (returns-clause-moved g c)
 
 pub returns-clause-free : goal.returns-clause-free
 returns-clause-free g c =
-    let m = (goal.at.returns-clause-free g c).After-keep_those_of in
+    let at-goal = goal.at.returns-clause-free g c in
     elim c.match-flip.branch [
       | in-Ok w ↦ rw w.result-is
-          (free-new (size g m) c.args.self.now (os g m) (g.O.Objects.differs c.args.objects.now) c.count-count.ensures.objects c.requires.laid_out
-          c.requires.fits c.requires.old_fits (one g m) (keeps g m) (more g m)
-          (g.D.SectorDisk.medium c.args.disk.now) (g.D.SectorDisk.medium c.put_changed.new.disk)
-          c.put_changed.ensures.any_moment c.put_changed.ensures.others c.put_changed.new.heap c.put_changed.ensures.stays
-          c.in_ok-put_changed.ensures.placed c.in_ok-put_changed.ensures.sizes c.in_ok-put_changed.ensures.spends
-          (g.D.SectorDisk.medium c.flip.new.disk) c.args.epoch c.flip.new.self
-          c.in_ok-put_changed.ensures.matches c.in_ok-put_changed.ensures.map c.requires.unchanged
+          (free-new (started g at-goal.After-keep_those_of) (all g at-goal.In_ok-put_changed) (g.D.SectorDisk.medium c.flip.new.disk) c.flip.new.self
           c.flip.ensures.placed c.flip.ensures.range w.in-Ok.ensures.table w.in-Ok.ensures.free)
       | in-Err w ↦ rw w.result-is tt
     ]
 
 pub returns-clause-any_moment : goal.returns-clause-any_moment
 returns-clause-any_moment g c =
-    let m = (goal.at.returns-clause-any_moment g c).After-keep_those_of in
-    moment-new (size g m) c.args.self.now (os g m) (g.O.Objects.differs c.args.objects.now) c.count-count.ensures.objects c.requires.laid_out
-    c.requires.fits c.requires.old_fits (one g m) (keeps g m) (more g m)
-    (g.D.SectorDisk.medium c.args.disk.now) (g.D.SectorDisk.medium c.put_changed.new.disk)
-    c.put_changed.ensures.any_moment c.put_changed.ensures.others c.put_changed.new.heap c.put_changed.ensures.stays
-    c.in_ok-put_changed.ensures.placed c.in_ok-put_changed.ensures.sizes c.in_ok-put_changed.ensures.spends
-    (g.D.SectorDisk.medium c.flip.new.disk) c.args.epoch c.flip.new.self
-    c.in_ok-put_changed.ensures.matches c.in_ok-put_changed.ensures.map c.requires.unchanged c.flip.ensures.any_moment
+    let at-goal = goal.at.returns-clause-any_moment g c in
+    moment-new (started g at-goal.After-keep_those_of) (all g at-goal.In_ok-put_changed) (g.D.SectorDisk.medium c.flip.new.disk) c.args.epoch
+    c.requires.unchanged c.flip.ensures.any_moment
 
 pub returns-clause-meanwhile : goal.returns-clause-meanwhile
 returns-clause-meanwhile g c =
-    let m = (goal.at.returns-clause-meanwhile g c).After-keep_those_of in
-    meanwhile-new (size g m) c.args.self.now (os g m) (g.O.Objects.differs c.args.objects.now) c.count-count.ensures.objects c.requires.laid_out
-    c.requires.fits c.requires.old_fits (one g m) (keeps g m) (more g m)
-    (g.D.SectorDisk.medium c.args.disk.now) (g.D.SectorDisk.medium c.put_changed.new.disk)
-    c.put_changed.ensures.any_moment c.put_changed.ensures.others c.put_changed.new.heap c.put_changed.ensures.stays
-    c.in_ok-put_changed.ensures.placed c.in_ok-put_changed.ensures.sizes c.in_ok-put_changed.ensures.spends
-    (g.D.SectorDisk.medium c.flip.new.disk) c.args.epoch c.flip.new.self
-    c.in_ok-put_changed.ensures.matches c.in_ok-put_changed.ensures.map c.requires.unchanged c.put_changed.ensures.meanwhile c.flip.ensures.meanwhile
-
-pub returns-in_err-put_changed-clause-kept : goal.returns-in_err-put_changed-clause-kept
-returns-in_err-put_changed-clause-kept g c = λ root saved at other part within now.
-    let m = (goal.at.returns-in_err-put_changed-clause-kept g c).After-keep_those_of in
-    moment-saved (size g m) c.args.self.now (os g m) (g.O.Objects.differs c.args.objects.now) c.count-count.ensures.objects c.requires.laid_out c.requires.fits
-    c.requires.old_fits (one g m) (keeps g m) (more g m) (g.D.SectorDisk.medium c.args.disk.now) (g.D.SectorDisk.medium c.put_changed.new.disk)
-    c.put_changed.ensures.any_moment c.put_changed.ensures.others saved at part within now
+    let at-goal = goal.at.returns-clause-meanwhile g c in
+    meanwhile-new (started g at-goal.After-keep_those_of) (all g at-goal.In_ok-put_changed) (g.D.SectorDisk.medium c.flip.new.disk) c.args.epoch
+    c.flip.ensures.meanwhile
 
 pub returns-clause-kept : goal.returns-clause-kept
 returns-clause-kept g c = λ root saved at other.
-    let m = (goal.at.returns-clause-kept g c).After-keep_those_of in
-    kept-new (size g m) c.args.self.now (os g m) (g.O.Objects.differs c.args.objects.now) c.count-count.ensures.objects c.requires.laid_out
-    c.requires.fits c.requires.old_fits (one g m) (keeps g m) (more g m)
-    (g.D.SectorDisk.medium c.args.disk.now) (g.D.SectorDisk.medium c.put_changed.new.disk)
-    c.put_changed.ensures.any_moment c.put_changed.ensures.others c.put_changed.new.heap c.put_changed.ensures.stays
-    c.in_ok-put_changed.ensures.placed c.in_ok-put_changed.ensures.sizes c.in_ok-put_changed.ensures.spends
-    (g.D.SectorDisk.medium c.flip.new.disk) c.args.epoch c.flip.new.self
-    c.in_ok-put_changed.ensures.matches c.in_ok-put_changed.ensures.map c.requires.unchanged c.flip.ensures.kept saved at other
+    let at-goal = goal.at.returns-clause-kept g c in
+    kept-new (started g at-goal.After-keep_those_of) (all g at-goal.In_ok-put_changed) (g.D.SectorDisk.medium c.flip.new.disk) c.args.epoch
+    c.flip.ensures.kept saved at other
 
 pub returns-clause-others : goal.returns-clause-others
 returns-clause-others g c =
-    let m = (goal.at.returns-clause-others g c).After-keep_those_of in
-    others-new (size g m) c.args.self.now (os g m) (g.O.Objects.differs c.args.objects.now) c.count-count.ensures.objects c.requires.laid_out
-    c.requires.fits c.requires.old_fits (one g m) (keeps g m) (more g m)
-    (g.D.SectorDisk.medium c.args.disk.now) (g.D.SectorDisk.medium c.put_changed.new.disk)
-    c.put_changed.ensures.any_moment c.put_changed.ensures.others c.put_changed.new.heap c.put_changed.ensures.stays
-    c.in_ok-put_changed.ensures.placed c.in_ok-put_changed.ensures.sizes c.in_ok-put_changed.ensures.spends
-    (g.D.SectorDisk.medium c.flip.new.disk) c.args.epoch c.flip.new.self
-    c.in_ok-put_changed.ensures.matches c.in_ok-put_changed.ensures.map c.requires.unchanged c.flip.ensures.others
+    let at-goal = goal.at.returns-clause-others g c in
+    others-new (started g at-goal.After-keep_those_of) (all g at-goal.In_ok-put_changed) (g.D.SectorDisk.medium c.flip.new.disk) c.args.epoch
+    c.flip.ensures.others
 
 pub returns-clause-counts : goal.returns-clause-counts
 returns-clause-counts g c =
-    let m = (goal.at.returns-clause-counts g c).After-keep_those_of in
+    let at-goal = goal.at.returns-clause-counts g c in
     let first = c.in_ok-put_changed.ensures.counts.ok in
     elim c.match-flip.branch [
       | in-Ok w ↦ rw w.result-is (record { err = tt; ok = ap (λ (n : Counts). n.failures) w.in-Ok.ensures.counts ∙ first })
       | in-Err w ↦ rw w.result-is (record {
         err = w.in-Err.ensures.fault.failure (device w.in-Err.field-0 (λ full.
-            not-full (size g m) c.args.self.now (os g m) (g.O.Objects.differs c.args.objects.now) c.count-count.ensures.objects c.requires.laid_out
-            c.requires.fits c.requires.old_fits (one g m) (keeps g m) (more g m)
-            (g.D.SectorDisk.medium c.args.disk.now) (g.D.SectorDisk.medium c.put_changed.new.disk)
-            c.put_changed.ensures.any_moment c.put_changed.ensures.others c.put_changed.new.heap c.put_changed.ensures.stays
-            c.in_ok-put_changed.ensures.placed c.in_ok-put_changed.ensures.sizes c.in_ok-put_changed.ensures.spends (w.in-Err.ensures.full full)))
+            not-full (started g at-goal.After-keep_those_of) (all g at-goal.In_ok-put_changed) (w.in-Err.ensures.full full)))
             ∙ ap (λ (n : ℕ). counted n 1) first;
         ok = tt;
       })
@@ -210,16 +180,10 @@ returns-clause-counts g c =
 
 pub returns-clause-writes : goal.returns-clause-writes
 returns-clause-writes g c =
-    let m = (goal.at.returns-clause-writes g c).After-keep_those_of in
+    let at-goal = goal.at.returns-clause-writes g c in
     elim c.match-flip.branch [
       | in-Ok w ↦ rw w.result-is
-          (writes-new (size g m) c.args.self.now (os g m) (g.O.Objects.differs c.args.objects.now) c.count-count.ensures.objects c.requires.laid_out
-          c.requires.fits c.requires.old_fits (one g m) (keeps g m) (more g m)
-          (g.D.SectorDisk.medium c.args.disk.now) (g.D.SectorDisk.medium c.put_changed.new.disk)
-          c.put_changed.ensures.any_moment c.put_changed.ensures.others c.put_changed.new.heap c.put_changed.ensures.stays
-          c.in_ok-put_changed.ensures.placed c.in_ok-put_changed.ensures.sizes c.in_ok-put_changed.ensures.spends
-          (g.D.SectorDisk.medium c.flip.new.disk) c.args.epoch c.flip.new.self
-          c.in_ok-put_changed.ensures.matches c.in_ok-put_changed.ensures.map c.requires.unchanged
+          (writes-new (started g at-goal.After-keep_those_of) (all g at-goal.In_ok-put_changed) c.requires.unchanged
           (g.D.SectorDisk.counts c.args.disk.now) (g.D.SectorDisk.counts c.put_changed.new.disk) (g.D.SectorDisk.counts c.flip.new.disk)
           (g.met.D.SectorDisk.in_range c.args.disk.now) c.in_ok-put_changed.ensures.writes w.in-Ok.ensures.counts)
       | in-Err w ↦ rw w.result-is tt

@@ -38,7 +38,8 @@ invariant_of-self-2-clause-places c =
     filled-up (is_ok c.resize-2.result) c.args.sectors _ (length c.resize.new.self.items) c.reserve.new.self.items _
     c.resize-2.ensures.items (omega (arith, fewer))
     (subst (All (λ i. i < length c.resize.new.self.items)) (sym c.reserve.ensures.items)
-    (All-weaker (λ i. i < length disk.slots.items) (λ i. i < length c.resize.new.self.items) (λ i lt. omega (arith, lt, fewer)) disk.recent.items disk.places))
+    (All-weaker (λ i. i < length disk.slots.items) (λ i. i < length c.resize.new.self.items)
+    (λ i lt. omega (arith, lt, fewer)) disk.unsynced.items disk.places))
 
 pub returns-clause-contents : goal.returns-clause-contents
 returns-clause-contents c =

@@ -14,21 +14,21 @@ invariant_of-self-clause-few c =
 
 pub invariant_of-self-clause-room : goal.invariant_of-self-clause-room
 invariant_of-self-clause-room c =
-    subst (λ (n : ℕ). n ≤ vec_capacity c.list.new.recent) (sym (length-set c.args.self.now.slots.items c.args.at _))
+    subst (λ (n : ℕ). n ≤ vec_capacity c.list.new.unsynced) (sym (length-set c.args.self.now.slots.items c.args.at _))
     (omega (arith, c.list.ensures.room, c.len.ensures, c.args.self.now.slots.ok.0))
 
 pub invariant_of-self-clause-places : goal.invariant_of-self-clause-places
 invariant_of-self-clause-places c =
     let count = c.args.self.now.slots.ok.0 in
-    subst (λ (n : ℕ). All (λ i. i < n) c.list.new.recent.items) (sym (length-set c.args.self.now.slots.items c.args.at _))
-    (places-write c.args.self.now.recent.items _ c.args.at c.args.self.now.slots.items
+    subst (λ (n : ℕ). All (λ i. i < n) c.list.new.unsynced.items) (sym (length-set c.args.self.now.slots.items c.args.at _))
+    (places-write c.args.self.now.unsynced.items _ c.args.at c.args.self.now.slots.items
     (λ lt. c.list.ensures.listed (omega (arith, lt, count, c.len.ensures)))
     (λ le. c.list.ensures.full (omega (arith, le, count, c.len.ensures))) _ c.requires c.args.self.now.places)
 
 pub invariant_of-self-clause-listed : goal.invariant_of-self-clause-listed
 invariant_of-self-clause-listed c = λ room.
     let count = c.args.self.now.slots.ok.0 in
-    listed-write c.args.self.now.recent.items _ c.args.at c.args.self.now.slots.items
+    listed-write c.args.self.now.unsynced.items _ c.args.at c.args.self.now.slots.items
     (λ lt. c.list.ensures.listed (omega (arith, lt, count, c.len.ensures)))
     (λ le. c.list.ensures.full (omega (arith, le, count, c.len.ensures))) _ room c.args.self.now.listed
 

@@ -8,9 +8,9 @@ use Rattle.ipc_engine.specs.Changes.{is_marked}
 use Rattle.ipc_engine.proofs.Marks.{is_on-laws, marked-push, marked-there}
 use Rattle.ipc_engine.proofs.changed.Changed.mark.Goals as goal
 
-pub returns-then-is_recent-clause-marked : goal.returns-then-is_recent-clause-marked
-returns-then-is_recent-clause-marked c o =
-    marked-there c.args.self.now.marks.items c.args.object o (c.is_recent.ensures c.if-is_recent.true)
+pub returns-then-is_hinted-clause-marked : goal.returns-then-is_hinted-clause-marked
+returns-then-is_hinted-clause-marked c o =
+    marked-there c.args.self.now.marks.items c.args.object o (c.is_hinted.ensures c.if-is_hinted.true)
 
 pub returns-in-Some-clause-marked : goal.returns-in-Some-clause-marked
 returns-in-Some-clause-marked c o =

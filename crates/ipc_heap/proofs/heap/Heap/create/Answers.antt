@@ -20,27 +20,27 @@ use Rattle.ipc_heap.proofs.Runs.{table-after, table-not_root, words-after}
 use Rattle.ipc_heap.proofs.Sectors.{distinct-right}
 use Rattle.ipc_heap.proofs.heap.Heap.create.Given.{Over}
 use Rattle.ipc_heap.proofs.heap.Heap.create.Goals as goal
-use Rattle.ipc_heap.proofs.heap.Heap.create.Goals.{In_ok-behind}
+use Rattle.ipc_heap.proofs.heap.Heap.create.Goals.{In_ok-beyond}
 
 -- the objects are written
-module _ (g : Over) (c : In_ok-behind g) where
+module _ (g : Over) (c : In_ok-beyond g) where
   abbrev os : PlainObjects
   os = g.O.Objects.objects c.args.objects.now
 
   abbrev table : List ℕ
-  table = range_with_len c.in_ok-behind.behind (table_sectors_for (length (table_words (placed_after c.args.range.first os))))
+  table = range_with_len c.in_ok-beyond.beyond (table_sectors_for (length (table_words (placed_after c.args.range.first os))))
 
   same : table ≡ laid_table c.requires.laid_out os c.requires.fits
-  same = ap (λ (n : ℕ). range_with_len n (table_sectors_for (length (table_words (placed_after c.args.range.first os))))) c.in_ok-behind.ensures.behind
+  same = ap (λ (n : ℕ). range_with_len n (table_sectors_for (length (table_words (placed_after c.args.range.first os))))) c.in_ok-beyond.ensures.beyond
 
-  is-laid : IsLaid c.args.range.first c.in_ok-behind.behind os
+  is-laid : IsLaid c.args.range.first c.in_ok-beyond.beyond os
   is-laid = record {
-    are = c.in_ok-behind.ensures.are;
-    last = c.in_ok-behind.ensures.behind;
+    are = c.in_ok-beyond.ensures.are;
+    last = c.in_ok-beyond.ensures.beyond;
     fit = omega (
       arith,
       laid-fits c.requires.laid_out os c.requires.fits,
-      c.in_ok-behind.ensures.behind,
+      c.in_ok-beyond.ensures.beyond,
       c.requires.laid_out.within,
       g.met.D.SectorDisk.fits c.args.disk.now,
     );
@@ -73,16 +73,16 @@ module _ (g : Over) (c : In_ok-behind g) where
     -- the heap that is there once the root is written
     holds-then : (sector : List ℕ) (n : ℕ) → IsHonest (g.D.SectorDisk.medium c.args.disk.now)
         → IsTableOn (laid_words c.requires.laid_out os c.requires.fits) table two.contents
-        → c.args.root < length two.contents → IsRead sector (record { epoch = 1; first = c.in_ok-behind.behind; len = 4 * n })
+        → c.args.root < length two.contents → IsRead sector (record { epoch = 1; first = c.in_ok-beyond.beyond; len = 4 * n })
         → n ≡ length (laid_words c.requires.laid_out os c.requires.fits) → Holds c.args.range c.args.root 1 os (slice_set two.contents c.args.root sector)
     holds-then sector n honest on within read long =
         let words : List ℕ = laid_words c.requires.laid_out os c.requires.fits in
-        let begin : get_or (laid_table c.requires.laid_out os c.requires.fits) 0 0 ≡ c.in_ok-behind.behind =
+        let begin : get_or (laid_table c.requires.laid_out os c.requires.fits) 0 0 ≡ c.in_ok-beyond.beyond =
         get_or-range_with_len (c.args.range.first + object_sectors os) (table_sectors_for (length words)) 0 0 (omega (arith, words-after c.args.range.first os))
-        ∙ omega (arith, c.in_ok-behind.ensures.behind) in
+        ∙ omega (arith, c.in_ok-beyond.ensures.beyond) in
         created-holds c.requires.laid_out os c.requires.fits (g.D.SectorDisk.medium c.write_objects.new.disk).contents
         (slice_set two.contents c.args.root sector)
-        c.in_ok-behind.ensures.are (c.in_ok-behind.ensures.written honest)
+        c.in_ok-beyond.ensures.are (c.in_ok-beyond.ensures.written honest)
         (turned-there words (laid_table c.requires.laid_out os c.requires.fits) c.args.root 1 (table-not_root c.requires.laid_out os c.requires.fits)
         (g.D.SectorDisk.medium c.write_objects.new.disk).contents two.contents sector (run-table honest).contents
         (subst (λ (l : List ℕ). IsTableOn words l two.contents) same on) within
@@ -93,11 +93,11 @@ write_objects-requires g c =
     omega (arith, laid-fits c.requires.laid_out (g.O.Objects.objects c.args.objects.now) c.requires.fits, c.requires.laid_out.within)
 
 pub write_table-requires-clause-sound : goal.write_table-requires-clause-sound
-write_table-requires-clause-sound g c = is-laid g (goal.at.write_table-requires-clause-sound g c).In_ok-behind
+write_table-requires-clause-sound g c = is-laid g (goal.at.write_table-requires-clause-sound g c).In_ok-beyond
 
 pub write_table-requires-clause-within : goal.write_table-requires-clause-within
 write_table-requires-clause-within g c =
-    let m = (goal.at.write_table-requires-clause-within g c).In_ok-behind in
+    let m = (goal.at.write_table-requires-clause-within g c).In_ok-beyond in
     let run : List ℕ = laid_table c.requires.laid_out (os g m) c.requires.fits in
     subst (All (λ s. s < g.D.SectorDisk.size c.write_objects.new.disk)) (sym (same g m))
     (All-weaker (IsInside c.args.range) (λ s. s < g.D.SectorDisk.size c.write_objects.new.disk)
@@ -107,16 +107,16 @@ write_table-requires-clause-within g c =
 
 pub write_table-requires-clause-once : goal.write_table-requires-clause-once
 write_table-requires-clause-once g c =
-    let m = (goal.at.write_table-requires-clause-once g c).In_ok-behind in
+    let m = (goal.at.write_table-requires-clause-once g c).In_ok-beyond in
     subst (IsDistinct nat_eq) (sym (same g m))
     (distinct-right (heap.object_sectors (placed_after c.args.range.first (os g m))) (laid_table c.requires.laid_out (os g m) c.requires.fits)
     (laid-once c.requires.laid_out (os g m) c.requires.fits))
 
 pub write_table-requires-clause-all : goal.write_table-requires-clause-all
-write_table-requires-clause-all g c = length-range_with_len c.in_ok-behind.behind _
+write_table-requires-clause-all g c = length-range_with_len c.in_ok-beyond.beyond _
 
 pub len-requires : goal.len-requires
-len-requires g c = is-laid g (goal.at.len-requires g c).In_ok-behind
+len-requires g c = is-laid g (goal.at.len-requires g c).In_ok-beyond
 
 pub overflow_cast-numbers : goal.overflow_cast-numbers
 overflow_cast-numbers g c = omega (arith, c.len.ensures, words-after c.args.range.first (g.O.Objects.objects c.args.objects.now), c.requires.counted)
@@ -128,28 +128,28 @@ pub write_durably-requires : goal.write_durably-requires
 write_durably-requires g c =
     omega (arith, c.write_table.ensures.same.sectors, c.write_objects.ensures.same.sectors, c.requires.laid_out.root_there)
 
-pub returns-in_err-behind-clause-others : goal.returns-in_err-behind-clause-others
-returns-in_err-behind-clause-others g c = λ honest.
+pub returns-in_err-beyond-clause-others : goal.returns-in_err-beyond-clause-others
+returns-in_err-beyond-clause-others g c = λ honest.
     others-one c.requires.laid_out (g.O.Objects.objects c.args.objects.now) c.requires.fits _ _ (c.write_objects.ensures.others honest)
 
 pub returns-in_err-write_table-clause-others : goal.returns-in_err-write_table-clause-others
 returns-in_err-write_table-clause-others g c =
-    run-two g (goal.at.returns-in_err-write_table-clause-others g c).In_ok-behind (g.D.SectorDisk.medium c.write_table.new.disk) c.write_table.ensures.others
+    run-two g (goal.at.returns-in_err-write_table-clause-others g c).In_ok-beyond (g.D.SectorDisk.medium c.write_table.new.disk) c.write_table.ensures.others
 
 pub returns-in_err-write_durably-clause-others : goal.returns-in_err-write_durably-clause-others
 returns-in_err-write_durably-clause-others g c =
-    run-three g (goal.at.returns-in_err-write_durably-clause-others g c).In_ok-behind
+    run-three g (goal.at.returns-in_err-write_durably-clause-others g c).In_ok-beyond
     (g.D.SectorDisk.medium c.write_table.new.disk) c.write_table.ensures.others
     (g.D.SectorDisk.medium c.write_durably.new.disk) c.write_durably.ensures.others
 
 pub returns-clause-others : goal.returns-clause-others
 returns-clause-others g c =
-    run-three g (goal.at.returns-clause-others g c).In_ok-behind (g.D.SectorDisk.medium c.write_table.new.disk) c.write_table.ensures.others
+    run-three g (goal.at.returns-clause-others g c).In_ok-beyond (g.D.SectorDisk.medium c.write_table.new.disk) c.write_table.ensures.others
     (g.D.SectorDisk.medium c.write_durably.new.disk) c.write_durably.ensures.others
 
 pub returns-clause-holds : goal.returns-clause-holds
 returns-clause-holds g c = λ honest.
-    let m = (goal.at.returns-clause-holds g c).In_ok-behind in
+    let m = (goal.at.returns-clause-holds g c).In_ok-beyond in
     let two = g.D.SectorDisk.medium c.write_table.new.disk in
     let next = run-two g m two c.write_table.ensures.others honest in
     let long : length two.contents ≡ g.D.SectorDisk.size c.args.disk.now =
@@ -162,12 +162,12 @@ returns-clause-holds g c = λ honest.
 
 pub returns-clause-counts : goal.returns-clause-counts
 returns-clause-counts g c =
-    let m = (goal.at.returns-clause-counts g c).In_ok-behind in
+    let m = (goal.at.returns-clause-counts g c).In_ok-beyond in
     record {
       err = tt;
-      ok = create-counts (object_sectors (os g m)) (length (table g m)) _ _ _ _ c.in_ok-behind.ensures.counts.ok c.in_ok-write_table.ensures.counts.ok
+      ok = create-counts (object_sectors (os g m)) (length (table g m)) _ _ _ _ c.in_ok-beyond.ensures.counts.ok c.in_ok-write_table.ensures.counts.ok
           c.in_ok-write_durably.ensures.counts.ok (g.met.D.SectorDisk.in_range c.args.disk.now)
           ∙ ap (λ (n : ℕ). with_calls (object_sectors (os g m) + n + 1) 1 (g.D.SectorDisk.counts c.args.disk.now))
-          (length-range_with_len c.in_ok-behind.behind (table_sectors_for (length (table_words (placed_after c.args.range.first (os g m)))))
+          (length-range_with_len c.in_ok-beyond.beyond (table_sectors_for (length (table_words (placed_after c.args.range.first (os g m)))))
           ∙ table-after c.args.range.first (os g m));
     }

@@ -29,11 +29,11 @@ use Rattle.ipc_heap.proofs.heap.Heap.flip.Goals.{After-self-in-Ok-1, After-take_
 -- ---- the sectors of the table are taken
 
 module _ (g : Over) (c : After-take_table g) where
-  laid : IsLaidOut c.self.inside.range c.self.inside.aim (g.D.SectorDisk.size c.args.disk.now)
-  laid = subst (λ (v : HeapView). IsLaidOut v.range v.aim (g.D.SectorDisk.size c.args.disk.now)) (sym c.self.view_is) c.requires.laid_out
+  laid : IsLaidOut c.self.inside.range c.self.inside.next_root (g.D.SectorDisk.size c.args.disk.now)
+  laid = subst (λ (v : HeapView). IsLaidOut v.range v.next_root (g.D.SectorDisk.size c.args.disk.now)) (sym c.self.view_is) c.requires.laid_out
 
   abbrev view : HeapView
-  view = seen c.self.inside.range c.self.inside.root c.self.inside.aim c.self.inside.epoch c.self.inside.words c.self.inside.table c.self.inside.uses
+  view = seen c.self.inside.range c.self.inside.root c.self.inside.next_root c.self.inside.epoch c.self.inside.words c.self.inside.table c.self.inside.uses
 
   taken : AreTaken c.self.inside.range.first c.self.inside.uses c.take_table.new.table.items c.take_table.new.uses
   taken = c.take_table.ensures.taken
@@ -75,37 +75,37 @@ module _ (g : Over) (c : After-take_table g) where
   module _ (new : Medium) (on : c.take_table.result ≡ true) (words table : List ℕ) (words-are : words ≡ c.self.inside.words.items)
       (table-is : table ≡ c.take_table.new.table.items) where
     either : (IsHonest (g.D.SectorDisk.medium c.args.disk.now) → EachImageSince (g.D.SectorDisk.medium c.args.disk.now) new
-        (IsEither words table c.self.inside.aim c.args.epoch (g.D.SectorDisk.medium c.args.disk.now)))
+        (IsEither words table c.self.inside.next_root c.args.epoch (g.D.SectorDisk.medium c.args.disk.now)))
         → IsHonest (g.D.SectorDisk.medium c.args.disk.now) → EachImageSince (g.D.SectorDisk.medium c.args.disk.now) new
-        (IsEither c.self.inside.words.items c.take_table.new.table.items c.self.inside.aim c.args.epoch (g.D.SectorDisk.medium c.args.disk.now))
+        (IsEither c.self.inside.words.items c.take_table.new.table.items c.self.inside.next_root c.args.epoch (g.D.SectorDisk.medium c.args.disk.now))
     either since honest =
         subst (λ (l : List ℕ). EachImageSince (g.D.SectorDisk.medium c.args.disk.now) new
-        (IsEither l c.take_table.new.table.items c.self.inside.aim c.args.epoch (g.D.SectorDisk.medium c.args.disk.now))) words-are
+        (IsEither l c.take_table.new.table.items c.self.inside.next_root c.args.epoch (g.D.SectorDisk.medium c.args.disk.now))) words-are
         (subst (λ (l : List ℕ). EachImageSince (g.D.SectorDisk.medium c.args.disk.now) new
-        (IsEither words l c.self.inside.aim c.args.epoch (g.D.SectorDisk.medium c.args.disk.now))) table-is (since honest))
+        (IsEither words l c.self.inside.next_root c.args.epoch (g.D.SectorDisk.medium c.args.disk.now))) table-is (since honest))
 
     moment : (IsHonest (g.D.SectorDisk.medium c.args.disk.now) → EachImageSince (g.D.SectorDisk.medium c.args.disk.now) new
-        (IsEither words table c.self.inside.aim c.args.epoch (g.D.SectorDisk.medium c.args.disk.now)))
+        (IsEither words table c.self.inside.next_root c.args.epoch (g.D.SectorDisk.medium c.args.disk.now)))
         → (saved : PlainObjects) → HeapMatches c.args.self.now saved (g.D.SectorDisk.medium c.args.disk.now)
         → EachImageSince (g.D.SectorDisk.medium c.args.disk.now) new
-        (HoldsEither c.args.self.now.range c.args.self.now.root c.args.self.now.epoch saved c.args.self.now.aim c.args.epoch
+        (HoldsEither c.args.self.now.range c.args.self.now.root c.args.self.now.epoch saved c.args.self.now.next_root c.args.epoch
         (map_of c.args.self.now (g.D.SectorDisk.medium c.args.disk.now)))
     moment since =
         subst (λ (v : HeapView). (saved : PlainObjects) → HeapMatches v saved (g.D.SectorDisk.medium c.args.disk.now)
         → EachImageSince (g.D.SectorDisk.medium c.args.disk.now) new
-        (HoldsEither v.range v.root v.epoch saved v.aim c.args.epoch (map_of v (g.D.SectorDisk.medium c.args.disk.now)))) c.self.view_is
+        (HoldsEither v.range v.root v.epoch saved v.next_root c.args.epoch (map_of v (g.D.SectorDisk.medium c.args.disk.now)))) c.self.view_is
         (λ saved matches. flip-moment view saved (g.D.SectorDisk.medium c.args.disk.now)
         (g.D.SectorDisk.size c.args.disk.now) laid matches c.self.inside.words.items c.take_table.new.table.items
         c.args.epoch c.self.invariant.is_table (omega (arith, later)) c.self.invariant.numbers c.self.invariant.sizes
         (long on) inside once taken.were_free new (either since matches.honest))
 
     kept : (IsHonest (g.D.SectorDisk.medium c.args.disk.now) → EachImageSince (g.D.SectorDisk.medium c.args.disk.now) new
-        (IsEither words table c.self.inside.aim c.args.epoch (g.D.SectorDisk.medium c.args.disk.now)))
-        → c.args.self.now.aim ≢ c.args.self.now.root
+        (IsEither words table c.self.inside.next_root c.args.epoch (g.D.SectorDisk.medium c.args.disk.now)))
+        → c.args.self.now.next_root ≢ c.args.self.now.root
         → (saved : PlainObjects) → HeapMatches c.args.self.now saved (g.D.SectorDisk.medium c.args.disk.now)
         → StaysSaved c.args.self.now.range c.args.self.now.root c.args.self.now.epoch saved (g.D.SectorDisk.medium c.args.disk.now) new
     kept since =
-        subst (λ (v : HeapView). v.aim ≢ v.root → (saved : PlainObjects) → HeapMatches v saved (g.D.SectorDisk.medium c.args.disk.now)
+        subst (λ (v : HeapView). v.next_root ≢ v.root → (saved : PlainObjects) → HeapMatches v saved (g.D.SectorDisk.medium c.args.disk.now)
         → StaysSaved v.range v.root v.epoch saved (g.D.SectorDisk.medium c.args.disk.now) new) c.self.view_is
         (λ other saved matches. flip-kept view saved (g.D.SectorDisk.medium c.args.disk.now)
         (g.D.SectorDisk.size c.args.disk.now) laid matches c.self.inside.words.items c.take_table.new.table.items
@@ -113,12 +113,12 @@ module _ (g : Over) (c : After-take_table g) where
         (long on) inside once taken.were_free other new (either since matches.honest))
 
     meanwhile : (IsHonest (g.D.SectorDisk.medium c.args.disk.now) → EachImageSince (g.D.SectorDisk.medium c.args.disk.now) new
-        (IsEither words table c.self.inside.aim c.args.epoch (g.D.SectorDisk.medium c.args.disk.now)))
-        → c.args.self.now.aim ≡ c.args.self.now.root
+        (IsEither words table c.self.inside.next_root c.args.epoch (g.D.SectorDisk.medium c.args.disk.now)))
+        → c.args.self.now.next_root ≡ c.args.self.now.root
         → (saved : PlainObjects) → HeapMatches c.args.self.now saved (g.D.SectorDisk.medium c.args.disk.now)
         → EachLater (KeepsUsedOrTurns c.args.self.now.range c.args.self.now.root) (g.D.SectorDisk.medium c.args.disk.now) new
     meanwhile since =
-        subst (λ (v : HeapView). v.aim ≡ v.root → (saved : PlainObjects) → HeapMatches v saved (g.D.SectorDisk.medium c.args.disk.now)
+        subst (λ (v : HeapView). v.next_root ≡ v.root → (saved : PlainObjects) → HeapMatches v saved (g.D.SectorDisk.medium c.args.disk.now)
         → EachLater (KeepsUsedOrTurns v.range v.root) (g.D.SectorDisk.medium c.args.disk.now) new) c.self.view_is
         (λ same saved matches. flip-meanwhile view saved (g.D.SectorDisk.medium c.args.disk.now)
         (g.D.SectorDisk.size c.args.disk.now) laid matches c.self.inside.words.items c.take_table.new.table.items
@@ -126,33 +126,33 @@ module _ (g : Over) (c : After-take_table g) where
         (long on) inside once taken.were_free same later new (either since matches.honest))
 
     others : (IsHonest (g.D.SectorDisk.medium c.args.disk.now)
-        → LeavesAlone (λ i. (Contains table i → ⊥) × (i ≢ c.self.inside.aim)) (g.D.SectorDisk.medium c.args.disk.now) new)
+        → LeavesAlone (λ i. (Contains table i → ⊥) × (i ≢ c.self.inside.next_root)) (g.D.SectorDisk.medium c.args.disk.now) new)
         → IsHonest (g.D.SectorDisk.medium c.args.disk.now)
-        → LeavesAlone (λ i. IsKept c.args.self.now i × (i ≢ c.args.self.now.aim)) (g.D.SectorDisk.medium c.args.disk.now) new
+        → LeavesAlone (λ i. IsKept c.args.self.now i × (i ≢ c.args.self.now.next_root)) (g.D.SectorDisk.medium c.args.disk.now) new
     others run =
         subst (λ (v : HeapView). IsHonest (g.D.SectorDisk.medium c.args.disk.now)
-        → LeavesAlone (λ i. IsKept v i × (i ≢ v.aim)) (g.D.SectorDisk.medium c.args.disk.now) new) c.self.view_is
-        (λ honest. flip-others c.self.inside.range c.self.inside.uses c.take_table.new.table.items c.self.inside.aim
+        → LeavesAlone (λ i. IsKept v i × (i ≢ v.next_root)) (g.D.SectorDisk.medium c.args.disk.now) new) c.self.view_is
+        (λ honest. flip-others c.self.inside.range c.self.inside.uses c.take_table.new.table.items c.self.inside.next_root
         (g.D.SectorDisk.medium c.args.disk.now) new
         c.self.invariant.all_uses taken.were_free
-        (subst (λ (l : List ℕ). LeavesAlone (λ i. (Contains l i → ⊥) × (i ≢ c.self.inside.aim)) (g.D.SectorDisk.medium c.args.disk.now) new) table-is
+        (subst (λ (l : List ℕ). LeavesAlone (λ i. (Contains l i → ⊥) × (i ≢ c.self.inside.next_root)) (g.D.SectorDisk.medium c.args.disk.now) new) table-is
         (run honest)))
 
     module _ (turns : IsHonest (g.D.SectorDisk.medium c.args.disk.now)
-        → IsTurned words table c.self.inside.aim c.args.epoch (g.D.SectorDisk.medium c.args.disk.now).contents new.contents)
+        → IsTurned words table c.self.inside.next_root c.args.epoch (g.D.SectorDisk.medium c.args.disk.now).contents new.contents)
         (new_uses : List Use) (given : AreGiven c.self.inside.range.first (map turned c.take_table.new.uses) c.take_table.new.table.items new_uses) where
       abbrev next : HeapView
-      next = seen c.self.inside.range c.self.inside.aim c.self.inside.aim c.args.epoch c.self.inside.words c.take_table.new.table new_uses
+      next = seen c.self.inside.range c.self.inside.next_root c.self.inside.next_root c.args.epoch c.self.inside.words c.take_table.new.table new_uses
 
       turned-is : IsHonest (g.D.SectorDisk.medium c.args.disk.now)
-          → IsTurned c.self.inside.words.items c.take_table.new.table.items c.self.inside.aim c.args.epoch
+          → IsTurned c.self.inside.words.items c.take_table.new.table.items c.self.inside.next_root c.args.epoch
           (g.D.SectorDisk.medium c.args.disk.now).contents new.contents
       turned-is honest =
           subst (λ (l : List ℕ).
-          IsTurned l c.take_table.new.table.items c.self.inside.aim c.args.epoch (g.D.SectorDisk.medium c.args.disk.now).contents new.contents)
+          IsTurned l c.take_table.new.table.items c.self.inside.next_root c.args.epoch (g.D.SectorDisk.medium c.args.disk.now).contents new.contents)
           words-are
           (subst (λ (l : List ℕ).
-          IsTurned words l c.self.inside.aim c.args.epoch (g.D.SectorDisk.medium c.args.disk.now).contents new.contents) table-is (turns honest))
+          IsTurned words l c.self.inside.next_root c.args.epoch (g.D.SectorDisk.medium c.args.disk.now).contents new.contents) table-is (turns honest))
 
       heap : IsHeap c.self.inside.range c.self.inside.words c.take_table.new.table new_uses
       heap =
@@ -216,7 +216,7 @@ invariant_of-self g c =
 pub returns-then-not-take_table-clause-any_moment : goal.returns-then-not-take_table-clause-any_moment
 returns-then-not-take_table-clause-any_moment g c = λ saved matches.
     EachImageSince-start (g.D.SectorDisk.medium c.args.disk.now)
-    (HoldsEither c.args.self.now.range c.args.self.now.root c.args.self.now.epoch saved c.args.self.now.aim c.args.epoch
+    (HoldsEither c.args.self.now.range c.args.self.now.root c.args.self.now.epoch saved c.args.self.now.next_root c.args.epoch
     (map_of c.args.self.now (g.D.SectorDisk.medium c.args.disk.now)))
     (λ image left. g.met.D.SectorDisk.only_now c.args.disk.now image left)
     (λ image now. inl (record { allocation = matches.there; there = matches.images image now }))
@@ -234,7 +234,7 @@ returns-then-not-take_table-clause-meanwhile g c = λ same saved matches.
 
 pub returns-then-not-take_table-clause-others : goal.returns-then-not-take_table-clause-others
 returns-then-not-take_table-clause-others g c = λ honest.
-    LeavesAlone-start (λ i. IsKept c.args.self.now i × (i ≢ c.args.self.now.aim)) (g.D.SectorDisk.medium c.args.disk.now) honest
+    LeavesAlone-start (λ i. IsKept c.args.self.now i × (i ≢ c.args.self.now.next_root)) (g.D.SectorDisk.medium c.args.disk.now) honest
     (λ image left. g.met.D.SectorDisk.only_now c.args.disk.now image left)
 
 pub returns-then-not-take_table-clause-full : goal.returns-then-not-take_table-clause-full
@@ -251,79 +251,79 @@ returns-then-not-take_table-clause-full g c = λ full.
 
 -- ---- the table and the root are written
 
-pub turn-requires-clause-within : goal.turn-requires-clause-within
-turn-requires-clause-within g c =
-    let m = (goal.at.turn-requires-clause-within g c).After-take_table in
+pub save_table-requires-clause-within : goal.save_table-requires-clause-within
+save_table-requires-clause-within g c =
+    let m = (goal.at.save_table-requires-clause-within g c).After-take_table in
     subst (All (λ s. s < g.D.SectorDisk.size c.args.disk.now)) (sym c.deref-3.ensures.value)
     (All-weaker (IsInside c.self.inside.range) (λ s. s < g.D.SectorDisk.size c.args.disk.now) (λ s here. omega (arith, here, (laid g m).within))
     c.take_table.new.table.items (table-inside g m))
 
-pub turn-requires-clause-once : goal.turn-requires-clause-once
-turn-requires-clause-once g c = subst (IsDistinct nat_eq) (sym c.deref-3.ensures.value) c.take_table.ensures.taken.once
+pub save_table-requires-clause-once : goal.save_table-requires-clause-once
+save_table-requires-clause-once g c = subst (IsDistinct nat_eq) (sym c.deref-3.ensures.value) c.take_table.ensures.taken.once
 
-pub turn-requires-clause-all : goal.turn-requires-clause-all
-turn-requires-clause-all g c =
-    ap length c.deref-3.ensures.value ∙ long g (goal.at.turn-requires-clause-all g c).After-take_table c.if-not-take_table.false
+pub save_table-requires-clause-all : goal.save_table-requires-clause-all
+save_table-requires-clause-all g c =
+    ap length c.deref-3.ensures.value ∙ long g (goal.at.save_table-requires-clause-all g c).After-take_table c.if-not-take_table.false
     ∙ ap (λ (l : List ℕ). table_sectors_for (length l)) (sym c.deref-2.ensures.value)
 
-pub turn-requires-clause-some : goal.turn-requires-clause-some
-turn-requires-clause-some g c = omega (arith, ap length c.deref-2.ensures.value, ap length c.self.invariant.is_table)
+pub save_table-requires-clause-some : goal.save_table-requires-clause-some
+save_table-requires-clause-some g c = omega (arith, ap length c.deref-2.ensures.value, ap length c.self.invariant.is_table)
 
-pub turn-requires-clause-counted : goal.turn-requires-clause-counted
-turn-requires-clause-counted g c =
+pub save_table-requires-clause-counted : goal.save_table-requires-clause-counted
+save_table-requires-clause-counted g c =
     let counted : 4 * length (table_words (placed_in c.self.inside.words.items)) < 2 ^ 32 =
     subst (λ (v : HeapView). 4 * length (table_words v.placed) < 2 ^ 32) (sym c.self.view_is) c.requires.counted in
     omega (arith, counted, ap length c.deref-2.ensures.value, ap length c.self.invariant.is_table)
 
-pub turn-requires-clause-root_there : goal.turn-requires-clause-root_there
-turn-requires-clause-root_there g c = (laid g (goal.at.turn-requires-clause-root_there g c).After-take_table).root_there
+pub save_table-requires-clause-root_there : goal.save_table-requires-clause-root_there
+save_table-requires-clause-root_there g c = (laid g (goal.at.save_table-requires-clause-root_there g c).After-take_table).root_there
 
-pub turn-requires-clause-root_apart : goal.turn-requires-clause-root_apart
-turn-requires-clause-root_apart g c = λ there.
-    let m = (goal.at.turn-requires-clause-root_apart g c).After-take_table in
-    let here = All-contains (IsInside c.self.inside.range) c.take_table.new.table.items c.self.inside.aim (table-inside g m)
-    (subst (λ (l : List ℕ). Contains l c.self.inside.aim) c.deref-3.ensures.value there) in
+pub save_table-requires-clause-root_apart : goal.save_table-requires-clause-root_apart
+save_table-requires-clause-root_apart g c = λ there.
+    let m = (goal.at.save_table-requires-clause-root_apart g c).After-take_table in
+    let here = All-contains (IsInside c.self.inside.range) c.take_table.new.table.items c.self.inside.next_root (table-inside g m)
+    (subst (λ (l : List ℕ). Contains l c.self.inside.next_root) c.deref-3.ensures.value there) in
     ⊎_elim (λ low. omega (arith, low, here)) (λ high. omega (arith, high, here)) (laid g m).apart
 
 pub returns-in-Err-clause-any_moment : goal.returns-in-Err-clause-any_moment
 returns-in-Err-clause-any_moment g c =
-    moment g (goal.at.returns-in-Err-clause-any_moment g c).After-take_table (g.D.SectorDisk.medium c.turn.new.disk) c.if-not-take_table.false _ _
-    c.deref-2.ensures.value c.deref-3.ensures.value c.turn.ensures.any_moment
+    moment g (goal.at.returns-in-Err-clause-any_moment g c).After-take_table (g.D.SectorDisk.medium c.save_table.new.disk) c.if-not-take_table.false _ _
+    c.deref-2.ensures.value c.deref-3.ensures.value c.save_table.ensures.any_moment
 
 pub returns-in-Err-clause-kept : goal.returns-in-Err-clause-kept
 returns-in-Err-clause-kept g c =
-    kept g (goal.at.returns-in-Err-clause-kept g c).After-take_table (g.D.SectorDisk.medium c.turn.new.disk) c.if-not-take_table.false _ _
-    c.deref-2.ensures.value c.deref-3.ensures.value c.turn.ensures.any_moment
+    kept g (goal.at.returns-in-Err-clause-kept g c).After-take_table (g.D.SectorDisk.medium c.save_table.new.disk) c.if-not-take_table.false _ _
+    c.deref-2.ensures.value c.deref-3.ensures.value c.save_table.ensures.any_moment
 
 pub returns-in-Err-clause-meanwhile : goal.returns-in-Err-clause-meanwhile
 returns-in-Err-clause-meanwhile g c =
-    meanwhile g (goal.at.returns-in-Err-clause-meanwhile g c).After-take_table (g.D.SectorDisk.medium c.turn.new.disk) c.if-not-take_table.false _ _
-    c.deref-2.ensures.value c.deref-3.ensures.value c.turn.ensures.any_moment
+    meanwhile g (goal.at.returns-in-Err-clause-meanwhile g c).After-take_table (g.D.SectorDisk.medium c.save_table.new.disk) c.if-not-take_table.false _ _
+    c.deref-2.ensures.value c.deref-3.ensures.value c.save_table.ensures.any_moment
 
 pub returns-in-Err-clause-others : goal.returns-in-Err-clause-others
 returns-in-Err-clause-others g c =
-    others g (goal.at.returns-in-Err-clause-others g c).After-take_table (g.D.SectorDisk.medium c.turn.new.disk) c.if-not-take_table.false _ _
-    c.deref-2.ensures.value c.deref-3.ensures.value c.turn.ensures.others
+    others g (goal.at.returns-in-Err-clause-others g c).After-take_table (g.D.SectorDisk.medium c.save_table.new.disk) c.if-not-take_table.false _ _
+    c.deref-2.ensures.value c.deref-3.ensures.value c.save_table.ensures.others
 
 pub returns-in-Ok-clause-any_moment : goal.returns-in-Ok-clause-any_moment
 returns-in-Ok-clause-any_moment g c =
-    moment g (goal.at.returns-in-Ok-clause-any_moment g c).After-take_table (g.D.SectorDisk.medium c.turn.new.disk) c.if-not-take_table.false _ _
-    c.deref-2.ensures.value c.deref-3.ensures.value c.turn.ensures.any_moment
+    moment g (goal.at.returns-in-Ok-clause-any_moment g c).After-take_table (g.D.SectorDisk.medium c.save_table.new.disk) c.if-not-take_table.false _ _
+    c.deref-2.ensures.value c.deref-3.ensures.value c.save_table.ensures.any_moment
 
 pub returns-in-Ok-clause-kept : goal.returns-in-Ok-clause-kept
 returns-in-Ok-clause-kept g c =
-    kept g (goal.at.returns-in-Ok-clause-kept g c).After-take_table (g.D.SectorDisk.medium c.turn.new.disk) c.if-not-take_table.false _ _
-    c.deref-2.ensures.value c.deref-3.ensures.value c.turn.ensures.any_moment
+    kept g (goal.at.returns-in-Ok-clause-kept g c).After-take_table (g.D.SectorDisk.medium c.save_table.new.disk) c.if-not-take_table.false _ _
+    c.deref-2.ensures.value c.deref-3.ensures.value c.save_table.ensures.any_moment
 
 pub returns-in-Ok-clause-meanwhile : goal.returns-in-Ok-clause-meanwhile
 returns-in-Ok-clause-meanwhile g c =
-    meanwhile g (goal.at.returns-in-Ok-clause-meanwhile g c).After-take_table (g.D.SectorDisk.medium c.turn.new.disk) c.if-not-take_table.false _ _
-    c.deref-2.ensures.value c.deref-3.ensures.value c.turn.ensures.any_moment
+    meanwhile g (goal.at.returns-in-Ok-clause-meanwhile g c).After-take_table (g.D.SectorDisk.medium c.save_table.new.disk) c.if-not-take_table.false _ _
+    c.deref-2.ensures.value c.deref-3.ensures.value c.save_table.ensures.any_moment
 
 pub returns-in-Ok-clause-others : goal.returns-in-Ok-clause-others
 returns-in-Ok-clause-others g c =
-    others g (goal.at.returns-in-Ok-clause-others g c).After-take_table (g.D.SectorDisk.medium c.turn.new.disk) c.if-not-take_table.false _ _
-    c.deref-2.ensures.value c.deref-3.ensures.value c.turn.ensures.others
+    others g (goal.at.returns-in-Ok-clause-others g c).After-take_table (g.D.SectorDisk.medium c.save_table.new.disk) c.if-not-take_table.false _ _
+    c.deref-2.ensures.value c.deref-3.ensures.value c.save_table.ensures.others
 
 pub give_back-requires-in-Err : goal.give_back-requires-in-Err
 give_back-requires-in-Err g c =
@@ -362,12 +362,12 @@ invariant_of-self-in-Ok g c =
 
 pub returns-in-Ok-clause-matches : goal.returns-in-Ok-clause-matches
 returns-in-Ok-clause-matches g c = λ saved matches.
-    matches-then g (m g c) (g.D.SectorDisk.medium c.turn.new.disk) c.if-not-take_table.false _ _ c.deref-2.ensures.value c.deref-3.ensures.value
-    c.in-Ok.ensures.turned (new_uses g c) (given g c) (c.turn.ensures.same.honest.0 matches.honest) c.in-Ok.ensures.durable saved matches
+    matches-then g (m g c) (g.D.SectorDisk.medium c.save_table.new.disk) c.if-not-take_table.false _ _ c.deref-2.ensures.value c.deref-3.ensures.value
+    c.in-Ok.ensures.turned (new_uses g c) (given g c) (c.save_table.ensures.same.honest.0 matches.honest) c.in-Ok.ensures.durable saved matches
 
 pub returns-in-Ok-clause-map : goal.returns-in-Ok-clause-map
 returns-in-Ok-clause-map g c =
-    map-then g (m g c) (g.D.SectorDisk.medium c.turn.new.disk) c.if-not-take_table.false _ _ c.deref-2.ensures.value c.deref-3.ensures.value
+    map-then g (m g c) (g.D.SectorDisk.medium c.save_table.new.disk) c.if-not-take_table.false _ _ c.deref-2.ensures.value c.deref-3.ensures.value
     c.in-Ok.ensures.turned (new_uses g c) (given g c)
 
 pub returns-in-Ok-clause-table : goal.returns-in-Ok-clause-table

@@ -32,13 +32,13 @@ pub returns-then-place-eq0 : goal.returns-then-place-eq0
 returns-then-place-eq0 c =
     let m = (goal.at.returns-then-place-eq0 c).After-place_of-place in (found m).0 c.if-place-eq0.true ∙ same m
 
-pub wide-requires : goal.wide-requires
-wide-requires c =
-    let m = (goal.at.wide-requires c).After-place_of-place in
+pub u64_at-requires : goal.u64_at-requires
+u64_at-requires c =
+    let m = (goal.at.u64_at-requires c).After-place_of-place in
     omega (arith, ((found m).1 (omega (arith, c.if-place-eq0.false))).0, ap length c.deref-2.ensures.value)
 
 pub returns : goal.returns
 returns c =
     let m = (goal.at.returns c).After-place_of-place in
-    ap (λ (n : ℕ). Some n) (c.wide.ensures ∙ ap (λ (l : List ℕ). wide_at l (c.place_of-place.result.at + 2)) c.deref-2.ensures.value)
+    ap (λ (n : ℕ). Some n) (c.u64_at.ensures ∙ ap (λ (l : List ℕ). wide_at l (c.place_of-place.result.at + 2)) c.deref-2.ensures.value)
     ∙ ((found m).1 (omega (arith, c.if-place-eq0.false))).1 ∙ same m

@@ -54,7 +54,7 @@ returns c =
     let same : c.loop.counter ≡ c.args.i = omega (arith, c.loop.auto.counter-end, c.loop-test.false) in
     let at = object-at c.self.inside.words.items placed c.args.i c.loop.at so_far.are so_far.less
     (so_far.at ∙ ap (λ (n : ℕ). 1 + words_for (take n placed)) same) in
-    ap (λ (n : ℕ). Some (n, c.wide-2.result)) (c.wide.ensures ∙ ap (λ (l : List ℕ). wide_at l c.loop.at) c.deref-2.ensures.value ∙ at.number)
+    ap (λ (n : ℕ). Some (n, c.u64_at-2.result)) (c.u64_at.ensures ∙ ap (λ (l : List ℕ). wide_at l c.loop.at) c.deref-2.ensures.value ∙ at.number)
     ∙ ap (λ (n : ℕ). Some ((get_or placed c.args.i nowhere).number, n))
-    (c.wide-2.ensures ∙ ap (λ (l : List ℕ). wide_at l (c.loop.at + 2)) c.deref-3.ensures.value ∙ at.len)
+    (c.u64_at-2.ensures ∙ ap (λ (l : List ℕ). wide_at l (c.loop.at + 2)) c.deref-3.ensures.value ∙ at.len)
     ∙ sym (seen-at placed c.args.i so_far.less)

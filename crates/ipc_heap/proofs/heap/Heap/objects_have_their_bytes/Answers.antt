@@ -20,7 +20,7 @@ returns-clause-bytes g c =
     let size = g.D.SectorDisk.size c.args.disk.now in
     let h = c.self.invariant in
     let i = c.self.inside in
-    subst (λ (v : HeapView). IsLaidOut v.range v.aim size → IsHonest medium
+    subst (λ (v : HeapView). IsLaidOut v.range v.next_root size → IsHonest medium
     → sizes_of v ≡ seen_as (λ bytes. length bytes) (map_of v medium)) c.self.view_is
     (λ laid honest. sizes-on medium.contents (placed_in i.words.items)
     (bytes-on i.range medium.contents size (g.met.D.SectorDisk.shaped c.args.disk.now medium.contents honest.reads) laid.within

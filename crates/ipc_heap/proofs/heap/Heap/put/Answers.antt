@@ -27,8 +27,8 @@ use Rattle.ipc_heap.proofs.heap.Heap.put.Goals.{After-write_object, After-put_in
 -- ---- the object, and what is known once its sectors are written
 
 module _ (g : Over) (c : After-write_object g) where
-  laid : IsLaidOut c.self.inside.range c.self.inside.aim (g.D.SectorDisk.size c.args.disk.now)
-  laid = subst (λ (v : HeapView). IsLaidOut v.range v.aim (g.D.SectorDisk.size c.args.disk.now)) (sym c.self.view_is) c.requires.laid_out
+  laid : IsLaidOut c.self.inside.range c.self.inside.next_root (g.D.SectorDisk.size c.args.disk.now)
+  laid = subst (λ (v : HeapView). IsLaidOut v.range v.next_root (g.D.SectorDisk.size c.args.disk.now)) (sym c.self.view_is) c.requires.laid_out
 
   run : IsHonest (g.D.SectorDisk.medium c.args.disk.now)
       → LeavesAlone (IsNotFree c.self.inside.range c.self.inside.uses) (g.D.SectorDisk.medium c.args.disk.now)
@@ -53,7 +53,7 @@ module _ (g : Over) (c : After-write_object g) where
       subst (λ (r : Option (ℕ × List ℕ)). IfSome r P) (sym (slice_get-get_or (g.O.Objects.objects c.args.objects.now) c.args.i (0, []) c.requires.object)) here
 
   abbrev sectors : List ℕ
-  sectors = drop (length c.push_wide-2.new.words.items) c.write_object.new.words.items
+  sectors = drop (length c.push_u64-2.new.words.items) c.write_object.new.words.items
 
   abbrev placed : Placed
   placed = record { number = c.number-number.result; len = c.len.result; sectors = sectors }
@@ -63,8 +63,8 @@ module _ (g : Over) (c : After-write_object g) where
 
   pushed : c.write_object.new.words.items ≡ c.self.inside.words.items ++ object_words placed
   pushed =
-      pushed-object c.self.inside.words.items c.push_wide.new.words.items c.push_wide-2.new.words.items c.write_object.new.words.items placed
-      c.push_wide.ensures.items c.push_wide-2.ensures.items c.write_object.ensures.added
+      pushed-object c.self.inside.words.items c.push_u64.new.words.items c.push_u64-2.new.words.items c.write_object.new.words.items placed
+      c.push_u64.ensures.items c.push_u64-2.ensures.items c.write_object.ensures.added
 
   ends : length c.self.inside.words.items ≡ c.len-end.result
   ends = omega (arith, c.self.inside.words.ok.0, c.len-end.ensures)
@@ -82,7 +82,7 @@ module _ (g : Over) (c : After-write_object g) where
   its_sectors = sym (drop-drop 4 c.len-end.result c.write_object.new.words.items) ∙ ap (drop 4) back
 
   abbrev view : HeapView
-  view = seen c.self.inside.range c.self.inside.root c.self.inside.aim c.self.inside.epoch c.self.inside.words c.self.inside.table c.self.inside.uses
+  view = seen c.self.inside.range c.self.inside.root c.self.inside.next_root c.self.inside.epoch c.self.inside.words c.self.inside.table c.self.inside.uses
 
   -- a crash at any moment, and the sectors that stay
   moment : (saved : PlainObjects) → HeapMatches c.args.self.now saved (g.D.SectorDisk.medium c.args.disk.now)
@@ -129,7 +129,7 @@ module _ (g : Over) (c : After-put_in g) where
   size = (omega (arith, some, its_length g m), omega (arith, c.len.type_inv), c.in-Ok.ensures.all ∙ ap sectors_for (its_length g m))
 
   room : vec_capacity c.put_in.new.words ≡ vec_capacity c.self.inside.words
-  room = c.put_in.ensures.capacity ∙ c.write_object.ensures.capacity ∙ c.push_wide-2.ensures.capacity ∙ c.push_wide.ensures.capacity
+  room = c.put_in.ensures.capacity ∙ c.write_object.ensures.capacity ∙ c.push_u64-2.ensures.capacity ∙ c.push_u64.ensures.capacity
 
   heap : IsHeap c.self.inside.range c.put_in.new.words c.self.inside.table new_uses
   heap =
@@ -147,7 +147,7 @@ module _ (g : Over) (c : After-put_in g) where
       (omega (arith, c.number-number.type_inv)) put.now room
 
   abbrev next : HeapView
-  next = seen c.self.inside.range c.self.inside.root c.self.inside.aim c.self.inside.epoch c.put_in.new.words c.self.inside.table new_uses
+  next = seen c.self.inside.range c.self.inside.root c.self.inside.next_root c.self.inside.epoch c.put_in.new.words c.self.inside.table new_uses
 
   module _ (saved : PlainObjects) (matches : HeapMatches (view g m) saved (g.D.SectorDisk.medium c.args.disk.now)) where
     kept : map (object_on (g.D.SectorDisk.medium c.args.disk.now).contents) (placed_in c.self.inside.words.items)
@@ -187,22 +187,22 @@ module _ (g : Over) (c : After-put_in g) where
 
 -- ---- before the sectors are written
 
-pub push_wide-requires : goal.push_wide-requires
-push_wide-requires g c =
+pub push_u64-requires : goal.push_u64-requires
+push_u64-requires g c =
     let h = c.self.inside in
     omega (arith, heap-fits c.self.invariant, h.words.ok.0)
 
-pub push_wide-requires-2 : goal.push_wide-requires-2
-push_wide-requires-2 g c =
+pub push_u64-requires-2 : goal.push_u64-requires-2
+push_u64-requires-2 g c =
     let h = c.self.inside in
     omega (
       arith,
       heap-fits c.self.invariant,
       h.words.ok.0,
-      c.push_wide.new.words.ok.0,
-      ap length c.push_wide.ensures.items,
+      c.push_u64.new.words.ok.0,
+      ap length c.push_u64.ensures.items,
       length-append h.words.items (c.number-number.result / 2 ^ 32 ∷ c.number-number.result % 2 ^ 32 ∷ []),
-      c.push_wide.ensures.capacity,
+      c.push_u64.ensures.capacity,
     )
 
 pub write_object-requires-clause-within : goal.write_object-requires-clause-within
@@ -216,9 +216,9 @@ write_object-requires-clause-room g c =
     omega (
       arith,
       heap-fits c.self.invariant,
-      pushed-four h.words.items c.push_wide.new.words.items c.push_wide-2.new.words.items [] p c.push_wide.ensures.items c.push_wide-2.ensures.items,
-      c.push_wide.ensures.capacity,
-      c.push_wide-2.ensures.capacity,
+      pushed-four h.words.items c.push_u64.new.words.items c.push_u64-2.new.words.items [] p c.push_u64.ensures.items c.push_u64-2.ensures.items,
+      c.push_u64.ensures.capacity,
+      c.push_u64-2.ensures.capacity,
     )
 
 -- ---- they were not all written
@@ -243,7 +243,7 @@ invariant_of-self-in-Err g c =
     c.take_back.ensures.given in
     back-heap c.take_back.new.words c.take_back.new.uses c.self.invariant (taken g m) is
     (c.take_back.ensures.words ∙ front g m)
-    (c.take_back.ensures.capacity ∙ c.write_object.ensures.capacity ∙ c.push_wide-2.ensures.capacity ∙ c.push_wide.ensures.capacity)
+    (c.take_back.ensures.capacity ∙ c.write_object.ensures.capacity ∙ c.push_u64-2.ensures.capacity ∙ c.push_u64.ensures.capacity)
 
 pub returns-in-Err-clause-any_moment : goal.returns-in-Err-clause-any_moment
 returns-in-Err-clause-any_moment g c = moment g (goal.at.returns-in-Err-clause-any_moment g c).After-write_object

@@ -51,7 +51,7 @@ returns-clause-bytes g c = on_ok_weaker c.read_window.result
     subst (λ (l : List Placed). seen_at (bytes_on image) l c.args.object ≡ Some (bytes_on image p)) same (found.seen (bytes_on image)) in
     ap (λ (o : Option (List ℕ)). option_map (window c.args.place) o) there
     ∙ ap (λ (l : List ℕ). Some (window c.args.place l))
-    (ap (λ (n : ℕ). take n (flat_map (sector_at image) p.sectors)) (sym (c.wide.ensures ∙ len-of words p found.are))
-    ∙ ap (λ (l : List ℕ). take c.wide.result (flat_map (sector_at image) l)) (sym (sectors-of words p found.are)))
+    (ap (λ (n : ℕ). take n (flat_map (sector_at image) p.sectors)) (sym (c.u64_at.ensures ∙ len-of words p found.are))
+    ∙ ap (λ (l : List ℕ). take c.u64_at.result (flat_map (sector_at image) l)) (sym (sectors-of words p found.are)))
     ∙ ap (λ (l : List ℕ). Some l) (sym (read honest)))
     c.read_window.ensures.bytes

@@ -52,10 +52,10 @@ invariant_of-self c =
 pub returns-clause-removes : goal.returns-clause-removes
 returns-clause-removes c =
     let h = c.self.inside in
-    subst (λ (v : HeapView). Removes c.args.object v (seen h.range h.root h.aim h.epoch c.take_out.new.words h.table c.give_back.new.self))
+    subst (λ (v : HeapView). Removes c.args.object v (seen h.range h.root h.next_root h.epoch c.take_out.new.words h.table c.give_back.new.self))
     c.self.view_is
     (record {
-      stays = record { range = refl; root = refl; aim = refl; epoch = refl; table = refl };
+      stays = record { range = refl; root = refl; next_root = refl; epoch = refl; table = refl };
       placed = removed-placed c.take_out.new.words c.give_back.new.self c.self.invariant
           (found (goal.at.invariant_of-self c).After-sectors_in) (given c) c.take_out.ensures.items c.take_out.ensures.capacity;
       saved = (given c).saved;

@@ -31,11 +31,11 @@ returns-then-taken-piece g c =
     c.requires.later c.requires.can (first g (goal.at.returns-then-taken-piece g c).After-take_in-taken)
     (λ none. grind (arith, nat_tests, c.if-taken-piece.true))
 
-pub returns-then-not-is_bare : goal.returns-then-not-is_bare
-returns-then-not-is_bare g c =
+pub returns-then-not-has_no_frame : goal.returns-then-not-has_no_frame
+returns-then-not-has_no_frame g c =
     takes-once g.D.SectorDisk.medium g.D.SectorDisk.counts c.args.self.now _ c.args.conn c.args.piece.now c.args.moment.0 c.take_in-taken.result
-    c.requires.later c.requires.can (first g (goal.at.returns-then-not-is_bare g c).After-take_in-taken)
-    (λ none. let never = c.is_bare.ensures.1 none in cc)
+    c.requires.later c.requires.can (first g (goal.at.returns-then-not-has_no_frame g c).After-take_in-taken)
+    (λ none. let never = c.has_no_frame.ensures.1 none in cc)
 
 -- it keeps no frame, and bytes are left
 out : (g : Over) (c : After-make_last g) → TakenIn g.D.SectorDisk.medium c.args.self.now
@@ -43,7 +43,7 @@ out : (g : Over) (c : After-make_last g) → TakenIn g.D.SectorDisk.medium c.arg
     → RunsOut c.args.self.now (stored_view c.take_in-taken.new.store c.take_in-taken.new.connections) c.args.conn c.args.moment.0 c.take_in-taken.result
 out g c t =
     ⊎_elim (λ all. absurd (grind (arith, nat_tests, c.if-taken-piece.false, all))) (λ o. o)
-    (t.whole (c.is_bare.ensures.0 c.if-not-is_bare.false))
+    (t.whole (c.has_no_frame.ensures.0 c.if-not-has_no_frame.false))
 
 pub returns-in-Err : goal.returns-in-Err
 returns-in-Err g c =

@@ -4,8 +4,9 @@ use Rattle.ipc_server.proofs.server.Server.listen.Goals as goal
 
 pub invariant_of-self-2 : goal.invariant_of-self-2
 invariant_of-self-2 g c =
-    serving-kept c.self.inside.hub.hub c.self.inside.hub.hub c.self.inside.clients c.hear.new.clients refl c.hear.ensures c.self.invariant
+    serving-kept c.self.inside.hub.hub c.self.inside.hub.hub c.self.inside.clients c.note_events.new.clients refl c.note_events.ensures c.self.invariant
 
 pub returns-clause-connected : goal.returns-clause-connected
 returns-clause-connected g c = (
-    serving-kept c.self.inside.hub.hub c.self.inside.hub.hub c.self.inside.clients c.hear.new.clients refl c.hear.ensures c.self.invariant).connected
+    serving-kept c.self.inside.hub.hub c.self.inside.hub.hub c.self.inside.clients c.note_events.new.clients refl c.note_events.ensures
+    c.self.invariant).connected

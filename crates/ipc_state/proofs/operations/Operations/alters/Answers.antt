@@ -1,5 +1,5 @@
 use Rattle.std.proofs.Common.{◌∙◌, ap}
-use Rattle.ipc_wire.specs.Sixes.{operations_in}
+use Rattle.ipc_wire.specs.SemBufs.{operations_in}
 use Rattle.ipc_state.specs.declared.operations.Demands.{Demands}
 use Rattle.ipc_state.specs.Demands.{no_demands}
 use Rattle.ipc_state.proofs.Demands.{some-alter}

@@ -1,6 +1,6 @@
 use Rattle.std.proofs.Common.{◌∙◌, ap}
 use Rattle.std.specs.Prelude.{nat_le}
-use Rattle.ipc_wire.specs.Sixes.{operations_in}
+use Rattle.ipc_wire.specs.SemBufs.{operations_in}
 use Rattle.ipc_state.specs.declared.operations.Demands.{Demands}
 use Rattle.ipc_state.proofs.Demands.{all-within}
 use Rattle.ipc_state.proofs.operations.Operations.are_within.Goals as goal

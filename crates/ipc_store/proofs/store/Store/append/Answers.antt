@@ -11,21 +11,21 @@ append-requires-clause-batch g c = is_batch c.self.inside.batch.records _ c.byte
 
 pub returns-in-Err-clause-any_moment : goal.returns-in-Err-clause-any_moment
 returns-in-Err-clause-any_moment g c = rw (sym c.self.view_is) (λ base pending at.
-    any_moment-append _ _ _ base pending at c.bytes.ensures.size _ c.bytes.ensures.bytes
+    any_moment-append g.D.SectorDisk.medium _ _ base pending at c.bytes.ensures.size _ c.bytes.ensures.bytes
     (c.append.ensures.others at.device.honest) c.append.ensures.any_moment)
 
 pub returns-clause-any_moment : goal.returns-clause-any_moment
 returns-clause-any_moment g c = rw (sym c.self.view_is) (λ base pending at.
-    any_moment-append _ _ _ base pending at c.bytes.ensures.size _ c.bytes.ensures.bytes
+    any_moment-append g.D.SectorDisk.medium _ _ base pending at c.bytes.ensures.size _ c.bytes.ensures.bytes
     (c.append.ensures.others at.device.honest) c.append.ensures.any_moment)
 
 pub returns-in-Err-clause-meanwhile : goal.returns-in-Err-clause-meanwhile
 returns-in-Err-clause-meanwhile g c = rw (sym c.self.view_is)
-    (readable-append g.D.SectorDisk.medium _ _ _ c.bytes.ensures.bytes c.append.ensures.others c.append.ensures.any_moment c.append.ensures.stands_first)
+    (readable-append g.D.SectorDisk.medium _ _ _ c.bytes.ensures.bytes c.append.ensures.others c.append.ensures.any_moment)
 
 pub returns-clause-meanwhile : goal.returns-clause-meanwhile
 returns-clause-meanwhile g c = rw (sym c.self.view_is)
-    (readable-append g.D.SectorDisk.medium _ _ _ c.bytes.ensures.bytes c.append.ensures.others c.append.ensures.any_moment c.append.ensures.stands_first)
+    (readable-append g.D.SectorDisk.medium _ _ _ c.bytes.ensures.bytes c.append.ensures.others c.append.ensures.any_moment)
 
 pub returns-clause-matches : goal.returns-clause-matches
 returns-clause-matches g c = rw (sym c.self.view_is, c.clear.ensures) (λ base pending at.

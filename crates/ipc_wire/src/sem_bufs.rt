@@ -13,23 +13,23 @@ pub struct SemBuf {
 
 /// A count of bytes in whole sixes: operations side by side, each number with its most significant byte first.
 #[derive(Clone, Copy)]
-pub struct Sixes<'a> {
+pub struct SemBufs<'a> {
     bytes: &'a [u8],
     ghost whole: { length bytes.now % 6 ≡ 0 },
 }
 
-impl<'a> Sixes<'a> {
+impl<'a> SemBufs<'a> {
     ghost use Rattle.std.specs.Prelude.{◌==◌, ◌<◌, if◌then◌else◌, option_map, slice_get, Some, None};
-    ghost use Rattle.ipc_wire.specs.Sixes.{bytes_of, operations_in};
+    ghost use Rattle.ipc_wire.specs.SemBufs.{bytes_of, operations_in};
 
     /// The operations that these bytes spell, or `None` if they are no whole sixes.
-    pub fn new(bytes: &'a [u8]) -> Option<Sixes<'a>>
+    pub fn new(bytes: &'a [u8]) -> Option<SemBufs<'a>>
         ensures { option_map bytes_of result ≡ if length bytes.now % 6 == 0 then Some bytes.now else None }
     {
         if bytes.len() % 6 != 0 {
             return None;
         }
-        Some(Sixes { bytes })
+        Some(SemBufs { bytes })
     }
 
     /// The bytes, in whole sixes.

@@ -9,9 +9,9 @@ use Rattle.ipc_disk.specs.Medium.{Image}
 use Rattle.ipc_image.specs.Format.{format, format_one}
 use Rattle.ipc_image.specs.Saved.{StandForStateIn}
 use Rattle.ipc_store.specs.Image.{layout_in}
-use Rattle.ipc_store.specs.Relations.Upgrade.{wide_layout}
+use Rattle.ipc_store.specs.Relations.Upgrade.{whole_layout}
 use Rattle.ipc_store.proofs.Refusals.{damage-map}
-use Rattle.ipc_store.proofs.upgrade.load_wide.Goals as goal
+use Rattle.ipc_store.proofs.upgrade.load_whole.Goals as goal
 
 -- the old root's sector, and the rest as on a device of today
 abbrev with_old_root : Layout → Layout
@@ -19,18 +19,17 @@ with_old_root layout = record { range = layout.range; root = format_one.root; ar
 
 pub returns-clause-refused : goal.returns-clause-refused
 returns-clause-refused g c = IfErr-weaker c.load_objects.result _ _
-    (λ error refused honest epoch objects s there stand.
+    (λ error. damage-map _ _ error
+    (λ sector damage honest epoch objects s there stand.
     let image : Image = (g.D.SectorDisk.medium c.args.disk.now).contents in
-    let wide : Layout = wide_layout c.args.limits.now (g.D.SectorDisk.size c.args.disk.now) in
+    let wide : Layout = whole_layout c.args.limits.now (g.D.SectorDisk.size c.args.disk.now) in
     let lies : with_old_root c.layout_in.result ≡ wide =
     ap with_old_root (c.layout_in.ensures.exact ∙ ap (layout_in format c.args.limits.now) c.sectors.ensures) in
-    damage-map _ (λ sector. ⊥) error
-    (λ sector damage. elim damage [
+    elim (damage honest) [
       | inl none ↦ none.none epoch objects (subst (λ (l : Layout). Holds l epoch objects image) (sym lies) there)
       | inr others ↦
           let one = Holds-one wide others.epoch epoch others.objects objects image
           (subst (λ (l : Layout). Holds l others.epoch others.objects image) lies others.there) there in
           others.none s (subst (λ (o : PlainObjects). StandForStateIn format_one c.args.own s o) (sym one.1) stand)
-    ])
-    (refused honest))
+    ]))
     c.load_objects.ensures.refused

@@ -1,6 +1,6 @@
 use Rattle.std.proofs.Common.{◌∙◌, ap, Some, sym, arith}
 use Rattle.ipc_wire.proofs.PairNumbers.{number_at, numbers_count}
-use Rattle.ipc_wire.proofs.pairs.Pairs.at.Goals as goal
+use Rattle.ipc_wire.proofs.values.Values.at.Goals as goal
 
 pub returns : goal.returns
 returns c =

@@ -2,10 +2,10 @@
 -- semaphore set stand in the frame of SETALL of semctl(2).
 use Rattle.std.specs.Prelude.{ℕ, List, [], ◌∷◌}
 use Rattle.std.specs.Int.{w16, from_be_bytes}
-use Rattle.ipc_wire.specs.declared.pairs.Pairs.{Pairs}
+use Rattle.ipc_wire.specs.declared.values.Values.{Values}
 
 -- the bytes of such numbers
-abbrev pub bytes_of : Pairs → List ℕ
+abbrev pub bytes_of : Values → List ℕ
 bytes_of pairs = pairs.bytes.now
 
 -- the numbers that bytes spell two by two; a last single byte spells nothing

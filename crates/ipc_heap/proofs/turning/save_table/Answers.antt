@@ -2,7 +2,7 @@
 use Rattle.std.proofs.Common.{◌≡◌, ◌<◌, length, sym, subst, ◌∙◌, arith}
 use Rattle.ipc_heap.specs.Relations.Flip.{IsTurned}
 use Rattle.ipc_heap.proofs.Flips.{moment-table, moment-sync, moment-root, others-table, others-sync, others-root, turned-root, turn-counts}
-use Rattle.ipc_heap.proofs.turning.turn.Goals as goal
+use Rattle.ipc_heap.proofs.turning.save_table.Goals as goal
 
 pub returns-in_err-write_table-clause-any_moment : goal.returns-in_err-write_table-clause-any_moment
 returns-in_err-write_table-clause-any_moment g c = λ honest.

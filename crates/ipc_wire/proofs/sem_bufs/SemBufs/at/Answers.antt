@@ -1,9 +1,9 @@
 use Rattle.std.proofs.Common.{FitsSigned, Option, ◌∙◌, Some, sym, arith, rules}
 use Rattle.std.specs.Int.{w16}
 use Rattle.std.proofs.lemmas.Int.{to_z-of_z}
-use Rattle.ipc_wire.specs.declared.sixes.SemBuf.{SemBuf}
+use Rattle.ipc_wire.specs.declared.sem_bufs.SemBuf.{SemBuf}
 use Rattle.ipc_wire.proofs.SixNumbers.{operation_at, operations_count}
-use Rattle.ipc_wire.proofs.sixes.Sixes.at.Goals as goal
+use Rattle.ipc_wire.proofs.sem_bufs.SemBufs.at.Goals as goal
 
 pub returns : goal.returns
 returns c =

@@ -4,23 +4,23 @@ ghost use Rattle.std.specs.Prelude.{◌≡◌, ◌%◌, length};
 
 /// An even count of bytes: numbers of two bytes side by side, each with its most significant byte first.
 #[derive(Clone, Copy)]
-pub struct Pairs<'a> {
+pub struct Values<'a> {
     bytes: &'a [u8],
     ghost even: { length bytes.now % 2 ≡ 0 },
 }
 
-impl<'a> Pairs<'a> {
+impl<'a> Values<'a> {
     ghost use Rattle.std.specs.Prelude.{◌==◌, ◌<◌, if◌then◌else◌, option_map, slice_get, Some, None};
-    ghost use Rattle.ipc_wire.specs.Pairs.{bytes_of, numbers_in};
+    ghost use Rattle.ipc_wire.specs.Values.{bytes_of, numbers_in};
 
     /// The numbers that these bytes spell, or `None` if the count of the bytes is odd.
-    pub fn new(bytes: &'a [u8]) -> Option<Pairs<'a>>
+    pub fn new(bytes: &'a [u8]) -> Option<Values<'a>>
         ensures { option_map bytes_of result ≡ if length bytes.now % 2 == 0 then Some bytes.now else None }
     {
         if bytes.len() % 2 != 0 {
             return None;
         }
-        Some(Pairs { bytes })
+        Some(Values { bytes })
     }
 
     /// The bytes, an even count.

@@ -2,11 +2,11 @@
 -- and the flags, two bytes each, the most significant one first.
 use Rattle.std.specs.Prelude.{ℕ, List, [], ◌∷◌}
 use Rattle.std.specs.Int.{w16, from_be_bytes, cast_signed}
-use Rattle.ipc_wire.specs.declared.sixes.SemBuf.{SemBuf}
-use Rattle.ipc_wire.specs.declared.sixes.Sixes.{Sixes}
+use Rattle.ipc_wire.specs.declared.sem_bufs.SemBuf.{SemBuf}
+use Rattle.ipc_wire.specs.declared.sem_bufs.SemBufs.{SemBufs}
 
 -- the bytes of such operations
-abbrev pub bytes_of : Sixes → List ℕ
+abbrev pub bytes_of : SemBufs → List ℕ
 bytes_of sixes = sixes.bytes.now
 
 -- the operations that bytes spell six by six; bytes that are left over spell nothing

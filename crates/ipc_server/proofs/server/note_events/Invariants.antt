@@ -1,5 +1,5 @@
 use Rattle.ipc_server.specs.Rows.{KeepsClients}
-use Rattle.ipc_server.proofs.server.hear.Given as goal
+use Rattle.ipc_server.proofs.server.note_events.Given as goal
 
 abbrev pub invariant-loop-event : goal.invariant-loop-event
 invariant-loop-event g l =

@@ -5,13 +5,13 @@ use Rattle.ipc_state.specs.State.{State}
 use Rattle.ipc_state.specs.Tables.{item_row}
 use Rattle.ipc_image.specs.Kind.{FitsIn}
 use Rattle.ipc_image.specs.Saved.{queue_object, set_object, LaterObjects, later_in, later_objects, saved, FitsQueue, FitsSet}
-use Rattle.ipc_image.specs.SavedParts.{FitsThing, IsFound, IsMarkOfLater, IsMarkOfQueue, IsMarkOfSet, IsMarkOfThing, MarkAt, Stands}
+use Rattle.ipc_image.specs.SavedParts.{FitsOwnObject, IsFound, IsMarkOfLater, IsMarkOfQueue, IsMarkOfSet, IsMarkOfOwnObject, MarkAt, Stands}
 use Rattle.ipc_image.specs.SavedParts.{object_of, seen_later, seen_state}
 use Rattle.ipc_image.proofs.Marks.{each-at, table-at, here, past}
 use Rattle.ipc_image.proofs.LaterSizes.{later-counted}
 use Rattle.ipc_image.proofs.SavedObjects.{seen_count, found-thing}
 use Rattle.ipc_image.proofs.WholeState.{sets_and_later}
-use Rattle.ipc_image.proofs.state_objects.thing_at.Goals as goal
+use Rattle.ipc_image.proofs.state_objects.own_object_at.Goals as goal
 
 -- the marks of those of later kinds, and of the sets and them
 abbrev last : State → ℕ → Mark → Type 0
@@ -72,9 +72,9 @@ returns c =
     let second : ℕ = c.args.i - 4 - length o.queues.now in
     let at : ℕ = second - length o.sets.now in
     let r = c.later_at.result in
-    let stands = subst (λ (t : State). Stands (later_objects (later_in t)) (IsMarkOfLater (later_in t)) at (object_of r) (IsMarkOfThing r))
+    let stands = subst (λ (t : State). Stands (later_objects (later_in t)) (IsMarkOfLater (later_in t)) at (object_of r) (IsMarkOfOwnObject r))
     (sym c.objects.view_is) c.later_at.ensures.stands in
-    subst (λ (t : State). IsFound t c.args.i (object_of r) (IsMarkOfThing r) (FitsThing r))
+    subst (λ (t : State). IsFound t c.args.i (object_of r) (IsMarkOfOwnObject r) (FitsOwnObject r))
     c.objects.view_is (found-thing s c.objects.invariant.1 c.args.i c.requires.thing _ _ _ c.later_at.ensures.fits
     (past queue_object IsMarkOfQueue (later s) s.msg.entries (sets_and_later s) (c.args.i - 4) second _ _
     (omega (arith, length-map o.queues.now item_row, c.if-at-objects.false))
