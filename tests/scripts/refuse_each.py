@@ -1,6 +1,6 @@
 """The programs with one of their allocations refused: the first, then the second, and so on, until a run meets none.
 
-    python3 tests/scripts/refuse_each.py IPCD TRIALS
+    python3 tests/scripts/refuse_each.py IPCD TRIALS REFUSALS
 
 The script of tests/scripts/refused.txt in memory, by `TRIALS script`: a run says that there is no memory, with status
 1, after the answers to some first lines; or one request is answered ENOMEM, and all else as in the script without that
@@ -9,8 +9,8 @@ is refused. `IPCD dump` and `list`, and `run` of no line, on the device that the
 there is no memory, or that the device failed, where memory of the device itself was refused; and then it still opens.
 `IPCD backup` of it is done, or refused, and then there is no copy, or one that is not formatted; `IPCD check` says how
 it is, or that there is no memory, or that it cannot be read. `IPCD upgrade` of a device of version 1: it is done, or
-refused, and then the file is as before. Each call of `TRIALS refused`, `Store::upgrade` of that device among them: it
-is refused, what it was made on is as before, and it is done when it is made again; those that take no memory are never
+refused, and then the file is as before. Each call of `REFUSALS`, `Store::upgrade` of that device among them: it is
+refused, what it was made on is as before, and it is done when it is made again; those that take no memory are never
 refused.
 
 An exit, a tick, a reply, a commit or a save that met the refusal would end the script's run with another text than
@@ -40,7 +40,7 @@ sys.path.insert(0, str(Path(__file__).resolve().parents[1] / "lib"))
 from device_layout import SMALL, Device, need_of, old_device  # noqa: E402
 
 TESTS = Path(__file__).resolve().parent
-IPCD, TRIALS = (os.path.abspath(word) for word in sys.argv[1:3])
+IPCD, TRIALS, REFUSALS = (os.path.abspath(word) for word in sys.argv[1:4])
 
 # A run takes milliseconds; one of so many seconds is a hang.
 TIMEOUT = 20
@@ -280,7 +280,7 @@ def try_upgrade() -> str:
 
 def try_calls() -> str:
     """Each refusal of each call."""
-    listing = run(0, "", TRIALS, "refused")
+    listing = run(0, "", REFUSALS)
     listing.check(listing.is_well(), "the calls are not listed")
     runs, lines = 0, listing.printed.splitlines()
     for line in lines:
@@ -288,13 +288,13 @@ def try_calls() -> str:
         # A listing that is refused the room for all its rows at once takes it as they come.
         ends = {f"{name}: refused, then done\n"} | ({f"{name}: done\n"} if name == "Engine::list" else set())
         given = old_device().decode("latin-1") if name == "Store::upgrade" else ""
-        for ran in refused(given, TRIALS, "refused", name):
+        for ran in refused(given, REFUSALS, name):
             runs += 1
             if ran.is_well():
                 met += 1
                 ran.check(ran.printed in ends, f"{name} ends otherwise")
             else:
-                ran.check(ran.says("trials: no memory") and not ran.printed, f"{name} ends otherwise")
+                ran.check(ran.says("refusals: no memory") and not ran.printed, f"{name} ends otherwise")
         listing.check((met > 0) == (name == line), f"{name} meets {met} refusals")
     return f"{runs} of {len(lines)} calls"
 

@@ -27,12 +27,8 @@ pub(crate) enum Fault {
     Unopened,
     /// A call of a hub that nothing stops.
     Unserved,
-    /// What a call is tried on is not as it was made.
+    /// The limits of a device are none.
     Unready,
-    /// A call that was refused has changed its object.
-    NotAsBefore,
-    /// It is refused again, though memory is there.
-    RefusedAgain,
     /// There are more stops than a run can have.
     NoEnd,
     /// A case that must not be: what is wrong, in words of which each `#` stands for one of the numbers.
@@ -49,7 +45,7 @@ impl Fault {
     fn name(&self) -> &'static str {
         match self {
             Fault::Usage =>
-                "usage: trials WORD, one of stopped N, faulted N, upgraded N, batch, script and refused",
+                "usage: trials WORD, one of stopped N, faulted N, upgraded N, batch and script",
             Fault::Input => "the input cannot be read, or has no line `-`",
             Fault::Output => "output fault",
             Fault::NoMemory => "no memory",
@@ -59,10 +55,7 @@ impl Fault {
             Fault::Script(_) => "a run that nothing stops fails",
             Fault::Unopened => "a device that cannot be opened",
             Fault::Unserved => "a hub serves its clients no more",
-            Fault::Unready => "what the call is made on is not ready for it",
-            Fault::NotAsBefore => "a call that was refused has changed its object",
-            Fault::RefusedAgain =>
-                "a call that was refused is refused again, though memory is there",
+            Fault::Unready => "limits that no device has",
             Fault::NoEnd => "no end of the stops",
             Fault::Case(words, _) => words,
         }

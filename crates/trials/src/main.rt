@@ -7,11 +7,9 @@
 //!                                  what comes after each N-th stop, and with each call failing once
 //!     trials batch                 feeds a hub requests of one moment, and counts what one release writes of them
 //!     trials script < SCRIPT       runs the script in memory, under small limits but 16 processes
-//!     trials refused [NAME]        makes one call, and again if it is refused for memory; without NAME, all names
 //!
 //! In the first two a script is followed by a line `-` and by a probe: lines whose answers tell what a device holds. In
 //! `upgraded` a probe comes first, a line `-`, what it has to answer, another line `-`, and the bytes of the device.
-//! `refused Store::upgrade` reads such bytes alone.
 #![tactic(auto)]
 
 ghost use Rattle.std.specs.Prelude.{◌<◌, IfOk};
@@ -23,7 +21,6 @@ mod formats;
 mod halted;
 mod last_words;
 mod openings;
-mod refused;
 mod request;
 mod runs;
 mod script;
@@ -36,15 +33,12 @@ mod upgraded;
 use batch::batch_of_three;
 use fault::Fault;
 use faulted::faulted;
-use refused::{print_names, refused};
 use script::script;
 use std::alloc::Global;
-use std::fs::File;
 use std::io;
 use std::io::{ErrorKind, Read};
-use std::net::Net;
 use std::process::ExitCode;
-use std::rt::{Env, Files};
+use std::rt::Env;
 use stopped::stopped;
 use told::Told;
 use upgraded::upgraded;
@@ -60,9 +54,7 @@ fn main(rt: HostRuntime) -> io::Result<ExitCode> {
 }
 
 /// Does what the words ask for.
-fn answer(
-    rt: &(impl Env + Input + Print + AllocGlobal + Files<File = File> + Net),
-) -> Result<(), Fault> {
+fn answer(rt: &(impl Env + Input + Print + AllocGlobal)) -> Result<(), Fault> {
     let words = words_of(rt)?;
     match words.as_slice() {
         [_, word] => act(rt, word.as_str(), ""),
@@ -72,15 +64,9 @@ fn answer(
 }
 
 /// Does what a word asks for, with one more or alone.
-fn act(
-    rt: &(impl Input + Print + AllocGlobal + Files<File = File> + Net),
-    word: &str,
-    more: &str,
-) -> Result<(), Fault> {
+fn act(rt: &(impl Input + Print + AllocGlobal), word: &str, more: &str) -> Result<(), Fault> {
     match (word, more) {
         ("batch", "") => print(rt, batch_of_three(rt.alloc())),
-        ("refused", "") => print_names(rt),
-        ("refused", name) => refused(rt, name),
         ("script", "") => script(rt),
         _ => with_number(rt, word, number_of(more)?),
     }
@@ -133,7 +119,7 @@ fn words_of(rt: &(impl Env + AllocGlobal)) -> Result<Vec<String>, Fault> {
 }
 
 /// All that a reader gives.
-pub(crate) fn input<R: Read>(alloc: Global, reader: &mut R) -> Result<Vec<u8>, Fault> {
+fn input<R: Read>(alloc: Global, reader: &mut R) -> Result<Vec<u8>, Fault> {
     let mut text = Vec::new(alloc);
     match reader.read_to_end(&mut text) {
         Ok(_) => Ok(text),

@@ -42,14 +42,6 @@ pub(crate) fn device(alloc: Global) -> Result<MemoryDisk, Fault> {
     new_device(alloc, &Limits::small())
 }
 
-/// Small limits, but for a descriptor more: a process that has one of each kind can open another.
-pub(crate) fn furnished_limits() -> Limits {
-    Limits {
-        descriptors: 5,
-        ..Limits::small()
-    }
-}
-
 /// A new device on a disk of just as many sectors as it needs.
 pub(crate) fn new_device(alloc: Global, limits: &Limits) -> Result<MemoryDisk, Fault> {
     if limits.check().is_err() {

@@ -1,10 +1,8 @@
 //! Steps of a machine, of which some need memory, and its listing.
 
 use crate::fault::Fault;
-use crate::refused::{Seen, Subject, done};
-use crate::runs::furnished_limits;
-use crate::told::filled;
-use ipc_base::{Cred, Moment, Objects, Pid};
+use crate::subject::{Seen, Subject, done, seen};
+use ipc_base::{Cred, Limits, Moment, Objects, Pid};
 use ipc_engine::{Engine, Event};
 use ipc_image::objects_of;
 use ipc_wire::{RequestKind, read_request};
@@ -105,7 +103,7 @@ fn request_of(name: &str) -> Option<&'static [u8]> {
     })
 }
 
-/// The same of a call that takes no memory.
+/// The frame of a call that takes no memory.
 fn promised_request_of(name: &str) -> Option<&'static [u8]> {
     Some(match name {
         "Engine::step msgrcv" => b"\0\0\0\x09\x0c\0\0\0\x01\0\0\0\0\0\0\0\x40\0\0\0\0\0\0\0\0",
@@ -135,7 +133,11 @@ fn promised_request_of(name: &str) -> Option<&'static [u8]> {
 
 /// A machine that has an object of each kind.
 pub(crate) fn engine_for(alloc: Global) -> Result<Engine, Fault> {
-    let limits = furnished_limits();
+    // A process that has one of each kind can open another.
+    let limits = Limits {
+        descriptors: 5,
+        ..Limits::small()
+    };
     if limits.check().is_err() {
         return Err(Fault::Unready);
     }
@@ -197,7 +199,7 @@ impl Subject for Engine {
 
     fn tells(&self) -> Seen {
         let objects = objects_of(self);
-        filled(&[
+        seen(&[
             sum_of(&objects),
             u64::from(objects.count()),
             self.outcomes().len() as u64,

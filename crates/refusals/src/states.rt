@@ -1,7 +1,7 @@
 //! Calls of a state that make room in it: for what a call needs, or for what is read from a device.
 
 use crate::fault::Fault;
-use crate::refused::{Seen, Subject, done};
+use crate::subject::{Seen, Subject, done};
 use ipc_base::{Cred, Id, Limits, Moment, Pid};
 use ipc_keys::Name;
 use ipc_perm::Perm;

@@ -1,16 +1,14 @@
 //! Openings of a device, and of its parts; the upgrade of one; and a disk that grows.
 
 use crate::fault::Fault;
-use crate::refused::hubs::used_disk;
-use crate::refused::{Seen, Subject};
-use crate::told::filled;
-use crate::upgraded::{old_disk, upgrade};
+use crate::hubs::used_disk;
+use crate::subject::{Seen, Subject, seen};
 use ipc_base::{Limits, ObjectMap};
 use ipc_checkpoint::{Checkpoint, Layout, LoadError};
-use ipc_disk::{MemoryDisk, Range, SectorDisk};
+use ipc_disk::{MemoryDisk, Range, SectorDisk, sectors_for_len, write_bytes};
 use ipc_engine::StateFault;
 use ipc_heap::Heap;
-use ipc_image::{FORMAT, OBJECTS, engine_of};
+use ipc_image::{FORMAT, OBJECTS, engine_of, need};
 use ipc_store::Store;
 use std::alloc::Global;
 
@@ -63,11 +61,18 @@ pub(crate) fn device_for(alloc: Global, name: &str) -> Result<Device, Fault> {
     })
 }
 
-/// A device of version 1, of which these are the bytes.
+/// A device of version 1, of which these are the bytes, on a disk with room for one of version 2.
 pub(crate) fn old_device(alloc: Global, image: &[u8]) -> Result<Device, Fault> {
+    let Ok(sectors) = u32::try_from(sectors_for_len(image.len())) else {
+        return Err(Fault::Input);
+    };
+    let mut disk = MemoryDisk::new(alloc, sectors)?;
+    write_bytes(&mut disk, 0, image)?;
+    disk.sync()?;
+    disk.grow(need(FORMAT, &Limits::small()))?;
     Ok(Device {
         alloc,
-        disk: Some(old_disk(alloc, image)?),
+        disk: Some(disk),
         objects: None,
     })
 }
@@ -89,7 +94,7 @@ impl Subject for Device {
 
     fn tells(&self) -> Seen {
         match &self.disk {
-            Some(disk) => filled(&[u64::from(disk.sectors()), disk.writes()]),
+            Some(disk) => seen(&[u64::from(disk.sectors()), disk.writes()]),
             None => [0; 17],
         }
     }
@@ -116,6 +121,14 @@ fn open(alloc: Global, disk: MemoryDisk) -> (Result<(), Fault>, MemoryDisk) {
     match Store::open(alloc, disk) {
         Ok(store) => (Ok(()), store.close()),
         Err(unopened) => (Err(Fault::from(unopened.error)), unopened.disk),
+    }
+}
+
+/// Upgrades the device of a disk, which comes back.
+fn upgrade(alloc: Global, disk: MemoryDisk) -> (Result<(), Fault>, MemoryDisk) {
+    match Store::upgrade(alloc, disk, &Limits::small()) {
+        Ok(disk) => (Ok(()), disk),
+        Err(unupgraded) => (Err(Fault::from(unupgraded.error)), unupgraded.disk),
     }
 }
 

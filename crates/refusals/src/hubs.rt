@@ -1,12 +1,11 @@
 //! Calls of a hub, of which `connect` alone may be refused, and the making of a server.
 
 use crate::fault::Fault;
-use crate::refused::{Seen, Subject};
-use crate::runs::device;
-use crate::told::filled;
-use ipc_base::Moment;
+use crate::subject::{Seen, Subject, seen};
+use ipc_base::{Limits, Moment};
 use ipc_disk::MemoryDisk;
 use ipc_hub::Hub;
+use ipc_image::{FORMAT, need};
 use ipc_server::{Server, ServerError};
 use ipc_store::Store;
 use mio::net::UnixListener;
@@ -74,9 +73,20 @@ pub(crate) fn used_disk(alloc: Global) -> Result<MemoryDisk, Fault> {
     Ok(hub.close().close())
 }
 
+/// A new device under small limits, on a disk of just as many sectors as it needs.
+fn new_device(alloc: Global) -> Result<MemoryDisk, Fault> {
+    let limits = Limits::small();
+    if limits.check().is_err() {
+        return Err(Fault::Unready);
+    }
+    let mut disk = MemoryDisk::new(alloc, need(FORMAT, &limits))?;
+    Store::format(&mut disk, &limits)?;
+    Ok(disk)
+}
+
 /// A store on a new device.
 fn new_store(alloc: Global) -> Result<Store<MemoryDisk>, Fault> {
-    match Store::open(alloc, device(alloc)?) {
+    match Store::open(alloc, new_device(alloc)?) {
         Ok(store) => Ok(store),
         Err(unopened) => Err(Fault::from(unopened.error)),
     }
@@ -103,7 +113,7 @@ impl Subject for Hub<MemoryDisk> {
 
     fn tells(&self) -> Seen {
         let connections = self.connections().len() as u64;
-        filled(&[connections, self.output(1).len() as u64])
+        seen(&[connections, self.output(1).len() as u64])
     }
 }
 

@@ -1,8 +1,7 @@
 //! Calls that give an object, a list or a directory room for more.
 
 use crate::fault::Fault;
-use crate::refused::{Seen, Subject, done, is_refused};
-use crate::told::filled;
+use crate::subject::{Seen, Subject, done, is_refused, seen};
 use ipc_arrivals::Arrivals;
 use ipc_base::{Id, Moment, ObjectMap, Objects, Pid};
 use ipc_keys::{KeyDir, NameDir, NameKind};
@@ -75,7 +74,7 @@ impl Subject for MsgQueue {
 
     fn tells(&self) -> Seen {
         let stat = self.stat();
-        filled(&[stat.qnum as u64, stat.ctime.0])
+        seen(&[stat.qnum as u64, stat.ctime.0])
     }
 }
 
@@ -89,7 +88,7 @@ impl Subject for SemSet {
     }
 
     fn tells(&self) -> Seen {
-        filled(&[self.stat().nsems as u64, self.stat().ctime.0])
+        seen(&[self.stat().nsems as u64, self.stat().ctime.0])
     }
 }
 
@@ -116,7 +115,7 @@ impl Subject for SemUndo {
 
     fn tells(&self) -> Seen {
         let last = u64::from(self.get(Id(1), ADJUSTMENTS).unsigned_abs());
-        filled(&[self.rows().len() as u64, last])
+        seen(&[self.rows().len() as u64, last])
     }
 }
 
@@ -135,7 +134,7 @@ impl Subject for Mq {
     }
 
     fn tells(&self) -> Seen {
-        filled(&[self.len() as u64, u64::from(self.attr().maxmsg)])
+        seen(&[self.len() as u64, u64::from(self.attr().maxmsg)])
     }
 }
 
@@ -161,7 +160,7 @@ impl Subject for Descriptors {
     }
 
     fn tells(&self) -> Seen {
-        filled(&[self.rows().len() as u64])
+        seen(&[self.rows().len() as u64])
     }
 }
 
@@ -174,7 +173,7 @@ impl Subject for KeyDir {
     }
 
     fn tells(&self) -> Seen {
-        filled(&[u64::from(self.find(7).is_some())])
+        seen(&[u64::from(self.find(7).is_some())])
     }
 }
 
@@ -187,7 +186,7 @@ impl Subject for NameDir {
     }
 
     fn tells(&self) -> Seen {
-        filled(&[u64::from(self.find(b"/q").is_some())])
+        seen(&[u64::from(self.find(b"/q").is_some())])
     }
 }
 
@@ -197,7 +196,7 @@ impl Subject for WaitList<u32, u32> {
     }
 
     fn tells(&self) -> Seen {
-        filled(&[self.len() as u64])
+        seen(&[self.len() as u64])
     }
 }
 
@@ -207,7 +206,7 @@ impl Subject for Arrivals<Message> {
     }
 
     fn tells(&self) -> Seen {
-        filled(&[self.len() as u64])
+        seen(&[self.len() as u64])
     }
 }
 
@@ -220,6 +219,6 @@ impl Subject for ObjectMap {
     }
 
     fn tells(&self) -> Seen {
-        filled(&[u64::from(self.count())])
+        seen(&[u64::from(self.count())])
     }
 }

@@ -1,59 +1,81 @@
 //! Public calls that may be refused memory, each on what is made ready for it, and others that take none. Memory is
 //! refused from outside: a malloc that is loaded before the program's own answers one call with none.
+//!
+//!     refusals         prints the names of all calls
+//!     refusals NAME    makes one call, and again if it is refused for memory
+//!
+//! `refusals Store::upgrade` reads the bytes of a device of version 1. It ends with 1 where a call that was refused has
+//! changed its object, or is refused again.
+#![tactic(auto)]
 
 mod devices;
 mod engines;
+mod fault;
 mod hubs;
 mod made;
 mod objects;
 mod states;
+mod subject;
 
-use crate::fault::Fault;
-use crate::input;
-use std::alloc::{AllocError, Global};
+use fault::Fault;
+use std::alloc::Global;
 use std::fs::File;
+use std::io;
+use std::io::{ErrorKind, Read};
 use std::net::Net;
-use std::rt::Files;
+use std::process::ExitCode;
+use std::rt::{Env, Files};
+use subject::is_refused;
 
-/// What a call changes, if it is not refused.
-pub(crate) trait Subject: Drop {
-    /// Makes the call of this name.
-    fn call(&mut self, name: &str) -> Result<(), Fault>;
-
-    /// What its public functions tell of it.
-    fn tells(&self) -> Seen;
+fn main(rt: HostRuntime) -> io::Result<ExitCode> {
+    match answer(&rt) {
+        Ok(()) => Ok(ExitCode::from(0)),
+        Err(fault) => {
+            eprintln!(rt; "refusals: {fault}")?;
+            Ok(ExitCode::from(1))
+        }
+    }
 }
 
-/// Numbers that tell of something.
-pub(crate) type Seen = [u64; 17];
-
-/// What has been made is let go.
-pub(crate) fn done<T: Drop>(made: Result<T, AllocError>) -> Result<(), Fault> {
-    drop(made?);
-    Ok(())
+/// Does what the words ask for.
+fn answer(
+    rt: &(impl Env + Input + Print + AllocGlobal + Files<File = File> + Net),
+) -> Result<(), Fault> {
+    let words = words_of(rt)?;
+    match words.as_slice() {
+        [_] => print_names(rt),
+        [_, name] => refused(rt, name.as_str()),
+        _ => Err(Fault::Usage),
+    }
 }
 
-/// Makes the call of a name on what was made for it. If it is refused its object is as before, and the call is done
-/// when it is made again. Whether it was refused.
-pub(crate) fn is_refused<S: Subject>(made: Result<S, Fault>, name: &str) -> Result<bool, Fault> {
-    let mut subject = made?;
-    let before = subject.tells();
-    match subject.call(name) {
-        Ok(()) => return Ok(false),
-        Err(Fault::NoMemory) => {}
-        Err(fault) => return Err(fault),
+/// The words of the command line; the first is the program's name.
+fn words_of(rt: &(impl Env + AllocGlobal)) -> Result<Vec<String>, Fault> {
+    let mut words = Vec::new(rt.alloc());
+    match std::env::args(rt) {
+        Ok(given) => {
+            for word in given {
+                words.push(word)?;
+            }
+        }
+        Err(error) if error.kind() == ErrorKind::OutOfMemory => return Err(Fault::NoMemory),
+        Err(_) => return Err(Fault::Usage),
     }
-    if subject.tells() != before {
-        return Err(Fault::NotAsBefore);
-    }
-    match subject.call(name) {
-        Ok(()) => Ok(true),
-        Err(_) => Err(Fault::RefusedAgain),
+    Ok(words)
+}
+
+/// All that a reader gives.
+fn input<R: Read>(alloc: Global, reader: &mut R) -> Result<Vec<u8>, Fault> {
+    let mut text = Vec::new(alloc);
+    match reader.read_to_end(&mut text) {
+        Ok(_) => Ok(text),
+        Err(error) if error.kind() == ErrorKind::OutOfMemory => Err(Fault::NoMemory),
+        Err(_) => Err(Fault::Input),
     }
 }
 
 /// Prints the names of all calls, and which take no memory: those that are done whatever is refused.
-pub(crate) fn print_names(rt: &impl Print) -> Result<(), Fault> {
+fn print_names(rt: &impl Print) -> Result<(), Fault> {
     for names in [
         made::NAMES.as_slice(),
         &objects::NAMES,
@@ -76,7 +98,7 @@ fn print_each(rt: &impl Print, names: &[&str], what: &str) -> Result<(), Fault> 
 }
 
 /// Makes the call of this name, and prints what became of it.
-pub(crate) fn refused(
+fn refused(
     rt: &(impl Input + Print + AllocGlobal + Files<File = File> + Net),
     name: &str,
 ) -> Result<(), Fault> {

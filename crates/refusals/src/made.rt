@@ -1,7 +1,7 @@
 //! Calls that make something, where nothing was before.
 
 use crate::fault::Fault;
-use crate::refused::{Seen, Subject, done};
+use crate::subject::{Seen, Subject, done};
 use ipc_arrivals::Arrivals;
 use ipc_base::{Limits, Moment, Pid};
 use ipc_disk::{JoinedDisk, MemoryDisk, SectorRuns};
@@ -9,7 +9,7 @@ use ipc_engine::{Engine, StateFault};
 use ipc_keys::Name;
 use ipc_state::{Descriptors, Operations, Parked, State};
 use ipc_wait::{WaitList, Waiting};
-use ipc_wire::{Sixes, read_request};
+use ipc_wire::{SemBufs, read_request};
 use posix_mq::Mq;
 use sem_undo::SemUndo;
 use shm_segment::{Segment, ShmStat, SysSegment};
@@ -128,7 +128,7 @@ fn make_call(alloc: Global, name: &str) -> Result<(), Fault> {
     match name {
         "Descriptors::new" => done(Descriptors::new(alloc)),
         "Operations::new" => {
-            let operations = Sixes::new(&RAISE).ok_or(Fault::Unready)?;
+            let operations = SemBufs::new(&RAISE).ok_or(Fault::Unready)?;
             done(Operations::new(alloc, &operations))
         }
         "Parked::new" => {
