@@ -5,9 +5,11 @@
 #include <string.h>
 #include <sys/ipc.h>
 #include <sys/shm.h>
+#include <unistd.h>
 
 #include "client.h"
 #include "handles.h"
+#include "info.h"
 #include "memory.h"
 #include "processes.h"
 
@@ -15,13 +17,14 @@ enum { RECORD = 68 };
 
 int ipcd_shmget(key_t key, size_t size, int shmflg)
 {
+    struct ipcd *client = current_client();
     struct link *link = begin(SHMGET);
     if (link == NULL)
         return -1;
     put_u32(link, (uint32_t) key);
     put_u64(link, size);
     put_u32(link, (uint32_t) shmflg);
-    return end_number(link);
+    return noted(client, SEGMENTS, end_number(link));
 }
 
 static void read_record(const char *socket, const unsigned char *body, struct shmid_ds *record)
@@ -74,8 +77,50 @@ static int set_segment(int shmid, const struct shmid_ds *buf)
     return end_empty(link, ANSWERED_AT_ONCE);
 }
 
+static unsigned long pages_of(size_t size)
+{
+    size_t page = (size_t) sysconf(_SC_PAGESIZE);
+    return (size + page - 1) / page;
+}
+
+static int add_segment(int shmid, void *counts)
+{
+    struct shm_info *info = counts;
+    struct shmid_ds record;
+    if (stat_segment(shmid, &record) < 0)
+        return -1;
+    info->shm_tot += pages_of(record.shm_segsz);
+    return 0;
+}
+
+// The answer is 0: the greatest index of an object, of which SHM_STAT shows none.
+static int tell_limits(int shmid, struct shminfo *buf)
+{
+    if (ask_for_info(shmid, buf, sizeof *buf) < 0)
+        return -1;
+    *buf = (struct shminfo){
+        .shmmax = SHMMAX, .shmmin = 1, .shmmni = SHMMNI, .shmseg = ATTACHMENTS, .shmall = pages_of(SHMALL)};
+    return 0;
+}
+
+static int tell_counts(int shmid, struct shm_info *buf)
+{
+    struct shm_info info = {0};
+    if (ask_for_info(shmid, buf, sizeof *buf) < 0)
+        return -1;
+    if (count_each(current_client(), SEGMENTS, add_segment, &info, &info.used_ids) < 0)
+        return -1;
+    info.shm_rss = info.shm_tot;
+    *buf = info;
+    return 0;
+}
+
 int ipcd_shmctl(int shmid, int cmd, struct shmid_ds *buf)
 {
+    if (cmd == IPC_INFO)
+        return tell_limits(shmid, (struct shminfo *) buf);
+    if (cmd == SHM_INFO)
+        return tell_counts(shmid, (struct shm_info *) buf);
     if (cmd == IPC_STAT)
         return stat_segment(shmid, buf);
     if (cmd == IPC_SET)

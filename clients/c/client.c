@@ -15,14 +15,20 @@
 #include <sys/syscall.h>
 #include <unistd.h>
 
+#include "cancellation.h"
 #include "changes.h"
 #include "handles.h"
 #include "memory.h"
+#include "places.h"
 #include "processes.h"
 
 // Milliseconds that a thread waits for a link while no call is answered: if all those calls may wait, and if one is
 // answered at once. Then it gets one more.
 enum { GRACE = 50, LONG_GRACE = 1000 };
+
+// How often a thread looks for a link that another one has, and how long that one has it, before one whose call was
+// interrupted for it takes it back.
+enum { SHORT_TURN = 5, LONG_TURN = 50 };
 
 struct changes changes;
 
@@ -47,7 +53,8 @@ static void after_fork(void)
                 continue;
             link_drop(link);
             link->owner = NULL;
-            link->busy = 0;
+            link->lending = link->busy = 0;
+            link->wanted = 0;
         }
         forget_registrations(client);
     }
@@ -74,6 +81,7 @@ __attribute__((destructor)) static void leave(void)
     for (size_t i = 0; i < PROCESSES_MOST; i++)
         if (of_process.links[i] != NULL && of_process.links[i]->socket >= 0)
             no_more(of_process.path, of_process.links[i]->pid);
+    tell_all_closed(&of_process);
 }
 
 int hold_cancellation(void)
@@ -157,6 +165,7 @@ static bool try_take(struct link *link)
     if (link == NULL || atomic_exchange(&link->busy, 1) != 0)
         return false;
     link->holder = &thread;
+    link->thread = (unsigned long) pthread_self();
     link->may_wait = false;
     return true;
 }
@@ -167,8 +176,9 @@ void release(struct link *link)
     client->answers += link->socket >= 0;
     link->busy = 0;
     client->releases++;
+    // Who wants this link has to be among those that are woken.
     if (client->sleepers > 0)
-        syscall(SYS_futex, &client->releases, FUTEX_WAKE_PRIVATE, 1, NULL, NULL, 0);
+        syscall(SYS_futex, &client->releases, FUTEX_WAKE_PRIVATE, link->wanted > 0 ? INT_MAX : 1, NULL, NULL, 0);
 }
 
 // A link that is not connected, and is busy: one that was, or a new one in a place that is free; or NULL.
@@ -189,6 +199,7 @@ static struct link *add_link(struct ipcd *client)
     made->busy = 1;
     made->client = client;
     made->holder = &thread;
+    made->thread = (unsigned long) pthread_self();
     made->socket = -1;
     for (size_t i = 0; i < PROCESSES_MOST; i++) {
         struct link *none = NULL;
@@ -254,13 +265,14 @@ static enum use use_by_others(const struct ipcd *client)
     return use;
 }
 
-// Sleeps until a link is released, of which there were so many releases before.
-static void wait_for_release(struct ipcd *client, unsigned before, int64_t most)
+// Sleeps until a link is released, of which there were so many releases before. Whether a handler has ended it.
+static bool wait_for_release(struct ipcd *client, unsigned before, int64_t most)
 {
     struct timespec time = {most / 1000, most % 1000 * 1000000};
     client->sleepers++;
-    syscall(SYS_futex, &client->releases, FUTEX_WAIT_PRIVATE, before, &time, NULL, 0);
+    long done = syscall(SYS_futex, &client->releases, FUTEX_WAIT_PRIVATE, before, &time, NULL, 0);
     client->sleepers--;
+    return done < 0 && errno == EINTR;
 }
 
 // An idle link of this user, else a new one. Most calls are short, so as long as others' calls are answered one of
@@ -368,6 +380,117 @@ static struct link *take_with(struct ipcd *client, size_t number, uint32_t gener
     return NULL;
 }
 
+// A link on which a handle is open, and that is not busy with a call that a handler of this thread has interrupted; or
+// NULL. Another thread may have it, and may have released it meanwhile.
+static struct link *link_with(struct ipcd *client, size_t number, uint32_t generation)
+{
+    for (size_t i = 0; i < PROCESSES_MOST && client->links[i] != NULL; i++) {
+        struct link *link = client->links[i];
+        if (link->generations[number] == generation && !(link->busy && link->holder == &thread))
+            return link;
+    }
+    return NULL;
+}
+
+// The link on which a handle is open that cannot be opened on another: that of another thread, as soon as its call has
+// ended or it lends it; or NULL, if none has it, or lends it for a second.
+static struct link *borrow(struct ipcd *client, size_t number, uint32_t generation)
+{
+    struct link *link = link_with(client, number, generation), *taken = NULL;
+    int64_t end = clock_now() + LONG_GRACE;
+    int saved = errno;
+    if (link == NULL)
+        return NULL;
+    link->wanted++;
+    while (taken == NULL) {
+        unsigned before = client->releases;
+        taken = take_with(client, number, generation);
+        if (taken != NULL || link->generations[number] != generation || clock_now() >= end)
+            break;
+        link_ask(link);
+        wait_for_release(client, before, SHORT_TURN);
+    }
+    link->wanted--;
+    errno = saved;
+    return taken;
+}
+
+// Takes a link back that was lent: whether a handler has run meanwhile that ends calls, as far as that is known. Who
+// wants it has it first, and then for a while.
+static bool take_back(struct link *link, enum waiting waiting)
+{
+    struct ipcd *client = link->client;
+    int64_t since = clock_now();
+    bool is_ended = false;
+    for (;;) {
+        unsigned before = client->releases;
+        int64_t passed = clock_now() - since;
+        if ((link->wanted == 0 || passed >= LONG_GRACE) && try_take(link))
+            return is_ended && (waiting == ENDED_BY_HANDLERS || (changes.are_heard && !changes.some_restart));
+        if (passed >= LONG_TURN)
+            link_ask(link);
+        is_ended = wait_for_release(client, before, SHORT_TURN) || is_ended;
+    }
+}
+
+// The request and where its reply goes are kept meanwhile. If the link has lost its connection, the call has too.
+int lend(struct link *link, enum waiting waiting)
+{
+    size_t head = (size_t) (link->end - link->request);
+    link->taken = 4 + (size_t) read_u32(link->input);
+    unsigned char *request = mmap(NULL, head, PROT_READ | PROT_WRITE, MAP_PRIVATE | MAP_ANONYMOUS, -1, 0);
+    if (request == MAP_FAILED)
+        return EINTR;
+    memcpy(request, link->request, head);
+    const void *text = link->text;
+    size_t text_size = link->text_size;
+    uint64_t cookie = link->cookie;
+    int saved = link->saved_errno, cancellation = link->cancellation;
+    release(link);
+    if (cancellation == PTHREAD_CANCEL_ENABLE && is_cancelled())
+        end_if_cancelled(cancellation, request, head);
+    bool is_ended = take_back(link, waiting);
+    link->saved_errno = saved;
+    link->cancellation = cancellation;
+    bool is_there = link->socket >= 0 && link->cookie == cookie;
+    if (is_there && !is_ended) {
+        link_begin(link, CLOSE);
+        memcpy(link->request, request, head);
+        link->end = link->request + head;
+        put_text(link, text, text_size);
+    }
+    munmap(request, head);
+    return !is_there ? ECONNRESET : is_ended ? EINTR : 0;
+}
+
+// Whether a handle is open on a link, or is by now. Else the call on the link has ended, with an error.
+static bool is_open_on(struct link *link, size_t number, const struct handle *handle)
+{
+    if (close_stale(link) == 0 && open_again(link, number, handle) == 0)
+        return true;
+    end(link, -1);
+    return false;
+}
+
+// A link on which a handle is open. One that cannot be opened again, since its name is gone, may be open on a link
+// that is busy. NULL with ENOENT, if it is open on none.
+static struct link *take_on(struct ipcd *client, size_t number, const struct handle *handle)
+{
+    struct link *link = take_with(client, number, handle->generation);
+    if (link == NULL && handle->is_unlinked)
+        link = borrow(client, number, handle->generation);
+    if (link == NULL)
+        link = take(client, true);
+    if (link == NULL || is_open_on(link, number, handle))
+        return link;
+    if (errno != ENOENT || handle->is_unlinked)
+        return NULL;
+    link = borrow(client, number, handle->generation);
+    if (link == NULL)
+        errno = ENOENT;
+    return link == NULL || is_open_on(link, number, handle) ? link : NULL;
+}
+
 struct link *begin_on(struct ipcd *client, size_t number, enum kind kind, int wrong, enum opcode opcode)
 {
     struct handle handle;
@@ -375,15 +498,10 @@ struct link *begin_on(struct ipcd *client, size_t number, enum kind kind, int wr
         errno = wrong;
         return NULL;
     }
-    struct link *link = take_with(client, number, handle.generation);
-    if (link == NULL)
-        link = take(client, true);
-    if (link == NULL)
-        return NULL;
-    if (close_stale(link) < 0 || open_again(link, number, &handle) < 0) {
+    struct link *link = take_on(client, number, &handle);
+    if (link == NULL) {
         if (errno == ENOENT)
             errno = wrong;
-        end(link, -1);
         return NULL;
     }
     link_begin(link, opcode);
@@ -428,6 +546,8 @@ long end(struct link *link, long result)
     bool is_lost = result < 0 && error == ECONNRESET && link->socket < 0;
     int saved = link->saved_errno, cancellation = link->cancellation;
     struct ipcd *client = link->client;
+    if (changes.calls != NULL && link->socket >= 0)
+        ++*changes.calls;
     release(link);
     if (is_lost)
         drop_ended(client);
@@ -454,6 +574,23 @@ int end_number(struct link *link)
         return (int) end(link, -1);
     }
     return (int) end(link, (long) number);
+}
+
+static void ask_thread_of(struct ipcd *client, unsigned long wanted)
+{
+    for (size_t i = 0; i < PROCESSES_MOST && client->links[i] != NULL; i++) {
+        struct link *link = client->links[i];
+        if (link->busy && link->thread == wanted && link->cancellation == PTHREAD_CANCEL_ENABLE)
+            link_ask(link);
+    }
+}
+
+void ask_thread(pthread_t wanted)
+{
+    pthread_mutex_lock(&all_lock);
+    for (struct ipcd *client = &of_process; client != NULL; client = client->next)
+        ask_thread_of(client, (unsigned long) wanted);
+    pthread_mutex_unlock(&all_lock);
 }
 
 const char *ipcd_version(void)
@@ -500,6 +637,8 @@ void ipcd_disconnect(struct ipcd *connection)
             it->next = connection->next;
     pthread_mutex_unlock(&all_lock);
     end_registrations(connection);
+    tell_all_closed(connection);
+    remove_places(connection);
     for (size_t i = 0; i < PROCESSES_MOST; i++) {
         struct link *link = connection->links[i];
         if (link == NULL)

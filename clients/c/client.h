@@ -3,7 +3,6 @@
 #define IPCD_CLIENT_H
 
 #include <pthread.h>
-#include <semaphore.h>
 #include <signal.h>
 #include <stdatomic.h>
 #include <stdbool.h>
@@ -23,16 +22,23 @@ struct handle {
     uint32_t generation;      // is another after each close
     bool is_open;
     bool is_unlinked;         // by this process: its name is of nothing, or of something else
+    bool is_own;              // a semaphore that is the C library's, see named_semaphores.h
     enum kind kind;
     uint32_t access;
     uint32_t shmid;           // of an attachment
     bool nonblocking;
     unsigned opens;           // how many times sem_open answered it
+    uint32_t told;            // of which entry of which process it was told that it is open; 0 if of none
+    pid_t teller;
     size_t length;
     char name[NAME_MOST + 1];
 };
 
 struct registration;
+
+// Objects with identifiers, and how many of each a client keeps in mind: as many as there may be.
+enum family { QUEUES, SETS, SEGMENTS, FAMILIES };
+enum { SEEN = 64 };
 
 struct ipcd {
     struct ipcd *next;
@@ -43,8 +49,10 @@ struct ipcd {
     atomic_int sleepers;      // threads that wait for a link
     _Atomic(struct link *) links[PROCESSES_MOST];
     struct handle handles[HANDLES];
-    sem_t semaphores[SEMAPHORES];
+    _Atomic(char *) places;   // of semaphores, a page each, or NULL if none was opened yet
+    atomic_uchar states[SEMAPHORES]; // of these, see places.h
     struct registration *registrations;
+    atomic_uint seen[FAMILIES][SEEN]; // identifiers that were got, in no order; 0 in a place that is free
     char path[256];           // is written before another thread knows of the client
 };
 
@@ -55,6 +63,9 @@ static inline size_t handle_of(int descriptor)
 }
 
 HIDDEN struct ipcd *current_client(void);
+
+// Ends the call that waits of a thread, if there is one and its thread may be cancelled.
+HIDDEN void ask_thread(pthread_t wanted);
 
 // Whoever waits for a link of its client takes this one, if it wants.
 HIDDEN void release(struct link *link);

@@ -6,8 +6,10 @@
 #include <fcntl.h>
 #include <string.h>
 #include <sys/shm.h>
+#include <unistd.h>
 
 #include "memory.h"
+#include "places.h"
 
 // Writes the request of an open and answers the server's descriptor, or -1.
 static long open_on_link(struct link *link, const char *name, size_t length, const struct wanted *wanted)
@@ -87,6 +89,26 @@ static int set_nonblocking(struct link *link, struct opened *opened, bool nonblo
     return 0;
 }
 
+// A process that was forked tells for itself what it has open, before it opens it.
+static void tell_again(struct ipcd *client, size_t number, const struct handle *handle)
+{
+    sigset_t mask;
+    pid_t own = getpid();
+    if (handle->teller == own)
+        return;
+    uint32_t told = tell_open(client, handle->name, handle->length, place_of(client, number)->token);
+    lock_handles(client, &mask);
+    struct handle *now = &client->handles[number];
+    bool is_taken = now->generation == handle->generation && now->teller != own;
+    if (is_taken) {
+        now->told = told;
+        now->teller = own;
+    }
+    unlock_handles(client, &mask);
+    if (!is_taken)
+        tell_closed(client, handle->name, handle->length, told);
+}
+
 int open_again(struct link *link, size_t number, const struct handle *handle)
 {
     struct opened *opened = &link->opened[number];
@@ -98,6 +120,8 @@ int open_again(struct link *link, size_t number, const struct handle *handle)
         errno = ENOENT;
         return -1;
     }
+    if (handle->kind == NAMED_SEMAPHORE)
+        tell_again(link->client, number, handle);
     uint32_t flags = handle->access | (handle->nonblocking ? O_NONBLOCK : 0);
     struct wanted wanted = {.kind = handle->kind, .flags = flags, .shmid = handle->shmid};
     long descriptor = open_on_link(link, handle->name, handle->length, &wanted);
@@ -121,46 +145,80 @@ static void note_unlinked(struct ipcd *client, size_t number, uint32_t generatio
     unlock_handles(client, &mask);
 }
 
+// Which handles are open: how many, and their numbers.
+static size_t open_numbers(struct ipcd *client, uint16_t *numbers)
+{
+    sigset_t mask;
+    size_t count = 0;
+    lock_handles(client, &mask);
+    for (size_t i = 0; i < HANDLES; i++)
+        if (client->handles[i].is_open)
+            numbers[count++] = (uint16_t) i;
+    unlock_handles(client, &mask);
+    return count;
+}
+
 int open_all_again(struct link *link)
 {
     struct ipcd *client = link->client;
+    uint16_t numbers[HANDLES];
     int saved = errno;
-    for (size_t i = 0; i < HANDLES; i++) {
+    size_t count = open_numbers(client, numbers);
+    for (size_t i = 0; i < count; i++) {
         sigset_t mask;
+        size_t number = numbers[i];
         lock_handles(client, &mask);
-        struct handle handle = client->handles[i];
+        struct handle handle = client->handles[number];
         unlock_handles(client, &mask);
-        if (!handle.is_open || open_again(link, i, &handle) == 0)
+        if (handle.is_own || (handle.kind == NAMED_SEMAPHORE && is_own_place(client, number)))
+            continue;
+        if (!handle.is_open || open_again(link, number, &handle) == 0)
             continue;
         if (link->socket < 0)
             return -1;
         // An object that is made under the name later is another.
         if (errno == ENOENT)
-            note_unlinked(client, i, handle.generation);
+            note_unlinked(client, number, handle.generation);
     }
     errno = saved;
     return 0;
 }
 
-static bool is_named(const struct handle *handle, enum kind kind, const char *name, size_t length)
+static bool is_named(struct ipcd *client, size_t number, enum kind kind, const char *name, size_t length)
 {
+    const struct handle *handle = &client->handles[number];
+    // Another process that shares its place has unlinked it.
+    if (handle->is_open && handle->kind == NAMED_SEMAPHORE && is_own_place(client, number))
+        return false;
     return handle->is_open && !handle->is_unlinked && handle->kind == kind && handle->length == length &&
         memcmp(handle->name, name, length) == 0;
 }
 
 // A handle that is open on a semaphore of this name, else one that is free, else -1.
-static int find_handle(const struct ipcd *client, enum kind kind, const char *name, size_t length)
+static int find_handle(struct ipcd *client, enum kind kind, const char *name, size_t length)
 {
     int begin = kind == NAMED_SEMAPHORE ? DESCRIPTORS : 0;
     int past = kind == NAMED_SEMAPHORE ? HANDLES : DESCRIPTORS;
     for (int i = begin; kind == NAMED_SEMAPHORE && i < past; i++)
-        if (is_named(&client->handles[i], kind, name, length))
+        if (is_named(client, (size_t) i, kind, name, length))
             return i;
     for (int i = begin; i < past; i++)
         if (!client->handles[i].is_open)
             return i;
     errno = EMFILE;
     return -1;
+}
+
+int handle_of_name(struct ipcd *client, const char *name, size_t length, enum kind kind)
+{
+    sigset_t mask;
+    int found = -1;
+    lock_handles(client, &mask);
+    for (int i = 0; i < HANDLES && found < 0; i++)
+        if (is_named(client, (size_t) i, kind, name, length))
+            found = i;
+    unlock_handles(client, &mask);
+    return found;
 }
 
 // Notes that an object was opened on a link. One that had its handle already is closed there once.
@@ -180,9 +238,7 @@ static int note(struct ipcd *client, struct link *link, int number, struct handl
     return 0;
 }
 
-// Copies a name, as far as a frame has room: how many bytes it has, or -1 with EFAULT. The C library takes names of
-// semaphores and segments with any number of slashes before them, also none, as with one.
-static ssize_t read_name(const char *name, enum kind kind, char *copy)
+ssize_t read_name(const char *name, enum kind kind, char *copy)
 {
     ssize_t length = text_length(name, PIECE_MOST), slashes = 0;
     if (length < 0)
@@ -193,6 +249,7 @@ static ssize_t read_name(const char *name, enum kind kind, char *copy)
             slashes++;
     }
     memcpy(copy, name + slashes, (size_t) (length - slashes));
+    copy[length - slashes] = 0;
     return length - slashes + (kind != POSIX_QUEUE);
 }
 
@@ -207,12 +264,18 @@ static uint32_t access_of(const struct wanted *wanted)
 static int open_new(struct ipcd *client, const char *name, size_t length, const struct wanted *wanted)
 {
     struct link *link = begin(CLOSE);
-    if (link == NULL)
+    if (link == NULL) {
+        tell_closed(client, name, length, wanted->told);
         return -1;
+    }
     long descriptor = open_on_link(link, name, length, wanted);
-    if (descriptor < 0)
+    if (descriptor < 0) {
+        tell_closed(client, name, length, wanted->told);
         return (int) end(link, -1);
+    }
     struct handle named = {.is_open = true, .kind = wanted->kind, .opens = 1, .length = length};
+    named.told = wanted->told;
+    named.teller = wanted->told != 0 ? getpid() : 0;
     named.access = access_of(wanted);
     named.shmid = wanted->shmid;
     named.nonblocking = wanted->kind == POSIX_QUEUE && (wanted->flags & O_NONBLOCK);
@@ -220,19 +283,24 @@ static int open_new(struct ipcd *client, const char *name, size_t length, const 
     sigset_t mask;
     lock_handles(client, &mask);
     int number = find_handle(client, wanted->kind, named.name, named.length);
-    int noted = number < 0 ? -1 : note(client, link, number, named, descriptor);
+    bool is_new = number >= 0 && !client->handles[number].is_open;
+    if (is_new && wanted->kind == NAMED_SEMAPHORE && make_place(client, (size_t) number, wanted->token) < 0)
+        number = -1;
+    int refusal = errno, noted = number < 0 ? -1 : note(client, link, number, named, descriptor);
     unlock_handles(client, &mask);
     if (number < 0) {
         struct opened none = opened_by(&named, descriptor);
         close_on_link(link, &none);
-        errno = EMFILE;
+        errno = refusal;
     }
+    if (!is_new || number < 0)
+        tell_closed(client, name, length, wanted->told);
     return (int) end(link, noted < 0 ? -1 : number);
 }
 
 int open_handle(struct ipcd *client, const char *given, const struct wanted *wanted)
 {
-    char name[PIECE_MOST + 1];
+    char name[NAME_ROOM];
     ssize_t length = read_name(given, wanted->kind, name);
     return length < 0 ? -1 : open_new(client, name, (size_t) length, wanted);
 }
@@ -242,6 +310,27 @@ int attach_handle(struct ipcd *client, const struct wanted *wanted)
     return open_new(client, "", 0, wanted);
 }
 
+// The handle's descriptors are closed wherever they are, since it has another generation. The lock is held.
+static void begin_closing(struct ipcd *client, struct handle *handle)
+{
+    handle->generation++;
+    handle->generation += handle->generation == 0;
+    client->closings++;
+}
+
+static void tell_closed_if_told(struct ipcd *client, const struct handle *handle)
+{
+    if (handle->kind == NAMED_SEMAPHORE && handle->told != 0 && handle->teller == getpid())
+        tell_closed(client, handle->name, handle->length, handle->told);
+}
+
+void tell_all_closed(struct ipcd *client)
+{
+    for (size_t i = DESCRIPTORS; i < HANDLES; i++)
+        if (client->handles[i].is_open)
+            tell_closed_if_told(client, &client->handles[i]);
+}
+
 int close_handle(struct ipcd *client, size_t number, enum kind kind, int wrong)
 {
     sigset_t mask;
@@ -249,29 +338,54 @@ int close_handle(struct ipcd *client, size_t number, enum kind kind, int wrong)
     struct handle *handle = number < HANDLES ? &client->handles[number] : NULL;
     bool is_open = handle != NULL && handle->is_open && handle->kind == kind;
     bool is_last = is_open && --handle->opens == 0;
+    struct handle closed = is_last ? *handle : (struct handle){0};
     if (is_last) {
-        handle->is_open = false;
-        handle->generation++;
-        handle->generation += handle->generation == 0;
-        client->closings++;
+        handle->is_open = handle->is_own = false;
+        handle->told = 0;
+        if (kind == NAMED_SEMAPHORE)
+            client->states[number - DESCRIPTORS] = NO_PLACE;
+        if (!closed.is_own)
+            begin_closing(client, handle);
     }
     unlock_handles(client, &mask);
     if (!is_open) {
         errno = wrong;
         return -1;
     }
-    if (!is_last)
+    if (!is_last || closed.is_own)
         return 0;
     int cancellation = hold_cancellation();
+    tell_closed_if_told(client, &closed);
     end_registration_of(client, number);
     int result = close_on_idle_links(client);
     allow_cancellation(cancellation);
     return result;
 }
 
+void leave_server(struct ipcd *client, size_t number)
+{
+    sigset_t mask;
+    int saved = errno, cancellation = hold_cancellation();
+    lock_handles(client, &mask);
+    struct handle *handle = &client->handles[number], left = *handle;
+    if (handle->is_open && !handle->is_own) {
+        handle->is_own = handle->is_unlinked = true;
+        handle->told = 0;
+        begin_closing(client, handle);
+    }
+    client->states[number - DESCRIPTORS] = LEFT_SERVER;
+    unlock_handles(client, &mask);
+    if (left.is_open && !left.is_own) {
+        tell_closed_if_told(client, &left);
+        close_on_idle_links(client);
+    }
+    allow_cancellation(cancellation);
+    errno = saved;
+}
+
 int unlink_name(struct ipcd *client, const char *given, enum kind kind, enum opcode opcode)
 {
-    char name[PIECE_MOST + 1];
+    char name[NAME_ROOM];
     ssize_t length = read_name(given, kind, name);
     if (length < 0)
         return -1;
@@ -284,7 +398,7 @@ int unlink_name(struct ipcd *client, const char *given, enum kind kind, enum opc
     sigset_t mask;
     lock_handles(client, &mask);
     for (size_t i = 0; i < HANDLES; i++)
-        if (is_named(&client->handles[i], kind, name, (size_t) length))
+        if (is_named(client, i, kind, name, (size_t) length))
             client->handles[i].is_unlinked = true;
     unlock_handles(client, &mask);
     return 0;

@@ -15,6 +15,8 @@ struct wanted {
     int32_t maxmsg;
     int32_t msgsize;
     uint32_t shmid;           // of an attachment
+    uint64_t token;           // of a semaphore that is new to this process, and what was told of it: see places.h
+    uint32_t told;
 };
 
 // Opens an object by its name: the number of its handle, or -1. A semaphore that is open has its handle again.
@@ -25,6 +27,20 @@ HIDDEN int attach_handle(struct ipcd *client, const struct wanted *wanted);
 
 // Closes a handle: 0, or -1 with `wrong` if it is not open as this, or ECONNRESET; then it is closed too.
 HIDDEN int close_handle(struct ipcd *client, size_t number, enum kind kind, int wrong);
+
+// Copies a name, as far as a frame has room, and a byte 0: how many bytes the name has, or -1 with EFAULT. The C
+// library takes names of semaphores and segments with any number of slashes before them, also none, as with one.
+enum { NAME_ROOM = PIECE_MOST + 2 };
+HIDDEN ssize_t read_name(const char *name, enum kind kind, char *copy);
+
+// The number of a handle that is open on an object of this name, or -1.
+HIDDEN int handle_of_name(struct ipcd *client, const char *name, size_t length, enum kind kind);
+
+// Tells that no semaphore of a client is open any more.
+HIDDEN void tell_all_closed(struct ipcd *client);
+
+// A handle is nothing more to the server, since the semaphore is the C library's from now on.
+HIDDEN void leave_server(struct ipcd *client, size_t number);
 
 // Takes a name off an object: 0, or -1.
 HIDDEN int unlink_name(struct ipcd *client, const char *name, enum kind kind, enum opcode opcode);

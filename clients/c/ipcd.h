@@ -7,7 +7,8 @@
 //   ENFILE        the server has as many processes as it takes, 64
 //   EPROTO, EIO   the server's answer was none, or its disk has failed; the connection has ended
 //   ENOMEM        the server has no memory for the call; nothing has changed
-//   EACCES, EMFILE, ENAMETOOLONG  of connect(2) and socket(2)
+//   EACCES        the caller may not write the socket or enter its folder, maybe since it has changed its user
+//   EMFILE, ENAMETOOLONG  of socket(2), and for a path of more than 107 bytes
 //
 // Calls are made over the connection of the process to the socket that IPCD_SOCKET names, else /run/ipcd/socket,
 // unless ipcd_use chooses another. A connection is made by the first call, and again after its end and in a process
@@ -52,7 +53,8 @@ IPCD_PUBLIC void ipcd_disconnect(struct ipcd *connection);
 IPCD_PUBLIC struct ipcd *ipcd_use(struct ipcd *connection);
 
 // Message queues, see msgget(2), msgop(2), msgctl(2). Types are above 0, texts have at most 65536 bytes. With MSG_COPY
-// ipcd_msgrcv is ENOSYS, or EINVAL without IPC_NOWAIT. Commands are IPC_STAT, IPC_SET and IPC_RMID.
+// ipcd_msgrcv is ENOSYS, or EINVAL without IPC_NOWAIT. Commands are IPC_STAT, IPC_SET, IPC_RMID, and IPC_INFO and
+// MSG_INFO, which answer standard limits, and counts of the queues that this process has got.
 IPCD_PUBLIC int ipcd_msgget(key_t key, int msgflg);
 IPCD_PUBLIC int ipcd_msgsnd(int msqid, const void *msgp, size_t msgsz, int msgflg);
 IPCD_PUBLIC ssize_t ipcd_msgrcv(int msqid, void *msgp, size_t msgsz, long msgtyp, int msgflg);
@@ -60,7 +62,7 @@ IPCD_PUBLIC int ipcd_msgctl(int msqid, int cmd, struct msqid_ds *buf);
 
 // Semaphore sets, see semget(2), semop(2), semctl(2). A set has at most 64 semaphores, a list at most 32 operations;
 // values are from 0 to 32767. The timeout is a length of time, kept to some milliseconds. Commands are those of
-// semctl(2) but IPC_INFO, SEM_INFO and SEM_STAT. SETALL needs the permission to read, too.
+// semctl(2) but SEM_STAT and SEM_STAT_ANY. SETALL needs the permission to read, too.
 IPCD_PUBLIC int ipcd_semget(key_t key, int nsems, int semflg);
 IPCD_PUBLIC int ipcd_semop(int semid, struct sembuf *sops, size_t nsops);
 IPCD_PUBLIC int ipcd_semtimedop(int semid, struct sembuf *sops, size_t nsops, const struct timespec *timeout);
@@ -83,7 +85,8 @@ IPCD_PUBLIC int ipcd_mq_setattr(mqd_t mqdes, const struct mq_attr *newattr, stru
 IPCD_PUBLIC int ipcd_mq_notify(mqd_t mqdes, const struct sigevent *sevp);
 
 // Named semaphores, see sem_overview(7). An address is of this library: no call of the C library takes it. A name may
-// lack its slash, as the C library has it.
+// lack its slash, as the C library has it. One that is unlinked while it is open, and that no other process has opened,
+// is in memory of this process from then on, which forked processes share.
 IPCD_PUBLIC sem_t *ipcd_sem_open(const char *name, int oflag, ...);
 IPCD_PUBLIC int ipcd_sem_close(sem_t *sem);
 IPCD_PUBLIC int ipcd_sem_unlink(const char *name);
@@ -105,11 +108,12 @@ IPCD_PUBLIC ssize_t ipcd_pwrite(int fd, const void *buf, size_t count, off_t off
 IPCD_PUBLIC int ipcd_fstat(int fd, struct stat *statbuf);
 IPCD_PUBLIC int ipcd_close(int fd);
 
-// Segments of System V, see shmget(2), shmctl(2). Commands are IPC_STAT, IPC_SET and IPC_RMID. There is no mapping:
-// ipcd_shmat and ipcd_shmdt are ENOSYS. In their place ipcd_shmattach answers a number like the descriptors above, by
-// which one call reads or writes at most 8192 bytes, all within the segment (else EINVAL); with SHM_RDONLY a write is
-// EBADF. ipcd_shmdetach gives it up. No read is short: the length of a segment of System V is fixed, so what passes its
-// end is a mistake, as with a mapping. A segment of shm_open is a file that may be cut, and ends as one in ipcd_pread.
+// Segments of System V, see shmget(2), shmctl(2). Commands are IPC_STAT, IPC_SET, IPC_RMID, IPC_INFO and SHM_INFO.
+// There is no mapping: ipcd_shmat and ipcd_shmdt are ENOSYS. In their place ipcd_shmattach answers a number like the
+// descriptors above, by which one call reads or writes at most 8192 bytes, all within the segment (else EINVAL); with
+// SHM_RDONLY a write is EBADF. ipcd_shmdetach gives it up. No read is short: the length of a segment of System V is
+// fixed, so what passes its end is a mistake, as with a mapping. A segment of shm_open is a file that may be cut, and
+// ends as one in ipcd_pread.
 IPCD_PUBLIC int ipcd_shmget(key_t key, size_t size, int shmflg);
 IPCD_PUBLIC int ipcd_shmctl(int shmid, int cmd, struct shmid_ds *buf);
 IPCD_PUBLIC int ipcd_shmattach(int shmid, int shmflg);

@@ -2,11 +2,15 @@
 #define _GNU_SOURCE
 #include "link.h"
 
+#include "cancellation.h"
 #include "changes.h"
 
 #include <errno.h>
 #include <fcntl.h>
 #include <poll.h>
+#include <pthread.h>
+#include <sched.h>
+#include <signal.h>
 #include <string.h>
 #include <sys/socket.h>
 #include <sys/syscall.h>
@@ -237,16 +241,23 @@ static void choose_ending(struct link *link, enum waiting waiting)
     link->ends_always = always;
 }
 
-// Ends the call that waits, and reads its reply, which may be one that came before, and then that of INTERRUPT.
-static int interrupt(struct link *link)
+static uint32_t next_serial(const struct link *link)
+{
+    return link->serial == UINT32_MAX ? 1 : link->serial + 1;
+}
+
+static void send_interrupt(struct link *link)
 {
     unsigned char frame[REQUEST_HEAD];
-    uint32_t serial = link->serial == UINT32_MAX ? 1 : link->serial + 1;
     write_number(frame, sizeof frame - 4, 4);
-    write_number(frame + 4, serial, 4);
+    write_number(frame + 4, next_serial(link), 4);
     frame[REQUEST_HEAD - 1] = INTERRUPT;
-    link->into_size = 0;
     write_all(link->socket, frame, sizeof frame);
+}
+
+// After an INTERRUPT: reads the reply to the call, which may be one that came before, and then that to INTERRUPT.
+static int read_interrupted(struct link *link)
+{
     int fault = fill(link, 0, false);
     if (fault != 0)
         return fault;
@@ -257,11 +268,40 @@ static int interrupt(struct link *link)
     if (fault != 0)
         return fault;
     const unsigned char *answer = link->input + second;
-    if (read_u32(answer) != FRAME_LEAST || read_u32(answer + 4) != serial || read_u16(answer + 8) != 0)
+    if (read_u32(answer) != FRAME_LEAST || read_u32(answer + 4) != next_serial(link) || read_u16(answer + 8) != 0)
         return EPROTO;
     link->filled -= REPLY_HEAD;
     memmove(link->input + second, answer + REPLY_HEAD, link->filled - second);
     return 0;
+}
+
+// What `lending` says. One that asks sends the INTERRUPT, and whose call it is waits for it, also if that has ended.
+enum { NOT_LENT, WAITS, IS_ASKING, IS_ASKED };
+
+void link_ask(struct link *link)
+{
+    int waits = WAITS;
+    sigset_t all_signals, mask;
+    if (link->lending != WAITS)
+        return;
+    sigfillset(&all_signals);
+    pthread_sigmask(SIG_BLOCK, &all_signals, &mask);
+    if (atomic_compare_exchange_strong(&link->lending, &waits, IS_ASKING)) {
+        send_interrupt(link);
+        link->lending = IS_ASKED;
+    }
+    pthread_sigmask(SIG_SETMASK, &mask, NULL);
+}
+
+static bool was_asked(struct link *link)
+{
+    int waits = WAITS;
+    if (atomic_compare_exchange_strong(&link->lending, &waits, NOT_LENT))
+        return false;
+    while (link->lending != IS_ASKED)
+        sched_yield();
+    link->lending = NOT_LENT;
+    return true;
 }
 
 static ssize_t is_lost(struct link *link, int error)
@@ -293,20 +333,63 @@ static ssize_t judge(struct link *link, size_t least, size_t most)
     return (ssize_t) size;
 }
 
+// Not a call with a relative limit of time, which would begin again.
+static bool may_be_lent(const struct link *link, enum waiting waiting)
+{
+    enum opcode opcode = link->request[REQUEST_HEAD - 1];
+    return waiting == RESTARTED || (waiting == ENDED_BY_HANDLERS && (opcode == MSGSND || opcode == MSGRCV));
+}
+
+// Waits for the reply: 0, or an error. Whether another thread has ended the wait, and no handler has.
+static int await_reply(struct link *link, enum waiting waiting, bool *is_for_another)
+{
+    bool is_lent = may_be_lent(link, waiting);
+    if (is_lent)
+        link->lending = WAITS;
+    // Who cancels it now sees that it waits, and who has cancelled it before is seen.
+    if (is_lent && link->cancellation == PTHREAD_CANCEL_ENABLE && is_cancelled())
+        link_ask(link);
+    int fault = fill(link, 0, waiting != ANSWERED_AT_ONCE);
+    bool is_asked = is_lent && was_asked(link);
+    *is_for_another = is_asked && fault == 0;
+    if (fault == EINTR && !is_asked)
+        send_interrupt(link);
+    if (fault == EINTR || *is_for_another) {
+        link->into_size = 0;
+        fault = read_interrupted(link);
+    }
+    return fault;
+}
+
+static bool is_interrupted(const struct link *link)
+{
+    return read_u32(link->input + 4) == link->serial && read_u16(link->input + 8) == EINTR;
+}
+
 ssize_t link_exchange(struct link *link, enum waiting waiting, size_t least, size_t most)
 {
-    seal(link);
-    choose_ending(link, waiting);
-    link->may_wait = waiting != ANSWERED_AT_ONCE;
-    if (write_request(link) == EFAULT) {
-        errno = EFAULT;
-        return -1;
-    }
-    int fault = fill(link, 0, waiting != ANSWERED_AT_ONCE);
-    if (fault == EINTR)
-        fault = interrupt(link);
-    if (fault != 0)
-        return is_lost(link, fault);
+    bool is_for_another;
+    void *into = link->into;
+    size_t into_size = link->into_size;
+    do {
+        read_into(link, into, into_size);
+        seal(link);
+        choose_ending(link, waiting);
+        link->may_wait = waiting != ANSWERED_AT_ONCE;
+        if (write_request(link) == EFAULT) {
+            errno = EFAULT;
+            return -1;
+        }
+        int fault = await_reply(link, waiting, &is_for_another);
+        if (fault != 0)
+            return is_lost(link, fault);
+        is_for_another = is_for_another && is_interrupted(link);
+        fault = is_for_another ? lend(link, waiting) : 0;
+        if (fault != 0) {
+            errno = fault;
+            return -1;
+        }
+    } while (is_for_another);
     return judge(link, least, most);
 }
 

@@ -15,7 +15,7 @@
 #define PATIENCE 30000
 #endif
 
-enum { HANDLES = 128 };
+enum { HANDLES = 512 };
 
 // How a signal handler ends the call: not at all; always; or as SA_RESTART has it, see signal(7).
 enum waiting { ANSWERED_AT_ONCE, ENDED_BY_HANDLERS, RESTARTED };
@@ -37,8 +37,11 @@ struct link {
     uint64_t cookie;          // the system's number of the socket, which no other has
     _Atomic(const void *) owner; // the thread that used it last, if it is not the first link
     _Atomic(const void *) holder; // the thread whose call it has, if it is busy
-    int cancellation;         // of that thread, as it was before the call
+    atomic_ulong thread;      // and its number
+    atomic_int cancellation;  // of that thread, as it was before the call
     atomic_bool may_wait;     // whether its call may wait for others
+    atomic_int lending;       // whether the call that waits may be interrupted for another thread, and is
+    atomic_uint wanted;       // how many threads want the link, though its call waits
     _Atomic uint64_t user;    // of the process, see user_of
     char *into;               // where a body is to go
     size_t into_size;
@@ -105,6 +108,13 @@ size_t room_left(const struct link *link);
 // server's error, ECONNRESET if the connection has ended, EPROTO if the reply is none. After the last two, and EIO,
 // the link is dropped.
 ssize_t link_exchange(struct link *link, enum waiting waiting, size_t least, size_t most);
+
+// Ends the call that waits on the link of another thread, if it does: that thread lends the link, and makes its call
+// again.
+void link_ask(struct link *link);
+
+// Lets others have the link, whose call has not begun, and takes it back, with the call: 0, or an error. See client.c.
+__attribute__((visibility("hidden"))) int lend(struct link *link, enum waiting waiting);
 
 // The next frame of a link on which nobody waits for a reply, without its length: its size, or -1.
 ssize_t link_next_frame(struct link *link, unsigned char *frame, size_t most);

@@ -7,6 +7,7 @@
 #include <sys/msg.h>
 
 #include "client.h"
+#include "info.h"
 #include "memory.h"
 #include "processes.h"
 
@@ -14,12 +15,13 @@ enum { RECORD = 68 };
 
 int ipcd_msgget(key_t key, int msgflg)
 {
+    struct ipcd *client = current_client();
     struct link *link = begin(MSGGET);
     if (link == NULL)
         return -1;
     put_u32(link, (uint32_t) key);
     put_u32(link, (uint32_t) msgflg);
-    return end_number(link);
+    return noted(client, QUEUES, end_number(link));
 }
 
 static enum waiting kind_of_wait(int msgflg)
@@ -143,8 +145,36 @@ static int set_queue(int msqid, const struct msqid_ds *buf)
     return end_empty(link, ANSWERED_AT_ONCE);
 }
 
+static int add_queue(int msqid, void *counts)
+{
+    struct msginfo *info = counts;
+    struct msqid_ds record;
+    if (stat_queue(msqid, &record) < 0)
+        return -1;
+    info->msgmap += (int) record.msg_qnum;
+    info->msgtql += (int) record.__msg_cbytes;
+    return 0;
+}
+
+// The answer is 0: the greatest index of an object, of which MSG_STAT shows none.
+static int tell_info(int msqid, int cmd, struct msginfo *buf)
+{
+    struct msginfo info = {.msgmni = MSGMNI, .msgmax = MSGMAX, .msgmnb = MSGMNB, .msgssz = 16, .msgseg = USHRT_MAX};
+    if (ask_for_info(msqid, buf, sizeof *buf) < 0)
+        return -1;
+    if (cmd == IPC_INFO) {
+        info.msgpool = MSGMNI * (MSGMNB / 1024);
+        info.msgmap = info.msgtql = MSGMNI * MSGMNB;
+    } else if (count_each(current_client(), QUEUES, add_queue, &info, &info.msgpool) < 0)
+        return -1;
+    *buf = info;
+    return 0;
+}
+
 int ipcd_msgctl(int msqid, int cmd, struct msqid_ds *buf)
 {
+    if (cmd == IPC_INFO || cmd == MSG_INFO)
+        return tell_info(msqid, cmd, (struct msginfo *) buf);
     if (cmd == IPC_STAT)
         return stat_queue(msqid, buf);
     if (cmd == IPC_SET)

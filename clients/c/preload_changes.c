@@ -1,12 +1,15 @@
-// Calls that change the user of a process, close files, or set handlers: they do what they did, and it is known.
+// Calls that change the user of a process, close files, set handlers, or cancel a thread: they do what they did, and
+// it is known.
 #define _GNU_SOURCE
 #include <dlfcn.h>
+#include <pthread.h>
 #include <signal.h>
 #include <stddef.h>
 #include <sys/syscall.h>
 #include <sys/types.h>
 #include <unistd.h>
 
+#include "cancellation.h"
 #include "changes.h"
 #include "memory.h"
 #include "preload.h"
@@ -26,6 +29,7 @@ int heard_setregid(gid_t real, gid_t effective) IN_PLACE_OF(setregid);
 int heard_setresgid(gid_t real, gid_t effective, gid_t saved) IN_PLACE_OF(setresgid);
 int heard_sigaction(int number, const struct sigaction *wanted, struct sigaction *before) IN_PLACE_OF(sigaction);
 int heard_siginterrupt(int number, int flag) IN_PLACE_OF(siginterrupt);
+int heard_pthread_cancel(pthread_t thread) IN_PLACE_OF(pthread_cancel);
 sighandler_t heard_signal(int number, sighandler_t handler) IN_PLACE_OF(signal);
 sighandler_t heard_bsd_signal(int number, sighandler_t handler) IN_PLACE_OF(bsd_signal);
 sighandler_t heard_ssignal(int number, sighandler_t handler) IN_PLACE_OF(ssignal);
@@ -49,6 +53,7 @@ static struct {
     int (*siginterrupt)(int, int);
     sighandler_t (*signal)(int, sighandler_t);
     sighandler_t (*sigset)(int, sighandler_t);
+    int (*pthread_cancel)(pthread_t);
 } own;
 
 static void find(void *place, const char *name)
@@ -75,6 +80,7 @@ __attribute__((constructor)) static void find_own(void)
     find(&own.siginterrupt, "siginterrupt");
     find(&own.signal, "signal");
     find(&own.sigset, "sigset");
+    find(&own.pthread_cancel, "pthread_cancel");
     changes.are_heard = true;
 }
 
@@ -214,4 +220,13 @@ sighandler_t heard_sigset(int number, sighandler_t handler)
     be_ready();
     changes.some_restart = true;
     return own.sigset(number, handler);
+}
+
+int heard_pthread_cancel(pthread_t thread)
+{
+    be_ready();
+    int result = own.pthread_cancel(thread);
+    if (result == 0)
+        end_call_of(thread);
+    return result;
 }

@@ -7,10 +7,7 @@
 #include <stdbool.h>
 #include <stdio.h>
 #include <stdlib.h>
-#include <string.h>
-#include <sys/stat.h>
 #include <sys/types.h>
-#include <unistd.h>
 
 #include "preload.h"
 
@@ -25,9 +22,6 @@ static struct {
 } own;
 
 static bool is_strict;
-// Standard error as the program has found it: what it opens later by that number is its own.
-static struct stat errors;
-static bool has_errors;
 
 static void find(void *place, const char *name)
 {
@@ -41,23 +35,14 @@ __attribute__((constructor)) static void find_own(void)
     find(&own.shmget, "shmget");
     find(&own.shmat, "shmat");
     is_strict = strict != NULL && *strict != 0;
-    has_errors = fstat(STDERR_FILENO, &errors) == 0;
 }
 
 static void say(const char *call)
 {
     static atomic_bool is_said;
-    struct stat now;
-    char text[300];
-    if (atomic_exchange(&is_said, true) || !has_errors || fstat(STDERR_FILENO, &now) < 0)
-        return;
-    if (now.st_dev != errors.st_dev || now.st_ino != errors.st_ino)
-        return;
-    int size = snprintf(text, sizeof text,
-                        "ipcd-run: %.100s: shared memory (%s) stays the kernel's, and outlives no crash of the machine\n",
-                        program_invocation_short_name, call);
-    ssize_t written = write(STDERR_FILENO, text, (size_t) size);
-    (void) written;
+    char text[100];
+    snprintf(text, sizeof text, "shared memory (%s) stays the kernel's, and outlives no crash of the machine", call);
+    say_once(&is_said, text);
 }
 
 // Whether the kernel's call is to be made. Another library's constructor may call before that of this one.
@@ -69,9 +54,7 @@ static bool is_let(const char *call)
         errno = ENOSYS;
         return false;
     }
-    int saved = errno;
     say(call);
-    errno = saved;
     return true;
 }
 

@@ -36,14 +36,7 @@ int redirected_sem_post(sem_t *sem) IN_PLACE_OF(sem_post);
 int redirected_sem_getvalue(sem_t *sem, int *value) IN_PLACE_OF(sem_getvalue);
 
 // The C library's own calls of unnamed semaphores. A program whose library has none of a name does not call it.
-static struct {
-    int (*wait)(sem_t *);
-    int (*trywait)(sem_t *);
-    int (*timedwait)(sem_t *, const struct timespec *);
-    int (*clockwait)(sem_t *, clockid_t, const struct timespec *);
-    int (*post)(sem_t *);
-    int (*getvalue)(sem_t *, int *);
-} own;
+static struct system_semaphores own;
 
 static void find(void *place, const char *name)
 {
@@ -52,6 +45,7 @@ static void find(void *place, const char *name)
 
 __attribute__((constructor)) static void find_own(void)
 {
+    find(&own.init, "sem_init");
     find(&own.wait, "sem_wait");
     find(&own.trywait, "sem_trywait");
     find(&own.timedwait, "sem_timedwait");
@@ -68,6 +62,13 @@ static bool is_unnamed(const sem_t *sem)
     if (own.post == NULL)
         find_own();
     return true;
+}
+
+const struct system_semaphores *system_semaphores(void)
+{
+    if (own.post == NULL)
+        find_own();
+    return &own;
 }
 
 mqd_t redirected_mq_open(const char *name, int oflag, ...)

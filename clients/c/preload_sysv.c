@@ -1,6 +1,8 @@
 // The System V calls of the C library, redirected.
 #define _GNU_SOURCE
 #include <stdarg.h>
+#include <sys/msg.h>
+#include <sys/sem.h>
 #include <time.h>
 
 #include "again.h"
@@ -16,6 +18,22 @@ int redirected_semop(int semid, struct sembuf *sops, size_t nsops) IN_PLACE_OF(s
 int redirected_semtimedop(int semid, struct sembuf *sops, size_t nsops, const struct timespec *timeout)
     IN_PLACE_OF(semtimedop);
 int redirected_semctl(int semid, int semnum, int cmd, ...) IN_PLACE_OF(semctl);
+
+// Some headers have no number for them.
+#ifndef MSG_STAT_ANY
+#define MSG_STAT_ANY 13
+#endif
+#ifndef SEM_STAT_ANY
+#define SEM_STAT_ANY 20
+#endif
+
+// A program that walks the objects by their indexes sees none, and may say that there are none.
+static void say_of_lists(bool is_list)
+{
+    static atomic_bool is_said;
+    if (is_list)
+        say_once(&is_said, "no call lists the objects of a server (MSG_STAT, SEM_STAT), so it sees none of them");
+}
 
 int redirected_msgget(key_t key, int msgflg)
 {
@@ -34,6 +52,7 @@ ssize_t redirected_msgrcv(int msqid, void *msgp, size_t msgsz, long msgtyp, int 
 
 int redirected_msgctl(int msqid, int cmd, struct msqid_ds *buf)
 {
+    say_of_lists(cmd == MSG_STAT || cmd == MSG_STAT_ANY);
     SERVED(int, ipcd_msgctl(msqid, cmd, buf), -1);
 }
 
@@ -58,5 +77,6 @@ int redirected_semctl(int semid, int semnum, int cmd, ...)
     va_start(rest, cmd);
     void *argument = va_arg(rest, void *);
     va_end(rest);
+    say_of_lists(cmd == SEM_STAT || cmd == SEM_STAT_ANY);
     SERVED(int, ipcd_semctl(semid, semnum, cmd, argument), -1);
 }

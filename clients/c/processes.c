@@ -1,13 +1,17 @@
-// Which process of the system is which of the server. The folder is SOCKET.pids, of mode 01777; an entry is a symbolic
-// link whose name is the server's number, and whose text is the system's number and when that process began. It counts
-// if the process is alive, began then, and is of the owner of the entry, who was its user at its HELLO; one of root's
-// counts whoever the process is now.
+// Which process of the system is which of the server. The folder is SOCKET.pids, of mode 01777; an entry is a
+// symbolic link whose name is the server's number, and whose text is the system's number and when that process began.
+// It counts if the process is alive, began then, and is of the owner of the entry, who was its user at its HELLO; one
+// of root's counts whoever the process is now. Semaphores have entries there too: an `s` and the hash of its name,
+// the system's number of the process that has it open, and a number of the entry, with dots between; the text is as
+// above, then a token and the namespace in which the process has its number.
 #define _GNU_SOURCE
 #include "processes.h"
 
 #include <dirent.h>
 #include <errno.h>
 #include <fcntl.h>
+#include <signal.h>
+#include <stdatomic.h>
 #include <stdbool.h>
 #include <stdio.h>
 #include <stdlib.h>
@@ -78,10 +82,40 @@ static long named_by(const char *path)
     return began != 0 && began == beginning(pid) ? pid : 0;
 }
 
+// The namespace of the numbers of processes, or 0.
+static unsigned long long own_namespace(void)
+{
+    struct stat status;
+    return stat("/proc/self/ns/pid", &status) == 0 ? (unsigned long long) status.st_ino : 0;
+}
+
+// Whether an entry is of a process that is alive, or may be, and has another token. One of a dead process is removed.
+static bool is_of_another(const char *path, uint64_t token)
+{
+    char text[128];
+    ssize_t size = readlink(path, text, sizeof text - 1);
+    if (size <= 0)
+        return false;
+    text[size] = 0;
+    long pid;
+    unsigned long long began, of_entry, space;
+    if (sscanf(text, "%ld %llu %llx %llu", &pid, &began, &of_entry, &space) != 4 || pid <= 0)
+        return false;
+    if (of_entry == token)
+        return false;
+    if (space != own_namespace())
+        return true;
+    unsigned long long begins = beginning(pid);
+    bool is_dead = begins != 0 ? begins != began : kill((pid_t) pid, 0) < 0 && errno == ESRCH;
+    if (is_dead)
+        unlink(path);
+    return !is_dead;
+}
+
 // Removes the entries of processes that were killed, as far as they are the caller's.
 static void sweep(const char *socket)
 {
-    char path[LONGEST];
+    char path[LONGEST + 256];
     snprintf(path, sizeof path, "%s.pids", socket);
     DIR *folder = opendir(path);
     if (folder == NULL)
@@ -91,21 +125,35 @@ static void sweep(const char *socket)
         name_entry(path, socket, pid);
         if (pid != 0 && named_by(path) == 0)
             unlink(path);
+        snprintf(path, sizeof path, "%s.pids/%s", socket, entry->d_name);
+        if (entry->d_name[0] == 's')
+            is_of_another(path, 0);
     }
     closedir(folder);
+}
+
+static void make_folder(const char *socket)
+{
+    char path[LONGEST];
+    snprintf(path, sizeof path, "%s.pids", socket);
+    if (mkdir(path, 01777) == 0)
+        chmod(path, 01777);
+}
+
+// Makes an entry, or replaces one that has its name.
+static bool make_entry(const char *path, const char *text)
+{
+    return symlink(text, path) == 0 || (errno == EEXIST && unlink(path) == 0 && symlink(text, path) == 0);
 }
 
 void tell_process(const char *socket, uint32_t pid)
 {
     int saved = errno;
     char path[LONGEST], text[64];
-    snprintf(path, sizeof path, "%s.pids", socket);
-    if (mkdir(path, 01777) == 0)
-        chmod(path, 01777);
+    make_folder(socket);
     snprintf(text, sizeof text, "%ld %llu", (long) getpid(), beginning(getpid()));
     name_entry(path, socket, pid);
-    if (symlink(text, path) < 0 && errno == EEXIST && unlink(path) == 0 && symlink(text, path) < 0)
-        errno = saved;
+    make_entry(path, text);
     errno = saved;
 }
 
@@ -129,4 +177,53 @@ pid_t system_pid(const char *socket, uint32_t pid)
     long found = pid == 0 ? 0 : named_by(path);
     errno = saved;
     return found == 0 ? (pid_t) pid : (pid_t) found;
+}
+
+static void name_semaphore(char *path, const char *socket, uint64_t hash, uint32_t number)
+{
+    snprintf(path, LONGEST, "%s.pids/s%016llx.%ld.%u", socket, (unsigned long long) hash, (long) getpid(), number);
+}
+
+uint32_t tell_semaphore(const char *socket, uint64_t hash, uint64_t token)
+{
+    static atomic_uint last;
+    int saved = errno;
+    char path[LONGEST], text[128];
+    uint32_t number = ++last;
+    make_folder(socket);
+    name_semaphore(path, socket, hash, number);
+    snprintf(text, sizeof text, "%ld %llu %llx %llu", (long) getpid(), beginning(getpid()), (unsigned long long) token,
+             own_namespace());
+    bool is_made = make_entry(path, text);
+    errno = saved;
+    return is_made ? number : 0;
+}
+
+void no_more_semaphore(const char *socket, uint64_t hash, uint32_t number)
+{
+    int saved = errno;
+    char path[LONGEST];
+    name_semaphore(path, socket, hash, number);
+    unlink(path);
+    errno = saved;
+}
+
+bool others_have_semaphore(const char *socket, uint64_t hash, uint64_t token)
+{
+    int saved = errno;
+    char path[LONGEST + 256], begin[32];
+    snprintf(begin, sizeof begin, "s%016llx.", (unsigned long long) hash);
+    snprintf(path, sizeof path, "%s.pids", socket);
+    DIR *folder = opendir(path);
+    bool found = folder == NULL;
+    for (struct dirent *entry; !found && (entry = readdir(folder)) != NULL;) {
+        if (strncmp(entry->d_name, begin, strlen(begin)) != 0)
+            continue;
+        snprintf(path, sizeof path, "%s.pids/%s", socket, entry->d_name);
+        found = is_of_another(path, token);
+    }
+    if (folder != NULL)
+        closedir(folder);
+    errno = saved;
+    return found;
 }

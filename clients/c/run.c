@@ -10,6 +10,7 @@
 #include <unistd.h>
 
 #include "program.h"
+#include "run_check.h"
 
 enum { MISUSED = 125, NOT_RUN = 126, NOT_FOUND = 127 };
 
@@ -21,7 +22,7 @@ static void fail(int status, const char *name, const char *why)
 
 static void print_usage(FILE *file)
 {
-    fputs("usage: ipcd-run [--socket SOCKET] [--strict] [--wait SECONDS] PROGRAM [ARGUMENT]...\n", file);
+    fputs("usage: ipcd-run [--check] [--socket SOCKET] [--strict] [--wait SECONDS] PROGRAM [ARGUMENT]...\n", file);
 }
 
 // Sets a variable to a path that holds wherever the program goes.
@@ -75,6 +76,7 @@ struct options {
     const char *socket;
     const char *seconds;
     bool is_strict;
+    bool is_checked;
 };
 
 // The value of an option, which is the next word or stands after a `=`; NULL if the word is another.
@@ -101,6 +103,9 @@ static int read_options(int count, char **words, struct options *options)
             return at + 1;
         if (strcmp(words[at], "--strict") == 0) {
             options->is_strict = true;
+            at++;
+        } else if (strcmp(words[at], "--check") == 0) {
+            options->is_checked = true;
             at++;
         } else if ((socket = value_of("--socket", count, words, &at)) != NULL)
             options->socket = socket;
@@ -152,7 +157,11 @@ int main(int count, char **words)
         set("IPCD_STRICT", "1");
     if (options.seconds != NULL)
         set_wait(options.seconds);
+    if (options.is_checked && !count_calls())
+        fail(MISUSED, "--check", strerror(errno));
     set_preload();
+    if (options.is_checked)
+        follow_program(words[at]);
     execv(path, words + at);
     fail(NOT_RUN, words[at], strerror(errno));
 }

@@ -8,6 +8,7 @@
 #include <sys/sem.h>
 
 #include "client.h"
+#include "info.h"
 #include "memory.h"
 #include "processes.h"
 
@@ -15,13 +16,14 @@ enum { RECORD = 44, OPERATION = 6, OPERATIONS_MOST = 500, VALUES_MOST = BODY_MOS
 
 int ipcd_semget(key_t key, int nsems, int semflg)
 {
+    struct ipcd *client = current_client();
     struct link *link = begin(SEMGET);
     if (link == NULL)
         return -1;
     put_u32(link, (uint32_t) key);
     put_u32(link, (uint32_t) nsems);
     put_u32(link, (uint32_t) semflg);
-    return end_number(link);
+    return noted(client, SETS, end_number(link));
 }
 
 int ipcd_semtimedop(int semid, struct sembuf *sops, size_t nsops, const struct timespec *timeout)
@@ -184,6 +186,32 @@ static int remove_set(int semid)
     return end_empty(link, ANSWERED_AT_ONCE);
 }
 
+static int add_set(int semid, void *counts)
+{
+    struct seminfo *info = counts;
+    struct semid_ds record;
+    if (stat_set(semid, &record) < 0)
+        return -1;
+    info->semaem += (int) record.sem_nsems;
+    return 0;
+}
+
+// The answer is 0: the greatest index of an object, of which SEM_STAT shows none.
+static int tell_info(int semid, int cmd, struct seminfo *buf)
+{
+    struct seminfo info = {.semmap = SEMMNS, .semmni = SEMMNI, .semmns = SEMMNS, .semmnu = PROCESSES, .semmsl = SEMMSL,
+                           .semopm = SEMOPM, .semume = SEMMNS, .semvmx = SEMVMX};
+    if (ask_for_info(semid, buf, sizeof *buf) < 0)
+        return -1;
+    if (cmd == IPC_INFO) {
+        info.semusz = sizeof(short);
+        info.semaem = SEMVMX;
+    } else if (count_each(current_client(), SETS, add_set, &info, &info.semusz) < 0)
+        return -1;
+    *buf = info;
+    return 0;
+}
+
 int ipcd_semctl(int semid, int semnum, int cmd, ...)
 {
     union { int value; void *address; } argument;
@@ -202,6 +230,8 @@ int ipcd_semctl(int semid, int semnum, int cmd, ...)
     case IPC_STAT: return stat_set(semid, argument.address);
     case IPC_SET: return set_set(semid, argument.address);
     case IPC_RMID: return remove_set(semid);
+    case IPC_INFO:
+    case SEM_INFO: return tell_info(semid, cmd, argument.address);
     default: errno = EINVAL; return -1;
     }
 }

@@ -1,18 +1,21 @@
 #!/bin/sh
-# Programs of other people, on the kernel's objects first and then through ipcd-run: each must answer the same.
+# Programs of other people, on the kernel's objects first and then through ipcd-run: each must answer the same, and the
+# server is asked whether it came.
 #
-#     sh peers/run.sh PROGRAM
+#     sh peers/run.sh PROGRAM [installed]
 #
-# As uid 0 with apt-get it installs what is missing, which needs a network. What is not there is skipped with a word; if
-# nothing is there, that is an error. What it prints is kept in peers/peers.log.
+# As uid 0 with apt-get it installs what is missing, which needs a network; what it prints is kept in peers/peers.log.
+# With `installed` it does neither. What is not there is skipped with a word; if nothing is there, that is an error,
+# without `installed`.
 
 here=$(cd "$(dirname "$0")" && pwd)
 program=$(realpath "$1")
+only_installed=$2
 run=$here/../out/ipcd-run
 work=$(mktemp -d)
-packages="perl fakeroot python3-sysv-ipc stress-ng php-cli"
+packages="perl fakeroot python3-sysv-ipc stress-ng php-cli util-linux dmsetup"
 passed=0 failed=0 skipped=0
-server=
+server='' apart=''
 
 finish() {
     [ -z "$server" ] || kill "$server" 2>/dev/null
@@ -21,7 +24,7 @@ finish() {
 trap finish EXIT
 
 install_all() {
-    [ "$(id -u)" = 0 ] && command -v apt-get >/dev/null || return 0
+    [ -z "$only_installed" ] && [ "$(id -u)" = 0 ] && command -v apt-get >/dev/null || return 0
     dpkg -s $packages >/dev/null 2>&1 && return 0
     DEBIAN_FRONTEND=noninteractive apt-get install -y --no-install-recommends $packages >"$work/apt" 2>&1 ||
         echo "peers: apt-get has not installed all of: $packages"
@@ -44,26 +47,37 @@ version() {
     dpkg-query -W -f '${Package} ${Version}' "$1" 2>/dev/null || echo "$1, not a package"
 }
 
-# compare NAME PACKAGE KNOWN COMMAND...: what it prints, and its status, on the kernel and on the server. Lines of the
-# pattern KNOWN are differences that docs/COMPATIBILITY.md has: they are shown, and the others have to be the same.
+# The number that the server gives to the next process that comes.
+next_process() {
+    python3 -c 'import sys; sys.path.insert(0, sys.argv[1]); from client import Connection
+print(Connection(sys.argv[2]).hello(0, 0))' "$here/../../../examples" "$work/socket"
+}
+
+# compare NAME PACKAGE PROBE KNOWN COMMAND...: what it prints, and its status, on the kernel and on the server, if the
+# program is there: if PROBE is so. Lines of the pattern KNOWN are differences that docs/COMPATIBILITY.md has: they are
+# shown, and the others have to be the same.
 compare() {
-    name=$1 package=$2 known=$3
-    shift 3
-    if ! command -v "$1" >/dev/null; then
-        echo "peers: $name: skipped, there is no $1"
+    name=$1 package=$2 probe=$3 known=$4
+    shift 4
+    if ! sh -c "$probe" >/dev/null 2>&1; then
+        echo "peers: $name: skipped, it is not installed"
         skipped=$((skipped + 1))
         return
     fi
-    (cd "$work" && timeout 120 "$@"; echo "status $?") >"$work/kernel" 2>&1
-    (cd "$work" && timeout 120 "$run" --socket "$work/socket" "$@"; echo "status $?") \
-        >"$work/ipcd" 2>&1
-    [ -z "$known" ] || grep -E "$known" "$work/ipcd" | sort | uniq -c >"$work/differs"
-    [ -n "$known" ] || : >"$work/differs"
+    (cd "$work" && timeout 120 $apart "$@"; echo "status $?") >"$work/kernel" 2>&1
+    before=$(next_process)
+    (cd "$work" && timeout 120 $apart "$run" --socket "$work/socket" "$@"; echo "status $?") >"$work/ipcd" 2>&1
+    came=$(($(next_process) - before - 1))
+    : >"$work/differs"
     if [ -n "$known" ]; then
+        grep -E "$known" "$work/ipcd" | sort | uniq -c >"$work/differs"
         sed -i -E "/$known/d" "$work/kernel"
         sed -i -E "/$known/d" "$work/ipcd"
     fi
-    if cmp -s "$work/kernel" "$work/ipcd" && grep -q '^status 0$' "$work/kernel"; then
+    if [ "$came" -le 0 ]; then
+        failed=$((failed + 1))
+        echo "peers: $name ($(version "$package")): no process came to the server"
+    elif cmp -s "$work/kernel" "$work/ipcd" && grep -q '^status 0$' "$work/kernel"; then
         passed=$((passed + 1))
         echo "peers: $name ($(version "$package")): the same, $(wc -l <"$work/ipcd") lines"
         sed -e 's/^/    but as COMPATIBILITY.md has it: /' "$work/differs"
@@ -78,6 +92,10 @@ compare() {
 fakeroot_words='touch f && chown 12:34 f && chmod 4711 f && stat -c "%u:%g %a" f && mkdir -p d && chown 56 d &&
     mv f d && stat -c "%u" d && tar -cf - d | tar -tvf - | cut -c 1-24 && id -u && rm -r d'
 
+ipcrm_words='queue=$(ipcmk -Q -p 600 | sed "s/.*: //") set=$(ipcmk -S 3 | sed "s/.*: //")
+    ipcrm -q "$queue" -s "$set" && echo removed; ipcrm -q "$queue" 2>&1 | sed "s/[0-9][0-9]*/N/"
+    ipcrm -Q 0x69706365 -S 0x69706365 2>&1; echo "$?"'
+
 # Its times differ from run to run, and so do its numbers of processes.
 stress_words='stress-ng --verify --oomable --no-rand-seed --metrics-brief "$@" 2>&1 |
     grep -E -i "fail|error|unexpected|passed|successful" |
@@ -85,27 +103,33 @@ stress_words='stress-ng --verify --oomable --no-rand-seed --metrics-brief "$@" 2
 
 all() {
     install_all
+    # The kernel's objects of a namespace of their own, where that may be made.
+    unshare --ipc true 2>/dev/null && apart="unshare --ipc"
     start_server
-    compare "IPC::SysV, IPC::Msg, IPC::Semaphore" perl "" perl "$here/sysv.pl"
-    compare "sysv_ipc" python3-sysv-ipc "" /usr/bin/python3 "$here/sysv.py"
-    compare "sysvmsg, sysvsem" php8.2-cli "" php "$here/sysv.php"
-    compare "fakeroot-sysv" fakeroot "" fakeroot-sysv sh -c "$fakeroot_words"
-    if command -v stress-ng >/dev/null; then
-        ends="terminated with an error|successful run"
-        compare "stress-ng --msg" stress-ng "IPC_INFO" sh -c "$stress_words" sh --msg 1 --msg-ops 1000
-        compare "stress-ng --sem-sysv" stress-ng "(IPC|SEM)_INFO|$ends" sh -c "$stress_words" sh \
-            --sem-sysv 1 --sem-sysv-ops 500
-        compare "stress-ng --mq" stress-ng "mq read failed" sh -c "$stress_words" sh --mq 1 --mq-ops 500
-        compare "stress-ng --sem" stress-ng "" sh -c "$stress_words" sh --sem 1 --timeout 3
-    else
-        echo "peers: stress-ng: skipped, it is not there"
-        skipped=$((skipped + 4))
-    fi
-    echo "peers: PostgreSQL is not run: it wants to map its segments, and there is no mapping"
+    compare "IPC::SysV, IPC::Msg, IPC::Semaphore" perl "perl -MIPC::Msg -MIPC::Semaphore -e 1" "^new qbytes" \
+        perl "$here/sysv.pl"
+    compare "sysv_ipc" python3-sysv-ipc "/usr/bin/python3 -c 'import sysv_ipc'" "^new qbytes" \
+        /usr/bin/python3 "$here/sysv.py"
+    compare "calls by name of ctypes" python3 "python3 -c 'import ctypes'" "" python3 "$here/by_name.py"
+    compare "sysvmsg, sysvsem" php8.2-cli "php -r 'exit(function_exists(\"msg_get_queue\") ? 0 : 1);'" "^new qbytes" \
+        php "$here/sysv.php"
+    compare "fakeroot-sysv" fakeroot "command -v fakeroot-sysv" "" fakeroot-sysv sh -c "$fakeroot_words"
+    compare "ipcmk, ipcrm" util-linux "command -v ipcmk && command -v ipcrm" "" sh -c "$ipcrm_words"
+    compare "dmsetup udevcookies" dmsetup "command -v dmsetup" "no call lists" dmsetup udevcookies
+    compare "multiprocessing" python3 "python3 -c 'import multiprocessing.synchronize'" "" python3 "$here/forked.py"
+    has_stress="command -v stress-ng"
+    compare "stress-ng --msg" stress-ng "$has_stress" "" sh -c "$stress_words" sh --msg 1 --msg-ops 1000
+    compare "stress-ng --sem-sysv" stress-ng "$has_stress" "" sh -c "$stress_words" sh --sem-sysv 1 --sem-sysv-ops 500
+    compare "stress-ng --mq" stress-ng "$has_stress" "mq read failed" sh -c "$stress_words" sh --mq 1 --mq-ops 500
+    echo "peers: not run: PostgreSQL, which maps its segments, and stress-ng --sem, whose semaphores are unnamed"
     echo "peers: $passed the same, $failed differ, $skipped skipped"
-    [ "$failed" = 0 ] && [ "$passed" -gt 0 ]
+    [ "$failed" = 0 ] && { [ "$passed" -gt 0 ] || [ -n "$only_installed" ]; }
 }
 
+if [ -n "$only_installed" ]; then
+    all
+    exit
+fi
 all >"$work/log"
 status=$?
 tee "$here/peers.log" <"$work/log"

@@ -13,7 +13,8 @@ $queue = msg_get_queue($key, 0600);
 told("exists", msg_queue_exists($key));
 told("send", msg_send($queue, 3, ["a" => [1, 2]]), msg_send($queue, 1, "plain", false), msg_send($queue, 2, 4.5));
 $stat = msg_stat_queue($queue);
-told("stat", $stat["msg_qnum"], $stat["msg_qbytes"], $stat["msg_lspid"] == getmypid(), $stat["msg_lrpid"]);
+told("stat", $stat["msg_qnum"], $stat["msg_lspid"] == getmypid(), $stat["msg_lrpid"]);
+told("new qbytes", $stat["msg_qbytes"]);
 told("users", $stat["msg_perm.uid"] == posix_geteuid(), $stat["msg_perm.mode"], abs($stat["msg_stime"] - time()) < 5);
 $type = $message = $error = null;
 told("receive", msg_receive($queue, -2, $type, 100, $message, false), $type, $message);
@@ -37,6 +38,10 @@ if ($child === 0) {
     exit(0);
 }
 pcntl_waitpid($child, $status);
-usleep(300000);
-told("after a child", sem_acquire($set, true), sem_acquire($set, true), sem_acquire($set, true));
+// Its adjustments are added at its end, on a server a moment after it.
+$first = sem_acquire($set, true);
+for ($i = 0; $i < 3000 && !($second = sem_acquire($set, true)); $i++) {
+    usleep(10000);
+}
+told("after a child", $first, $second, sem_acquire($set, true));
 told("remove", sem_remove($set), sem_remove($set));

@@ -17,7 +17,8 @@ told("a second", IPC::Msg->new($key, IPC_CREAT | IPC_EXCL | 0600));
 told("id", defined $queue->id && msgget($key, 0) == $queue->id);
 for my $type (3, 1, 2) { told("snd $type", $queue->snd($type, "text $type", IPC_NOWAIT)); }
 my $stat = $queue->stat;
-told("stat", $stat->qnum, $stat->qbytes, $stat->lspid == $$, $stat->lrpid, $stat->uid == $>, $stat->mode & 0777);
+told("stat", $stat->qnum, $stat->lspid == $$, $stat->lrpid, $stat->uid == $>, $stat->mode & 0777);
+told("new qbytes", $stat->qbytes);
 told("times", abs($stat->stime - time) < 5, $stat->rtime, abs($stat->ctime - time) < 5);
 my $text;
 told("rcv -9", $queue->rcv($text, 64, -9, IPC_NOWAIT), $text);
@@ -46,7 +47,7 @@ told("stat", $stat->nsems, $stat->uid == $>, $stat->mode & 0777, abs($stat->otim
 told("set", $set->set(mode => 0600));
 my $child = fork;
 if ($child == 0) { $set->op(0, -1, 0); exit 7; }
-select(undef, undef, undef, 0.3);
+for (1 .. 3000) { last if $set->getncnt(0); select(undef, undef, undef, 0.01); }
 told("getncnt", $set->getncnt(0));
 told("op", $set->op(0, 1, 0));
 waitpid($child, 0);

@@ -34,7 +34,8 @@ told("again", lambda: ipc.MessageQueue(KEY, ipc.IPC_CREX))
 told("same", lambda: ipc.MessageQueue(KEY).id == queue.id)
 for number in (4, 2, 9):
     told("send", lambda: queue.send(b"text %d" % number, block=False, type=number))
-told("counts", lambda: (queue.current_messages, queue.max_size, queue.key == KEY, queue.mode))
+told("counts", lambda: (queue.current_messages, queue.key == KEY, queue.mode))
+told("new qbytes", lambda: queue.max_size)
 told("users", lambda: (queue.uid == os.geteuid(), queue.cuid == os.geteuid(), queue.gid == os.getegid()))
 told("pids", lambda: (queue.last_send_pid == os.getpid(), queue.last_receive_pid))
 told("times", lambda: (recent(queue.last_send_time), queue.last_receive_time, recent(queue.last_change_time)))
@@ -65,12 +66,17 @@ told("pid", lambda: semaphore.last_pid == os.getpid())
 told("waiters", lambda: (semaphore.waiting_for_nonzero, semaphore.waiting_for_zero))
 told("times", lambda: recent(semaphore.o_time))
 semaphore.undo = True
+before = semaphore.value
 child = os.fork()
 if child == 0:
     semaphore.release()
     os._exit(0)
 os.waitpid(child, 0)
-time.sleep(0.3)
+# On a server that is done a moment after the end.
+for _ in range(3000):
+    if semaphore.value == before:
+        break
+    time.sleep(0.01)
 told("undone", lambda: semaphore.value)
 semaphore.value = 32767
 told("great", lambda: (semaphore.value, semaphore.release()))

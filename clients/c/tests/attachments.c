@@ -101,6 +101,36 @@ static void makes_and_finds(void)
     REFUSED(shmget(KEY, 0, 0), ENOENT);
 }
 
+// The limits of a server are those of docs/PROTOCOL.md, and its counts those of the segments that this process has got.
+static void has_info(void)
+{
+    struct shminfo limits;
+    struct shm_info counts;
+    void *place = &limits;
+    int segment = shmget(IPC_PRIVATE, SIZE, 0600), gone = shmget(IPC_PRIVATE, SIZE, 0600);
+    CHECK(segment >= 0 && gone >= 0 && shmctl(gone, IPC_RMID, NULL) == 0);
+    unsigned long pages = (SIZE + (unsigned long) sysconf(_SC_PAGESIZE) - 1) / (unsigned long) sysconf(_SC_PAGESIZE);
+    memset(&limits, 0xff, sizeof limits);
+    memset(&counts, 0xff, sizeof counts);
+    errno = 77;
+    CHECK(shmctl(0, IPC_INFO, place) >= 0 && errno == 77 && limits.shmmin == 1);
+    place = &counts;
+    CHECK(shmctl(12345, SHM_INFO, place) >= 0 && errno == 77 && counts.shm_swp == 0);
+#ifdef PREFIXED
+    CHECK(limits.shmmax == 1048576 && limits.shmmni == 32 && limits.shmall == 1048576 / (size_t) sysconf(_SC_PAGESIZE));
+    CHECK(counts.used_ids == 1 && counts.shm_tot == pages);
+#else
+    CHECK(limits.shmmax >= SIZE && limits.shmmni > 0 && limits.shmall > 0);
+    CHECK(counts.used_ids >= 1 && counts.shm_tot >= pages);
+#endif
+    REFUSED(shmctl(-1, SHM_INFO, place), EINVAL);
+    if (tries_bad_addresses()) {
+        REFUSED(shmctl(0, IPC_INFO, (void *) 8), EFAULT);
+        REFUSED(shmctl(0, SHM_INFO, (void *) 8), EFAULT);
+    }
+    CHECK(shmctl(segment, IPC_RMID, NULL) == 0);
+}
+
 static void shares_bytes(void)
 {
     int segment = shmget(KEY, SIZE, IPC_CREAT | 0600);
@@ -221,7 +251,7 @@ static void has_no_address(void)
     REFUSED(detach(0), EINVAL);
     CHECK(ipcd_close(named) == 0);
     REFUSED(shmctl(segment, SHM_LOCK, NULL), EINVAL);
-    REFUSED(shmctl(0, IPC_INFO, &record), EINVAL);
+    REFUSED(shmctl(0, SHM_STAT, &record), EINVAL);
     // A process of the server has 32 descriptors.
     while ((others[count] = attach(segment, 0)) >= 0)
         count++;
@@ -238,6 +268,7 @@ int main(void)
     alarm(60);
     begins_anew();
     makes_and_finds();
+    has_info();
     shares_bytes();
     goes_with_its_last_attachment();
     ends_give_attachments_up();

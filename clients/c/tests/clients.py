@@ -34,15 +34,21 @@ from false_server import FAULTS, HALF_AFTER_INTERRUPT, INTERRUPTED, TORN, Fault,
 from server import PROGRAM, Connection, Server, check, in_a_folder, printed, run_tests, serving, until  # noqa: E402
 
 SECONDS = 100
+STAY, STAYS = (f"{word} the kernel's, and {other} no crash of the machine"
+               for word, other in (("stay", "outlive"), ("stays", "outlives")))
 RUN = str(OUT / "ipcd-run")
 CALLS = ["messages", "semaphore_sets", "posix_queues", "named_semaphores", "handlers"]
 # The tests of the library's own names, those that wait for the longest first.
 LIBRARY = ["handlers", *CALLS[:-1], "segments", "attachments"]
 PROCESSES = """
     forks outlives threads many_threads crowd many_files users are_killed closes differs
-    one_too_many not_cancelled
+    one_too_many cancelled
 """.split()
-NOT_ON_KERNEL = {"closes", "differs", "one_too_many", "not_cancelled"}
+UNLINKED = """
+    counts forks forks_before child_unlinks others_have_it waits_meanwhile threads handlers many
+    waits_in_a_thread queue_threads queue_ends
+""".split()
+NOT_ON_KERNEL = {"closes", "differs", "one_too_many"}
 EACH_THAT_WAITS = """
     msgsnd msgrcv semop semtimedop mq_send mq_receive mq_timedsend mq_timedreceive sem_wait
     sem_timedwait sem_clockwait
@@ -121,7 +127,9 @@ def sanitized() -> None:
     """ThreadSanitizer reports nothing of threads that call at once, AddressSanitizer nothing of each call."""
     device()
     threads = [["thread_races"], *(["thread_processes", name] for name in ("threads", "many_threads", "not_cancelled"))]
+    threads += [["thread_unlinked", name] for name in UNLINKED]
     addresses = [["address_races"], *([f"address_{name}"] for name in CALLS if name != "handlers")]
+    addresses += [["address_unlinked", name] for name in UNLINKED]
     with serving(prepare=by_anybody):
         for kind, programs in (("ThreadSanitizer", threads), ("AddressSanitizer", addresses)):
             if (OUT / "tests" / programs[0][0]).stat().st_size == 0:
@@ -155,13 +163,89 @@ def redirected_calls() -> None:
             check(connection.shmget(0, 1, 0o600) == 1, "segments of System V are not the kernel's")
 
 
+def loads() -> None:
+    """Calls of a library that a program loads, however it loads it, and calls that it finds by name."""
+    program, folder = str(OUT / "tests" / "loads"), str(OUT / "tests" / "loaded")
+    ends_well(program, "make", folder)
+    ends_well(program, "remove")
+    runs = [RUN, *(f"{name}/ipcd-run" for name in ("gcc", "clang") if os.path.exists(name))]
+    for run in runs:
+        device()
+        with serving(prepare=by_anybody):
+            ends_well(run, program, "make", folder)
+            with Connection("socket") as connection:
+                connection.hello(0, 0)
+                keys = [0x69706370 + i for i in range(5)]
+                there = [connection.msgget(key, 0) for key in keys]
+                check(sorted(there) == [1, 2, 3, 4, 5], f"by {run}: {there}")
+            kernels = Path("/proc/sysvipc/msg").read_text()
+            check(not any(str(key) in kernels for key in keys), kernels)
+            ends_well(run, program, "names", *names_of(Path(run).parent / "libipcd-preload.so"))
+    with serving(prepare=by_anybody):
+        says(RUN, program, "apart", folder, line=f"calls of a namespace that dlmopen makes {STAY}")
+    ends_well(program, "remove")
+
+
+def says(run: str, *words: str, line: str, **environment: str) -> None:
+    """A program ends well, and there is one line on standard error."""
+    here = {**with_socket(), **environment}
+    ended = subprocess.run([run, *words], capture_output=True, text=True, timeout=SECONDS, env=here)
+    wanted = f"ipcd-run: {os.path.basename(words[0])}: {line}\n"
+    check((ended.returncode, ended.stderr) == (0, wanted), f"{words}: {ended}")
+
+
+def lists() -> None:
+    """A program that walks the objects by their indexes is told that it sees none, once."""
+    device()
+    with serving(prepare=by_anybody):
+        shows_none = "no call lists the objects of a server (MSG_STAT, SEM_STAT), so it sees none of them"
+        says(RUN, str(OUT / "tests" / "waits"), "lists", line=shows_none)
+
+
+def check_counts() -> None:
+    """With --check it is said how many calls came to the server, of a program and of those that it starts."""
+    program, folder = str(OUT / "tests" / "loads"), str(OUT / "tests" / "loaded")
+    both = f"{program} make {folder} && {program} remove && exit 3"
+    device()
+    with serving(prepare=by_anybody):
+        counts([program, "make", folder], "5 calls", 0)
+        counts(["sh", "-c", both], "15 calls", 3)
+        counts([program, "names"], "no call", 0)
+        counts(["sh", "-c", "kill -9 $$"], "no call", 128 + signal.SIGKILL)
+        # Of a program that is not redirected none comes.
+        counts(["env", "-u", "LD_PRELOAD", program, "make", folder], "no call", 0)
+        ends_well(program, "remove")
+        is_passed_on()
+    counts([str(OUT / "tests" / "processes"), "absent"], "no call", 0)
+
+
+def counts(words: list[str], came: str, status: int) -> None:
+    ended = subprocess.run([RUN, "--check", *words], capture_output=True, text=True, timeout=SECONDS, env=with_socket())
+    wanted = f"ipcd-run: {words[0]}: {came} came to the server\n"
+    check((ended.returncode, ended.stderr) == (status, wanted), f"{words}: {ended}")
+
+
+def is_passed_on() -> None:
+    """A signal to ipcd-run alone is one to its program."""
+    line = "trap 'echo heard; exit 4' TERM; echo ready; while :; do sleep 0.1; done"
+    pipes = dict.fromkeys(("stdout", "stderr"), subprocess.PIPE)
+    program = subprocess.Popen([RUN, "--check", "sh", "-c", line], text=True, **pipes)
+    try:
+        check(program.stdout.readline() == "ready\n", "it does not begin")
+        program.terminate()
+        output, said = program.communicate(timeout=SECONDS)
+        check((program.returncode, output) == (4, "heard\n"), f"{program.returncode}, {output}, {said}")
+    finally:
+        program.kill()
+
+
+def with_socket() -> dict[str, str]:
+    return {**os.environ, "IPCD_SOCKET": os.path.abspath("socket")}
+
+
 def says_so(*words: str, call: str) -> None:
     """A program that asks for shared memory ends well, and one line says whose that is."""
-    ended = subprocess.run([RUN, *words], capture_output=True, text=True, timeout=SECONDS)
-    name = os.path.basename(words[0])
-    kernels = "stays the kernel's, and outlives no crash of the machine"
-    wanted = f"ipcd-run: {name}: shared memory ({call}) {kernels}\n"
-    check((ended.returncode, ended.stderr) == (0, wanted), f"{words}: {ended}")
+    says(RUN, *words, line=f"shared memory ({call}) {STAYS}")
 
 
 def shared_memory() -> None:
@@ -230,6 +314,50 @@ def processes() -> None:
                 print("clients: users are not tried, since this is not uid 0")
                 continue
             ends_well(RUN, str(OUT / "tests" / "processes"), name)
+
+
+def unlinked() -> None:
+    """Named semaphores that are unlinked and still used, on the C library's objects, redirected, and by the library."""
+    program, library = str(OUT / "tests" / "unlinked"), str(OUT / "tests" / "library_unlinked")
+    for word in UNLINKED:
+        ends_well(program, word, ON_KERNEL="1")
+    device()
+    with serving(prepare=by_anybody):
+        for words in ([RUN, program], [library]):
+            for word in UNLINKED:
+                ends_well(*words, word)
+            until(lambda: os.listdir("socket.pids") == [], "an entry is left")
+    for words in ([RUN, program], [library]):
+        check(around_restarts([*words, "outlives_the_server"]) == 1, "it does not ask")
+
+
+def cannot_be_told() -> None:
+    """Without the folder in which processes tell what they have open, a semaphore stays the server's."""
+    device()
+    Path("socket.pids").write_text("")
+    with serving(prepare=by_anybody):
+        for word in ("counts", "others_have_it", "waits_meanwhile"):
+            ends_well(str(OUT / "tests" / "library_unlinked"), word)
+    os.remove("socket.pids")
+
+
+def drops_uid_0() -> None:
+    """A daemon that drops uid 0 keeps its calls if its later user is in the socket's group; else they are EACCES."""
+    if os.geteuid() != 0:
+        print("clients: a daemon that drops uid 0 is not tried, since this is not uid 0")
+        return
+    device()
+    with serving(prepare=by_group):
+        os.chown("socket", 0, 4242)
+        os.mkdir("socket.pids")
+        os.chmod("socket.pids", 0o1777)
+        check(stat.S_IMODE(os.stat("socket").st_mode) == 0o770, "the socket is not for its group alone")
+        ends_well(RUN, str(OUT / "tests" / "processes"), "drops")
+
+
+def by_group() -> None:
+    """As the unit has it."""
+    os.umask(0o007)
 
 
 def without_a_server() -> None:
@@ -394,7 +522,8 @@ def exports() -> None:
     preload, library = OUT / "libipcd-preload.so", OUT / "libipcd.so.0"
     heard = """
         close closefrom close_range dup2 dup3 setuid seteuid setreuid setresuid setgid setegid
-        setregid setresgid sigaction siginterrupt signal bsd_signal ssignal sigset
+        setregid setresgid sigaction siginterrupt signal bsd_signal ssignal sigset dlopen dlmopen dlsym
+        pthread_cancel
     """.split()
     calls = names_of(preload) - set(heard)
     check(len(calls) == 31 and names_of(preload) >= set(heard), f"{names_of(preload)}")
@@ -758,8 +887,9 @@ def pieces() -> None:
 
 
 TESTS = [exports, headers, built_otherwise, static_library, refuses_programs, installs, kernel_agrees, library_calls,
-         pieces, memcheck, sanitized, looks_inside, redirected_calls, shared_memory, waits_for_a_server, processes,
-         pids, manual_pages, without_a_server, restarts, killed_in_each_call, false_servers]  # fmt: skip
+         pieces, memcheck, sanitized, looks_inside, redirected_calls, loads, lists, check_counts, shared_memory,
+         waits_for_a_server, processes, drops_uid_0, unlinked, cannot_be_told, pids, manual_pages, without_a_server,
+         restarts, killed_in_each_call, false_servers]  # fmt: skip
 
 if __name__ == "__main__":
     with in_a_folder(600):

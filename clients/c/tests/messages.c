@@ -171,6 +171,41 @@ static void refuses_bad_addresses(int queue)
     munmap(pages, 8192);
 }
 
+// The limits of a server are those of docs/PROTOCOL.md, and its counts those of the queues that this process has got.
+static void has_info(int queue)
+{
+    struct msginfo info;
+    void *place = &info;
+    int other = msgget(IPC_PRIVATE, 0600), gone = msgget(IPC_PRIVATE, 0600);
+    CHECK(other >= 0 && gone >= 0 && msgctl(gone, IPC_RMID, NULL) == 0);
+    CHECK(send_text(queue, 1, "four", 0) == 0 && send_text(other, 1, "eightone", 0) == 0);
+    CHECK(send_text(other, 2, "", 0) == 0);
+    memset(&info, 0xff, sizeof info);
+    errno = 77;
+    CHECK(msgctl(0, IPC_INFO, place) >= 0 && errno == 77);
+    if (is_on_kernel())
+        CHECK(info.msgmni > 0 && info.msgmax > 0 && info.msgmnb > 0 && info.msgpool > 0 && info.msgtql > 0);
+    else
+        CHECK(info.msgmni == 64 && info.msgmax == 65536 && info.msgmnb == 65536 && info.msgpool == 4096);
+    struct msginfo limits = info;
+    memset(&info, 0xff, sizeof info);
+    errno = 77;
+    CHECK(msgctl(12345, MSG_INFO, place) >= 0 && errno == 77);
+    CHECK(info.msgmni == limits.msgmni && info.msgmax == limits.msgmax && info.msgmnb == limits.msgmnb);
+    // The kernel's are also those of others.
+    if (is_on_kernel())
+        CHECK(info.msgpool >= 2 && info.msgmap >= 3 && info.msgtql >= 12);
+    else
+        CHECK(info.msgpool == 2 && info.msgmap == 3 && info.msgtql == 12);
+    REFUSED(msgctl(-1, IPC_INFO, place), EINVAL);
+    REFUSED(msgctl(-1, MSG_INFO, place), EINVAL);
+    if (tries_bad_addresses()) {
+        REFUSED(msgctl(0, IPC_INFO, (void *) 8), EFAULT);
+        REFUSED(msgctl(0, MSG_INFO, (void *) 8), EFAULT);
+    }
+    CHECK(comes(queue, 0, 1, "four", 0) && msgctl(other, IPC_RMID, NULL) == 0);
+}
+
 static void remove_soon(void *queue)
 {
     pause_for(0.2);
@@ -223,6 +258,7 @@ int main(void)
         CHECK(queue >= 0);
     }
     tells_of_itself(queue);
+    has_info(queue);
     if (tries_bad_addresses())
         refuses_bad_addresses(queue);
     waits(queue);

@@ -1,10 +1,12 @@
 // Processes and threads: forks, users, descriptors, and what a process is to a server. The word says which test.
 #define _GNU_SOURCE
 #include <fcntl.h>
+#include <grp.h>
 #include <mqueue.h>
 #include <pthread.h>
 #include <semaphore.h>
 #include <spawn.h>
+#include <stdatomic.h>
 #include <sys/ipc.h>
 #include <sys/msg.h>
 #include <sys/resource.h>
@@ -284,6 +286,7 @@ union argument {
     int value;
     unsigned short *values;
     struct semid_ds *record;
+    struct seminfo *info;
 };
 
 static long call_msgget(void) { return msgget(1, 0); }
@@ -305,6 +308,8 @@ static long call_setall(void) { return semctl(1, 0, SETALL, (union argument){.va
 static long call_sem_stat(void) { return semctl(1, 0, IPC_STAT, (union argument){.record = &set_record}); }
 static long call_sem_set(void) { return semctl(1, 0, IPC_SET, (union argument){.record = &set_record}); }
 static long call_sem_remove(void) { return semctl(1, 0, IPC_RMID); }
+static long call_msg_info(void) { struct msginfo it; return msgctl(0, MSG_INFO, (struct msqid_ds *) &it); }
+static long call_sem_info(void) { struct seminfo it; return semctl(0, 0, SEM_INFO, (union argument){.info = &it}); }
 static long call_mq_open(void) { return mq_open("/ipcd", O_RDONLY); }
 static long call_mq_unlink(void) { return mq_unlink("/ipcd"); }
 static long call_sem_open(void) { return sem_open("/ipcd", 0) == SEM_FAILED ? -1 : 0; }
@@ -324,12 +329,13 @@ static long call_sem_post(void) { return sem_post(turn); }
 static long call_sem_getvalue(void) { int value; return sem_getvalue(turn, &value); }
 
 typedef long call(void);
-enum { OF_WHAT_IS_OPEN = 23 };
+enum { OF_WHAT_IS_OPEN = 25 };
 
 static call *const calls[] = {
     call_msgget, call_msgsnd, call_msgrcv, call_msg_stat, call_msg_set, call_msg_remove, call_semget, call_semop,
     call_semtimedop, call_getval, call_getpid, call_getncnt, call_getzcnt, call_setval, call_getall, call_setall,
-    call_sem_stat, call_sem_set, call_sem_remove, call_mq_open, call_mq_unlink, call_sem_open, call_sem_unlink,
+    call_sem_stat, call_sem_set, call_sem_remove, call_msg_info, call_sem_info, call_mq_open, call_mq_unlink,
+    call_sem_open, call_sem_unlink,
     call_mq_send, call_mq_timedsend, call_mq_receive, call_mq_timedreceive, call_mq_getattr, call_mq_setattr,
     call_mq_notify, call_sem_wait, call_sem_trywait, call_sem_timedwait, call_sem_clockwait, call_sem_post,
     call_sem_getvalue,
@@ -468,6 +474,44 @@ static void users(void)
     CHECK(mq_unlink("/ipcd_masked") == 0 && sem_unlink("/ipcd_masked") == 0);
 }
 
+static const gid_t group_of_socket = 4242;
+
+// A daemon's child, with the groups of its user or without.
+static void drop_user(void *has_group)
+{
+    struct msqid_ds record;
+    struct message message = {1, 1};
+    CHECK(setgroups(has_group != NULL, &group_of_socket) == 0 && setgid(65534) == 0 && setuid(65534) == 0);
+    if (has_group == NULL) {
+        REFUSED(msgget(IPC_PRIVATE, 0600), EACCES);
+        REFUSED(change(0, 1, 0), EACCES);
+        REFUSED(mq_send(letters, "a", 1, 0), EACCES);
+        return;
+    }
+    int own = msgget(IPC_PRIVATE, 0600);
+    CHECK(own >= 0 && msgsnd(own, &message, 4, 0) == 0 && msgctl(own, IPC_STAT, &record) == 0);
+    CHECK(record.msg_perm.uid == 65534 && record.msg_lspid == getpid());
+    CHECK(change(0, 1, 0) == 0 && mq_send(letters, "a", 1, 0) == 0);
+    CHECK(msgctl(own, IPC_RMID, NULL) == 0);
+}
+
+// The socket is for uid 0 and a group; who is in the group keeps its calls. It has to be uid 0.
+static void drops_uid_0(void)
+{
+    umask(0);
+    mq_unlink("/ipcd_letters");
+    letters = mq_open("/ipcd_letters", O_RDWR | O_CREAT, 0666, NULL);
+    CHECK(letters != -1);
+    ends_well(start(drop_user, "with the group"));
+    ends_well(start(drop_user, NULL));
+    // What is open stays open.
+    CHECK(setgroups(0, NULL) == 0 && setegid(65534) == 0 && seteuid(65534) == 0);
+    CHECK(mq_send(letters, "open", 4, 0) == 0);
+    REFUSED(msgget(IPC_PRIVATE, 0600), EACCES);
+    CHECK(seteuid(0) == 0 && setegid(0) == 0);
+    CHECK(mq_unlink("/ipcd_letters") == 0);
+}
+
 static void absent(void)
 {
     are_refused(OF_WHAT_IS_OPEN, ECONNREFUSED);
@@ -519,7 +563,90 @@ static void *receive_and_end(void *place)
     return NULL;
 }
 
-// Else the call would wait on without its thread, and take a message that nobody gets.
+static void *wait_in_msgrcv(void *unused) { struct message it; msgrcv(queue, &it, 4, 0, 0); return unused; }
+static void *wait_in_mq_receive(void *unused) { char text[8]; mq_receive(empty, text, 8, NULL); return unused; }
+static void *wait_in_mq_send(void *unused) { mq_send(full, "second", 6, 0); return unused; }
+static void *wait_in_sem_wait(void *unused) { sem_wait(none); return unused; }
+
+static void *wait_in_sem_timedwait(void *unused)
+{
+    struct timespec soon = moment(CLOCK_REALTIME, 60);
+    sem_timedwait(none, &soon);
+    return unused;
+}
+
+static void *wait_in_msgsnd(void *unused)
+{
+    struct message it = {1, 1};
+    for (;;)
+        CHECK(msgsnd(queue, &it, 4, 0) == 0);
+    return unused;
+}
+
+static atomic_bool may_go;
+
+// It was cancelled before it calls, and has not let itself be.
+static void *hold_and_wait(void *unused)
+{
+    struct message message;
+    pthread_setcancelstate(PTHREAD_CANCEL_DISABLE, NULL);
+    while (!may_go)
+        pause_for(0.01);
+    CHECK(msgrcv(queue, &message, 4, 7, 0) == 4);
+    pthread_setcancelstate(PTHREAD_CANCEL_ENABLE, NULL);
+    msgrcv(queue, &message, 4, 7, 0);
+    return unused;
+}
+
+// A thread whose call waits ends, whenever it is cancelled, and nothing of its call is left.
+static void is_cancelled(void *(*work)(void *), double after)
+{
+    pthread_t it;
+    void *result;
+    CHECK(pthread_create(&it, NULL, work, NULL) == 0);
+    pause_for(after);
+    CHECK(pthread_cancel(it) == 0 && pthread_join(it, &result) == 0 && result == PTHREAD_CANCELED);
+}
+
+static void are_cancelled(void)
+{
+    static void *(*const works[])(void *) = {
+        wait_in_msgrcv, wait_in_mq_receive, wait_in_mq_send, wait_in_sem_wait, wait_in_sem_timedwait};
+    struct mq_attr one = {.mq_maxmsg = 1, .mq_msgsize = 8};
+    struct message message = {7, 77};
+    struct msqid_ds record;
+    pthread_t holds;
+    void *result;
+    int value;
+    mq_unlink("/ipcd_full"), mq_unlink("/ipcd_empty"), sem_unlink("/ipcd_none");
+    full = mq_open("/ipcd_full", O_RDWR | O_CREAT, 0600, &one);
+    empty = mq_open("/ipcd_empty", O_RDWR | O_CREAT, 0600, &one);
+    none = sem_open("/ipcd_none", O_CREAT, 0600, 0);
+    CHECK(full != -1 && empty != -1 && none != SEM_FAILED && mq_send(full, "first", 5, 0) == 0);
+    for (size_t i = 0; i < sizeof works / sizeof *works; i++)
+        for (int after = 0; after < 3; after++)
+            is_cancelled(works[i], after * 0.05);
+    // What comes later is nobody's.
+    CHECK(msgsnd(queue, &message, 4, 0) == 0 && msgrcv(queue, &message, 4, 0, IPC_NOWAIT) == 4);
+    CHECK(mq_send(empty, "it", 2, 0) == 0 && mq_getattr(empty, &one) == 0 && one.mq_curmsgs == 1);
+    CHECK(mq_getattr(full, &one) == 0 && one.mq_curmsgs == 1 && sem_post(none) == 0);
+    CHECK(sem_getvalue(none, &value) == 0 && value == 1);
+    CHECK(pthread_create(&holds, NULL, hold_and_wait, NULL) == 0 && pthread_cancel(holds) == 0);
+    may_go = true;
+    pause_for(0.1);
+    CHECK(msgsnd(queue, &message, 4, 0) == 0);
+    CHECK(pthread_join(holds, &result) == 0 && result == PTHREAD_CANCELED);
+    // It waits as soon as the queue is full.
+    CHECK(msgctl(queue, IPC_STAT, &record) == 0);
+    record.msg_qbytes = 100;
+    CHECK(msgctl(queue, IPC_SET, &record) == 0);
+    is_cancelled(wait_in_msgsnd, 0.3);
+    CHECK(msgctl(queue, IPC_STAT, &record) == 0 && record.__msg_cbytes <= 100);
+    CHECK(mq_unlink("/ipcd_full") == 0 && mq_unlink("/ipcd_empty") == 0 && sem_unlink("/ipcd_none") == 0);
+}
+
+// By the library's own names it is not cancelled, since nothing tells it so: else the call would wait on without its
+// thread, and take a message that nobody gets.
 static void is_not_cancelled(void)
 {
     pthread_t waits;
@@ -538,8 +665,7 @@ static void find_none(void *unused)
 {
     (void) unused;
     REFUSED(mq_send(letters, "a", 1, 0), EBADF);
-    REFUSED(sem_post(turn), EINVAL);
-    CHECK(mq_close(letters) == 0 && sem_close(turn) == 0);
+    CHECK(mq_close(letters) == 0);
 }
 
 static void run_long(void *unused)
@@ -549,15 +675,13 @@ static void run_long(void *unused)
     execl("/bin/sleep", "sleep", "20", (char *) NULL);
 }
 
-// Where a server differs from the kernel: what has no name is not a child's, and an exec adds adjustments.
+// Where a server differs from the kernel: a queue without a name is not a child's, and an exec adds adjustments.
 static void differs(void)
 {
     letters = mq_open("/ipcd_letters", O_RDWR | O_CREAT, 0600, NULL);
-    turn = sem_open("/ipcd_turn", O_CREAT, 0600, 0);
-    CHECK(letters != -1 && turn != SEM_FAILED);
-    CHECK(mq_unlink("/ipcd_letters") == 0 && sem_unlink("/ipcd_turn") == 0);
+    CHECK(letters != -1 && mq_unlink("/ipcd_letters") == 0);
     ends_well(start(find_none, NULL));
-    CHECK(mq_send(letters, "a", 1, 0) == 0 && sem_post(turn) == 0);
+    CHECK(mq_send(letters, "a", 1, 0) == 0);
     CHECK(change(0, 1, 0) == 0);
     pid_t child = start(run_long, NULL);
     for (double began = now(); now() - began < 5 && semctl(set, 0, GETPID) != child;)
@@ -576,7 +700,9 @@ static const struct {
     {"many_threads", many_threads, true}, {"crowd", crowd, true}, {"one_too_many", one_too_many, false},
     {"closes", closes, true},
     {"many_files", has_many_files, false}, {"users", users, false}, {"absent", absent, false},
+    {"drops", drops_uid_0, true},
     {"are_killed", are_killed, true}, {"differs", differs, true}, {"not_cancelled", is_not_cancelled, true},
+    {"cancelled", are_cancelled, true},
 };
 
 int main(int count, char **words)

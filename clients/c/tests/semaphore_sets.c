@@ -9,6 +9,7 @@ union argument {
     int value;
     unsigned short *values;
     struct semid_ds *record;
+    struct seminfo *info;
 };
 
 static int change(int set, unsigned short number, short by, short flags)
@@ -173,6 +174,39 @@ static void clear(key_t key)
         semctl(set, 0, IPC_RMID);
 }
 
+// The limits of a server are those of docs/PROTOCOL.md, and its counts those of the sets that this process has got.
+static void has_info(void)
+{
+    struct seminfo info, limits;
+    int other = semget(IPC_PRIVATE, 5, 0600), gone = semget(IPC_PRIVATE, 1, 0600);
+    CHECK(other >= 0 && gone >= 0 && semctl(gone, 0, IPC_RMID) == 0);
+    memset(&info, 0xff, sizeof info);
+    errno = 77;
+    CHECK(semctl(0, 0, IPC_INFO, (union argument){.info = &info}) >= 0 && errno == 77);
+    CHECK(info.semvmx == 32767 && info.semaem == 32767);
+    if (is_on_kernel())
+        CHECK(info.semmni > 0 && info.semmns > 0 && info.semmsl > 0 && info.semopm > 0);
+    else
+        CHECK(info.semmni == 32 && info.semmns == 512 && info.semmsl == 64 && info.semopm == 32);
+    limits = info;
+    memset(&info, 0xff, sizeof info);
+    errno = 77;
+    CHECK(semctl(12345, 0, SEM_INFO, (union argument){.info = &info}) >= 0 && errno == 77);
+    CHECK(info.semmni == limits.semmni && info.semmns == limits.semmns && info.semopm == limits.semopm);
+    // The kernel's are also those of others. Of this process there are two, one of three semaphores.
+    if (is_on_kernel())
+        CHECK(info.semusz >= 2 && info.semaem >= 8);
+    else
+        CHECK(info.semusz == 2 && info.semaem == 8);
+    REFUSED(semctl(-1, 0, IPC_INFO, (union argument){.info = &info}), EINVAL);
+    REFUSED(semctl(-1, 0, SEM_INFO, (union argument){.info = &info}), EINVAL);
+    if (tries_bad_addresses()) {
+        REFUSED(semctl(0, 0, IPC_INFO, (union argument){.info = (void *) 8}), EFAULT);
+        REFUSED(semctl(0, 0, SEM_INFO, (union argument){.info = (void *) 8}), EFAULT);
+    }
+    CHECK(semctl(other, 0, IPC_RMID) == 0);
+}
+
 int main(void)
 {
     alarm(60);
@@ -183,6 +217,7 @@ int main(void)
     has_values(set);
     performs_lists(set);
     tells_of_itself(set);
+    has_info();
     if (tries_bad_addresses())
         refuses_bad_addresses(set);
     undoes(set);

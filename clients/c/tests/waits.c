@@ -104,6 +104,17 @@ static void has_other_errors(void)
     CHECK(write(2, "own\n", 4) == 4);
 }
 
+// No call of a server lists its objects.
+static void asks_for_lists(void)
+{
+    struct msqid_ds queue;
+    struct semid_ds set;
+    for (int i = 0; i < 2; i++) {
+        REFUSED(msgctl(i, MSG_STAT, &queue), EINVAL);
+        REFUSED(semctl(i, 0, SEM_STAT, &set), EINVAL);
+    }
+}
+
 int main(int count, char **words)
 {
     const char *word = count > 1 ? words[1] : "";
@@ -120,6 +131,8 @@ int main(int count, char **words)
         uses_memory(true);
     else if (strcmp(word, "strict") == 0)
         uses_memory(false);
+    else if (strcmp(word, "lists") == 0)
+        asks_for_lists();
     else if (strcmp(word, "other_errors") == 0)
         has_other_errors();
     else
