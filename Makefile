@@ -1,11 +1,11 @@
 # ipcd: the commands of this repository. They need the Rattle toolchain's `rt` on the path and Python, `runs`, `edits`
 # and `bench` also awk, `bench-serve` a C compiler, `memory` a C compiler to refuse allocations, and `serves` one to watch
 # and refuse calls of the system: without it these two say so, and refuse nothing. `runs` renders the manual pages if
-# there are man and groff. `clients` says so without a C compiler, and tests only those in Python; its memcheck needs
-# valgrind.
+# there are man and groff. `clients` says so without a C compiler, and of each other toolchain that is not here, and
+# tests the clients in Python all the same; its memcheck needs valgrind.
 
-.PHONY: help try run test edits imports runs serves clients memory trials program install dist deb verify peers bench \
-	bench-serve bench-clients bench-peers
+.PHONY: help try run test edits imports runs serves clients memory trials program install dist deb image verify peers \
+	bench bench-serve bench-clients bench-peers
 
 help:
 	@echo "make try    a first look, in about two minutes, with nothing proved: a message is sent, the machine stops, and the"
@@ -20,7 +20,10 @@ help:
 	@echo "            sums, and of the last line of the gate if 'make dist GATE=FILE' has what it printed. It needs git"
 	@echo "make deb    packs what is built as Debian packages in out/: ipcd, libipcd0, libipcd-dev, ipcd-run, python3-ipcd. It"
 	@echo "            needs git and dpkg-deb"
-	@echo "make verify FILE=..  whether a program, or the one in a tarball or a package, is the one that is built here"
+	@echo "make image  packs what is built as an image of containers, an OCI layout in one file in out/, with a small"
+	@echo "            init and a health check, and without a shell. It needs git and a C compiler, and no daemon"
+	@echo "make verify FILE=..  whether a program, or the one in a tarball, a package or an image, is the one that is"
+	@echo "            built here"
 	@echo "make test   the gate, over an hour on four cores: 'make imports'; whether the records of mutants are of today's"
 	@echo "            sources; every proof, the mutants that stand for a promise, the programs; and then, on what the gate has"
 	@echo "            built, 'make trials', 'make runs', 'make serves', 'make clients' and 'make memory'"
@@ -39,9 +42,11 @@ help:
 	@echo "            server; semaphore sets, POSIX queues, named semaphores and segments of both kinds; and its system calls,"
 	@echo "            watched, and each refused in turn"
 	@echo "make clients  builds the C library, ipcd-run, which runs unchanged programs, and ipcd-ask, which asks a server in"
-	@echo "            words, and tests them and the Python package on the program, four minutes once built: beside the"
+	@echo "            words, and tests them and the Python package on the program, eight minutes once built: beside the"
 	@echo "            system's own objects, over kills, with a false server, under sanitizers, and built by other compilers;"
-	@echo "            and what 'make dist' and 'make deb' pack. 'make install' puts the C clients below PREFIX, if built"
+	@echo "            other people's programs that are installed, as 'make peers' runs them; the clients in Go, Rust, Node and"
+	@echo "            Java, as far as their toolchains are here; and what 'make dist', 'make deb' and 'make image' pack, the"
+	@echo "            same bytes from two folders. 'make install' puts the C clients below PREFIX, if built"
 	@echo "make peers  other people's programs on the kernel's objects and through ipcd-run; as uid 0 it installs them"
 	@echo "make memory the programs with each allocation refused in turn: of a script, of a listing, an opening and a copy of"
 	@echo "            what it leaves, and of each public call that may need memory, by itself"
@@ -77,11 +82,11 @@ UNITS = $(PREFIX)/lib/systemd/system
 BUILT = crates/ipcd/out/ipcd
 
 install:
-	@[ -x $(BUILT) ] || { echo "there is no $(BUILT): 'make program' comes first" >&2; exit 1; }
+	@[ -x "$(BUILT)" ] || { echo "there is no $(BUILT): 'make program' comes first" >&2; exit 1; }
 	install -d "$(DESTDIR)$(PREFIX)/bin" "$(DESTDIR)$(PREFIX)/libexec/ipcd" "$(DESTDIR)$(PREFIX)/share/man/man8" \
 		"$(DESTDIR)$(PREFIX)/share/man/man7" "$(DESTDIR)$(PREFIX)/share/man/man5" "$(DESTDIR)$(UNITS)" \
 		"$(DESTDIR)$(PREFIX)/lib/sysusers.d" "$(DESTDIR)$(PREFIX)/lib/tmpfiles.d"
-	install -m 0755 $(BUILT) "$(DESTDIR)$(PREFIX)/bin/ipcd"
+	install -m 0755 "$(BUILT)" "$(DESTDIR)$(PREFIX)/bin/ipcd"
 	install -m 0755 contrib/ipcd-notify "$(DESTDIR)$(PREFIX)/libexec/ipcd/ipcd-notify"
 	install -m 0644 docs/ipcd.8 "$(DESTDIR)$(PREFIX)/share/man/man8/ipcd.8"
 	install -m 0644 docs/ipcd-protocol.7 "$(DESTDIR)$(PREFIX)/share/man/man7/ipcd-protocol.7"
@@ -106,14 +111,21 @@ DEBS = out
 deb:
 	@python3 tools/deb.py $(BUILT) $(DEBS)
 
-# FILE is a program, or a tarball or package with one.
+# An image of containers, as one file. It compiles its first process, and packs what is built.
+IMAGE = out
+
+image:
+	@python3 tools/image.py $(BUILT) $(IMAGE)
+
+# FILE is a program, or a tarball, a package or an image with one.
 verify:
 	@python3 tools/verify.py $(BUILT) "$(FILE)"
 
-REFUSE_EACH = python3 tests/scripts/refuse_each.py $(BUILT) crates/trials/out/trials
+REFUSE_EACH = python3 tests/scripts/refuse_each.py $(BUILT) crates/trials/out/trials crates/refusals/out/refusals
 
 memory: program
 	@python3 tools/build.py trials
+	@python3 tools/build.py refusals
 	@$(REFUSE_EACH)
 
 # Each opening of each device that a stop leaves is stopped too, and each byte of a device is wrong once; of those the
@@ -136,7 +148,8 @@ imports:
 	@sh tests/imports.sh
 
 RUNS = sh tests/scripts/runs.sh crates/ipcd/out/ipcd && python3 tests/scripts/terminal.py crates/ipcd/out/ipcd && \
-	python3 tests/scripts/words.py crates/ipcd/out/ipcd && python3 tests/system/first_look.py crates/ipcd/out/ipcd && \
+	python3 tests/scripts/words.py crates/ipcd/out/ipcd && python3 tests/scripts/vectors.py crates/ipcd/out/ipcd && \
+	python3 tests/system/first_look.py crates/ipcd/out/ipcd && \
 	python3 tests/scripts/scripts.py crates/ipcd/out/ipcd && \
 	python3 tests/scripts/sets.py crates/ipcd/out/ipcd && python3 tests/scripts/segments.py crates/ipcd/out/ipcd && \
 	python3 tests/system/install.py crates/ipcd/out/ipcd && \
@@ -166,7 +179,8 @@ serves: program
 
 # What is packed has the C clients, so it comes last.
 CLIENTS = $(MAKE) -s -C clients/c tested PROGRAM=$(abspath $(BUILT)) && sh clients/python/test.sh $(BUILT) && \
-	python3 tests/system/dist.py $(BUILT) && python3 tests/system/deb.py $(BUILT)
+	sh clients/test.sh $(BUILT) && python3 tests/system/dist.py $(BUILT) && python3 tests/system/deb.py $(BUILT) && \
+	python3 tests/system/image.py $(BUILT) && python3 tests/system/reproducible.py $(BUILT)
 
 clients: program
 	@$(CLIENTS)

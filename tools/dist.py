@@ -4,9 +4,9 @@
 
 FOLDER gets ipcd-VERSION.tar.gz, where VERSION is the program's and the commit, with `-dirty` if the tree has changes
 that are in no commit. In it is what `make install` puts below PREFIX, and in share/doc/ipcd the documents, the examples
-and the clients in Python. MANIFEST says what that is: the commit, the toolchain's logic, the last line of the file
-GATE, in which is what the gate printed, and a sum of each file. If the clients in C are built, `try` at the top runs a
-first session from where the tarball is unpacked. It builds nothing, and needs make and git.
+and the clients in Python, Go, Rust, Node and Java. MANIFEST says what that is: the commit, the toolchain's logic, the
+last line of the file GATE, in which is what the gate printed, and a sum of each file. If the clients in C are built,
+`try` at the top runs a first session from where the tarball is unpacked. It builds nothing, and needs make and git.
 """
 
 from __future__ import annotations
@@ -31,6 +31,8 @@ PYTHON += ["clients/python/ipcd"]
 PAGES = ["README.md", "CHANGELOG.md", "CONTRIBUTING.md", "docs/*.md", "docs/pictures", "bench/LOG.md", "examples"]
 PAGES += ["contrib/alerts.yml", "contrib/grafana.json"]
 PAGES += PYTHON
+# With their tests, and the vectors that these read.
+PAGES += ["clients/go", "clients/rust", "clients/node", "clients/java", "docs/vectors.json"]
 DOC = "share/doc/ipcd"
 CLIENTS = "bin/ipcd-run"
 # Stands at the top, if what it asks with is packed.

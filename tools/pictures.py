@@ -21,7 +21,7 @@ BANDS = {
     "ipc_engine": ("the machine: no input or output, no clock, no disk", "#dbeafe"),
     "ipc_store": ("the store: any disk of sectors", "#dcfce7"),
     "ipcd": ("the edge: sockets, scripts, the command line", "#fef3c7"),
-    "": ("above them: trials and premises", "#f3e8ff"),
+    "": ("above them: trials, refusals and premises", "#f3e8ff"),
 }
 # Crates: height of a row, of a box, and where a band's boxes stand from left to right.
 ROW, BOX = 74, 30

@@ -2,8 +2,9 @@
 
     python3 tools/verify.py PROGRAM FILE
 
-PROGRAM is what the gate has built. FILE is a program, a tarball of `make dist` or a package of `make deb`. The status is
-0 if both are the same, 1 if they differ, and 2 if one of them cannot be read. A package needs dpkg-deb.
+PROGRAM is what the gate has built. FILE is a program, a tarball of `make dist`, a package of `make deb` or an image of
+`make image`. The status is 0 if both are the same, 1 if they differ, and 2 if one of them cannot be read. A package
+needs dpkg-deb.
 """
 
 from __future__ import annotations
@@ -30,8 +31,22 @@ def packed(archive: bytes) -> bytes:
     raise ValueError("has no bin/ipcd")
 
 
+def in_image(archive: bytes) -> bytes:
+    """The program in a layer of an image: it is in none of the other blobs, which are no tarballs."""
+    with tarfile.open(fileobj=io.BytesIO(archive)) as tar:
+        for entry in tar:
+            if entry.isfile() and entry.name.startswith("blobs/"):
+                try:
+                    return packed(tar.extractfile(entry).read())
+                except (tarfile.TarError, ValueError):
+                    continue
+    raise ValueError("has no layer with bin/ipcd")
+
+
 def program(file: str) -> bytes:
     data = Path(file).read_bytes()
+    if data[257:262] == b"ustar":
+        return in_image(data)
     if data.startswith(b"!<arch>"):
         return packed(subprocess.run(["dpkg-deb", "--fsys-tarfile", file], check=True, capture_output=True).stdout)
     return packed(data) if data.startswith(b"\x1f\x8b") else data

@@ -16,7 +16,7 @@ else
 	echo "clients: there is no mypy, so types are not checked"
 fi
 
-tests="false_server modules packaged shell work_trial"
+tests="asynchronous false_server modules packaged shell vectors work_trial"
 for test in $tests; do
 	(python3 "tests/$test.py" "$program" > "$folder/$test.said" 2>&1 && touch "$folder/$test.passed") &
 done

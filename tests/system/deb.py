@@ -65,17 +65,6 @@ def same_again(debs: list[Path]) -> None:
         check(one.name == other.name and one.read_bytes() == other.read_bytes(), f"{one.name} differs")
 
 
-def built_elsewhere() -> None:
-    """The clients in C have the same bytes, built in two folders. A sum of a file with a debugger's part counts too."""
-    names = ("libipcd.so.0", "libipcd.a", "libipcd-preload.so", "ipcd-run", "ipcd-ask")
-    for folder in ("one", "another/folder"):
-        shutil.copytree(ROOT / "clients/c", folder, ignore=shutil.ignore_patterns("out"))
-        ends_well("make", "-s", "-j4", "-C", folder)
-    for name in names:
-        one, other = (Path(folder, "out", name).read_bytes() for folder in ("one", "another/folder"))
-        check(one == other, f"{name} has other bytes from another folder")
-
-
 def judge(debs: list[Path]) -> subprocess.Popen[str] | None:
     """Starts lintian, if it is asked for."""
     if sys.argv[2:] != ["lintian"]:
@@ -218,8 +207,6 @@ def main() -> None:
     debs = packed("first")
     lintian = judge(debs)
     same_again(debs)
-    if CLIENTS:
-        built_elsewhere()
     installed(debs)
     verifies(debs[0])
     without = "" if CLIENTS else "; the clients in C are not built, so their packages were not made"

@@ -172,14 +172,14 @@ def _take(waits: bool, token: Optional[int]) -> Lane:
             _change.wait()
         making = (me, user)
         _making.append(making)
-    lane = None
+    made: Optional[Lane] = None
     try:
-        lane = Lane(waits)
-        return lane
+        made = Lane(waits)
+        return made
     finally:
         with _change:
-            if lane is not None:
-                _lanes.append(lane)
+            if made is not None:
+                _lanes.append(made)
             # In a child that a handler has made meanwhile it is not there any more.
             if making in _making:
                 _making.remove(making)

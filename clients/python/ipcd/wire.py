@@ -9,23 +9,25 @@ import struct
 from collections.abc import Sequence
 from typing import NamedTuple, Union
 
+# fmt: off
 __all__ = [
-    *("ATTR_FORM", "IPC_CREAT", "IPC_EXCL", "IPC_NOWAIT", "IPC_PRIVATE", "LONGEST_REPLY", "LONGEST_REQUEST"),
-    *("MSG_EXCEPT", "MSG_NOERROR", "MqAttr", "NOTIFY_FRAME", "NOTIFY_NOT", "NOTIFY_NULL", "O_CREAT", "O_EXCL"),
-    *("O_NONBLOCK", "O_RDONLY", "O_RDWR", "O_TRUNC", "O_WRONLY", "Operation", "QUEUE_FORM", "QueueStat"),
-    *("SEGMENT_FORM", "SEM_UNDO", "SET_FORM", "SHM_DEST", "SHM_RDONLY", "SYSTEM_V_SEGMENT_FORM", "SemStat"),
-    *("ShmStat", "ShmidStat", "TOO_LONG", "attached_read_request", "attached_write_request", "close_request"),
-    *("ftruncate_request", "hello_request", "interrupt_request", "mq_getattr_request", "mq_notify_request"),
-    *("mq_open_request", "mq_receive_request", "mq_send_request", "mq_setattr_request", "mq_unlink_request"),
-    *("msgctl_rmid_request", "msgctl_set_request", "msgctl_stat_request", "msgget_request", "msgrcv_request"),
-    *("msgsnd_request", "sem_getvalue_request", "sem_open_request", "sem_post_request", "sem_trywait_request"),
-    *("sem_unlink_request", "sem_wait_request", "semctl_getall_request", "semctl_getncnt_request"),
-    *("semctl_getpid_request", "semctl_getval_request", "semctl_getzcnt_request", "semctl_rmid_request"),
-    *("semctl_set_request", "semctl_setall_request", "semctl_setval_request", "semctl_stat_request"),
-    *("semget_request", "semop_request", "shm_open_request", "shm_read_request", "shm_stat_request"),
-    *("shm_unlink_request", "shm_write_request", "shmat_request", "shmctl_rmid_request", "shmctl_set_request"),
-    *("shmctl_stat_request", "shmdt_request", "shmget_request"),
+    "ATTR_FORM", "IPC_CREAT", "IPC_EXCL", "IPC_NOWAIT", "IPC_PRIVATE", "LONGEST_REPLY", "LONGEST_REQUEST",
+    "MSG_EXCEPT", "MSG_NOERROR", "MqAttr", "NOTIFY_FRAME", "NOTIFY_NOT", "NOTIFY_NULL", "O_CREAT", "O_EXCL",
+    "O_NONBLOCK", "O_RDONLY", "O_RDWR", "O_TRUNC", "O_WRONLY", "Operation", "QUEUE_FORM", "QueueStat", "SEGMENT_FORM",
+    "SEM_UNDO", "SET_FORM", "SHM_DEST", "SHM_RDONLY", "SYSTEM_V_SEGMENT_FORM", "SemStat", "ShmStat", "ShmidStat",
+    "TOO_LONG", "attached_read_request", "attached_write_request", "close_request", "ftruncate_request",
+    "hello_request", "interrupt_request", "mq_getattr_request", "mq_notify_request", "mq_open_request",
+    "mq_receive_request", "mq_send_request", "mq_setattr_request", "mq_unlink_request", "msgctl_rmid_request",
+    "msgctl_set_request", "msgctl_stat_request", "msgget_request", "msgrcv_request", "msgsnd_request",
+    "sem_getvalue_request", "sem_open_request", "sem_post_request", "sem_trywait_request", "sem_unlink_request",
+    "sem_wait_request", "semctl_getall_request", "semctl_getncnt_request", "semctl_getpid_request",
+    "semctl_getval_request", "semctl_getzcnt_request", "semctl_rmid_request", "semctl_set_request",
+    "semctl_setall_request", "semctl_setval_request", "semctl_stat_request", "semget_request", "semop_request",
+    "shm_open_request", "shm_read_request", "shm_stat_request", "shm_unlink_request", "shm_write_request",
+    "shmat_request", "shmctl_rmid_request", "shmctl_set_request", "shmctl_stat_request", "shmdt_request",
+    "shmget_request",
 ]
+# fmt: on
 
 IPC_PRIVATE = 0
 IPC_CREAT = 0o1000

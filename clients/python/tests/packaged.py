@@ -20,7 +20,8 @@ import ipcd
 from ipcd import Connection
 from server import check, in_a_folder, printed, run_tests, serving
 
-MODULES = ["__main__", "connection", "listing", "notifier", "posix_ipc", "session", "stream", "sysv_ipc", "top", "wire"]
+MODULES = ["__main__", "aio", "connection", "listing", "notifier", "posix_ipc", "session", "stream", "sysv_ipc", "top"]
+MODULES += ["wire"]
 # What a connection has beside the calls: how it begins and ends, and how frames pass.
 OF_STREAM = {
     *("answer", "call", "close", "closed", "fileno", "has_ended", "has_notification", "interrupt", "next_reply"),
@@ -71,7 +72,7 @@ def nothing_is_left() -> None:
 def names_are_meant() -> None:
     """Each public name of a module is one that it defines, or one of the package that it hands on; and a connection has
     the calls, and what docs/PROTOCOL.md tells of frames, in public."""
-    for module in [ipcd, *(importlib.import_module(f"ipcd.{name}") for name in MODULES), importlib.import_module("ipcd.work")]:
+    for module in [ipcd, *(importlib.import_module(f"ipcd.{name}") for name in [*MODULES, "work"])]:
         check(hasattr(module, "__all__"), f"{module.__name__} has no __all__")
         for name in module.__all__:
             thing = getattr(module, name)

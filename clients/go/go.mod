@@ -1,0 +1,3 @@
+module ipcd
+
+go 1.18

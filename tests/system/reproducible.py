@@ -1,0 +1,107 @@
+"""That what is packed follows from the commit and what is built alone: two copies of the tree, in other folders, by
+other users where this is root's, with another umask, time zone, language and home folder, build the clients in C and
+make a tarball, packages and an image of the same bytes.
+
+    python3 tests/system/reproducible.py PROGRAM
+
+The program itself is built once, and is in both copies. It needs git, make and a C compiler; without git or a compiler
+it says so, and refuses nothing; packages are left out without dpkg-deb. It takes some ten seconds.
+"""
+
+from __future__ import annotations
+
+import hashlib
+import os
+import shutil
+import subprocess
+import sys
+import tempfile
+from concurrent.futures import ThreadPoolExecutor
+from pathlib import Path
+from typing import NamedTuple
+
+sys.dont_write_bytecode = True
+
+from install import PROGRAM, ROOT  # noqa: E402
+
+BUILT = "crates/ipcd/out/ipcd"
+NOBODY = 65534
+
+
+class Place(NamedTuple):
+    """A copy of the tree, and how its user has set up the system."""
+
+    folder: str
+    umask: int
+    settings: dict[str, str]
+
+
+PLACES = [
+    Place("one", 0o022, {"TZ": "UTC", "LC_ALL": "C", "HOME": "/"}),
+    Place("another/folder of a longer name", 0o077, {"TZ": "Asia/Tokyo", "LC_ALL": "C.UTF-8", "HOME": "/nonexistent"}),
+]
+
+
+def check(holds: bool, text: str) -> None:
+    if not holds:
+        sys.exit(f"reproducible: {text}")
+
+
+def copied(place: Place, user: int) -> None:
+    """The tree without what is built, except the program; all files have the time of the copy."""
+    tree = Path(place.folder, "tree")
+    shutil.copytree(ROOT, tree, ignore=shutil.ignore_patterns("out", "__pycache__"), copy_function=shutil.copy)
+    (tree / BUILT).parent.mkdir(parents=True)
+    shutil.copy(PROGRAM, tree / BUILT)
+    for it in (Path(place.folder), *Path(place.folder).rglob("*")):
+        os.chown(it, user, user, follow_symlinks=False)
+
+
+def run(place: Place, user: int, *words: str) -> None:
+    """Runs a program in the copy, apart from the make that runs this."""
+    apart = {name: text for name, text in os.environ.items() if not name.startswith(("MAKE", "MFLAGS"))}
+    apart.pop("SOURCE_DATE_EPOCH", None)
+    apart["PATH"] += ":/usr/local/sbin:/usr/sbin:/sbin"
+    to = {} if user == os.geteuid() else {"user": user, "group": user, "extra_groups": []}
+    ended = subprocess.run(words, cwd=Path(place.folder, "tree"), env=apart | place.settings, umask=place.umask,
+                           capture_output=True, text=True, timeout=300, **to)  # fmt: skip
+    check((ended.returncode, ended.stderr) == (0, ""), f"{words} in {place.folder}: {ended}")
+
+
+def made(place: Place, user: int, targets: list[str]) -> dict[str, str]:
+    """The sums of all that is packed in the copy, by their names."""
+    copied(place, user)
+    run(place, user, "make", "-s", "-j2", "-C", "clients/c")
+    for target in targets:
+        run(place, user, "make", "-s", target)
+    out = Path(place.folder, "tree/out")
+    return {it.name: hashlib.sha256(it.read_bytes()).hexdigest() for it in sorted(out.iterdir())}
+
+
+def has_git() -> bool:
+    return subprocess.run(["git", "-C", ROOT, "rev-parse", "HEAD"], capture_output=True).returncode == 0
+
+
+def main() -> None:
+    if not has_git() or shutil.which(os.environ.get("CC", "cc")) is None:
+        print("reproducible: there is no tree of git's or no C compiler, so nothing was packed")
+        return
+    targets = ["dist", "image", *(["deb"] if shutil.which("dpkg-deb") else [])]
+    users = [os.geteuid(), NOBODY if os.geteuid() == 0 else os.geteuid()]
+    with ThreadPoolExecutor(2) as pool:
+        first, second = pool.map(made, PLACES, users, [targets, targets])
+    wanted = 7 if "deb" in targets else 2
+    check(len(first) == wanted, f"{list(first)} are made, and {wanted} are wanted")
+    for name in first | second:
+        check(first.get(name) == second.get(name), f"{name} has other bytes from another folder")
+    by = ", by another user" if users[0] != users[1] else ""
+    print(f"reproducible: {', '.join(first)}: the same from another folder{by}")
+
+
+if __name__ == "__main__":
+    with tempfile.TemporaryDirectory() as folder:
+        os.chdir(folder)
+        os.chmod(".", 0o755)
+        for place in PLACES:
+            os.makedirs(place.folder)
+        main()
