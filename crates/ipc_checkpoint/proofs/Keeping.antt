@@ -5,6 +5,7 @@ use Rattle.std.specs.Prelude.{All, option_map, slice_get}
 use Rattle.std.specs.List.{filter}
 use Rattle.std.proofs.lemmas.List.{take_all, take_more}
 use Rattle.std.proofs.lemmas.List.Elements.{All-append, All-cons, All-nil}
+use Rattle.ipc_disk.specs.declared.range.Range.{Range}
 use Rattle.ipc_heap.specs.Heap.{Placed}
 use Rattle.ipc_heap.specs.Matches.{AreNext, Keeps, Removes}
 use Rattle.ipc_heap.specs.View.{HeapView, StaysInPlace, free}
@@ -25,6 +26,21 @@ pub seen-none : {X Y : Type 0} (f : X → Y) (xs : List X) (i : ℕ) → option_
 seen-none f [] i is = omega arith
 seen-none f (x ∷ xs) zero is = cc
 seen-none f (x ∷ xs) (suc i) is = omega (arith, seen-none f xs i is)
+
+-- it lies where it lay after calls, and after others
+pub stays-then : {a b c : HeapView} → StaysInPlace a b → StaysInPlace b c → StaysInPlace a c
+stays-then first next = record {
+  range = next.range ∙ first.range;
+  root = next.root ∙ first.root;
+  next_root = next.next_root ∙ first.next_root;
+  epoch = next.epoch ∙ first.epoch;
+  table = next.table ∙ first.table;
+}
+
+-- so what is said of where it lies now is said of where it lay
+pub in-place : {a b : HeapView} (P : Range → ℕ → ℕ → ℕ → Type 0) → StaysInPlace a b → P b.range b.root b.next_root b.epoch
+    → P a.range a.root a.next_root a.epoch
+in-place P stays here = rw (stays.range, stays.root, stays.next_root, stays.epoch) at here
 
 module _ (kept : ℕ → Bool) where
   -- the first i objects are kept, and of the others none was taken out that is
@@ -67,13 +83,7 @@ module _ (kept : ℕ → Bool) where
         → KeepsSoFar i old new × (length new.placed < length mid.placed)
     keeps-less new off removes more = (
       record {
-        stays = record {
-          range = removes.stays.range ∙ so_far.stays.range;
-          root = removes.stays.root ∙ so_far.stays.root;
-          next_root = removes.stays.next_root ∙ so_far.stays.next_root;
-          epoch = removes.stays.epoch ∙ so_far.stays.epoch;
-          table = removes.stays.table ∙ so_far.stays.table;
-        };
+        stays = stays-then so_far.stays removes.stays;
         placed = ap (λ (l : List Placed). filter (λ p. kept p.number) l) removes.placed ∙ left-same kept number off mid.placed ∙ so_far.placed;
         first = subst (λ (l : List Placed). All (IsKeptOne kept) (take i l)) (sym removes.placed) (left-first kept number off i mid.placed so_far.first);
         few = omega (arith, ap length removes.placed, left-most kept number mid.placed, so_far.few);

@@ -95,13 +95,7 @@ module _ (sizes : List (ℕ × ℕ)) (rising : IsRising 0 (keys_of sizes) (2 ^ 6
   pub count-now : length objects ≡ i
   count-now =
       let size : ℕ × List ℕ → ℕ × ℕ = λ o. (o.0, length o.1) in
-      omega (
-        arith,
-        there,
-        length-map objects size,
-        ap length so_far,
-        length-take i sizes,
-      )
+      omega (arith, there, length-map objects size, ap length so_far, length-take i sizes)
 
   module _ (bytes : List ℕ) (long : length bytes ≡ len) where
     pub sizes-more : seen_as (λ bytes. length bytes) (objects ++ (number, bytes) ∷ []) ≡ take (i + 1) sizes

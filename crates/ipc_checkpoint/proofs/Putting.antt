@@ -1,10 +1,10 @@
 -- Objects are put into a heap, one after another: what the map is then, and what that has cost.
 use Rattle.std.proofs.Common.{◌≡◌, ◌≢◌, ◌⊎◌, inl, inr, ⊎_elim, ℕ, zero, suc, ◌+◌, ◌^◌, ◌<◌, ◌≤◌, Bool, true, false, List, [], ◌∷◌}
 use Rattle.std.proofs.Common.{length, get_or, take, Option, Some, refl, sym, ap, subst, ◌∙◌, arith}
-use Rattle.std.specs.Prelude.{IfSome, if◌then◌else◌, nat_eq, is_some, option_map, slice_get}
+use Rattle.std.specs.Prelude.{Err, IsErrOf, IfSome, if◌then◌else◌, nat_eq, is_some, option_map, slice_get}
 use Rattle.std.proofs.lemmas.Bool.{cases_eq}
 use Rattle.std.proofs.lemmas.List.{length-map}
-use Rattle.std.proofs.lemmas.List.Sums.{sum_by-cons}
+use Rattle.std.proofs.lemmas.List.Sums.{sum_by_more}
 use Rattle.std.proofs.lemmas.Option.{get_or_from_slice_get, slice_get_within, slice_get-get_or, slice_get-map}
 use Rattle.ipc_base.specs.Objects.{PlainObjects, AreObjects, object_sectors}
 use Rattle.ipc_base.specs.Table.{IsRising, keys_of, seen_as, value_at}
@@ -26,6 +26,9 @@ use Rattle.ipc_heap.specs.View.{ArePlaced, HeapView, StaysInPlace, free, map_of,
 use Rattle.ipc_heap.proofs.CallerLemmas.{EachLater-join, EachLater-start, KeepsUsed-refl, KeepsUsed-then, later-used}
 use Rattle.ipc_checkpoint.specs.Matches.{changed_sectors}
 use Rattle.ipc_checkpoint.specs.Saving.{AreThere, HasNoOthers}
+use Rattle.ipc_heap.specs.declared.error.HeapError.{HeapError}
+use Rattle.ipc_heap.specs.declared.error.HeapError.TheVariants.{Device, Full}
+use Rattle.ipc_checkpoint.proofs.Keeping.{in-place, stays-then}
 use Rattle.ipc_checkpoint.proofs.Loads.{keys-seen, seen-known}
 use Rattle.ipc_checkpoint.proofs.Tables.{rising-at, rising-same, value-place, with-at, with-other}
 
@@ -52,42 +55,23 @@ calls-none c range = counts-calls c c 0 0 refl (omega (arith, range.writes_fit))
 
 pub calls-more : (n m s : ℕ) (old mid new : Counts) → InRange old → mid ≡ with_calls n 0 old → new ≡ with_calls m s mid → new ≡ with_calls (n + m) s old
 calls-more n m s old mid new range first next =
-    counts-calls new old (n + m) s
-    (ap (λ (c : Counts). c.failures) next ∙ ap (λ (c : Counts). c.failures) first)
-    (omega (arith, ap (λ (c : Counts). c.writes) next, ap (λ (c : Counts). c.writes) first))
-    (omega (arith, ap (λ (c : Counts). c.syncs) next, ap (λ (c : Counts). c.syncs) first, range.syncs_fit))
+    rw (next, first) (counts-calls _ _ _ _ refl (omega arith) (omega (arith, range.syncs_fit)))
 
-sectors-more : (os : PlainObjects) (i j : ℕ) (d : ℕ × List ℕ) → j ≡ i + 1 → i < length os
-    → object_sectors (take j os) ≡ object_sectors (take i os) + sectors_for (length (get_or os i d).1)
-sectors-more [] i j d is less = absurd (omega (arith, less))
-sectors-more (o ∷ os) i zero d is less = absurd (omega (arith, is))
-sectors-more (o ∷ os) zero (suc j) d is less =
-    let none : j ≡ 0 = omega (arith, is) in
-    sum_by-cons (λ (p : ℕ × List ℕ). sectors_for (length p.1)) o (take j os)
-    ∙ ap (λ (n : ℕ). sectors_for (length o.1) + object_sectors (take n os)) none ∙ omega arith
-sectors-more (o ∷ os) (suc i) (suc j) d is less =
-    omega (
-      arith,
-      sum_by-cons (λ (p : ℕ × List ℕ). sectors_for (length p.1)) o (take j os),
-      sum_by-cons (λ (p : ℕ × List ℕ). sectors_for (length p.1)) o (take i os),
-      sectors-more os i j d (omega (arith, is)) (omega (arith, less)),
-    )
+-- an error that is not for want of sectors is the disk's
+pub device : (e : HeapError) → (IsErrOf {T = Unit {0}} (Err e) Full → ⊥) → IsErrOf {T = Unit {0}} (Err e) Device
+device Device some = refl
+device Full some = absurd (some refl)
 
 changed-more : (differs : ℕ → Bool) (os : PlainObjects) (i j : ℕ) (d : ℕ × List ℕ) → j ≡ i + 1 → i < length os
     → changed_sectors differs (take j os) ≡ changed_sectors differs (take i os) + (if differs i then sectors_for (length (get_or os i d).1) else 0)
 changed-more differs [] i j d is less = absurd (omega (arith, less))
 changed-more differs (o ∷ os) i zero d is less = absurd (omega (arith, is))
 changed-more differs (o ∷ os) zero (suc j) d is less =
-    let none : j ≡ 0 = omega (arith, is) in
-    let own : ℕ = if differs 0 then sectors_for (length o.1) else 0 in
-    ap (λ (n : ℕ). own + changed_sectors (λ k. differs (k + 1)) (take n os)) none ∙ omega arith
+    let none : j ≡ 0 = omega (arith, is) in rw none (omega arith)
 changed-more differs (o ∷ os) (suc i) (suc j) d is less =
-    let own : ℕ = if differs 0 then sectors_for (length o.1) else 0 in
-    let next : suc i ≡ i + 1 = omega arith in
-    let rest = changed-more (λ k. differs (k + 1)) os i j d (omega (arith, is)) (omega (arith, less)) in
-    ap (λ (n : ℕ). own + n) rest
-    ∙ ap (λ (k : ℕ). own + (changed_sectors (λ n. differs (n + 1)) (take i os) + (if differs k then sectors_for (length (get_or os i d).1) else 0))) (sym next)
-    ∙ omega arith
+    let next : i + 1 ≡ suc i = omega arith in
+    let rest = rw next at (changed-more (λ k. differs (k + 1)) os i j d (omega (arith, is)) (omega (arith, less))) in
+    omega (arith, rest)
 
 -- ---- so many of them were looked at
 
@@ -148,7 +132,8 @@ module _ {D : Type 0} {size : D → ℕ} {medium : D → Medium} {counts : D →
 
     most : object_sectors (take (i + 1) os) ≡ object_sectors (take i os) + sectors_for (length o.1)
     most =
-        sectors-more os i (i + 1) (0, []) refl less ∙ ap (λ (p : ℕ × List ℕ). object_sectors (take i os) + sectors_for (length p.1)) its
+        sum_by_more (λ (p : ℕ × List ℕ). sectors_for (length p.1)) os i (0, []) less
+        ∙ ap (λ (p : ℕ × List ℕ). object_sectors (take i os) + sectors_for (length p.1)) its
 
     changed : (b : Bool) → differs i ≡ b
         → changed_sectors differs (take (i + 1) os) ≡ changed_sectors differs (take i os) + (if b then sectors_for (length o.1) else 0)
@@ -203,28 +188,21 @@ module _ {D : Type 0} {size : D → ℕ} {medium : D → Medium} {counts : D →
           → StaysSaved begin.range begin.root begin.epoch saved (medium old) (medium next)
       put-moment saved begins part within here =
           let P : Image → Type 0 = Holds part begin.root begin.epoch saved in
-          let S : Range → ℕ → ℕ → Type 0 = λ r n e. StaysSaved r n e saved (medium disk) (medium next) in
-          let stays = so_far.stays in
           let at = so_far.matches saved begins in
           let before = so_far.moment saved begins part within here in
-          let more : S begin.range begin.root begin.epoch =
-          subst (λ (e : ℕ). S begin.range begin.root e) stays.epoch
-          (subst (λ (n : ℕ). S begin.range n now.epoch) stays.root
-          (subst (λ (r : Range). S r now.root now.epoch) stays.range (moment saved at))) in
           EachImageSince-join (medium old) (medium disk) (medium next) P before
-          (more part within (EachImageSince-now (medium old) (medium disk) P before at.honest))
+          (in-place (λ r n m e. StaysSaved r n e saved (medium disk) (medium next)) so_far.stays (moment saved at) part within
+          (EachImageSince-now (medium old) (medium disk) P before at.honest))
 
       pub put-meanwhile : (saved : PlainObjects) → HeapMatches begin saved (medium old)
           → EachLater (KeepsUsed begin.range begin.root) (medium old) (medium next)
       put-meanwhile saved begins =
           let at = so_far.matches saved begins in
           let R : Image → Image → Type 0 = KeepsUsed begin.range begin.root in
-          let more : EachLater R (medium disk) (medium next) =
-          subst (λ (n : ℕ). EachLater (KeepsUsed begin.range n) (medium disk) (medium next)) so_far.stays.root
-          (subst (λ (r : Range). EachLater (KeepsUsed r now.root) (medium disk) (medium next)) so_far.stays.range
-          (later-used now saved (medium disk) at (medium next) (others at.honest))) in
           EachLater-join R R (medium old) (medium disk) (medium next) (λ a b keeps. keeps)
-          (λ a b c first after. KeepsUsed-then begin.range begin.root begins.apart a b first c after) at.honest (so_far.meanwhile saved begins) more
+          (λ a b c first after. KeepsUsed-then begin.range begin.root begins.apart a b first c after) at.honest (so_far.meanwhile saved begins)
+          (in-place (λ r n m e. EachLater (KeepsUsed r n) (medium disk) (medium next)) so_far.stays
+          (later-used now saved (medium disk) at (medium next) (others at.honest)))
 
       pub put-others : IsHonest (medium old) → LeavesAlone (IsOutside begin.range) (medium old) (medium next)
       put-others honest =
@@ -248,13 +226,7 @@ module _ {D : Type 0} {size : D → ℕ} {medium : D → Medium} {counts : D →
 
         pub put-more : PutSoFar size medium counts os differs begin old (i + 1) new next
         put-more = record {
-          stays = record {
-            range = stays.range ∙ so_far.stays.range;
-            root = stays.root ∙ so_far.stays.root;
-            next_root = stays.next_root ∙ so_far.stays.next_root;
-            epoch = stays.epoch ∙ so_far.stays.epoch;
-            table = stays.table ∙ so_far.stays.table;
-          };
+          stays = stays-then so_far.stays stays;
           placed = placed;
           bytes = bytes;
           no_others = λ n some. ⊎_elim

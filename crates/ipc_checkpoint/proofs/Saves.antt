@@ -14,20 +14,21 @@ use Rattle.ipc_disk.specs.Medium.{Image, Medium, IsHonest}
 use Rattle.ipc_disk.specs.Range.{IsInside, IsOutside}
 use Rattle.ipc_disk.specs.Since.{EachImageSince, LeavesAlone}
 use Rattle.ipc_disk.specs.Standing.{sectors_for}
-use Rattle.ipc_disk.proofs.CallerLemmas.{EachImageSince-join, EachImageSince-now, EachImageSince-weaken, LeavesAlone-fewer, LeavesAlone-join}
+use Rattle.ipc_disk.proofs.CallerLemmas.{EachImageSince-join, EachImageSince-now, EachImageSince-weaken, LeavesAlone-fewer, LeavesAlone-join, counts-calls}
 use Rattle.ipc_heap.specs.Heap.{Placed, table_sectors_for, table_words}
 use Rattle.ipc_heap.specs.Heap as heap
 use Rattle.ipc_heap.specs.Matches.{HeapMatches, IsKept, Keeps, StaysSaved}
 use Rattle.ipc_heap.specs.Meanwhile as heap-later
 use Rattle.ipc_heap.specs.View.{ArePlaced, HeapView, StaysInPlace, free, map_of, sizes_of, used_by}
-use Rattle.ipc_heap.proofs.CallerLemmas.{EachLater-join, Keeps-map, Keeps-matches, KeepsUsed-turns, Keeps-sizes, words_for-is}
+use Rattle.ipc_heap.proofs.CallerLemmas.{EachLater-join, Keeps-map, Keeps-matches, KeepsUsed-turns, Keeps-sizes, words_for-is, EachLater-weaken}
 use Rattle.ipc_checkpoint.specs.Checkpoint.{Holds, IsElsewhere, IsLaidOut}
 use Rattle.ipc_checkpoint.specs.Matches.{CheckpointMatches, HoldsEither, IsSavedUnder, changed_sectors, sectors_of, table_sectors}
 use Rattle.ipc_checkpoint.specs.Meanwhile.{EachLater, KeepsUsed, KeepsUsedOrTurns}
 use Rattle.ipc_checkpoint.specs.Saving.{AreThere, HasNoOthers}
 use Rattle.ipc_checkpoint.specs.View.{CheckpointView, HasSpare, epoch_of, layout_of}
 use Rattle.ipc_checkpoint.proofs.CallerLemmas.{CheckpointMatches-holds}
-use Rattle.ipc_checkpoint.proofs.Putting.{calls-more, own-value}
+use Rattle.ipc_checkpoint.proofs.Putting.{own-value}
+use Rattle.ipc_checkpoint.proofs.Keeping.{in-place, stays-then}
 use Rattle.ipc_checkpoint.proofs.Tables.{filter-at, filter-only}
 
 -- ---- how many sectors objects take in a heap
@@ -45,13 +46,7 @@ sectors-sized (p ∷ ps) sizes =
     let e : ℕ × ℕ = (p.number, p.len) in
     let es : List (ℕ × ℕ) = map (λ p. (p.number, p.len)) ps in
     let here = All-head HasSize p ps sizes in
-    omega (
-      arith,
-      length-append p.sectors (heap.object_sectors ps),
-      sectors-sized ps (All-tail HasSize p ps sizes),
-      here.2,
-      sum_by-cons size e es,
-    )
+    omega (arith, length-append p.sectors (heap.object_sectors ps), sectors-sized ps (All-tail HasSize p ps sizes), here.2, sum_by-cons size e es)
 
 sized-seen : (os : PlainObjects) → sized (seen_as (λ bytes. length bytes) os) ≡ object_sectors os
 sized-seen [] = refl
@@ -79,15 +74,7 @@ module _ (h : HeapView) (os : PlainObjects) (placed : ArePlaced h.range h.placed
   pub its-free : (x : HeapView) (n : ℕ) → x.placed ≡ h.placed → length x.table ≡ table_sectors_for (length (table_words h.placed))
       → free x + length (used_by x) ≡ n → free x + sectors_of os ≡ n
   its-free x n same table all =
-      omega (
-        arith,
-        all,
-        length-append (heap.object_sectors x.placed) x.table,
-        ap (λ (l : List Placed). length (heap.object_sectors l)) same,
-        its-sectors,
-        table,
-        its-table,
-      )
+      omega (arith, length-append (heap.object_sectors x.placed) x.table, ap (λ (l : List Placed). length (heap.object_sectors l)) same, its-sectors, its-table)
 
 -- ---- a save
 
@@ -108,7 +95,6 @@ pub record PutSome (one : HeapView) (old mid : Medium) : Type 0 where
 
 -- and once all are put in
 pub record PutAll (os : PlainObjects) (differs : ℕ → Bool) (one two : HeapView) (old mid : Medium) : Type 0 where
-  pub some : PutSome one old mid
   pub stays : StaysInPlace one two
   pub placed : ArePlaced two.range two.placed
   pub sizes : sizes_of two ≡ seen_as (λ bytes. length bytes) os
@@ -116,15 +102,22 @@ pub record PutAll (os : PlainObjects) (differs : ℕ → Bool) (one two : HeapVi
   pub matches : (saved : PlainObjects) → HeapMatches one saved old → HeapMatches two saved mid
   pub map : (saved : PlainObjects) → HeapMatches one saved old → AreThere differs os (map_of one old) → map_of two mid ≡ os
 
+-- what a save promises of every moment
+pub record SavesMeanwhile (c : CheckpointView) (os : PlainObjects) (epoch : ℕ) (old new : Medium) : Type 0 where
+  pub moment : (saved : PlainObjects) → CheckpointMatches c saved old → EachImageSince old new (HoldsEither (layout_of c) (epoch_of c) saved epoch os)
+  pub meanwhile : (saved : PlainObjects) → CheckpointMatches c saved old → EachLater (KeepsUsedOrTurns (layout_of c)) old new
+  pub kept : (root : ℕ) (saved : PlainObjects) → IsSavedUnder root c saved old → root ≢ c.heap.next_root
+      → StaysSaved c.heap.range root (epoch_of c) saved old new
+  pub others : IsHonest old → LeavesAlone (IsElsewhere (layout_of c)) old new
+
 module _ {size : ℕ} {c : CheckpointView} {os : PlainObjects} {one : HeapView} (b : Started size c os one) where
   abbrev kept : ℕ → Bool
   kept n = is_some (value_at nat_eq os n)
 
   pub laid-one : heap.IsLaidOut one.range one.next_root size
   laid-one =
-      subst (λ (r : ℕ). heap.IsLaidOut one.range r size) (sym b.keeps.stays.next_root)
-      (subst (λ (r : Range). heap.IsLaidOut r c.heap.next_root size) (sym b.keeps.stays.range)
-      (record { within = b.laid.within; root_there = b.laid.root; apart = b.laid.apart; not_first = b.laid.not_first }))
+      rw (b.keeps.stays.next_root, b.keeps.stays.range)
+      (record { within = b.laid.within; root_there = b.laid.root; apart = b.laid.apart; not_first = b.laid.not_first })
 
   pub only-one : HasNoOthers (sizes_of one) os
   only-one n some =
@@ -149,30 +142,26 @@ module _ {size : ℕ} {c : CheckpointView} {os : PlainObjects} {one : HeapView} 
 
   -- while objects are put in
   module _ {old mid : Medium} (p : PutSome one old mid) where
-    pub moment-saved : {root : ℕ} (saved : PlainObjects) → IsSavedUnder root c saved old
-        → StaysSaved c.heap.range root (epoch_of c) saved old mid
-    moment-saved {root} saved at =
-        let S : Range → ℕ → ℕ → Type 0 = λ r n e. StaysSaved r n e saved old mid in
-        let stays = b.keeps.stays in
-        subst (λ (e : ℕ). S c.heap.range root e) stays.epoch
-        (subst (λ (n : ℕ). S c.heap.range n one.epoch) (stays.root ∙ at.under)
-        (subst (λ (r : Range). S r one.root one.epoch) stays.range (p.moment saved (matches-one old saved at))))
+    moment-mid : {root : ℕ} (saved : PlainObjects) → IsSavedUnder root c saved old → StaysSaved c.heap.range root (epoch_of c) saved old mid
+    moment-mid saved at =
+        subst (λ (n : ℕ). StaysSaved c.heap.range n (epoch_of c) saved old mid) at.under
+        (in-place (λ r n m e. StaysSaved r n e saved old mid) b.keeps.stays (p.moment saved (matches-one old saved at)))
 
-    pub moment-mid : (saved : PlainObjects) → CheckpointMatches c saved old → (epoch : ℕ)
-        → EachImageSince old mid (HoldsEither (layout_of c) (epoch_of c) saved epoch os)
-    moment-mid saved at epoch =
-        EachImageSince-weaken old mid (Holds (layout_of c) (epoch_of c) saved) (HoldsEither (layout_of c) (epoch_of c) saved epoch os)
-        (moment-saved saved at c.heap.range (λ i inside. inside) (CheckpointMatches-holds c saved old at)) (λ image holds. inl holds)
-
-    pub meanwhile-mid : (saved : PlainObjects) → CheckpointMatches c saved old → EachLater (KeepsUsed (layout_of c)) old mid
+    meanwhile-mid : (saved : PlainObjects) → CheckpointMatches c saved old → EachLater (KeepsUsed (layout_of c)) old mid
     meanwhile-mid saved at =
-        subst (λ (n : ℕ). EachLater (heap-later.KeepsUsed c.heap.range n) old mid) (b.keeps.stays.root ∙ at.under)
-        (subst (λ (r : Range). EachLater (heap-later.KeepsUsed r one.root) old mid) b.keeps.stays.range (p.meanwhile saved (matches-one old saved at)))
+        subst (λ (n : ℕ). EachLater (heap-later.KeepsUsed c.heap.range n) old mid) at.under
+        (in-place (λ r n m e. EachLater (heap-later.KeepsUsed r n) old mid) b.keeps.stays (p.meanwhile saved (matches-one old saved at)))
 
-    pub others-mid : IsHonest old → LeavesAlone (IsElsewhere (layout_of c)) old mid
-    others-mid honest =
-        LeavesAlone-fewer (IsElsewhere (layout_of c)) (IsOutside one.range) old mid
-        (λ i out. subst (λ (r : Range). IsOutside r i) (sym b.keeps.stays.range) out.1) (p.others honest)
+    pub saves-mid : (epoch : ℕ) → SavesMeanwhile c os epoch old mid
+    saves-mid epoch = record {
+      moment = λ saved at. EachImageSince-weaken old mid (Holds (layout_of c) (epoch_of c) saved) (HoldsEither (layout_of c) (epoch_of c) saved epoch os)
+          (moment-mid saved at c.heap.range (λ i inside. inside) (CheckpointMatches-holds c saved old at)) (λ image holds. inl holds);
+      meanwhile = λ saved at. EachLater-weaken (KeepsUsed (layout_of c)) (KeepsUsedOrTurns (layout_of c)) old mid (meanwhile-mid saved at)
+          (λ x y kept. inl kept);
+      kept = λ root saved at other. moment-mid saved at;
+      others = λ honest. LeavesAlone-fewer (IsElsewhere (layout_of c)) (IsOutside one.range) old mid
+          (λ i out. subst (λ (r : Range). IsOutside r i) (sym b.keeps.stays.range) out.1) (p.others honest);
+    }
 
   -- and then the heap is turned over
   module _ {differs : ℕ → Bool} {two : HeapView} {old mid : Medium} (p : PutAll os differs one two old mid) where
@@ -185,11 +174,8 @@ module _ {size : ℕ} {c : CheckpointView} {os : PlainObjects} {one : HeapView} 
     pub not-full : free two < table_sectors_for words → ⊥
     not-full full = omega (arith, full, its-table two os p.placed p.sizes, p.spends, b.more, b.spare, b.fits, b.laid.room)
 
-    range-two : two.range ≡ c.heap.range
-    range-two = p.stays.range ∙ b.keeps.stays.range
-
-    aim-two : two.next_root ≡ c.heap.next_root
-    aim-two = p.stays.next_root ∙ b.keeps.stays.next_root
+    stays-two : StaysInPlace c.heap two
+    stays-two = stays-then b.keeps.stays p.stays
 
     map-two : {root : ℕ} (saved : PlainObjects) → IsSavedUnder root c saved old → OthersAreThere differs os saved → map_of two mid ≡ os
     map-two saved at there = p.map saved (matches-one old saved at) (were-one old saved at differs there)
@@ -197,68 +183,50 @@ module _ {size : ℕ} {c : CheckpointView} {os : PlainObjects} {one : HeapView} 
     matches-two : {root : ℕ} (saved : PlainObjects) → IsSavedUnder root c saved old → HeapMatches two saved mid
     matches-two saved at = p.matches saved (matches-one old saved at)
 
-    root-two : {root : ℕ} (saved : PlainObjects) → IsSavedUnder root c saved old → two.root ≡ root
-    root-two saved at = p.stays.root ∙ b.keeps.stays.root ∙ at.under
-
-    module _ (new : Medium) (epoch : ℕ) where
-      pub moment-new : ((saved : PlainObjects) → CheckpointMatches c saved old → OthersAreThere differs os saved)
-          → ((saved : PlainObjects) → HeapMatches two saved mid
-          → EachImageSince mid new (heap.HoldsEither two.range two.root two.epoch saved two.next_root epoch (map_of two mid)))
-          → (saved : PlainObjects) → CheckpointMatches c saved old → EachImageSince old new (HoldsEither (layout_of c) (epoch_of c) saved epoch os)
-      moment-new unchanged flips saved at =
-          let E : Range → ℕ → ℕ → ℕ → PlainObjects → Type 0 = λ r n e a l. EachImageSince mid new (heap.HoldsEither r n e saved a epoch l) in
-          EachImageSince-join old mid new (HoldsEither (layout_of c) (epoch_of c) saved epoch os) (moment-mid p.some saved at epoch)
-          (subst (E c.heap.range c.heap.next_root c.heap.epoch c.heap.next_root) (map-two saved at (unchanged saved at))
-          (subst (λ (a : ℕ). E c.heap.range c.heap.next_root c.heap.epoch a (map_of two mid)) aim-two
-          (subst (λ (e : ℕ). E c.heap.range c.heap.next_root e two.next_root (map_of two mid)) (p.stays.epoch ∙ b.keeps.stays.epoch)
-          (subst (λ (r : ℕ). E c.heap.range r two.epoch two.next_root (map_of two mid)) (root-two saved at)
-          (subst (λ (r : Range). E r two.root two.epoch two.next_root (map_of two mid)) range-two
-          (flips saved (matches-two saved at)))))))
-
-      -- who reads meanwhile
-      pub meanwhile-new : (two.next_root ≡ two.root → (saved : PlainObjects) → HeapMatches two saved mid
-          → EachLater (heap-later.KeepsUsedOrTurns two.range two.root) mid new)
-          → (saved : PlainObjects) → CheckpointMatches c saved old → EachLater (KeepsUsedOrTurns (layout_of c)) old new
-      meanwhile-new flips saved at =
-          let from : two.root ≡ c.heap.next_root = root-two saved at in
-          let here = matches-two saved at in
-          let more : EachLater (KeepsUsedOrTurns (layout_of c)) mid new =
-          subst (λ (n : ℕ). EachLater (heap-later.KeepsUsedOrTurns c.heap.range n) mid new) from
-          (subst (λ (r : Range). EachLater (heap-later.KeepsUsedOrTurns r two.root) mid new) range-two (flips (aim-two ∙ sym from) saved here)) in
-          EachLater-join (KeepsUsed (layout_of c)) (KeepsUsedOrTurns (layout_of c)) old mid new (λ x y kept. inl kept)
-          (λ x y z kept after. KeepsUsed-turns c.heap.range c.heap.next_root b.laid.apart x y kept z after) here.honest
-          (meanwhile-mid p.some saved at) more
-
-      -- what was saved under another root stays there
-      pub kept-new : (two.next_root ≢ two.root → (saved : PlainObjects) → HeapMatches two saved mid
-          → StaysSaved two.range two.root two.epoch saved mid new)
-          → {root : ℕ} (saved : PlainObjects) → IsSavedUnder root c saved old → root ≢ c.heap.next_root
-          → StaysSaved c.heap.range root (epoch_of c) saved old new
-      kept-new flips {root} saved at other part within now =
-          let P : Image → Type 0 = heap.Holds part root (epoch_of c) saved in
-          let S : Range → ℕ → ℕ → Type 0 = λ r n e. StaysSaved r n e saved mid new in
-          let from : two.root ≡ root = root-two saved at in
-          let here = matches-two saved at in
-          let before = moment-saved p.some saved at part within now in
-          let more : S c.heap.range root (epoch_of c) =
-          subst (λ (e : ℕ). S c.heap.range root e) (p.stays.epoch ∙ b.keeps.stays.epoch)
-          (subst (λ (n : ℕ). S c.heap.range n two.epoch) from
-          (subst (λ (r : Range). S r two.root two.epoch) range-two (flips (λ same. other (sym from ∙ sym same ∙ aim-two)) saved here))) in
-          EachImageSince-join old mid new P before (more part within (EachImageSince-now old mid P before here.honest))
-
-      pub others-new : (IsHonest mid → LeavesAlone (λ i. IsKept two i × (i ≢ two.next_root)) mid new)
-          → IsHonest old → LeavesAlone (IsElsewhere (layout_of c)) old new
-      others-new flips honest =
-          let run = others-mid p.some honest in
-          LeavesAlone-join (IsElsewhere (layout_of c)) old mid new run
-          (LeavesAlone-fewer (IsElsewhere (layout_of c)) (λ i. IsKept two i × (i ≢ two.next_root)) mid new
-          (λ i out. (inl (subst (λ (r : Range). IsOutside r i) (sym range-two) out.1), λ same. out.0 (same ∙ aim-two))) (flips run.honest))
+    module _ (some : PutSome one old mid) (new : Medium) (epoch : ℕ)
+        (unchanged : (saved : PlainObjects) → CheckpointMatches c saved old → OthersAreThere differs os saved)
+        (flips : (saved : PlainObjects) → HeapMatches two saved mid
+        → EachImageSince mid new (heap.HoldsEither two.range two.root two.epoch saved two.next_root epoch (map_of two mid)))
+        (flips-kept : two.next_root ≢ two.root → (saved : PlainObjects) → HeapMatches two saved mid
+        → StaysSaved two.range two.root two.epoch saved mid new)
+        (flips-meanwhile : two.next_root ≡ two.root → (saved : PlainObjects) → HeapMatches two saved mid
+        → EachLater (heap-later.KeepsUsedOrTurns two.range two.root) mid new)
+        (flips-others : IsHonest mid → LeavesAlone (λ i. IsKept two i × (i ≢ two.next_root)) mid new) where
+      pub saves-new : SavesMeanwhile c os epoch old new
+      saves-new = record {
+        moment = λ saved at. EachImageSince-join old mid new (HoldsEither (layout_of c) (epoch_of c) saved epoch os)
+            ((saves-mid some epoch).moment saved at)
+            (rw (map-two saved at (unchanged saved at), at.under) at
+            (in-place (λ r n m e. EachImageSince mid new (heap.HoldsEither r n e saved m epoch (map_of two mid))) stays-two
+            (flips saved (matches-two saved at))));
+        -- who reads meanwhile
+        meanwhile = λ saved at.
+            let from : two.root ≡ c.heap.next_root = stays-two.root ∙ at.under in
+            EachLater-join (KeepsUsed (layout_of c)) (KeepsUsedOrTurns (layout_of c)) old mid new (λ x y kept. inl kept)
+            (λ x y z kept after. KeepsUsed-turns c.heap.range c.heap.next_root b.laid.apart x y kept z after) (matches-two saved at).honest
+            (meanwhile-mid some saved at)
+            (rw (stays-two.range, from) at (flips-meanwhile (stays-two.next_root ∙ sym from) saved (matches-two saved at)));
+        -- what was saved under another root stays there
+        kept = λ root saved at other part within now.
+            let P : Image → Type 0 = heap.Holds part root (epoch_of c) saved in
+            let before = moment-mid some saved at part within now in
+            let from : two.root ≡ root = stays-two.root ∙ at.under in
+            let more = rw (stays-two.range, from, stays-two.epoch) at
+            (flips-kept (λ same. other (sym from ∙ sym same ∙ stays-two.next_root)) saved (matches-two saved at)) in
+            EachImageSince-join old mid new P before (more part within (EachImageSince-now old mid P before (matches-two saved at).honest));
+        others = λ honest.
+            let run = (saves-mid some epoch).others honest in
+            LeavesAlone-join (IsElsewhere (layout_of c)) old mid new run
+            (LeavesAlone-fewer (IsElsewhere (layout_of c)) (λ i. IsKept two i × (i ≢ two.next_root)) mid new
+            (λ i out. (inl (subst (λ (r : Range). IsOutside r i) (sym stays-two.range) out.1), λ same. out.0 (same ∙ stays-two.next_root)))
+            (flips-others run.honest));
+      }
 
     -- the heap that is there then
     module _ (new : Medium) (three : HeapView) (same : three.placed ≡ two.placed) (range : three.range ≡ two.range)
         (table : length three.table ≡ table_sectors_for words) (all : free three + length (used_by three) ≡ three.range.count) where
       pub free-new : free three + sectors_of os ≡ c.heap.range.count
-      free-new = its-free two os p.placed p.sizes three three.range.count same table all ∙ ap (λ (r : Range). r.count) (range ∙ range-two)
+      free-new = its-free two os p.placed p.sizes three three.range.count same table all ∙ ap (λ (r : Range). r.count) (range ∙ stays-two.range)
 
       pub matches-new : three.root ≡ two.next_root → three.next_root ≡ two.next_root
           → ((saved : PlainObjects) → HeapMatches two saved mid → HeapMatches three (map_of two mid) new)
@@ -283,8 +251,5 @@ module _ {size : ℕ} {c : CheckpointView} {os : PlainObjects} {one : HeapView} 
         → third ≡ with_calls (table_sectors_for words + 1) 2 second → (saved : PlainObjects) → CheckpointMatches c saved old
         → third ≡ with_calls (changed_sectors differs os + table_sectors os + 1) 2 first
     writes-new unchanged first second third in_range puts flips saved at =
-        let sum : changed_sectors differs os + (table_sectors_for words + 1) ≡ changed_sectors differs os + table_sectors os + 1 =
-        omega (arith, its-table two os p.placed p.sizes) in
-        calls-more (changed_sectors differs os) (table_sectors_for words + 1) 2 first second third in_range
-        (puts saved (matches-one old saved at) (were-one old saved at differs (unchanged saved at))) flips
-        ∙ ap (λ (n : ℕ). with_calls n 2 first) sum
+        rw (flips, puts saved (matches-one old saved at) (were-one old saved at differs (unchanged saved at)))
+        (counts-calls _ _ _ _ refl (omega (arith, its-table two os p.placed p.sizes)) (omega (arith, in_range.syncs_fit)))

@@ -6,8 +6,8 @@ use Rattle.std.specs.List.{filter}
 use Rattle.std.proofs.lemmas.Bool.Decides.{nat_tests}
 use Rattle.std.proofs.lemmas.List.Elements.{All-cons, All-head, All-nil, All-tail}
 use Rattle.ipc_base.specs.Table.{IsRising, keys_of, value_at, without}
-use Rattle.ipc_base.proofs.CallerLemmas.{entry-at, entry-other, nobody, other_key, rising-entry, rising-found, rising-gone}
-use Rattle.ipc_base.proofs.CallerLemmas.{rising-without, same_key, test_cases, value_at-without}
+use Rattle.ipc_base.proofs.CallerLemmas.{entry-at, entry-other, nobody, other_key, rising-found, rising-gone}
+use Rattle.ipc_base.proofs.CallerLemmas.{same_key, test_cases, value_at-without}
 use Rattle.ipc_heap.specs.Heap.{Placed}
 use Rattle.ipc_heap.specs.View.{with_object}
 
@@ -45,12 +45,6 @@ module _ {X : Type 0} where
 
   pub with-other : (es : List (ℕ × X)) (k j : ℕ) (x : X) → j ≢ k → value_at nat_eq (with_object es k x) j ≡ value_at nat_eq es j
   with-other es k j x apart = entry-other (without nat_eq es k) k j x apart ∙ value_at-without es k j apart
-
-  pub with-rising : (es : List (ℕ × X)) (high k : ℕ) (x : X) → IsRising 0 (keys_of es) high → k < high
-      → IsRising 0 (keys_of (with_object es k x)) high
-  with-rising es high k x rising less =
-      rising-entry 0 (without nat_eq es k) high k x (rising-without 0 es high k rising) (omega arith) less
-      (nobody (value_at nat_eq (without nat_eq es k) k) (rising-gone 0 es high k rising))
 
   -- what is left of a table
   pub filter-at : (kept : ℕ → Bool) (es : List (ℕ × X)) (k : ℕ) → kept k ≡ true

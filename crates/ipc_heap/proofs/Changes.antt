@@ -60,7 +60,7 @@ rising-without low (q ∷ before) here after high one rising = (rising.0, rising
 
 -- ---- the words of objects in a place
 
-module _ (words : List ℕ) (placed : List Placed) (number : ℕ) (place : Place) (are : words ≡ table_words placed) (found : IsPlace placed number place) where
+module _ {words : List ℕ} {placed : List Placed} {number : ℕ} {place : Place} (are : words ≡ table_words placed) (found : IsPlace placed number place) where
   place-table : words ≡ table_words (found.before ++ (found.here ++ found.after))
   place-table = are ∙ ap table_words found.are
 
@@ -141,9 +141,9 @@ others-filtered object (p ∷ ps) other =
     let is : nat_eq p.number object ≡ false = let e = All-head (λ q. q.number ≢ object) p ps other in grind (arith, nat_tests, e) in
     rw is (ap (λ (l : List Placed). p ∷ l) (others-filtered object ps (All-tail (λ q. q.number ≢ object) p ps other)))
 
-pub place-filtered : (placed : List Placed) (object : ℕ) (place : Place) (found : IsPlace placed object place)
+pub place-filtered : {placed : List Placed} {object : ℕ} {place : Place} (found : IsPlace placed object place)
     → found.before ++ found.after ≡ filter (λ p. not (nat_eq p.number object)) placed
-place-filtered placed object place found =
+place-filtered {placed} {object} {place} found =
     let other : Placed → Bool = λ p. not (nat_eq p.number object) in
     let first = others-filtered object found.before
     (All-weaker (λ p. p.number < object) (λ p. p.number ≢ object) (λ p less same. omega (arith, less, same)) found.before found.lower) in
@@ -254,24 +254,34 @@ objects-of {range} {words} {table} {uses} heap = record {
 pub words-of : {range : Range} {words table : Vec ℕ} {uses : List Use} → IsHeap range words table uses → AreWords words.items (placed_in words.items)
 words-of {range} {words} {table} {uses} heap = record { are = heap.is_table; numbers = heap.numbers; sizes = heap.sizes }
 
+-- a heap of these objects
+pub record IsHeapOf (range : Range) (placed : List Placed) (words table : Vec ℕ) (uses : List Use) : Type 0 where
+  pub heap : IsHeap range words table uses
+  pub objects : AreObjectsOf range placed uses
+  pub placed_is : placed_in words.items ≡ placed
+
 -- it is made of its objects
 pub heap-of : (range : Range) (placed : List Placed) (words table : Vec ℕ) (uses : List Use) → words.items ≡ table_words placed
     → AreObjectsOf range placed uses → All (IsInside range) table.items → length uses ≡ range.count
-    → 5 * range.count + 5 ≤ vec_capacity words → table_sectors_for (5 * range.count + 5) ≤ vec_capacity table → IsHeap range words table uses
+    → 5 * range.count + 5 ≤ vec_capacity words → table_sectors_for (5 * range.count + 5) ≤ vec_capacity table → IsHeapOf range placed words table uses
 heap-of range placed words table uses are objects table_within all_uses room table_room =
-    let is : placed ≡ placed_in words.items = sym (ap placed_in are ∙ placed_in-table placed (sized-of placed objects.sizes)) in
-    let here : AreObjectsOf range (placed_in words.items) uses = subst (λ (l : List Placed). AreObjectsOf range l uses) is objects in
+    let is : placed_in words.items ≡ placed = ap placed_in are ∙ placed_in-table placed (sized-of placed objects.sizes) in
+    let here : AreObjectsOf range (placed_in words.items) uses = subst (λ (l : List Placed). AreObjectsOf range l uses) (sym is) objects in
     record {
-      is_table = are ∙ ap table_words is;
-      numbers = here.numbers;
-      sizes = here.sizes;
-      inside = here.inside;
-      once = here.once;
-      table_within = table_within;
-      all_uses = all_uses;
-      next_uses = noted-to (λ u. u.next) range.first uses (object_sectors (placed_in words.items)) here.noted;
-      room = room;
-      table_room = table_room;
+      heap = record {
+        is_table = are ∙ ap table_words (sym is);
+        numbers = here.numbers;
+        sizes = here.sizes;
+        inside = here.inside;
+        once = here.once;
+        table_within = table_within;
+        all_uses = all_uses;
+        next_uses = noted-to (λ u. u.next) range.first uses (object_sectors (placed_in words.items)) here.noted;
+        room = room;
+        table_room = table_room;
+      };
+      objects = objects;
+      placed_is = is;
     }
 
 -- ---- how many there are
@@ -287,7 +297,7 @@ few-objects (p ∷ ps) sizes =
     let here = All-head HasSize p ps sizes in
     omega (arith, few-objects ps (All-tail HasSize p ps sizes), length-append p.sectors (object_sectors ps), here.0, here.2)
 
-module _ (range : Range) (placed : List Placed) (uses : List Use) (objects : AreObjectsOf range placed uses) (all : length uses ≡ range.count) where
+module _ {range : Range} {placed : List Placed} {uses : List Use} (objects : AreObjectsOf range placed uses) (all : length uses ≡ range.count) where
   -- no sector is counted twice
   pub free-fit : length (object_sectors placed) + count_by is_free uses ≤ range.count
   free-fit =
@@ -310,11 +320,25 @@ module _ (range : Range) (placed : List Placed) (uses : List Use) (objects : Are
 
 -- ---- an object is taken out
 
-module _ (range : Range) (placed : List Placed) (old new : List Use) (object : ℕ) (place : Place) (found : IsPlace placed object place)
-    (objects : AreObjectsOf range placed old) (given : AreGiven range.first old (object_sectors found.here) new) where
-  pub objects-without : AreObjectsOf range (found.before ++ found.after) new
-  objects-without =
-      let parts : object_sectors placed ≡ object_sectors found.before ++ (object_sectors found.here ++ object_sectors found.after) =
+-- the sectors of the object at a place are inside
+pub here-inside : (range : Range) {placed : List Placed} {object : ℕ} {place : Place} (found : IsPlace placed object place)
+    → All (IsInside range) (object_sectors placed) → All (IsInside range) (object_sectors found.here)
+here-inside range {placed} {object} {place} found inside =
+    let parts : object_sectors placed ≡ object_sectors found.before ++ (object_sectors found.here ++ object_sectors found.after) =
+    ap object_sectors found.are ∙ sectors-three found.before found.here found.after in
+    all-left (IsInside range) (object_sectors found.here) (object_sectors found.after)
+    (all-right (IsInside range) (object_sectors found.before) (object_sectors found.here ++ object_sectors found.after)
+    (subst (All (IsInside range)) parts inside))
+
+module _ {range : Range} {words table : Vec ℕ} {uses : List Use} {object : ℕ} {place : Place} (new_words : Vec ℕ) (new_uses : List Use)
+    (heap : IsHeap range words table uses)
+    (found : IsPlace (placed_in words.items) object place) (given : AreGiven range.first uses (object_sectors found.here) new_uses)
+    (now : new_words.items ≡ replaced words.items place [] (slice_index words.items 0 - min place.len 1))
+    (room : vec_capacity new_words ≡ vec_capacity words) where
+  removed-objects : AreObjectsOf range (found.before ++ found.after) new_uses
+  removed-objects =
+      let objects = objects-of heap in
+      let parts : object_sectors (placed_in words.items) ≡ object_sectors found.before ++ (object_sectors found.here ++ object_sectors found.after) =
       ap object_sectors found.are ∙ sectors-three found.before found.here found.after in
       let two = sectors-two found.before found.after in
       let sizes = subst (All HasSize) found.are objects.sizes in
@@ -332,44 +356,17 @@ module _ (range : Range) (placed : List Placed) (old new : List Use) (object : �
             (all-right (IsInside range) (object_sectors found.before) (object_sectors found.here ++ object_sectors found.after) inside)));
         once = subst (IsDistinct nat_eq) (sym two)
             (distinct-out (object_sectors found.before) (object_sectors found.here) (object_sectors found.after) once);
-        noted = subst (AreNoted range.first (next_bits new)) (sym two)
-            (noted-given range.first old new (object_sectors found.before ++ (object_sectors found.here ++ object_sectors found.after))
+        noted = subst (AreNoted range.first (next_bits new_uses)) (sym two)
+            (noted-given range.first uses new_uses (object_sectors found.before ++ (object_sectors found.here ++ object_sectors found.after))
             (object_sectors found.here)
-            (object_sectors found.before ++ object_sectors found.after) (subst (AreNoted range.first (next_bits old)) parts objects.noted) given
+            (object_sectors found.before ++ object_sectors found.after) (subst (AreNoted range.first (next_bits uses)) parts objects.noted) given
             (middle-out (object_sectors found.before) (object_sectors found.here) (object_sectors found.after) once));
       }
 
--- the sectors of the object at a place are inside
-pub here-inside : (range : Range) (placed : List Placed) (object : ℕ) (place : Place) (found : IsPlace placed object place)
-    → All (IsInside range) (object_sectors placed) → All (IsInside range) (object_sectors found.here)
-here-inside range placed object place found inside =
-    let parts : object_sectors placed ≡ object_sectors found.before ++ (object_sectors found.here ++ object_sectors found.after) =
-    ap object_sectors found.are ∙ sectors-three found.before found.here found.after in
-    all-left (IsInside range) (object_sectors found.here) (object_sectors found.after)
-    (all-right (IsInside range) (object_sectors found.before) (object_sectors found.here ++ object_sectors found.after)
-    (subst (All (IsInside range)) parts inside))
-
-module _ {range : Range} {words table : Vec ℕ} {uses : List Use} {object : ℕ} {place : Place} (new_words : Vec ℕ) (new_uses : List Use)
-    (heap : IsHeap range words table uses)
-    (found : IsPlace (placed_in words.items) object place) (given : AreGiven range.first uses (object_sectors found.here) new_uses)
-    (now : new_words.items ≡ replaced words.items place [] (slice_index words.items 0 - min place.len 1))
-    (room : vec_capacity new_words ≡ vec_capacity words) where
-  removed-table : new_words.items ≡ table_words (found.before ++ found.after)
-  removed-table = now ∙ taken-table words.items (placed_in words.items) object place heap.is_table found
-
-  removed-objects : AreObjectsOf range (found.before ++ found.after) new_uses
-  removed-objects =
-      objects-without range (placed_in words.items) uses new_uses object place found (objects-of heap) given
-
-  pub removed-heap : IsHeap range new_words table new_uses
+  pub removed-heap : IsHeapOf range (found.before ++ found.after) new_words table new_uses
   removed-heap =
-      heap-of range (found.before ++ found.after) new_words table new_uses removed-table removed-objects heap.table_within (given.long ∙ heap.all_uses)
-      (omega (arith, heap.room, room)) heap.table_room
-
-  pub removed-placed : placed_in new_words.items ≡ filter (λ p. not (nat_eq p.number object)) (placed_in words.items)
-  removed-placed =
-      ap placed_in removed-table ∙ placed_in-table (found.before ++ found.after) (sized-of (found.before ++ found.after) removed-objects.sizes)
-      ∙ place-filtered (placed_in words.items) object place found
+      heap-of range (found.before ++ found.after) new_words table new_uses (now ∙ taken-table heap.is_table found) removed-objects heap.table_within
+      (given.long ∙ heap.all_uses) (omega (arith, heap.room, room)) heap.table_room
 
 -- ---- an object is put in
 
@@ -393,26 +390,33 @@ distinct-in a n c once new apart =
     (distinct-append n c new (distinct-right a c once) (λ x there also. apart x there (Contains-append_right a c x also)))
     (λ x first rest. ⊎_elim (λ mid. apart x mid (Contains-append_left a c x first)) (distinct-apart a c once x first) (Contains-append_cases n c x rest))
 
-module _ (range : Range) (placed : List Placed) (old mid new : List Use) (p : Placed) (place : Place) (found : IsPlace placed p.number place)
-    (objects : AreObjectsOf range placed old) (taken : AreTaken range.first old p.sectors mid)
-    (given : AreGiven range.first mid (object_sectors found.here) new)
-    (size : HasSize p) (number : p.number < 2 ^ 64) (all : length old ≡ range.count) where
-  pub taken-apart : (x : ℕ) → Contains p.sectors x → Contains (object_sectors placed) x → ⊥
-  taken-apart x there =
-      free-apart range.first old (object_sectors placed) objects.noted x (All-contains (WasFree range.first old) p.sectors x taken.were_free there)
+-- sectors that were free are inside
+pub free-inside : (range : Range) (uses : List Use) (sectors : List ℕ) → length uses ≡ range.count → All (WasFree range.first uses) sectors
+    → All (IsInside range) sectors
+free-inside range uses sectors all free =
+    All-weaker (WasFree range.first uses) (IsInside range)
+    (λ s was. (was.0, omega (arith, was.0, slice_get_within uses (s - range.first) was.1 was.2, all))) sectors free
 
-  pub objects-with : AreObjectsOf range (found.before ++ p ∷ found.after) new
-  objects-with =
+module _ {range : Range} {words table : Vec ℕ} {uses mid : List Use} {place : Place} (new_words : Vec ℕ) (new_uses : List Use) (p : Placed)
+    (heap : IsHeap range words table uses)
+    (found : IsPlace (placed_in words.items) p.number place) (taken : AreTaken range.first uses p.sectors mid)
+    (given : AreGiven range.first mid (object_sectors found.here) new_uses) (size : HasSize p) (number : p.number < 2 ^ 64)
+    (now : new_words.items ≡ replaced words.items place (object_words p) (slice_index words.items 0 + (1 - place.len)))
+    (room : vec_capacity new_words ≡ vec_capacity words) where
+  with-objects : AreObjectsOf range (found.before ++ p ∷ found.after) new_uses
+  with-objects =
+      let objects = objects-of heap in
       let b : List ℕ = object_sectors found.before in
       let h : List ℕ = object_sectors found.here in
       let a : List ℕ = object_sectors found.after in
-      let parts : object_sectors placed ≡ b ++ (h ++ a) = ap object_sectors found.are ∙ sectors-three found.before found.here found.after in
+      let parts : object_sectors (placed_in words.items) ≡ b ++ (h ++ a) = ap object_sectors found.are ∙ sectors-three found.before found.here found.after in
       let three : object_sectors (found.before ++ p ∷ found.after) ≡ b ++ (p.sectors ++ a) = sectors-two found.before (p ∷ found.after) in
       let sizes = subst (All HasSize) found.are objects.sizes in
       let inside = subst (All (IsInside range)) parts objects.inside in
       let once = subst (IsDistinct nat_eq) parts objects.once in
       let apart : (x : ℕ) → Contains p.sectors x → Contains (b ++ (h ++ a)) x → ⊥ =
-      λ x there also. taken-apart x there (subst (λ (l : List ℕ). Contains l x) (sym parts) also) in
+      λ x there also. free-apart range.first uses (object_sectors (placed_in words.items)) objects.noted x
+      (All-contains (WasFree range.first uses) p.sectors x taken.were_free there) (subst (λ (l : List ℕ). Contains l x) (sym parts) also) in
       let out = middle-out b h a once in
       record {
         numbers = rising-put 0 found.before found.after p (2 ^ 64)
@@ -425,14 +429,13 @@ module _ (range : Range) (placed : List Placed) (old mid new : List Use) (p : Pl
         inside = subst (All (IsInside range)) (sym three)
             (All-append (IsInside range) b (p.sectors ++ a) (all-left (IsInside range) b (h ++ a) inside)
             (All-append (IsInside range) p.sectors a
-            (All-weaker (WasFree range.first old) (IsInside range)
-            (λ s free. (free.0, omega (arith, free.0, slice_get_within old (s - range.first) free.1 free.2, all))) p.sectors taken.were_free)
+            (free-inside range uses p.sectors heap.all_uses taken.were_free)
             (all-right (IsInside range) h a (all-right (IsInside range) b (h ++ a) inside))));
         once = subst (IsDistinct nat_eq) (sym three)
             (distinct-in b p.sectors a (distinct-out b h a once) taken.once (λ x there also. apart x there ((out x).0 also).0));
-        noted = subst (AreNoted range.first (next_bits new)) (sym three)
-            (noted-given range.first mid new ((b ++ (h ++ a)) ++ p.sectors) h (b ++ (p.sectors ++ a))
-            (noted-taken range.first old mid (b ++ (h ++ a)) p.sectors (subst (AreNoted range.first (next_bits old)) parts objects.noted) taken) given
+        noted = subst (AreNoted range.first (next_bits new_uses)) (sym three)
+            (noted-given range.first mid new_uses ((b ++ (h ++ a)) ++ p.sectors) h (b ++ (p.sectors ++ a))
+            (noted-taken range.first uses mid (b ++ (h ++ a)) p.sectors (subst (AreNoted range.first (next_bits uses)) parts objects.noted) taken) given
             (λ x. (
               λ there. ⊎_elim
                   (λ first. let both = (out x).0 (Contains-append_left b a x first) in (Contains-append_left (b ++ (h ++ a)) p.sectors x both.0, both.1))
@@ -452,6 +455,11 @@ module _ (range : Range) (placed : List Placed) (old mid new : List Use) (p : Pl
                   (Contains-append_cases (b ++ (h ++ a)) p.sectors x both.0),
             )));
       }
+
+  pub with-heap : IsHeapOf range (found.before ++ p ∷ found.after) new_words table new_uses
+  with-heap =
+      heap-of range (found.before ++ p ∷ found.after) new_words table new_uses (now ∙ put-table heap.is_table found p) with-objects heap.table_within
+      (given.long ∙ taken.long ∙ heap.all_uses) (omega (arith, heap.room, room)) heap.table_room
 
 -- sectors that were taken and given back leave the objects as they were
 pub objects-back : (range : Range) (placed : List Placed) (old mid near new : List Use) (sectors : List ℕ) → AreObjectsOf range placed old
@@ -474,45 +482,15 @@ objects-back range placed old mid near new sectors objects taken same given = re
       ));
 }
 
--- sectors that were free are inside
-pub free-inside : (range : Range) (uses : List Use) (sectors : List ℕ) → length uses ≡ range.count → All (WasFree range.first uses) sectors
-    → All (IsInside range) sectors
-free-inside range uses sectors all free =
-    All-weaker (WasFree range.first uses) (IsInside range)
-    (λ s was. (was.0, omega (arith, was.0, slice_get_within uses (s - range.first) was.1 was.2, all))) sectors free
-
-module _ {range : Range} {words table : Vec ℕ} {uses mid : List Use} {place : Place} (new_words : Vec ℕ) (new_uses : List Use) (p : Placed)
-    (heap : IsHeap range words table uses)
-    (found : IsPlace (placed_in words.items) p.number place) (taken : AreTaken range.first uses p.sectors mid)
-    (given : AreGiven range.first mid (object_sectors found.here) new_uses) (size : HasSize p) (number : p.number < 2 ^ 64)
-    (now : new_words.items ≡ replaced words.items place (object_words p) (slice_index words.items 0 + (1 - place.len)))
-    (room : vec_capacity new_words ≡ vec_capacity words) where
-  with-table : new_words.items ≡ table_words (found.before ++ p ∷ found.after)
-  with-table = now ∙ put-table words.items (placed_in words.items) p.number place heap.is_table found p
-
-  pub with-objects : AreObjectsOf range (found.before ++ p ∷ found.after) new_uses
-  with-objects =
-      objects-with range (placed_in words.items) uses mid new_uses p place found
-      (objects-of heap) taken given size number heap.all_uses
-
-  pub with-heap : IsHeap range new_words table new_uses
-  with-heap =
-      heap-of range (found.before ++ p ∷ found.after) new_words table new_uses with-table with-objects heap.table_within
-      (given.long ∙ taken.long ∙ heap.all_uses)
-      (omega (arith, heap.room, room)) heap.table_room
-
-  pub with-placed : placed_in new_words.items ≡ found.before ++ p ∷ found.after
-  with-placed = ap placed_in with-table ∙ placed_in-table (found.before ++ p ∷ found.after) (sized-of (found.before ++ p ∷ found.after) with-objects.sizes)
-
 -- what was taken for an object that is not put is given back
 pub back-heap : {range : Range} {words table : Vec ℕ} {uses mid : List Use} {sectors : List ℕ} (new_words : Vec ℕ) (new_uses : List Use)
     → IsHeap range words table uses
     → AreTaken range.first uses sectors mid → AreGiven range.first mid sectors new_uses → new_words.items ≡ words.items
     → vec_capacity new_words ≡ vec_capacity words → IsHeap range new_words table new_uses
 back-heap {range} {words} {table} {uses} {mid} {sectors} new_words new_uses heap taken given now room =
-    heap-of range (placed_in words.items) new_words table new_uses (now ∙ heap.is_table)
+    (heap-of range (placed_in words.items) new_words table new_uses (now ∙ heap.is_table)
     (objects-back range (placed_in words.items) uses mid mid new_uses sectors (objects-of heap) taken refl given)
-    heap.table_within (given.long ∙ taken.long ∙ heap.all_uses) (omega (arith, heap.room, room)) heap.table_room
+    heap.table_within (given.long ∙ taken.long ∙ heap.all_uses) (omega (arith, heap.room, room)) heap.table_room).heap
 
 -- ---- a heap is turned over
 
@@ -528,14 +506,12 @@ module _ {range : Range} {words table : Vec ℕ} {uses mid near : List Use} (new
     (heap : IsHeap range words table uses)
     (taken : AreTaken range.first uses new_table.items mid) (same : next_bits near ≡ next_bits mid) (long : length near ≡ length mid)
     (given : AreGiven range.first near new_table.items new_uses) (room : vec_capacity new_table ≡ vec_capacity table) where
-  table-inside : All (IsInside range) new_table.items
-  table-inside = free-inside range uses new_table.items heap.all_uses taken.were_free
-
   pub flipped-heap : IsHeap range words new_table new_uses
   flipped-heap =
-      heap-of range (placed_in words.items) words new_table new_uses heap.is_table
+      (heap-of range (placed_in words.items) words new_table new_uses heap.is_table
       (objects-back range (placed_in words.items) uses mid near new_uses new_table.items (objects-of heap) taken same given)
-      table-inside (given.long ∙ long ∙ taken.long ∙ heap.all_uses) heap.room (omega (arith, heap.table_room, room))
+      (free-inside range uses new_table.items heap.all_uses taken.were_free) (given.long ∙ long ∙ taken.long ∙ heap.all_uses) heap.room
+      (omega (arith, heap.table_room, room))).heap
 
 module _ {range : Range} {words table : Vec ℕ} {new_table : List ℕ} {uses mid : List Use} (heap : IsHeap range words table uses)
     (taken : AreTaken range.first uses new_table mid) where
@@ -587,17 +563,12 @@ module _ {range : Range} {words table : Vec ℕ} {new_table : List ℕ} {uses mi
 pub heap-fits : {range : Range} {words table : Vec ℕ} {uses : List Use} → IsHeap range words table uses
     → length words.items + 4 + count_by is_free uses ≤ vec_capacity words
 heap-fits {range} {words} {table} {uses} heap =
-    let fit = words-fit range (placed_in words.items) uses (objects-of heap) heap.all_uses in
-    omega (arith, fit, heap.room, ap length heap.is_table)
+    omega (arith, words-fit (objects-of heap) heap.all_uses, heap.room, ap length heap.is_table)
 
 -- and few objects
 pub heap-few : {range : Range} {words table : Vec ℕ} {uses : List Use} → IsHeap range words table uses → slice_index words.items 0 ≤ range.count
 heap-few {range} {words} {table} {uses} heap =
-    omega (
-      arith,
-      ap (λ (l : List ℕ). slice_index l 0) heap.is_table,
-      objects-few range (placed_in words.items) uses (objects-of heap) heap.all_uses,
-    )
+    omega (arith, ap (λ (l : List ℕ). slice_index l 0) heap.is_table, objects-few (objects-of heap) heap.all_uses)
 
 -- the words of an object that were pushed, one after another
 module _ (ws one two all : List ℕ) (p : Placed) (first : one ≡ ws ++ p.number / 2 ^ 32 ∷ p.number % 2 ^ 32 ∷ [])
@@ -621,4 +592,4 @@ module _ (ws one two all : List ℕ) (p : Placed) (first : one ≡ ws ++ p.numbe
 -- and how many words there are
 pub words-room : {range : Range} {words table : Vec ℕ} {uses : List Use} → IsHeap range words table uses → length words.items ≤ 5 * range.count + 1
 words-room {range} {words} {table} {uses} heap =
-    omega (arith, words-fit range (placed_in words.items) uses (objects-of heap) heap.all_uses, ap length heap.is_table)
+    omega (arith, words-fit (objects-of heap) heap.all_uses, ap length heap.is_table)

@@ -78,7 +78,7 @@ rising-before low (q ∷ before) p after high rising =
 
 -- ---- what stands there
 
-module _ (range : Range) (root epoch : ℕ) (a : Allocation) (objects : PlainObjects) (image : Image) (h : HoldsIn range root epoch a objects image) where
+module _ {range : Range} {root epoch : ℕ} {a : Allocation} {objects : PlainObjects} {image : Image} (h : HoldsIn range root epoch a objects image) where
   abbrev start : ℕ
   start = first_in (sector_at image root)
 
@@ -179,7 +179,7 @@ module _ (range : Range) (root epoch : ℕ) (a : Allocation) (objects : PlainObj
   all-sized : All IsSized a.placed
   all-sized k d lt = (h.allocated.sizes k d lt).2
 
-  module _ (table rest : List ℕ) (placed : List Placed) (is : IsTable range root image table)
+  module _ {table rest : List ℕ} {placed : List Placed} (is : IsTable range root image table)
       (are : AreFirstObjects range table (words table) placed rest) where
     count : get_or (words table) 0 0 ≡ length a.placed
     count = ap (λ (l : List ℕ). get_or l 0 0) (words-same table is)
@@ -213,12 +213,12 @@ module _ (range : Range) (root epoch : ℕ) (a : Allocation) (objects : PlainObj
           let rising = subst (λ (l : List Placed). IsRising 0 (map (λ q. q.number) l) (2 ^ 64)) split h.allocated.numbers in
           omega (arith, number, low, rising-before 0 placed y more (2 ^ 64) rising k p lt, ap (λ (q : Placed). q.number) at)
 
-      module _ (before : List ℕ) (next : ℕ) (has : HasSectors range table placed rest before next) where
+      module _ {before : List ℕ} {next : ℕ} (has : HasSectors range table placed rest before next) where
         abbrev n : ℕ
         n = length before + 1
 
-        abbrev others : List ℕ
-        others = drop n y.sectors ++ object_sectors more
+        abbrev following : List ℕ
+        following = drop n y.sectors ++ object_sectors more
 
         -- the sector is one of this object's
         its-sectors : y.sectors ≡ (before ++ next ∷ []) ++ drop n y.sectors
@@ -228,25 +228,25 @@ module _ (range : Range) (root epoch : ℕ) (a : Allocation) (objects : PlainObj
             ∙ ap (λ (l : List ℕ). l ++ drop n y.sectors)
             (sym (take-append-le n y.sectors after fits) ∙ ap (λ (l : List ℕ). take n (drop 4 l)) (sym left) ∙ has.are)
 
-        all-are : used a ≡ ((object_sectors placed ++ before) ++ next ∷ others) ++ a.table
+        all-are : used a ≡ ((object_sectors placed ++ before) ++ next ∷ following) ++ a.table
         all-are =
-            let here : y.sectors ++ object_sectors more ≡ before ++ next ∷ others =
+            let here : y.sectors ++ object_sectors more ≡ before ++ next ∷ following =
             ap (λ (l : List ℕ). l ++ object_sectors more) its-sectors ∙ append_assoc (before ++ next ∷ []) (drop n y.sectors) (object_sectors more)
-            ∙ append_assoc before (next ∷ []) others in
+            ∙ append_assoc before (next ∷ []) following in
             ap (λ (l : List ℕ). l ++ a.table)
             (ap object_sectors split ∙ flat_map-append (λ (p : Placed). p.sectors) placed (y ∷ more)
-            ∙ ap (λ (l : List ℕ). object_sectors placed ++ l) here ∙ sym (append_assoc (object_sectors placed) before (next ∷ others)))
+            ∙ ap (λ (l : List ℕ). object_sectors placed ++ l) here ∙ sym (append_assoc (object_sectors placed) before (next ∷ following)))
 
-        its-own : Contains ((object_sectors placed ++ before) ++ next ∷ others) next
-        its-own = Contains-append_right (object_sectors placed ++ before) (next ∷ others) next (in-first next others)
+        its-own : Contains ((object_sectors placed ++ before) ++ next ∷ following) next
+        its-own = Contains-append_right (object_sectors placed ++ before) (next ∷ following) next (in-first next following)
 
         not-twice : Contains ((object_sectors placed ++ before) ++ table) next → ⊥
         not-twice there =
             let once = subst (IsDistinct nat_eq) all-are h.allocated.once in
             ⊎_elim
-            (λ before-it. distinct-apart (object_sectors placed ++ before) (next ∷ others)
-            (distinct-left ((object_sectors placed ++ before) ++ next ∷ others) a.table once) next before-it (in-first next others))
-            (λ of-table. distinct-apart ((object_sectors placed ++ before) ++ next ∷ others) a.table once next its-own
+            (λ before-it. distinct-apart (object_sectors placed ++ before) (next ∷ following)
+            (distinct-left ((object_sectors placed ++ before) ++ next ∷ following) a.table once) next before-it (in-first next following))
+            (λ of-table. distinct-apart ((object_sectors placed ++ before) ++ next ∷ following) a.table once next its-own
             (subst (λ (l : List ℕ). Contains l next) (table-same table is) of-table))
             (Contains-append_cases (object_sectors placed ++ before) table next there)
 
@@ -254,7 +254,7 @@ module _ (range : Range) (root epoch : ℕ) (a : Allocation) (objects : PlainObj
         not-outside outside =
             outside (All-contains (IsInside range) (used a) next h.allocated.inside
             (subst (λ (l : List ℕ). Contains l next) (sym all-are)
-            (Contains-append_left ((object_sectors placed ++ before) ++ next ∷ others) a.table next its-own)))
+            (Contains-append_left ((object_sectors placed ++ before) ++ next ∷ following) a.table next its-own)))
 
     -- what comes next is one of the objects
     next-object : {P : Type 0} → length placed < get_or (words table) 0 0
@@ -285,14 +285,14 @@ module _ (range : Range) (root epoch : ℕ) (a : Allocation) (objects : PlainObj
 pub HoldsIn-one : (range : Range) (root epoch other : ℕ) (a b : Allocation) (objects others : PlainObjects) (image : Image)
     → HoldsIn range root epoch a objects image → HoldsIn range root other b others image → a ≡ b
 HoldsIn-one range root epoch other a b objects others image one two =
-    let is : IsTable range root image a.table = holds-table range root epoch a objects image one in
+    let is : IsTable range root image a.table = holds-table one in
     let words : table_words a.placed ≡ table_words b.placed =
-    sym (words-same range root epoch a objects image one a.table is) ∙ words-same range root other b others image two a.table is in
+    sym (words-same one a.table is) ∙ words-same two a.table is in
     let placed : a.placed ≡ b.placed =
     sym (placed_in-table a.placed (λ k d lt. (one.allocated.sizes k d lt).2)) ∙ ap placed_in words
     ∙ placed_in-table b.placed (λ k d lt. (two.allocated.sizes k d lt).2) in
     let new : List Placed → List ℕ → Allocation = λ ps ss. record { placed = ps; table = ss } in
-    ap (new a.placed) (table-same range root other b others image two a.table is) ∙ ap (λ (ps : List Placed). new ps b.table) placed
+    ap (new a.placed) (table-same two a.table is) ∙ ap (λ (ps : List Placed). new ps b.table) placed
 
 pub Holds-one : (range : Range) (root epoch other : ℕ) (objects others : PlainObjects) (image : Image) → Holds range root epoch objects image
     → Holds range root other others image → (epoch ≡ other) × (objects ≡ others)
@@ -305,19 +305,16 @@ Holds-one range root epoch other objects others image one two =
 
 pub no-damage : (range : Range) (root : ℕ) (image : Image) (sector : ℕ) → IsFirstDamage range root image sector → (epoch : ℕ) (objects : PlainObjects)
     → Holds range root epoch objects image → ⊥
-no-damage range root image sector (Root none) epoch objects holds = none (is-root range root epoch holds.allocation objects image holds.there)
-no-damage range root image sector (Next table root-is are less bad) epoch objects holds =
-    not-next range root epoch holds.allocation objects image holds.there table are less bad
-no-damage range root image sector (Last table root-is are all more) epoch objects holds =
-    not-last range root epoch holds.allocation objects image holds.there table are all more
+no-damage range root image sector (Root none) epoch objects holds = none (is-root holds.there)
+no-damage range root image sector (Next table root-is are less bad) epoch objects holds = not-next holds.there table are less bad
+no-damage range root image sector (Last table root-is are all more) epoch objects holds = not-last holds.there table are all more
 no-damage range root image sector (Object table rest placed is are less broken) epoch objects holds =
-    next-object range root epoch holds.allocation objects image holds.there table rest placed is are less (λ y more split left.
-    not-broken range root epoch holds.allocation objects image holds.there table rest placed is are y more split left broken)
+    next-object holds.there is are less (λ y more split left.
+    not-broken holds.there is are y more split left broken)
 no-damage range root image sector (Twice table rest before next placed is are less all has inside there) epoch objects holds =
-    next-object range root epoch holds.allocation objects image holds.there table rest placed is are less (λ y more split left.
-    not-twice range root epoch holds.allocation objects image holds.there table rest placed is are y more split left before next has there)
+    next-object holds.there is are less (λ y more split left.
+    not-twice holds.there is are y more split left has there)
 no-damage range root image sector (Outside table rest before next placed is are less all has outside) epoch objects holds =
-    next-object range root epoch holds.allocation objects image holds.there table rest placed is are less (λ y more split left.
-    not-outside range root epoch holds.allocation objects image holds.there table rest placed is are y more split left before next has outside)
-no-damage range root image sector (Rest table rest placed is are all bad) epoch objects holds =
-    not-rest range root epoch holds.allocation objects image holds.there table rest placed is are all bad
+    next-object holds.there is are less (λ y more split left.
+    not-outside holds.there is are y more split left has outside)
+no-damage range root image sector (Rest table rest placed is are all bad) epoch objects holds = not-rest holds.there is are all bad

@@ -16,6 +16,8 @@ use Rattle.ipc_disk.specs.Since.{EachImageSince, LeavesAlone, SameAt}
 use Rattle.ipc_disk.specs.Standing.{sector_at}
 use Rattle.ipc_disk.proofs.CallerLemmas.{EachImageSince-now, LeavesAlone-keeps, sector_at-same}
 use Rattle.ipc_heap.specs.declared.uses.Use.{Use}
+use Rattle.ipc_heap.specs.declared.words.Place.{Place}
+use Rattle.ipc_heap.specs.Relations.Words.{IsPlace}
 use Rattle.ipc_heap.specs.Heap.{Allocation, HoldsIn, Placed, epoch_in, first_in, len_in, next_in, words_in, object_on, object_sectors}
 use Rattle.ipc_heap.specs.Heap.{table_words, used, words_at}
 use Rattle.ipc_heap.specs.Matches.{HeapMatches}
@@ -170,59 +172,55 @@ module _ {X : Type 0} (n : ℕ) (x : X) where
 
 -- ---- the map after a put
 
--- whatever is seen of its objects
-module _ {X : Type 0} (see : Placed → X) (before here after : List Placed) (p : Placed) (found_lower : All (λ q. q.number < p.number) before)
-    (found_same : All (λ q. q.number ≡ p.number) here) (found_one : length here ≤ 1) (found_higher : All (λ q. p.number < q.number) after) where
-  pub put-seen : map (λ q. (q.number, see q)) (before ++ p ∷ after)
-      ≡ with_object (map (λ q. (q.number, see q)) (before ++ (here ++ after))) p.number (see p)
-  put-seen =
-      let f : Placed → ℕ × X = λ q. (q.number, see q) in
-      let parts : map f (before ++ (here ++ after)) ≡ map f before ++ (map f here ++ map f after) =
-      map-append f before (here ++ after) ∙ ap (λ (l : List (ℕ × X)). map f before ++ l) (map-append f here after) in
-      map-append f before (p ∷ after)
-      ∙ sym (ap (λ (l : List (ℕ × X)). with_object l p.number (see p)) parts
-      ∙ with_object-place p.number (see p) (map f before) (map f here) (map f after) (omega (arith, length-map here f, found_one))
-      (All-map (λ e. e.0 < p.number) f before found_lower) (All-map (λ e. e.0 ≡ p.number) f here found_same)
-      (All-map (λ e. p.number < e.0) f after found_higher))
-
 keys-on : (image : Image) (ps : List Placed) → keys_of (map (object_on image) ps) ≡ map (λ p. p.number) ps
 keys-on image [] = refl
 keys-on image (p ∷ ps) = ap (λ (l : List ℕ). p.number ∷ l) (keys-on image ps)
 
-module _ (image : Image) (before here after : List Placed) (p : Placed) (bytes : List ℕ) (found_lower : All (λ q. q.number < p.number) before)
-    (found_same : All (λ q. q.number ≡ p.number) here) (found_one : length here ≤ 1) (found_higher : All (λ q. p.number < q.number) after)
-    (stands : take p.len (flat_map (sector_at image) p.sectors) ≡ bytes) where
-  pub put-map : map (object_on image) (before ++ p ∷ after) ≡ with_object (map (object_on image) (before ++ (here ++ after))) p.number bytes
-  put-map =
-      put-seen (λ q. take q.len (flat_map (sector_at image) q.sectors)) before here after p found_lower found_same found_one found_higher
-      ∙ ap (with_object (map (object_on image) (before ++ (here ++ after))) p.number) stands
+module _ {placed : List Placed} {place : Place} (p : Placed) (found : IsPlace placed p.number place) where
+  map-parts : {Y : Type 0} (f : Placed → Y) → map f placed ≡ map f found.before ++ (map f found.here ++ map f found.after)
+  map-parts {Y} f =
+      ap (map f) found.are ∙ map-append f found.before (found.here ++ found.after)
+      ∙ ap (λ (l : List Y). map f found.before ++ l) (map-append f found.here found.after)
 
-  -- they are objects
-  pub put-are : AreObjects (map (object_on image) (before ++ (here ++ after))) → IsRising 0 (map (λ q. q.number) (before ++ p ∷ after)) (2 ^ 64)
-      → 0 < length bytes → length bytes < 2 ^ 64 → length (before ++ p ∷ after) < 2 ^ 32 → AreObjects (map (object_on image) (before ++ p ∷ after))
-  put-are are rising some short few =
-      let f : Placed → ℕ × List ℕ = object_on image in
-      let parts : map f (before ++ (here ++ after)) ≡ map f before ++ (map f here ++ map f after) =
-      map-append f before (here ++ after) ∙ ap (λ (l : PlainObjects). map f before ++ l) (map-append f here after) in
-      let new : map f (before ++ p ∷ after) ≡ map f before ++ (p.number, bytes) ∷ map f after =
-      map-append f before (p ∷ after) ∙ ap (λ (b : List ℕ). map f before ++ (p.number, b) ∷ map f after) stands in
-      record {
-        numbers = subst (λ (l : List ℕ). IsRising 0 l (2 ^ 64)) (sym (keys-on image (before ++ p ∷ after))) rising;
-        some = all-put (λ o. 0 < length o.1) (subst (All (λ o. 0 < length o.1)) parts are.some) some new;
-        lengths = all-put (λ o. length o.1 < 2 ^ 64) (subst (All (λ o. length o.1 < 2 ^ 64)) parts are.lengths) short new;
-        count = omega (arith, few, length-map (before ++ p ∷ after) f);
-      }
-    where
-      all-put : (P : ℕ × List ℕ → Type 0) → All P (map (object_on image) before ++ (map (object_on image) here ++ map (object_on image) after))
-          → P (p.number, bytes)
-          → map (object_on image) (before ++ p ∷ after) ≡ map (object_on image) before ++ (p.number, bytes) ∷ map (object_on image) after
-          → All P (map (object_on image) (before ++ p ∷ after))
-      all-put P all mine new =
-          let f : Placed → ℕ × List ℕ = object_on image in
-          subst (All P) (sym new)
-          (All-append P (map f before) ((p.number, bytes) ∷ map f after) (all-left P (map f before) (map f here ++ map f after) all)
-          (All-cons P (p.number, bytes) (map f after) mine
-          (all-right P (map f here) (map f after) (all-right P (map f before) (map f here ++ map f after) all))))
+  -- whatever is seen of its objects
+  pub put-seen : {X : Type 0} (see : Placed → X) → map {B = ℕ × X} (λ q. (q.number, see q)) (found.before ++ p ∷ found.after)
+      ≡ with_object (map (λ q. (q.number, see q)) placed) p.number (see p)
+  put-seen {X} see =
+      let f : Placed → ℕ × X = λ q. (q.number, see q) in
+      map-append f found.before (p ∷ found.after)
+      ∙ sym (ap (λ (l : List (ℕ × X)). with_object l p.number (see p)) (map-parts f)
+      ∙ with_object-place p.number (see p) (map f found.before) (map f found.here) (map f found.after) (omega (arith, length-map found.here f, found.one))
+      (All-map (λ e. e.0 < p.number) f found.before found.lower) (All-map (λ e. e.0 ≡ p.number) f found.here found.same)
+      (All-map (λ e. p.number < e.0) f found.after found.higher))
+
+  module _ (image : Image) (bytes : List ℕ) (stands : take p.len (flat_map (sector_at image) p.sectors) ≡ bytes) where
+    pub put-map : map (object_on image) (found.before ++ p ∷ found.after) ≡ with_object (map (object_on image) placed) p.number bytes
+    put-map =
+        put-seen (λ q. take q.len (flat_map (sector_at image) q.sectors)) ∙ ap (with_object (map (object_on image) placed) p.number) stands
+
+    -- they are objects
+    pub put-are : AreObjects (map (object_on image) placed) → IsRising 0 (map (λ q. q.number) (found.before ++ p ∷ found.after)) (2 ^ 64)
+        → 0 < length bytes → length bytes < 2 ^ 64 → length (found.before ++ p ∷ found.after) < 2 ^ 32
+        → AreObjects (map (object_on image) (found.before ++ p ∷ found.after))
+    put-are are rising some short few = record {
+      numbers = subst (λ (l : List ℕ). IsRising 0 l (2 ^ 64)) (sym (keys-on image (found.before ++ p ∷ found.after))) rising;
+      some = all-put (λ o. 0 < length o.1) are.some some;
+      lengths = all-put (λ o. length o.1 < 2 ^ 64) are.lengths short;
+      count = (let f : Placed → ℕ × List ℕ = object_on image in omega (arith, few, length-map (found.before ++ p ∷ found.after) f));
+    }
+      where
+        all-put : (P : ℕ × List ℕ → Type 0) → All P (map (object_on image) placed) → P (p.number, bytes)
+            → All P (map (object_on image) (found.before ++ p ∷ found.after))
+        all-put P all mine =
+            let f : Placed → ℕ × List ℕ = object_on image in
+            let new : map f (found.before ++ p ∷ found.after) ≡ map f found.before ++ (p.number, bytes) ∷ map f found.after =
+            map-append f found.before (p ∷ found.after) ∙ ap (λ (b : List ℕ). map f found.before ++ (p.number, b) ∷ map f found.after) stands in
+            let parts : All P (map f found.before ++ (map f found.here ++ map f found.after)) = subst (All P) (map-parts f) all in
+            subst (All P) (sym new)
+            (All-append P (map f found.before) ((p.number, bytes) ∷ map f found.after)
+            (all-left P (map f found.before) (map f found.here ++ map f found.after) parts)
+            (All-cons P (p.number, bytes) (map f found.after) mine
+            (all-right P (map f found.here) (map f found.after) (all-right P (map f found.before) (map f found.here ++ map f found.after) parts))))
 
 -- ---- a heap that matches a disk still matches it
 

@@ -20,13 +20,14 @@ use Rattle.ipc_heap.specs.Damage.{AreFirstObjects, IsTable, IsFirstDamage, chain
 use Rattle.ipc_heap.specs.Damage.IsFirstDamage.{Rest}
 use Rattle.ipc_heap.specs.Heap.{Placed, Allocation, Holds, HoldsIn, IsChained, len_in, next_in}
 use Rattle.ipc_heap.specs.Heap.{object_on, object_sectors, object_words, table_sectors_for, table_words, words_at}
-use Rattle.ipc_heap.specs.View.{HeapView, free, is_free, map_of, used_by}
+use Rattle.ipc_heap.specs.View.{HeapView, is_free, map_of}
 use Rattle.ipc_heap.specs.Matches.{HeapMatches}
 use Rattle.ipc_heap.specs.Relations.Opening.{AreAllNoted, AreNoted, IsSound}
 use Rattle.ipc_heap.specs.Relations.Parts.{AreThere}
 use Rattle.ipc_heap.specs.declared.opening.Parts.{Parts}
 use Rattle.ipc_heap.specs.Relations.Root.{IsRead}
 use Rattle.ipc_heap.specs.Relations.Words.{placed_in, IsHeap}
+use Rattle.ipc_heap.proofs.Changes.{seen}
 use Rattle.ipc_heap.proofs.Distinct.{in-none, distinct-left}
 use Rattle.ipc_heap.proofs.Placed.{IsSized, placed_in-table}
 use Rattle.ipc_heap.proofs.Stands.{bytes-on, keys-seen}
@@ -62,7 +63,7 @@ unused-noted range uses is =
 
 -- ---- after all of it is
 
-module _ (range : Range) (table words : List ℕ) (uses : List Use) (noted : AreAllNoted range table words uses true) (some : 0 < length words) where
+module _ {range : Range} {table words : List ℕ} {uses : List Use} (noted : AreAllNoted range table words uses true) (some : 0 < length words) where
   abbrev placed : List Placed
   placed = noted.placed
 
@@ -104,36 +105,41 @@ length-objects : (placed : List Placed) → length placed ≤ length (flat_map o
 length-objects [] = omega arith
 length-objects (p ∷ placed) = omega (arith, length-append (object_words p) (flat_map object_words placed), length-objects placed)
 
-module _ (range : Range) (at : ℕ) (root : Root) (image : Image) (parts : Parts)
-    (noted : AreAllNoted range parts.table.items parts.words.items parts.uses true)
-    (all : 4 * length parts.words.items ≡ root.len) (sound : IsSound range root) where
+-- the parts of a heap were read and noted as a whole
+pub record AreWhole (range : Range) (root : Root) (parts : Parts) : Type 0 where
+  pub noted : AreAllNoted range parts.table.items parts.words.items parts.uses true
+  pub all : 4 * length parts.words.items ≡ root.len
+  pub sound : IsSound range root
+
+module _ {range : Range} {root : Root} {parts : Parts} (whole : AreWhole range root parts) where
   abbrev objects : List Placed
-  objects = noted.placed
+  objects = whole.noted.placed
 
   some : 0 < length parts.words.items
-  some = omega (arith, all, sound.some)
+  some = omega (arith, whole.all, whole.sound.some)
 
   its-words : parts.words.items ≡ table_words objects
-  its-words = words-are range parts.table.items parts.words.items parts.uses noted some
+  its-words = words-are whole.noted some
 
   pub its-objects : placed_in parts.words.items ≡ objects
-  its-objects = placed-are range parts.table.items parts.words.items parts.uses noted some
+  its-objects = placed-are whole.noted some
 
   its-sizes : All (λ p. (0 < p.len) × (p.len < 2 ^ 64) × (length p.sectors ≡ sectors_for p.len)) objects
-  its-sizes = all-sizes range parts.table.items parts.words.items parts.uses noted some
+  its-sizes = all-sizes whole.noted some
 
   -- the parts can be kept
   pub parts-heap : 5 * range.count + 5 ≤ vec_capacity parts.words → table_sectors_for (5 * range.count + 5) ≤ vec_capacity parts.table
       → IsHeap range parts.words parts.table parts.uses
   parts-heap room table-room =
       let kept = sym its-objects in
-      let uses : AreNoted range (object_sectors objects) parts.table.items parts.uses = noted.noted in
+      let uses : AreNoted range (object_sectors objects) parts.table.items parts.uses = whole.noted.noted in
       record {
         is_table = its-words ∙ ap table_words kept;
-        numbers = subst (λ (l : List Placed). IsRising 0 (map (λ p. p.number) l) (2 ^ 64)) kept noted.are.numbers;
+        numbers = subst (λ (l : List Placed). IsRising 0 (map (λ p. p.number) l) (2 ^ 64)) kept whole.noted.are.numbers;
         sizes = subst (λ (l : List Placed). All (λ p. (0 < p.len) × (p.len < 2 ^ 64) × (length p.sectors ≡ sectors_for p.len)) l) kept its-sizes;
-        inside = subst (λ (l : List Placed). All (IsInside range) (object_sectors l)) kept noted.are.inside;
-        once = subst (λ (l : List Placed). IsDistinct nat_eq (object_sectors l)) kept (distinct-left (object_sectors objects) parts.table.items noted.are.once);
+        inside = subst (λ (l : List Placed). All (IsInside range) (object_sectors l)) kept whole.noted.are.inside;
+        once = subst (λ (l : List Placed). IsDistinct nat_eq (object_sectors l)) kept
+            (distinct-left (object_sectors objects) parts.table.items whole.noted.are.once);
         table_within = λ k d lt.
             let x : ℕ = get_or parts.table.items k d in
             All-contains (IsInside range) (object_sectors objects ++ parts.table.items) x uses.inside
@@ -145,37 +151,29 @@ module _ (range : Range) (at : ℕ) (root : Root) (image : Image) (parts : Parts
         table_room = table-room;
       }
 
-  abbrev kept : HeapView
-  kept = record {
-    range = range;
-    root = at;
-    next_root = at;
-    epoch = root.epoch;
-    placed = placed_in parts.words.items;
-    table = parts.table.items;
-    uses = parts.uses;
-  }
+  abbrev kept : ℕ → HeapView
+  kept at = seen range at at root.epoch parts.words parts.table parts.uses
 
-  pub kept-free : free kept + length (used_by kept) ≡ range.count
+  pub kept-free : count_by is_free parts.uses + length (object_sectors (placed_in parts.words.items) ++ parts.table.items) ≡ range.count
   kept-free =
       subst (λ (l : List Placed). count_by is_free parts.uses + length (object_sectors l ++ parts.table.items) ≡ range.count) (sym its-objects)
-      noted.noted.free
+      whole.noted.noted.free
 
-  pub kept-table : length parts.table.items ≡ chain_for root.len → length kept.table ≡ table_sectors_for (length (table_words kept.placed))
+  pub kept-table : length parts.table.items ≡ chain_for root.len
+      → length parts.table.items ≡ table_sectors_for (length (table_words (placed_in parts.words.items)))
   kept-table long =
-      let words : length parts.words.items ≡ length (table_words kept.placed) =
+      let words : length parts.words.items ≡ length (table_words (placed_in parts.words.items)) =
       ap length its-words ∙ ap (λ (l : List Placed). length (table_words l)) (sym its-objects) in
-      omega (arith, long, all, words)
+      omega (arith, long, whole.all, words)
 
-  module _ (read : IsRead (sector_at image at) root) (there : AreThere range at image parts) (size : ℕ) (shaped : IsShaped size image)
-      (within : IsWithin range size)
-      (fits : root.len < 2 ^ 32) where
+  module _ {at : ℕ} {image : Image} {size : ℕ} (read : IsRead (sector_at image at) root) (there : AreThere range at image parts)
+      (shaped : IsShaped size image) (within : IsWithin range size) (fits : root.len < 2 ^ 32) where
     abbrev allocated : Allocation
     allocated = record { placed = objects; table = parts.table.items }
 
     -- as many bytes stand there as an object has
     bytes-long : All (λ p. length (object_on image p).1 ≡ p.len) objects
-    bytes-long = bytes-on range image size shaped within objects noted.are.inside its-sizes
+    bytes-long = bytes-on range image size shaped within objects whole.noted.are.inside its-sizes
 
     chained : IsChained image parts.table.items
     chained k lt =
@@ -193,22 +191,22 @@ module _ (range : Range) (at : ℕ) (root : Root) (image : Image) (parts : Parts
         let bytes : Placed → List ℕ = λ p. take p.len (flat_map (sector_at image) p.sectors) in
         let size-is : length parts.words.items ≡ length (table_words objects) = ap length its-words in
         let few : length objects ≤ length (flat_map object_words objects) = length-objects objects in
-        let long : len_in (sector_at image at) ≡ 4 * length (table_words objects) = omega (arith, read.len, all, size-is) in
+        let long : len_in (sector_at image at) ≡ 4 * length (table_words objects) = omega (arith, read.len, whole.all, size-is) in
         let count : len_in (sector_at image at) / 4 ≡ length (table_words objects) = omega (arith, long) in
         record {
           are = record {
-            numbers = subst (λ (ks : List ℕ). IsRising 0 ks (2 ^ 64)) (sym (keys-seen bytes objects)) noted.are.numbers;
+            numbers = subst (λ (ks : List ℕ). IsRising 0 ks (2 ^ 64)) (sym (keys-seen bytes objects)) whole.noted.are.numbers;
             some = All-map (λ o. 0 < length o.1) (object_on image) objects (λ k d lt. omega (arith, bytes-long k d lt, (its-sizes k d lt).0));
             lengths = All-map (λ o. length o.1 < 2 ^ 64) (object_on image) objects (λ k d lt. omega (arith, bytes-long k d lt, (its-sizes k d lt).1));
-            count = omega (arith, length-map objects (object_on image), few, size-is, all, fits);
+            count = omega (arith, length-map objects (object_on image), few, size-is, whole.all, fits);
           };
-          positive = sound.positive;
+          positive = whole.sound.positive;
           allocated = record {
-            numbers = noted.are.numbers;
+            numbers = whole.noted.are.numbers;
             sizes = its-sizes;
             table = omega (arith, there.is_table.all, long);
-            inside = noted.noted.inside;
-            once = noted.noted.once;
+            inside = whole.noted.noted.inside;
+            once = whole.noted.noted.once;
           };
           current = read.epoch;
           first = sym there.is_table.first.begin;
@@ -220,25 +218,25 @@ module _ (range : Range) (at : ℕ) (root : Root) (image : Image) (parts : Parts
 
     -- what is kept, seen on a disk from which this image is read
     module _ (medium : Medium) (same : medium.contents ≡ image) where
-      map-is : map_of kept medium ≡ map (object_on image) objects
+      map-is : map_of (kept at) medium ≡ map (object_on image) objects
       map-is = ap (λ (l : List Placed). map (object_on medium.contents) l) its-objects ∙ ap (λ (i : Image). map (object_on i) objects) same
 
-      kept-there : HoldsIn range at root.epoch allocated (map_of kept medium) image
+      kept-there : HoldsIn range at root.epoch allocated (map_of (kept at) medium) image
       kept-there = subst (λ (o : PlainObjects). HoldsIn range at root.epoch allocated o image) (sym map-is) parts-hold
 
-      pub kept-holds : Holds range at root.epoch (map_of kept medium) image
+      pub kept-holds : Holds range at root.epoch (map_of (kept at) medium) image
       kept-holds = record { allocation = allocated; there = kept-there }
 
-      pub kept-matches : IsOutside range at → IsHonest medium → IsDurable medium → HeapMatches kept (map_of kept medium) medium
+      pub kept-matches : IsOutside range at → IsHonest medium → IsDurable medium → HeapMatches (kept at) (map_of (kept at) medium) medium
       kept-matches apart honest durable = record {
         honest = honest;
         apart = apart;
         there = allocated;
-        images = λ i now. subst (HoldsIn range at root.epoch allocated (map_of kept medium)) (sym (durable i now ∙ same)) kept-there;
+        images = λ i now. subst (HoldsIn range at root.epoch allocated (map_of (kept at) medium)) (sym (durable i now ∙ same)) kept-there;
         table = refl;
         are = kept-there.are;
-        all = noted.noted.all;
-        saved_uses = noted.noted.saved;
+        all = whole.noted.noted.all;
+        saved_uses = whole.noted.noted.saved;
         next_uses = subst (λ (l : List Placed). (i : ℕ) (u : Use) → slice_get parts.uses i ≡ Some u
-            → IsTrue u.next ↔ Contains (object_sectors l) (range.first + i)) (sym its-objects) noted.noted.next;
+            → IsTrue u.next ↔ Contains (object_sectors l) (range.first + i)) (sym its-objects) whole.noted.noted.next;
       }

@@ -100,8 +100,8 @@ abbrev one_if : Bool → ℕ
 one_if b = cond b 1 0
 
 -- One sector more of a range is noted, which was not.
-module _ (range : Range) (used table : List ℕ) (uses : List Use) (noted : AreNoted range used table uses) (s : ℕ) (inside : IsInside range s)
-    (was : Use) (there : slice_get uses (s - range.first) ≡ Some was) (unused : was.saved ≡ false) where
+module _ {range : Range} {used table : List ℕ} {uses : List Use} (noted : AreNoted range used table uses) (s : ℕ) (inside : IsInside range s)
+    {was : Use} (there : slice_get uses (s - range.first) ≡ Some was) (unused : was.saved ≡ false) where
   abbrev place : ℕ
   place = s - range.first
 
@@ -203,16 +203,15 @@ module _ (range : Range) (used table : List ℕ) (uses : List Use) (noted : AreN
       (λ x. ⊎_elim (Contains-append_left used (s ∷ []) x) (λ same. subst (Contains (used ++ s ∷ [])) same (Contains-push used s))) noted.next)
 
 -- one sector more of the table
-pub noted-table : (range : Range) (table : List ℕ) (uses : List Use) (noted : AreNoted range [] table uses) (s : ℕ) (inside : IsInside range s)
-    (was : Use) (there : slice_get uses (s - range.first) ≡ Some was) (unused : was.saved ≡ false)
+pub noted-table : {range : Range} {table : List ℕ} {uses : List Use} (noted : AreNoted range [] table uses) (s : ℕ) (inside : IsInside range s)
+    {was : Use} (there : slice_get uses (s - range.first) ≡ Some was) (unused : was.saved ≡ false)
     → AreNoted range [] (table ++ s ∷ []) (set uses (s - range.first) (record { saved = true; next = false }))
-noted-table range table uses noted s inside was there unused =
+noted-table {range} {table} {uses} noted s inside {was} there unused =
     let u : Use = record { saved = true; next = false } in
     let off : was.next ≡ false =
     false_from_ne_true was.next (λ on. in-none (range.first + (s - range.first)) ((noted.next (s - range.first) was there).0 on)) in
-    now-noted range [] table uses noted s inside was there unused [] (table ++ s ∷ []) table [] u refl (sym (append-nil table))
-    (sym (append-nil (table ++ s ∷ [])))
-    (now-same range [] table uses noted s inside was there unused (λ (v : Use). v.next) u [] (sym off) noted.next)
+    now-noted noted s inside there unused [] (table ++ s ∷ []) table [] u refl (sym (append-nil table)) (sym (append-nil (table ++ s ∷ [])))
+    (now-same noted s inside there unused (λ (v : Use). v.next) u [] (sym off) noted.next)
 
 -- The walk through the sectors of an object.
 module _ (range : Range) (used table from : List ℕ) (uses : List Use) (k sectors s : ℕ) (noted : AreNoted range (used ++ take k from) table uses)
@@ -226,7 +225,7 @@ module _ (range : Range) (used table from : List ℕ) (uses : List Use) (k secto
   noted-next was inside there unused =
       subst (λ (l : List ℕ). AreNoted range l table (set uses (s - range.first) (record { saved = true; next = true })))
       (append_assoc used (take k from) (s ∷ []) ∙ ap (λ (l : List ℕ). used ++ l) (sym one-more))
-      (noted-object range (used ++ take k from) table uses noted s inside was there unused)
+      (noted-object noted s inside there unused)
 
   -- or the walk stops
   pub stops-at : (words at sector : ℕ)
@@ -309,7 +308,7 @@ pub record AreGone (range : Range) (table words : List ℕ) (uses : List Use) (c
   pub is_last : IsLast placed last
   pub empty : MatchBool some_empty (Any (λ p. p.len ≡ 0) placed) (All (λ p. 0 < p.len) placed)
 
-module _ (range : Range) (table words : List ℕ) (uses : List Use) (count at : ℕ) (last : Option ℕ) (some_empty : Bool)
+module _ {range : Range} {table words : List ℕ} {uses : List Use} {count at : ℕ} {last : Option ℕ} {some_empty : Bool}
     (gone : AreGone range table words uses count at last some_empty) where
   abbrev rest : List ℕ
   rest = drop at words
@@ -404,9 +403,9 @@ module _ (range : Range) (table words : List ℕ) (uses : List Use) (count at : 
         }
 
 -- Where no object comes next, or its walk stops, the image is damaged.
-module _ (range : Range) (table words : List ℕ) (uses : List Use) (count at : ℕ) (last : Option ℕ) (some_empty : Bool)
+module _ {range : Range} {table words : List ℕ} {uses : List Use} {count at : ℕ} {last : Option ℕ} {some_empty : Bool} {root : ℕ} {image : Image}
     (gone : AreGone range table words uses count at last some_empty) (less : count < get_or words 0 0)
-    (root : ℕ) (image : Image) (is : IsTable range root image table) (words-are : words ≡ words_of_table root image table) where
+    (is : IsTable range root image table) (words-are : words ≡ words_of_table root image table) where
   abbrev beyond : List ℕ
   beyond = drop at words
 
@@ -432,14 +431,14 @@ module _ (range : Range) (table words : List ℕ) (uses : List Use) (count at : 
   pub damaged-object : (sector : ℕ) → sector ≡ sector_of_word (length words) table at → LacksObject last beyond → IsFirstDamage range root image sector
   damaged-object sector here lacks =
       subst (IsFirstDamage range root image) (word-there (λ k. k) ∙ sym here)
-      (Object table beyond gone.placed is gone-there less-there (broken range table words uses count at last some_empty gone lacks))
+      (Object table beyond gone.placed is gone-there less-there (broken gone lacks))
 
   pub damaged-sector : (n sector : ℕ) → HasObject last beyond n
       → StopsAt range (object_sectors gone.placed) table (take n (drop (at + 4) words)) (length words) at sector
       → IsFirstDamage range root image sector
   damaged-sector n sector has stops =
       let begin : length (take n (drop (at + 4) words)) ≤ n = omega (arith, length-take n (drop (at + 4) words)) in
-      let whole : IsBroken gone.placed beyond → ⊥ = not-broken range table words uses count at last some_empty gone n has in
+      let whole : IsBroken gone.placed beyond → ⊥ = not-broken gone n has in
       let sectors : HasSectors range table gone.placed beyond stops.before stops.next = record {
         whole = omega (arith, has.whole, has.count);
         few = omega (arith, stops.few, begin, has.count);
@@ -487,24 +486,23 @@ take-more (suc n) (x ∷ front) back =
     let less : suc n - suc (length (take n front)) ≡ n - length (take n front) = omega arith in
     ap (λ (m : ℕ). x ∷ (take n front ++ take m back)) less ∙ ap (λ (l : List ℕ). x ∷ l) (take-more n front back)
 
-module _ (range : Range) (root : Root) (table words : List ℕ) (at next : ℕ) (sector : List ℕ) where
+module _ {range : Range} {root : Root} {table words : List ℕ} {uses : List Use} {count at : ℕ} (read : AreRead range root table words uses count at) where
   -- a sector more is noted
-  pub noted-more : (uses : List Use) (count : ℕ) (was : Use) → AreRead range root table words uses count at → count < chain_for root.len
-      → slice_get uses (at - range.first) ≡ Some was
+  pub noted-more : (was : Use) → count < chain_for root.len → slice_get uses (at - range.first) ≡ Some was
       → AreNoted range [] (table ++ at ∷ []) (set uses (at - range.first) (record { saved = true; next = false }))
-  noted-more uses count was read less there =
+  noted-more was less there =
       let inside : IsInside range at = (read.next less).0 in
       let same : range.first + (at - range.first) ≡ at = omega (arith, inside) in
       let unused : was.saved ≡ false =
       false_from_ne_true was.saved (λ on. (read.next less).1 (subst (Contains table) same ((read.noted.saved (at - range.first) was there).0 on))) in
-      noted-table range table uses read.noted at inside was there unused
+      noted-table read.noted at inside there unused
 
   -- and read
-  pub read-more : (uses uses' : List Use) (count : ℕ) → AreRead range root table words uses count at → length sector ≡ 512
+  pub read-more : {uses' : List Use} {next : ℕ} (sector : List ℕ) → length sector ≡ 512
       → AreNoted range [] (table ++ at ∷ []) uses' → (count + 1 ≡ chain_for root.len → next ≡ 0)
       → (count + 1 < chain_for root.len → IsInside range next × (Contains (table ++ at ∷ []) next → ⊥))
       → AreRead range root (table ++ at ∷ []) (words ++ take (root.len / 4 - length words) (words_in (drop 4 sector))) uses' (count + 1) next
-  read-more uses uses' count read long noted last more =
+  read-more sector long noted last more =
       let most : ℕ = root.len / 4 in
       let bytes : List ℕ = drop 4 sector in
       let size : length (words_in bytes) ≡ 127 = length-words_in 127 bytes (omega (arith, length-drop 4 sector, long)) in
@@ -522,30 +520,31 @@ module _ (range : Range) (root : Root) (table words : List ℕ) (at next : ℕ) 
         last = last;
       }
 
-  pub hops-more : (image : Image) → AreHops root image table words at → sector_at image at ≡ sector → next_in sector ≡ next
-      → AreHops root image (table ++ at ∷ []) (words ++ take (root.len / 4 - length words) (words_in (drop 4 sector))) next
-  hops-more image so_far stands is =
-      let most : ℕ = root.len / 4 in
-      let front : List ℕ = flat_map (words_at image) table in
-      let back : List ℕ = words_in (drop 4 sector) in
-      let long : length (table ++ at ∷ []) ≡ suc (length table) = omega (arith, length_push table at) in
-      let whole : flat_map (words_at image) (table ++ at ∷ []) ≡ front ++ back =
-      flat_map-append (words_at image) table (at ∷ [])
-      ∙ ap (λ (l : List ℕ). front ++ l) (append-nil (words_at image at) ∙ ap (λ (l : List ℕ). words_in (drop 4 l)) stands) in
-      record {
-        hops = λ k lt. ⊎_elim
-            (λ (before : k < length table). get_or_append_left table (at ∷ []) 0 k before ∙ so_far.hops k before)
-            (λ (last : length table ≤ k).
-            let here : length table ≡ k = omega (arith, last, lt, long) in
-            get_or_push table at 0 k here ∙ so_far.at_hop ∙ ap (λ (n : ℕ). hop image root.first n) here)
-            (cases_lt k (length table));
-        at_hop = sym is ∙ ap next_in (sym stands) ∙ ap (λ (n : ℕ). next_in (sector_at image n)) so_far.at_hop
-            ∙ ap (λ (n : ℕ). hop image root.first n) (sym long);
-        words_are = ap (λ (l : List ℕ). l ++ take (most - length l) back) so_far.words_are ∙ take-more most front back ∙ ap (take most) (sym whole);
-      }
+pub hops-more : {root : Root} {image : Image} {table words : List ℕ} {at next : ℕ} {sector : List ℕ} → AreHops root image table words at
+    → sector_at image at ≡ sector → next_in sector ≡ next
+    → AreHops root image (table ++ at ∷ []) (words ++ take (root.len / 4 - length words) (words_in (drop 4 sector))) next
+hops-more {root} {image} {table} {words} {at} {next} {sector} so_far stands is =
+    let most : ℕ = root.len / 4 in
+    let front : List ℕ = flat_map (words_at image) table in
+    let back : List ℕ = words_in (drop 4 sector) in
+    let long : length (table ++ at ∷ []) ≡ suc (length table) = omega (arith, length_push table at) in
+    let whole : flat_map (words_at image) (table ++ at ∷ []) ≡ front ++ back =
+    flat_map-append (words_at image) table (at ∷ [])
+    ∙ ap (λ (l : List ℕ). front ++ l) (append-nil (words_at image at) ∙ ap (λ (l : List ℕ). words_in (drop 4 l)) stands) in
+    record {
+      hops = λ k lt. ⊎_elim
+          (λ (before : k < length table). get_or_append_left table (at ∷ []) 0 k before ∙ so_far.hops k before)
+          (λ (last : length table ≤ k).
+          let here : length table ≡ k = omega (arith, last, lt, long) in
+          get_or_push table at 0 k here ∙ so_far.at_hop ∙ ap (λ (n : ℕ). hop image root.first n) here)
+          (cases_lt k (length table));
+      at_hop = sym is ∙ ap next_in (sym stands) ∙ ap (λ (n : ℕ). next_in (sector_at image n)) so_far.at_hop
+          ∙ ap (λ (n : ℕ). hop image root.first n) (sym long);
+      words_are = ap (λ (l : List ℕ). l ++ take (most - length l) back) so_far.words_are ∙ take-more most front back ∙ ap (take most) (sym whole);
+    }
 
 -- the first sectors of a chain
-module _ (range : Range) (root : Root) (image : Image) (at : ℕ) (read : IsRead (sector_at image at) root) (sound : IsSound range root) where
+module _ {range : Range} {root : Root} (image : Image) (at : ℕ) (read : IsRead (sector_at image at) root) (sound : IsSound range root) where
   begins : root.first ≡ first_in (sector_at image at)
   begins = sym read.first
 
@@ -572,9 +571,9 @@ module _ (range : Range) (root : Root) (image : Image) (at : ℕ) (read : IsRead
   chain-is = ap chain_for read.len
 
   -- all of them
-  pub table-read : (table words : List ℕ) (uses : List Use) (next : ℕ) → AreRead range root table words uses (chain_for root.len) next
+  pub table-read : {table words : List ℕ} {uses : List Use} {next : ℕ} → AreRead range root table words uses (chain_for root.len) next
       → AreHops root image table words next → IsTable range at image table
-  table-read table words uses next all hops =
+  table-read {table} {words} {uses} {next} all hops =
       let some : 0 < length table = omega (arith, all.all, sound.some) in
       record {
         is_root = root-read range (sector_at image at) root read sound;
@@ -584,7 +583,7 @@ module _ (range : Range) (root : Root) (image : Image) (at : ℕ) (read : IsRead
       }
 
   -- what comes next is wrong
-  module _ (table words : List ℕ) (uses : List Use) (s next : ℕ) (noted : AreNoted range [] (table ++ s ∷ []) uses)
+  module _ (table : List ℕ) (s : ℕ) {words : List ℕ} {uses : List Use} {next : ℕ} (noted : AreNoted range [] (table ++ s ∷ []) uses)
       (hops : AreHops root image (table ++ s ∷ []) words next) where
     longer : 0 < length (table ++ s ∷ [])
     longer = omega (arith, length_push table s)

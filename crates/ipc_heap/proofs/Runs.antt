@@ -12,13 +12,11 @@ use Rattle.ipc_base.specs.Objects.{PlainObjects, AreObjects, Fit, table_bytes}
 use Rattle.ipc_base.specs.Objects as objects
 use Rattle.ipc_base.specs.Table.{IsRising, keys_of}
 use Rattle.ipc_disk.specs.declared.range.Range.{Range}
-use Rattle.ipc_disk.specs.Calls.{IsSameDisk}
-use Rattle.ipc_disk.specs.Counts.{Counts, InRange, with_calls}
-use Rattle.ipc_disk.specs.Medium.{Image, Medium, IsHonest}
+use Rattle.ipc_disk.specs.Medium.{Image, Medium}
 use Rattle.ipc_disk.specs.Range.{IsInside, IsOutside}
 use Rattle.ipc_disk.specs.Since.{LeavesAlone, SameAt}
 use Rattle.ipc_disk.specs.Standing.{sector_at, sectors_for}
-use Rattle.ipc_disk.proofs.CallerLemmas.{IsSameDisk-then, LeavesAlone-fewer, LeavesAlone-join, counts-calls, sector_at-same}
+use Rattle.ipc_disk.proofs.CallerLemmas.{LeavesAlone-fewer, LeavesAlone-join, sector_at-same}
 use Rattle.ipc_heap.specs.Heap.{Holds, IsElsewhere, IsLaidOut, Placed, object_on, object_sectors, object_words, table_sectors_for, table_words}
 use Rattle.ipc_heap.specs.Relations.Flip.{IsTurned}
 use Rattle.ipc_heap.specs.Relations.Table.{object_at, placed_after, placed_at}
@@ -26,7 +24,6 @@ use Rattle.ipc_heap.proofs.Changes.{HasSize, words_for-is}
 use Rattle.ipc_heap.proofs.Images.{objects-same}
 use Rattle.ipc_heap.proofs.Placed.{word-at, words_for, words_for-append}
 use Rattle.ipc_heap.proofs.Sectors.{distinct-apart, distinct-cons, distinct-none, in-cases, in-none}
-use Rattle.ipc_heap.proofs.Writes.{Wrote}
 
 -- ---- numbers one after another
 
@@ -117,23 +114,6 @@ words-after first os =
 
 pub table-after : (first : ℕ) (os : PlainObjects) → table_sectors_for (length (table_words (placed_after first os))) ≡ (table_bytes os + 507) / 508
 table-after first os = omega (arith, words-after first os)
-
--- ---- more calls that write
-
-pub wrote-then : {D : Type 0} (size : D → ℕ) (medium : D → Medium) (counts : D → Counts) (places fewer : ℕ → Type 0) (n m : ℕ) (old mid new : D)
-    → InRange (counts old)
-    → Wrote size medium counts places n old mid → ((i : ℕ) → places i → fewer i) → IsSameDisk size medium mid new → counts new ≡ with_calls m 0 (counts mid)
-    → (IsHonest (medium mid) → LeavesAlone fewer (medium mid) (medium new)) → Wrote size medium counts places (n + m) old new
-wrote-then size medium counts places fewer n m old mid new range so_far sub same count others = record {
-  same = IsSameDisk-then so_far.same same;
-  count = counts-calls (counts new) (counts old) (n + m) 0
-      (ap (λ (c : Counts). c.failures) count ∙ ap (λ (c : Counts). c.failures) so_far.count)
-      (omega (arith, ap (λ (c : Counts). c.writes) count, ap (λ (c : Counts). c.writes) so_far.count))
-      (omega (arith, ap (λ (c : Counts). c.syncs) count, ap (λ (c : Counts). c.syncs) so_far.count, range.syncs_fit));
-  others = λ honest.
-      let run = so_far.others honest in
-      LeavesAlone-join places (medium old) (medium mid) (medium new) run (LeavesAlone-fewer places fewer (medium mid) (medium new) sub (others run.honest));
-}
 
 -- one object more stands there
 pub stand-more : (first : ℕ) (os : PlainObjects) (o : ℕ × List ℕ) (a b : Image)
@@ -287,13 +267,3 @@ module _ {range : Range} {root size : ℕ} (laid : IsLaidOut range root size) (o
   others-three start two three run next =
       LeavesAlone-join (IsElsewhere range root) start two three run
       (LeavesAlone-fewer (IsElsewhere range root) (IsOutside (record { first = root; count = 1 })) two three apart-root next)
-
--- the counts of all of it
-pub create-counts : (n m : ℕ) (begin one two three : Counts) → one ≡ with_calls n 0 begin → two ≡ with_calls m 0 one → three ≡ with_calls 1 1 two
-    → InRange begin
-    → three ≡ with_calls (n + m + 1) 1 begin
-create-counts n m begin one two three first second third range =
-    counts-calls three begin (n + m + 1) 1
-    (ap (λ (c : Counts). c.failures) third ∙ ap (λ (c : Counts). c.failures) second ∙ ap (λ (c : Counts). c.failures) first)
-    (omega (arith, ap (λ (c : Counts). c.writes) third, ap (λ (c : Counts). c.writes) second, ap (λ (c : Counts). c.writes) first))
-    (omega (arith, ap (λ (c : Counts). c.syncs) third, ap (λ (c : Counts). c.syncs) second, ap (λ (c : Counts). c.syncs) first, range.syncs_fit))

@@ -12,7 +12,8 @@ use Rattle.ipc_disk.specs.Counts.{Counts, InRange, with_calls, with_write}
 use Rattle.ipc_disk.specs.Medium.{Image, Medium, IsHonest, Writes}
 use Rattle.ipc_disk.specs.Since.{LeavesAlone}
 use Rattle.ipc_disk.specs.Standing.{sector_at, sectors_for}
-use Rattle.ipc_disk.proofs.CallerLemmas.{honest-join, counts-calls, LeavesAlone-start, LeavesAlone-writes, sector_at-set_same, sector_at-set_other}
+use Rattle.ipc_disk.proofs.CallerLemmas.{IsSameDisk-then, LeavesAlone-fewer, LeavesAlone-join, LeavesAlone-start, LeavesAlone-writes, counts-calls}
+use Rattle.ipc_disk.proofs.CallerLemmas.{honest-join, sector_at-set_same, sector_at-set_other}
 use Rattle.ipc_disk.specs.declared.range.Range.{Range}
 use Rattle.ipc_heap.specs.declared.uses.Use.{Use}
 use Rattle.ipc_heap.specs.View.{is_free}
@@ -39,19 +40,31 @@ module _ {D : Type 0} (size : D → ℕ) (medium : D → Medium) (counts : D →
     others = λ honest. LeavesAlone-start places (medium disk) honest law;
   }
 
-  pub wrote-more : (n at : ℕ) (bytes : List ℕ) (old mid new : D) → InRange (counts old) → Wrote size medium counts places n old mid → (places at → ⊥)
-      → Writes at bytes (medium mid) (medium new) → size new ≡ size mid → counts new ≡ with_write (counts mid)
-      → Wrote size medium counts places (n + 1) old new
-  wrote-more n at bytes old mid new range so_far elsewhere call sectors count = record {
+module _ {D : Type 0} {size : D → ℕ} {medium : D → Medium} {counts : D → Counts} {places : ℕ → Type 0} {n : ℕ} {old mid : D}
+    (range : InRange (counts old)) (so_far : Wrote size medium counts places n old mid) (new : D) where
+  -- one more
+  pub wrote-more : {at : ℕ} {bytes : List ℕ} → (places at → ⊥) → Writes at bytes (medium mid) (medium new)
+      → size new ≡ size mid → counts new ≡ with_write (counts mid) → Wrote size medium counts places (n + 1) old new
+  wrote-more {at} {bytes} elsewhere call sectors count = record {
     same = record {
       sectors = sectors ∙ so_far.same.sectors;
       honest = honest-join (medium old) (medium mid) (medium new) so_far.same.honest call.time.honest;
     };
-    count = counts-calls (counts new) (counts old) (n + 1) 0
-        (ap (λ (c : Counts). c.failures) count ∙ ap (λ (c : Counts). c.failures) so_far.count)
-        (omega (arith, ap (λ (c : Counts). c.writes) count, ap (λ (c : Counts). c.writes) so_far.count))
-        (omega (arith, ap (λ (c : Counts). c.syncs) count, ap (λ (c : Counts). c.syncs) so_far.count, range.syncs_fit));
+    count = rw (count, so_far.count) (counts-calls _ _ _ _ refl (omega arith) (omega (arith, range.syncs_fit)));
     others = λ honest. LeavesAlone-writes places (medium old) (medium mid) (medium new) at bytes (so_far.others honest) elsewhere call;
+  }
+
+  -- or so many, of which fewer sectors are none
+  pub wrote-then : {fewer : ℕ → Type 0} (m : ℕ) → ((i : ℕ) → places i → fewer i) → IsSameDisk size medium mid new
+      → counts new ≡ with_calls m 0 (counts mid) → (IsHonest (medium mid) → LeavesAlone fewer (medium mid) (medium new))
+      → Wrote size medium counts places (n + m) old new
+  wrote-then {fewer} m sub same count others = record {
+    same = IsSameDisk-then so_far.same same;
+    count = rw (count, so_far.count) (counts-calls _ _ _ _ refl (omega arith) (omega (arith, range.syncs_fit)));
+    others = λ honest.
+        let run = so_far.others honest in
+        LeavesAlone-join places (medium old) (medium mid) (medium new) run
+        (LeavesAlone-fewer places fewer (medium mid) (medium new) sub (others run.honest));
   }
 
 -- ---- what stands in sectors, one after another
@@ -211,8 +224,7 @@ module _ {D : Type 0} {size : D → ℕ} {medium : D → Medium} {counts : D →
       added = push ∙ words-now;
       long = omega (arith, length_push so_far.sectors (range.first + i), so_far.long);
       taken = taken-now;
-      wrote = wrote-more size medium counts (IsNotFree range old_uses) k
-          (range.first + i) sector old mid new in_range so_far.wrote taken-open call sectors count;
+      wrote = wrote-more in_range so_far.wrote new taken-open call sectors count;
       stands = λ honest.
           let here = (so_far.wrote.others honest).honest in
           subst (StandsIn (ObjectSector bytes) (so_far.sectors ++ (range.first + i) ∷ [])) (sym (set here))

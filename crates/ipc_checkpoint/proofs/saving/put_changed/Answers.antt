@@ -1,28 +1,19 @@
 -- One object after another is put in, or kept.
-use Rattle.std.proofs.Common.{◌≡◌, ℕ, ◌+◌, ◌<◌, ◌≤◌, List, [], length, get_or, Some, refl, sym, ap, subst, ◌∙◌, arith}
-use Rattle.std.specs.Prelude.{◌≢◌, Err, IsErrOf, nat_eq, slice_get}
+use Rattle.std.proofs.Common.{◌≡◌, ℕ, ◌+◌, ◌<◌, ◌≤◌, List, [], length, get_or, Some, ap, ◌∙◌, arith}
+use Rattle.std.specs.Prelude.{◌≢◌, nat_eq, slice_get}
 use Rattle.std.proofs.lemmas.List.Sums.{sum_by_more_le}
 use Rattle.std.proofs.lemmas.List.{take_all}
 use Rattle.std.proofs.lemmas.Option.{slice_get-get_or}
 use Rattle.ipc_base.specs.Objects.{PlainObjects, object_sectors}
 use Rattle.ipc_base.specs.Table.{value_at}
-use Rattle.ipc_disk.specs.declared.range.Range.{Range}
 use Rattle.ipc_disk.specs.Counts.{Counts, counted, with_calls}
 use Rattle.ipc_disk.specs.Standing.{sectors_for}
-use Rattle.ipc_heap.specs.Heap.{IsLaidOut}
-use Rattle.ipc_heap.specs.declared.error.HeapError.{HeapError}
-use Rattle.ipc_heap.specs.declared.error.HeapError.TheVariants.{Device, Full}
 use Rattle.ipc_heap.specs.View.{free, map_of, sizes_of, with_object}
 use Rattle.ipc_checkpoint.specs.Matches.{changed_sectors}
-use Rattle.ipc_checkpoint.proofs.Putting.{if-some, put-kept, put-map, put-meanwhile, put-moment, put-more, put-none, put-others, put-sizes}
+use Rattle.ipc_checkpoint.proofs.Putting.{device, if-some, put-kept, put-map, put-meanwhile, put-moment, put-more, put-none, put-others, put-sizes}
 use Rattle.ipc_checkpoint.proofs.saving.put_changed.Given.{Over}
 use Rattle.ipc_checkpoint.proofs.saving.put_changed.Goals as goal
 use Rattle.ipc_checkpoint.proofs.saving.put_changed.Goals.{In-loop-i, then-not-is_kept+in_default, else-not-is_kept}
-
--- an error that is not for want of sectors is the disk's
-device : (e : HeapError) → (IsErrOf {T = Unit {0}} (Err e) Full → ⊥) → IsErrOf {T = Unit {0}} (Err e) Device
-device Device some = refl
-device Full some = absurd (some refl)
 
 pub loop-i-init : goal.loop-i-init
 loop-i-init g c =
@@ -42,9 +33,7 @@ module _ (g : Over) (c : In-loop-i g) where
 pub put-requires-clause-laid_out : goal.put-requires-clause-laid_out
 put-requires-clause-laid_out g c =
     let so_far = c.loop-i.invariant in
-    subst (λ (n : ℕ). IsLaidOut c.loop-i.heap.range c.loop-i.heap.next_root n) (sym so_far.same.sectors)
-    (subst (λ (r : ℕ). IsLaidOut c.loop-i.heap.range r (g.D.SectorDisk.size c.args.disk.now)) (sym so_far.stays.next_root)
-    (subst (λ (r : Range). IsLaidOut r c.args.heap.now.next_root (g.D.SectorDisk.size c.args.disk.now)) (sym so_far.stays.range) c.requires.laid_out))
+    rw (so_far.same.sectors, so_far.stays.next_root, so_far.stays.range) c.requires.laid_out
 
 pub loop-i-preserved : goal.loop-i-preserved
 loop-i-preserved g c =

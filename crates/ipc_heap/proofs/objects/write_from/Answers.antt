@@ -14,7 +14,23 @@ use Rattle.ipc_heap.proofs.Parts.{parts-join}
 use Rattle.ipc_heap.proofs.Placed.{mapped-at}
 use Rattle.ipc_heap.proofs.Runs.{run-push, run-within}
 use Rattle.ipc_heap.proofs.Writes.{ObjectSector, StandsIn, stands-push, wrote-none, wrote-more}
+use Rattle.ipc_heap.proofs.objects.write_from.Given.{Over}
 use Rattle.ipc_heap.proofs.objects.write_from.Goals as goal
+use Rattle.ipc_heap.proofs.objects.write_from.Goals.{After-div_ceil-count}
+
+-- the object's bytes, and the sectors that they take
+module _ (g : Over) (c : After-div_ceil-count g) where
+  abbrev bytes : List ℕ
+  bytes = (object_at (g.O.Objects.objects c.args.objects.now) c.args.i).1
+
+  abbrev range : Range
+  range = record { first = c.args.first; count = sectors_for (length bytes) }
+
+  count : c.div_ceil-count.result ≡ sectors_for (length bytes)
+  count =
+      let long = mapped-at (λ (o : ℕ × List ℕ). length o.1) (g.O.Objects.objects c.args.objects.now) c.args.i (0, []) c.len.result
+      c.requires.object c.len.ensures in
+      omega (arith, c.div_ceil-count.ensures, long)
 
 pub loop-k-init : goal.loop-k-init
 loop-k-init g c = record {
@@ -26,55 +42,37 @@ loop-k-init g c = record {
 
 pub overflow_cast-result : goal.overflow_cast-result
 overflow_cast-result g c =
-    let bytes : List ℕ = (object_at (g.O.Objects.objects c.args.objects.now) c.args.i).1 in
-    let range : Range = record { first = c.args.first; count = sectors_for (length bytes) } in
-    let long : length bytes ≡ c.len.result =
-    mapped-at (λ (o : ℕ × List ℕ). length o.1) (g.O.Objects.objects c.args.objects.now) c.args.i (0, []) c.len.result c.requires.object c.len.ensures in
-    omega (arith, long, c.div_ceil-count.ensures, c.requires.within, g.met.D.SectorDisk.fits c.args.disk.now)
+    let m = (goal.at.overflow_cast-result g c).After-div_ceil-count in
+    omega (arith, count g m, c.requires.within, g.met.D.SectorDisk.fits c.args.disk.now)
 
 pub overflow_add-result : goal.overflow_add-result
 overflow_add-result g c =
-    let bytes : List ℕ = (object_at (g.O.Objects.objects c.args.objects.now) c.args.i).1 in
-    let range : Range = record { first = c.args.first; count = sectors_for (length bytes) } in
-    let long : length bytes ≡ c.len.result =
-    mapped-at (λ (o : ℕ × List ℕ). length o.1) (g.O.Objects.objects c.args.objects.now) c.args.i (0, []) c.len.result c.requires.object c.len.ensures in
-    omega (arith, long, c.div_ceil-count.ensures, c.requires.within, g.met.D.SectorDisk.fits c.args.disk.now)
+    let m = (goal.at.overflow_add-result g c).After-div_ceil-count in
+    omega (arith, count g m, c.requires.within, g.met.D.SectorDisk.fits c.args.disk.now)
 
 pub write-requires : goal.write-requires
 write-requires g c =
-    let bytes : List ℕ = (object_at (g.O.Objects.objects c.args.objects.now) c.args.i).1 in
-    let range : Range = record { first = c.args.first; count = sectors_for (length bytes) } in
-    let long : length bytes ≡ c.len.result =
-    mapped-at (λ (o : ℕ × List ℕ). length o.1) (g.O.Objects.objects c.args.objects.now) c.args.i (0, []) c.len.result c.requires.object c.len.ensures in
-    omega (arith, long, c.div_ceil-count.ensures, c.requires.within, c.loop-k-test.true, c.loop-k.invariant.wrote.same.sectors)
+    let m = (goal.at.write-requires g c).After-div_ceil-count in
+    omega (arith, count g m, c.requires.within, c.loop-k-test.true, c.loop-k.invariant.wrote.same.sectors)
 
 pub returns-in_err-write-clause-others : goal.returns-in_err-write-clause-others
 returns-in_err-write-clause-others g c =
-    let bytes : List ℕ = (object_at (g.O.Objects.objects c.args.objects.now) c.args.i).1 in
-    let range : Range = record { first = c.args.first; count = sectors_for (length bytes) } in
-    let long : length bytes ≡ c.len.result =
-    mapped-at (λ (o : ℕ × List ℕ). length o.1) (g.O.Objects.objects c.args.objects.now) c.args.i (0, []) c.len.result c.requires.object c.len.ensures in
-    λ honest. LeavesAlone-writes (IsOutside range) _ _ _ (c.args.first + c.loop-k.k) c.bytes.new.into (c.loop-k.invariant.wrote.others honest)
-    (λ out. ⊎_elim (λ low. omega (arith, low)) (λ high. omega (arith, high, long, c.div_ceil-count.ensures, c.loop-k-test.true)) out) c.write.ensures.medium
+    let m = (goal.at.returns-in_err-write-clause-others g c).After-div_ceil-count in
+    λ honest. LeavesAlone-writes (IsOutside (range g m)) _ _ _ (c.args.first + c.loop-k.k) c.bytes.new.into (c.loop-k.invariant.wrote.others honest)
+    (λ out. ⊎_elim (λ low. omega (arith, low)) (λ high. omega (arith, high, count g m, c.loop-k-test.true)) out) c.write.ensures.medium
 
 pub returns-in_err-write-clause-same : goal.returns-in_err-write-clause-same
 returns-in_err-write-clause-same g c = IsSameDisk-then c.loop-k.invariant.wrote.same (IsSameDisk-call c.write.ensures.call c.write.ensures.medium.time)
 
 pub loop-k-preserved : goal.loop-k-preserved
 loop-k-preserved g c =
-    let bytes : List ℕ = (object_at (g.O.Objects.objects c.args.objects.now) c.args.i).1 in
-    let range : Range = record { first = c.args.first; count = sectors_for (length bytes) } in
-    let long : length bytes ≡ c.len.result =
-    mapped-at (λ (o : ℕ × List ℕ). length o.1) (g.O.Objects.objects c.args.objects.now) c.args.i (0, []) c.len.result c.requires.object c.len.ensures in
+    let m = (goal.at.loop-k-preserved g c).After-div_ceil-count in
     let at : ℕ = c.args.first + c.loop-k.k in
     let sector = mapped-at (λ (o : ℕ × List ℕ). window (512 * c.loop-k.k) o.1) (g.O.Objects.objects c.args.objects.now) c.args.i (0, []) c.bytes.new.into
     c.requires.object c.bytes.ensures.bytes in
     record {
-      wrote = wrote-more g.D.SectorDisk.size g.D.SectorDisk.medium g.D.SectorDisk.counts
-          (IsOutside range) c.loop-k.k at c.bytes.new.into c.args.disk.now c.loop-k.disk c.write.new.self
-          (g.met.D.SectorDisk.in_range c.args.disk.now) c.loop-k.invariant.wrote
-          (λ out. ⊎_elim (λ low. omega (arith, low))
-          (λ high. omega (arith, high, long, c.div_ceil-count.ensures, c.loop-k-test.true)) out) c.write.ensures.medium
+      wrote = wrote-more (g.met.D.SectorDisk.in_range c.args.disk.now) c.loop-k.invariant.wrote c.write.new.self
+          (λ out. ⊎_elim (λ low. omega (arith, low)) (λ high. omega (arith, high, count g m, c.loop-k-test.true)) out) c.write.ensures.medium
           c.write.ensures.call.sectors c.in_ok-write.ensures.call.ok;
       stands = λ honest.
           let mid = (c.loop-k.invariant.wrote.others honest).honest in
@@ -85,50 +83,42 @@ loop-k-preserved g c =
             (g.met.D.SectorDisk.shaped c.loop-k.disk old.contents mid.reads).count,
             c.loop-k.invariant.wrote.same.sectors,
             c.requires.within,
-            long,
-            c.div_ceil-count.ensures,
+            count g m,
             c.loop-k-test.true,
           ) in
-          subst (λ (l : List ℕ). StandsIn (ObjectSector bytes) l (g.D.SectorDisk.medium c.write.new.self).contents) (sym (run-push c.args.first c.loop-k.k))
-          (subst (StandsIn (ObjectSector bytes) (range_with_len c.args.first c.loop-k.k ++ at ∷ [])) (sym (c.in_ok-write.ensures.written mid))
-          (stands-push (ObjectSector bytes) (range_with_len c.args.first c.loop-k.k) at c.bytes.new.into old.contents
+          subst (λ (l : List ℕ). StandsIn (ObjectSector (bytes g m)) l (g.D.SectorDisk.medium c.write.new.self).contents)
+          (sym (run-push c.args.first c.loop-k.k)) (subst (StandsIn (ObjectSector (bytes g m)) (range_with_len c.args.first c.loop-k.k ++ at ∷ []))
+          (sym (c.in_ok-write.ensures.written mid))
+          (stands-push (ObjectSector (bytes g m)) (range_with_len c.args.first c.loop-k.k) at c.bytes.new.into old.contents
           (λ there. let inside = run-within c.args.first c.loop-k.k at there in omega (arith, inside)) within
-          (sym sector ∙ ap (λ (n : ℕ). padded_part 512 n bytes) (sym (length-range_with_len c.args.first c.loop-k.k))) (c.loop-k.invariant.stands honest)));
+          (sym sector ∙ ap (λ (n : ℕ). padded_part 512 n (bytes g m)) (sym (length-range_with_len c.args.first c.loop-k.k)))
+          (c.loop-k.invariant.stands honest)));
       mark = c.bytes.ensures.mark;
     }
 
 pub returns-clause-beyond : goal.returns-clause-beyond
 returns-clause-beyond g c =
-    let bytes : List ℕ = (object_at (g.O.Objects.objects c.args.objects.now) c.args.i).1 in
-    let range : Range = record { first = c.args.first; count = sectors_for (length bytes) } in
-    let long : length bytes ≡ c.len.result =
-    mapped-at (λ (o : ℕ × List ℕ). length o.1) (g.O.Objects.objects c.args.objects.now) c.args.i (0, []) c.len.result c.requires.object c.len.ensures in
-    omega (arith, long, c.div_ceil-count.ensures)
+    let m = (goal.at.returns-clause-beyond g c).After-div_ceil-count in
+    omega (arith, count g m)
 
 pub returns-clause-written : goal.returns-clause-written
 returns-clause-written g c =
-    let bytes : List ℕ = (object_at (g.O.Objects.objects c.args.objects.now) c.args.i).1 in
-    let range : Range = record { first = c.args.first; count = sectors_for (length bytes) } in
-    let long : length bytes ≡ c.len.result =
-    mapped-at (λ (o : ℕ × List ℕ). length o.1) (g.O.Objects.objects c.args.objects.now) c.args.i (0, []) c.len.result c.requires.object c.len.ensures in
+    let m = (goal.at.returns-clause-written g c).After-div_ceil-count in
     λ honest.
-    let all : c.loop-k.k ≡ sectors_for (length bytes) = omega (arith, c.loop-k-test.false, c.loop-k.auto.k-end, c.div_ceil-count.ensures, long) in
-    let run : List ℕ = range_with_len c.args.first (sectors_for (length bytes)) in
-    let stands : StandsIn (ObjectSector bytes) run (g.D.SectorDisk.medium c.loop-k.disk).contents =
-    subst (λ (n : ℕ). StandsIn (ObjectSector bytes) (range_with_len c.args.first n) (g.D.SectorDisk.medium c.loop-k.disk).contents) all
+    let all : c.loop-k.k ≡ sectors_for (length (bytes g m)) = omega (arith, c.loop-k-test.false, c.loop-k.auto.k-end, count g m) in
+    let run : List ℕ = range_with_len c.args.first (sectors_for (length (bytes g m))) in
+    let stands : StandsIn (ObjectSector (bytes g m)) run (g.D.SectorDisk.medium c.loop-k.disk).contents =
+    subst (λ (n : ℕ). StandsIn (ObjectSector (bytes g m)) (range_with_len c.args.first n) (g.D.SectorDisk.medium c.loop-k.disk).contents) all
     (c.loop-k.invariant.stands honest) in
-    parts-join 512 (sector_at (g.D.SectorDisk.medium c.loop-k.disk).contents) run bytes
+    parts-join 512 (sector_at (g.D.SectorDisk.medium c.loop-k.disk).contents) run (bytes g m)
     (λ j d less. ap (sector_at (g.D.SectorDisk.medium c.loop-k.disk).contents) (get_or_default run j d 0 less) ∙ stands j less)
-    (omega (arith, length-range_with_len c.args.first (sectors_for (length bytes))))
+    (omega (arith, length-range_with_len c.args.first (sectors_for (length (bytes g m)))))
 
 pub returns-clause-others : goal.returns-clause-others
 returns-clause-others g c = c.loop-k.invariant.wrote.others
 
 pub returns-clause-counts : goal.returns-clause-counts
 returns-clause-counts g c =
-    let bytes : List ℕ = (object_at (g.O.Objects.objects c.args.objects.now) c.args.i).1 in
-    let range : Range = record { first = c.args.first; count = sectors_for (length bytes) } in
-    let long : length bytes ≡ c.len.result =
-    mapped-at (λ (o : ℕ × List ℕ). length o.1) (g.O.Objects.objects c.args.objects.now) c.args.i (0, []) c.len.result c.requires.object c.len.ensures in
-    let all : c.loop-k.k ≡ sectors_for (length bytes) = omega (arith, c.loop-k-test.false, c.loop-k.auto.k-end, c.div_ceil-count.ensures, long) in
+    let m = (goal.at.returns-clause-counts g c).After-div_ceil-count in
+    let all : c.loop-k.k ≡ sectors_for (length (bytes g m)) = omega (arith, c.loop-k-test.false, c.loop-k.auto.k-end, count g m) in
     record { err = tt; ok = c.loop-k.invariant.wrote.count ∙ ap (λ (n : ℕ). with_calls n 0 (g.D.SectorDisk.counts c.args.disk.now)) all }

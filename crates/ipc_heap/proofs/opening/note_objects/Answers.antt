@@ -12,15 +12,14 @@ use Rattle.ipc_heap.proofs.opening.note_objects.Goals.{then-some_empty, else-som
 pub returns-in_default-clause-named : goal.returns-in_default-clause-named
 returns-in_default-clause-named c sector err root image is words =
     let same : c.sector_of_word-begin.result ≡ sector = cc in
-    damaged-object c.args.range c.args.table.now c.args.words.now c.loop.uses c.loop.counter c.loop.at c.loop.last c.loop.some_empty c.loop.invariant
-    c.loop-test.true root image is words sector (sym same ∙ c.sector_of_word-begin.ensures) (rw c.in_default.is at c.sectors_of.ensures)
+    damaged-object c.loop.invariant c.loop-test.true is words sector (sym same ∙ c.sector_of_word-begin.ensures)
+    (rw c.in_default.is at c.sectors_of.ensures)
 
 pub returns-in_err-note_sectors-clause-named : goal.returns-in_err-note_sectors-clause-named
 returns-in_err-note_sectors-clause-named c sector err root image is words =
     let same : c.in_err-note_sectors.field-0.0 ≡ Damaged sector =
     passed_on c.from_residual.result c.in_err-note_sectors.field-0.0 (Damaged sector) c.from_residual.ensures.1 err in
-    damaged-sector c.args.range c.args.table.now c.args.words.now c.loop.uses c.loop.counter c.loop.at c.loop.last c.loop.some_empty c.loop.invariant
-    c.loop-test.true root image is words c.in-Some.sectors sector c.in-Some.ensures
+    damaged-sector c.loop.invariant c.loop-test.true is words c.in-Some.sectors sector c.in-Some.ensures
     (c.in_err-note_sectors.ensures.damaged sector (ap Err same) (object_sectors c.loop.invariant.placed) c.loop.invariant.noted)
 
 by_zero : (was : Bool) (n : ℕ) → was ≡ false → MatchBool (nat_eq n 0) ((was ≡ true) ⊎ (n ≡ 0)) ((was ≡ false) × (0 < n))
@@ -43,8 +42,7 @@ loop-preserved c =
     ] in
     subst (λ (o : Option ℕ). AreGone c.args.range c.args.table.now c.args.words.now c.note_sectors.new.uses (c.loop.counter + 1)
     (c.loop.at + (4 + c.in-Some.sectors)) o c.if-some_empty.some_empty) (ap (λ (n : ℕ). Some n) (sym c.u64_at.ensures))
-    (gone-more c.args.range c.args.table.now c.args.words.now c.loop.uses c.loop.counter c.loop.at c.loop.last c.loop.some_empty c.loop.invariant
-    c.in-Some.sectors c.in-Some.ensures c.note_sectors.new.uses c.if-some_empty.some_empty (λ i. omega (arith, c.type_inv.words i))
+    (gone-more c.loop.invariant c.in-Some.sectors c.in-Some.ensures c.note_sectors.new.uses c.if-some_empty.some_empty (λ i. omega (arith, c.type_inv.words i))
     (c.in_ok-note_sectors.ensures.noted (object_sectors c.loop.invariant.placed) c.loop.invariant.noted) either)
 
 pub returns-in_default-clause-own : goal.returns-in_default-clause-own

@@ -52,21 +52,19 @@ module _ (g : Over) (c : After-can_follow g) where
       let bytes = c.in_ok-read.ensures.bytes (so_far.reads.same.honest.0 honest) in
       let stands : slice_get image c.loop-j.at ≡ Some c.read.new.into =
       ap (λ (i : Image). slice_get i c.loop-j.at) (sym ((so_far.reads.stays honest).contents honest)) ∙ bytes in
-      hops-more c.args.range c.args.root c.loop-j.table.items c.loop-j.words.items c.loop-j.at c.read_u32-next.result c.read.new.into image
-      (so_far.hops honest) (get_or_from_slice_get image c.loop-j.at c.read.new.into [] stands) (sym c.read_u32-next.ensures)
+      hops-more (so_far.hops honest) (get_or_from_slice_get image c.loop-j.at c.read.new.into [] stands) (sym c.read_u32-next.ensures)
 
   noted : AreNoted c.args.range [] more-table more-uses
   noted =
       let so_far = c.loop-j.invariant.read in
       subst (AreNoted c.args.range [] more-table) (sym c.note.ensures)
-      (noted-more c.args.range c.args.root c.loop-j.table.items c.loop-j.words.items c.loop-j.at c.read_u32-next.result c.read.new.into c.loop-j.uses c.loop-j.j
-      (get_or c.loop-j.uses place none) so_far less (slice_get-get_or c.loop-j.uses place none (omega (arith, (so_far.next less).0, so_far.noted.all))))
+      (noted-more so_far (get_or c.loop-j.uses place none) less
+      (slice_get-get_or c.loop-j.uses place none (omega (arith, (so_far.next less).0, so_far.noted.all))))
 
   read : (c.loop-j.j + 1 ≡ chain_for c.args.root.len → c.read_u32-next.result ≡ 0)
       → (c.loop-j.j + 1 < chain_for c.args.root.len → IsInside c.args.range c.read_u32-next.result × (Contains more-table c.read_u32-next.result → ⊥))
       → AreRead c.args.range c.args.root more-table more-words more-uses (c.loop-j.j + 1) c.read_u32-next.result
-  read = read-more c.args.range c.args.root c.loop-j.table.items c.loop-j.words.items c.loop-j.at c.read_u32-next.result c.read.new.into c.loop-j.uses
-      more-uses c.loop-j.j c.loop-j.invariant.read c.read.array_long noted
+  read = read-more c.loop-j.invariant.read c.read.new.into c.read.array_long noted
 
   reads : OnlyReads g.D.SectorDisk.size g.D.SectorDisk.medium g.D.SectorDisk.counts ⊥ c.args.disk.now c.read.new.self
   reads = reads-more c.loop-j.invariant.reads c.in_ok-read.ensures.call.sectors c.in_ok-read.ensures.call.ok c.read.ensures.medium
@@ -83,11 +81,10 @@ returns-then-not-can_follow-clause-named g c sector err honest at is =
     subst (IsFirstDamage c.args.range at (image g here)) same
     (⊎_elim
     (λ (last : c.loop-j.j + 1 ≡ c.div_ceil-count.result).
-    damaged-last c.args.range c.args.root (image g here) at is c.requires.sound c.loop-j.table.items (more-words g here) (more-uses g here) c.loop-j.at
-    c.read_u32-next.result (noted g here) (hops g here honest) (long ∙ last ∙ chain g here) (c.if-not-can_follow.ensures.last (eq-eqb _ _ last)))
+    damaged-last (image g here) at is c.requires.sound c.loop-j.table.items c.loop-j.at (noted g here) (hops g here honest)
+    (long ∙ last ∙ chain g here) (c.if-not-can_follow.ensures.last (eq-eqb _ _ last)))
     (λ (more : c.loop-j.j + 1 ≡ c.div_ceil-count.result → ⊥).
-    damaged-next c.args.range c.args.root (image g here) at is c.requires.sound c.loop-j.table.items (more-words g here) (more-uses g here) c.loop-j.at
-    c.read_u32-next.result (noted g here) (hops g here honest)
+    damaged-next (image g here) at is c.requires.sound c.loop-j.table.items c.loop-j.at (noted g here) (hops g here honest)
     (omega (arith, long, less g here, chain g here, more)) (c.if-not-can_follow.ensures.more (ne_eqb _ _ more) (more-table g here) (noted g here)))
     (cases_eq (c.loop-j.j + 1) c.div_ceil-count.result))
 
@@ -117,7 +114,7 @@ returns-clause-table g c honest at read =
     let image = (g.D.SectorDisk.medium c.args.disk.now).contents in
     let so_far = c.loop-j.invariant in
     let all : c.loop-j.j ≡ chain_for c.args.root.len = omega (arith, c.loop-j.auto.j-end, c.loop-j-test.false, c.div_ceil-count.ensures) in
-    table-read c.args.range c.args.root image at read c.requires.sound c.loop-j.table.items c.loop-j.words.items c.loop-j.uses c.loop-j.at
+    table-read image at read c.requires.sound
     (subst (λ (n : ℕ). AreRead c.args.range c.args.root c.loop-j.table.items c.loop-j.words.items c.loop-j.uses n c.loop-j.at) all so_far.read)
     (so_far.hops honest)
 

@@ -30,8 +30,7 @@ loop-j-preserved g c =
     let here : TableSector words ss j c.table_sector-sector.result =
     subst (λ (n : ℕ). IsTableSector words j n c.table_sector-sector.result) next c.table_sector-sector.ensures in
     record {
-      wrote = wrote-more g.D.SectorDisk.size g.D.SectorDisk.medium g.D.SectorDisk.counts (λ i. Contains ss i → ⊥) j c.sector.result
-          c.table_sector-sector.result c.args.disk.now c.loop-j.disk c.write.new.self (g.met.D.SectorDisk.in_range c.args.disk.now) c.loop-j.invariant.wrote
+      wrote = wrote-more (g.met.D.SectorDisk.in_range c.args.disk.now) c.loop-j.invariant.wrote c.write.new.self
           (λ out. out (subst (Contains ss) (sym at) (Contains-get_or ss j 0 less))) c.write.ensures.medium c.write.ensures.call.sectors
           c.in_ok-write.ensures.call.ok;
       stands = λ honest.

@@ -1,23 +1,21 @@
 -- What the objects lack is taken out, what has changed is put in, and the heap is turned over.
-use Rattle.std.proofs.Common.{◌≡◌, inl, ℕ, ◌≤◌, refl, ap, subst, ◌∙◌}
-use Rattle.std.specs.Prelude.{Err, IsErrOf, is_some, nat_eq}
+use Rattle.std.proofs.Common.{◌≡◌, ℕ, ◌≤◌, ap, subst, ◌∙◌}
+use Rattle.std.specs.Prelude.{is_some, nat_eq}
 use Rattle.std.proofs.lemmas.Result.{on_ok_weaker}
 use Rattle.ipc_base.specs.Objects.{OthersAreThere, PlainObjects}
 use Rattle.ipc_base.specs.Table.{value_at}
 use Rattle.ipc_disk.specs.Counts.{Counts, counted}
-use Rattle.ipc_heap.specs.declared.error.HeapError.{HeapError}
-use Rattle.ipc_heap.specs.declared.error.HeapError.TheVariants.{Device, Full}
 use Rattle.ipc_heap.specs.Matches.{Keeps}
 use Rattle.ipc_heap.specs.View.{HeapView, free}
-use Rattle.ipc_heap.proofs.CallerLemmas.{EachLater-weaken}
 use Rattle.ipc_checkpoint.specs.Matches.{CheckpointMatches, IsSavedUnder}
-use Rattle.ipc_checkpoint.specs.Meanwhile.{KeepsUsed, KeepsUsedOrTurns}
 use Rattle.ipc_checkpoint.specs.View.{CheckpointView, layout_of}
-use Rattle.ipc_checkpoint.proofs.Saves.{PutAll, PutSome, Started, counted-two, free-new, kept-new, laid-one, matches-new, meanwhile-mid, meanwhile-new}
-use Rattle.ipc_checkpoint.proofs.Saves.{moment-mid, moment-new, moment-saved, not-full, only-one, others-mid, others-new, room-one, writes-new}
+use Rattle.ipc_checkpoint.proofs.Putting.{device}
+use Rattle.ipc_checkpoint.proofs.Saves.{PutAll, PutSome, Started, counted-two, free-new, laid-one, matches-new, SavesMeanwhile, saves-mid}
+use Rattle.ipc_checkpoint.proofs.Saves.{not-full, only-one, room-one, saves-new, writes-new}
 use Rattle.ipc_checkpoint.proofs.checkpoint.Checkpoint.save.Given.{Over}
 use Rattle.ipc_checkpoint.proofs.checkpoint.Checkpoint.save.Goals as goal
-use Rattle.ipc_checkpoint.proofs.checkpoint.Checkpoint.save.Goals.{After-keep_those_of, After-put_changed, In_ok-put_changed, in-Ok, in-Err}
+use Rattle.ipc_checkpoint.proofs.checkpoint.Checkpoint.save.Goals.{After-flip, After-from_residual, After-keep_those_of, After-put_changed}
+use Rattle.ipc_checkpoint.proofs.checkpoint.Checkpoint.save.Goals.{In_ok-put_changed, in-Ok, in-Err}
 
 -- what the objects lack is taken out
 started : (g : Over) (c : After-keep_those_of g)
@@ -49,11 +47,6 @@ all : (g : Over) (c : In_ok-put_changed g)
     → PutAll (g.O.Objects.objects c.args.objects.now) (g.O.Objects.differs c.args.objects.now) c.keep_those_of.new.heap c.put_changed.new.heap
     (g.D.SectorDisk.medium c.args.disk.now) (g.D.SectorDisk.medium c.put_changed.new.disk)
 all g c = record {
-  some = record {
-    moment = c.put_changed.ensures.any_moment;
-    meanwhile = c.put_changed.ensures.meanwhile;
-    others = c.put_changed.ensures.others;
-  };
   stays = c.put_changed.ensures.stays;
   placed = c.in_ok-put_changed.ensures.placed;
   sizes = c.in_ok-put_changed.ensures.sizes;
@@ -73,27 +66,24 @@ put_changed-requires-clause-room g c = room-one (started g (goal.at.put_changed-
 
 -- ---- the disk fails while they are put in
 
+module _ (g : Over) (c : After-from_residual g) where
+  mid : SavesMeanwhile c.args.self.now (g.O.Objects.objects c.args.objects.now) c.args.epoch (g.D.SectorDisk.medium c.args.disk.now)
+      (g.D.SectorDisk.medium c.put_changed.new.disk)
+  mid =
+      let at = goal.at.returns-in_err-put_changed-clause-others g c in
+      saves-mid (started g at.After-keep_those_of) (some g at.After-put_changed) c.args.epoch
+
 pub returns-in_err-put_changed-clause-any_moment : goal.returns-in_err-put_changed-clause-any_moment
-returns-in_err-put_changed-clause-any_moment g c = λ saved at.
-    let at-goal = goal.at.returns-in_err-put_changed-clause-any_moment g c in
-    moment-mid (started g at-goal.After-keep_those_of) (some g at-goal.After-put_changed) saved at c.args.epoch
+returns-in_err-put_changed-clause-any_moment g c = (mid g c).moment
 
 pub returns-in_err-put_changed-clause-meanwhile : goal.returns-in_err-put_changed-clause-meanwhile
-returns-in_err-put_changed-clause-meanwhile g c = λ saved at.
-    let at-goal = goal.at.returns-in_err-put_changed-clause-meanwhile g c in
-    EachLater-weaken (KeepsUsed (layout_of c.args.self.now)) (KeepsUsedOrTurns (layout_of c.args.self.now)) (g.D.SectorDisk.medium c.args.disk.now)
-    (g.D.SectorDisk.medium c.put_changed.new.disk)
-    (meanwhile-mid (started g at-goal.After-keep_those_of) (some g at-goal.After-put_changed) saved at) (λ a b kept. inl kept)
-
-pub returns-in_err-put_changed-clause-others : goal.returns-in_err-put_changed-clause-others
-returns-in_err-put_changed-clause-others g c =
-    let at-goal = goal.at.returns-in_err-put_changed-clause-others g c in
-    others-mid (started g at-goal.After-keep_those_of) (some g at-goal.After-put_changed)
+returns-in_err-put_changed-clause-meanwhile g c = (mid g c).meanwhile
 
 pub returns-in_err-put_changed-clause-kept : goal.returns-in_err-put_changed-clause-kept
-returns-in_err-put_changed-clause-kept g c = λ root saved at other part within now.
-    let at-goal = goal.at.returns-in_err-put_changed-clause-kept g c in
-    moment-saved (started g at-goal.After-keep_those_of) (some g at-goal.After-put_changed) saved at part within now
+returns-in_err-put_changed-clause-kept g c = (mid g c).kept
+
+pub returns-in_err-put_changed-clause-others : goal.returns-in_err-put_changed-clause-others
+returns-in_err-put_changed-clause-others g c = (mid g c).others
 
 -- ---- the heap is turned over
 
@@ -101,11 +91,6 @@ pub flip-requires-clause-counted : goal.flip-requires-clause-counted
 flip-requires-clause-counted g c =
     let at-goal = goal.at.flip-requires-clause-counted g c in
     counted-two (started g at-goal.After-keep_those_of) (all g at-goal.In_ok-put_changed)
-
--- an error that is not for want of sectors is the disk's
-device : (e : HeapError) → (IsErrOf {T = Unit {0}} (Err e) Full → ⊥) → IsErrOf {T = Unit {0}} (Err e) Device
-device Device some = refl
-device Full some = absurd (some refl)
 
 pub returns-clause-moved : goal.returns-clause-moved
 returns-clause-moved g c =
@@ -140,29 +125,25 @@ returns-clause-free g c =
       | in-Err w ↦ rw w.result-is tt
     ]
 
+module _ (g : Over) (c : After-flip g) where
+  new : SavesMeanwhile c.args.self.now (g.O.Objects.objects c.args.objects.now) c.args.epoch (g.D.SectorDisk.medium c.args.disk.now)
+      (g.D.SectorDisk.medium c.flip.new.disk)
+  new =
+      let at = goal.at.flip-requires-clause-counted g c.before in
+      saves-new (started g at.After-keep_those_of) (all g at.In_ok-put_changed) (some g at.After-put_changed) (g.D.SectorDisk.medium c.flip.new.disk)
+      c.args.epoch c.requires.unchanged c.flip.ensures.any_moment c.flip.ensures.kept c.flip.ensures.meanwhile c.flip.ensures.others
+
 pub returns-clause-any_moment : goal.returns-clause-any_moment
-returns-clause-any_moment g c =
-    let at-goal = goal.at.returns-clause-any_moment g c in
-    moment-new (started g at-goal.After-keep_those_of) (all g at-goal.In_ok-put_changed) (g.D.SectorDisk.medium c.flip.new.disk) c.args.epoch
-    c.requires.unchanged c.flip.ensures.any_moment
+returns-clause-any_moment g c = (new g (goal.at.returns-clause-any_moment g c).After-flip).moment
 
 pub returns-clause-meanwhile : goal.returns-clause-meanwhile
-returns-clause-meanwhile g c =
-    let at-goal = goal.at.returns-clause-meanwhile g c in
-    meanwhile-new (started g at-goal.After-keep_those_of) (all g at-goal.In_ok-put_changed) (g.D.SectorDisk.medium c.flip.new.disk) c.args.epoch
-    c.flip.ensures.meanwhile
+returns-clause-meanwhile g c = (new g (goal.at.returns-clause-meanwhile g c).After-flip).meanwhile
 
 pub returns-clause-kept : goal.returns-clause-kept
-returns-clause-kept g c = λ root saved at other.
-    let at-goal = goal.at.returns-clause-kept g c in
-    kept-new (started g at-goal.After-keep_those_of) (all g at-goal.In_ok-put_changed) (g.D.SectorDisk.medium c.flip.new.disk) c.args.epoch
-    c.flip.ensures.kept saved at other
+returns-clause-kept g c = (new g (goal.at.returns-clause-kept g c).After-flip).kept
 
 pub returns-clause-others : goal.returns-clause-others
-returns-clause-others g c =
-    let at-goal = goal.at.returns-clause-others g c in
-    others-new (started g at-goal.After-keep_those_of) (all g at-goal.In_ok-put_changed) (g.D.SectorDisk.medium c.flip.new.disk) c.args.epoch
-    c.flip.ensures.others
+returns-clause-others g c = (new g (goal.at.returns-clause-others g c).After-flip).others
 
 pub returns-clause-counts : goal.returns-clause-counts
 returns-clause-counts g c =

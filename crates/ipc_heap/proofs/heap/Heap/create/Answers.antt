@@ -1,12 +1,12 @@
 -- The objects, their table, and the root.
-use Rattle.std.proofs.Common.{◌≡◌, ℕ, ◌+◌, ◌*◌, ◌<◌, List, length, get_or, sym, ap, subst, ◌∙◌, arith}
+use Rattle.std.proofs.Common.{◌≡◌, refl, ℕ, ◌+◌, ◌*◌, ◌/◌, ◌<◌, List, length, get_or, sym, ap, subst, ◌∙◌, arith}
 use Rattle.std.specs.Prelude.{All, Contains, nat_eq, slice_set}
 use Rattle.std.specs.List.{IsDistinct, range_with_len}
 use Rattle.std.proofs.lemmas.List.FromFn.{length-range_with_len, get_or-range_with_len}
 use Rattle.std.proofs.lemmas.List.Elements.{All-weaker}
-use Rattle.ipc_base.specs.Objects.{PlainObjects, object_sectors}
-use Rattle.ipc_disk.specs.Counts.{with_calls}
+use Rattle.ipc_base.specs.Objects.{PlainObjects, object_sectors, table_bytes}
 use Rattle.ipc_disk.specs.Medium.{Medium, IsHonest}
+use Rattle.ipc_disk.proofs.CallerLemmas.{counts-calls}
 use Rattle.ipc_disk.specs.Range.{IsInside, IsOutside}
 use Rattle.ipc_disk.specs.Since.{LeavesAlone}
 use Rattle.ipc_heap.specs.Heap.{Holds, IsElsewhere, table_sectors_for, table_words}
@@ -15,7 +15,7 @@ use Rattle.ipc_heap.specs.Relations.Root.{IsRead}
 use Rattle.ipc_heap.specs.Relations.Table.{IsLaid, IsTableOn, placed_after}
 use Rattle.ipc_heap.proofs.Changes.{all-right}
 use Rattle.ipc_heap.proofs.Flips.{turned-there}
-use Rattle.ipc_heap.proofs.Runs.{create-counts, created-holds, laid-fits, laid-inside, laid-once, laid_table, laid_words, others-one, others-two, others-three}
+use Rattle.ipc_heap.proofs.Runs.{created-holds, laid-fits, laid-inside, laid-once, laid_table, laid_words, others-one, others-two, others-three}
 use Rattle.ipc_heap.proofs.Runs.{table-after, table-not_root, words-after}
 use Rattle.ipc_heap.proofs.Sectors.{distinct-right}
 use Rattle.ipc_heap.proofs.heap.Heap.create.Given.{Over}
@@ -163,11 +163,10 @@ returns-clause-holds g c = λ honest.
 pub returns-clause-counts : goal.returns-clause-counts
 returns-clause-counts g c =
     let m = (goal.at.returns-clause-counts g c).In_ok-beyond in
+    let all : length (table g m) ≡ (table_bytes (os g m) + 507) / 508 =
+    length-range_with_len c.in_ok-beyond.beyond _ ∙ table-after c.args.range.first (os g m) in
     record {
       err = tt;
-      ok = create-counts (object_sectors (os g m)) (length (table g m)) _ _ _ _ c.in_ok-beyond.ensures.counts.ok c.in_ok-write_table.ensures.counts.ok
-          c.in_ok-write_durably.ensures.counts.ok (g.met.D.SectorDisk.in_range c.args.disk.now)
-          ∙ ap (λ (n : ℕ). with_calls (object_sectors (os g m) + n + 1) 1 (g.D.SectorDisk.counts c.args.disk.now))
-          (length-range_with_len c.in_ok-beyond.beyond (table_sectors_for (length (table_words (placed_after c.args.range.first (os g m)))))
-          ∙ table-after c.args.range.first (os g m));
+      ok = rw (c.in_ok-write_durably.ensures.counts.ok, c.in_ok-write_table.ensures.counts.ok, c.in_ok-beyond.ensures.counts.ok)
+          (counts-calls _ _ _ _ refl (omega (arith, all)) (omega (arith, (g.met.D.SectorDisk.in_range c.args.disk.now).syncs_fit)));
     }

@@ -9,7 +9,7 @@ use Rattle.ipc_heap.specs.Relations.Root.{IsRead}
 use Rattle.ipc_heap.specs.declared.error.OpenError.TheVariants.{Damaged}
 use Rattle.ipc_heap.proofs.Damages.{no-damage}
 use Rattle.ipc_heap.proofs.Opens.{passed_on}
-use Rattle.ipc_heap.proofs.Opened.{parts-heap, kept-holds, kept-matches, kept-free, kept-table}
+use Rattle.ipc_heap.proofs.Opened.{AreWhole, parts-heap, kept-holds, kept-matches, kept-free, kept-table}
 use Rattle.ipc_heap.proofs.heap.Heap.open.Given.{Over}
 use Rattle.ipc_heap.proofs.heap.Heap.open.Goals as goal
 use Rattle.ipc_heap.proofs.heap.Heap.open.Goals.{In_ok-parts, In_ok-read_parts}
@@ -41,11 +41,14 @@ returns-in_err-read_parts-clause-damaged g c sector err honest =
     (c.in_err-read_parts.ensures.named sector (ap Err same) here.0
     (subst (λ (i : Image). IsRead (sector_at i c.args.root) c.in_ok-found.found) (sym here.1) read)))
 
+whole : (g : Over) (c : In_ok-read_parts g) → AreWhole c.args.range c.in_ok-found.found c.read_parts.new.parts
+whole g c = record { noted = c.in_ok-read_parts.ensures.noted; all = c.in_ok-read_parts.ensures.all; sound = c.in_ok-found.ensures.sound }
+
 pub invariant_of-result : goal.invariant_of-result
 invariant_of-result g c =
     let done = c.in_ok-read_parts.ensures in
-    parts-heap c.args.range c.args.root c.in_ok-found.found (g.D.SectorDisk.medium c.args.disk.now).contents c.read_parts.new.parts done.noted done.all
-    c.in_ok-found.ensures.sound (omega (arith, done.capacity, c.in_ok-parts.ensures.words)) (omega (arith, done.table_capacity, c.in_ok-parts.ensures.table))
+    parts-heap (whole g (goal.at.invariant_of-result g c).In_ok-read_parts) (omega (arith, done.capacity, c.in_ok-parts.ensures.words))
+    (omega (arith, done.table_capacity, c.in_ok-parts.ensures.table))
 
 module _ (g : Over) (c : In_ok-read_parts g) (honest : IsHonest (g.D.SectorDisk.medium c.args.disk.now))
     (here : IsHonest (g.D.SectorDisk.medium c.read_root.new.disk)
@@ -69,35 +72,23 @@ module _ (g : Over) (c : In_ok-read_parts g) (honest : IsHonest (g.D.SectorDisk.
 
 pub returns-clause-holds : goal.returns-clause-holds
 returns-clause-holds g c honest =
-    let done = c.in_ok-read_parts.ensures in
-    let medium = g.D.SectorDisk.medium c.args.disk.now in
+    let m = (goal.at.returns-clause-holds g c).In_ok-read_parts in
     let here = same-disk g (goal.at.returns-clause-holds g c).In_ok-parts honest in
-    kept-holds c.args.range c.args.root c.in_ok-found.found medium.contents c.read_parts.new.parts done.noted done.all c.in_ok-found.ensures.sound
-    (read g c honest here) (there g c honest here) (g.D.SectorDisk.size c.args.disk.now) (shaped g c honest here) c.requires.laid_out.within
-    (fits g c honest here)
-    medium refl
+    kept-holds (whole g m) (read g m honest here) (there g m honest here) (shaped g m honest here) c.requires.laid_out.within (fits g m honest here)
+    (g.D.SectorDisk.medium c.args.disk.now) refl
 
 pub returns-clause-matches : goal.returns-clause-matches
 returns-clause-matches g c honest durable =
-    let done = c.in_ok-read_parts.ensures in
-    let old = g.D.SectorDisk.medium c.args.disk.now in
-    let new = g.D.SectorDisk.medium c.read_parts.new.disk in
+    let m = (goal.at.returns-clause-matches g c).In_ok-read_parts in
     let here = same-disk g (goal.at.returns-clause-matches g c).In_ok-parts honest in
-    let stays = Stays-join old (g.D.SectorDisk.medium c.read_root.new.disk) new honest (c.read_root.ensures.reads.stays honest) (done.reads.stays here.0) in
-    kept-matches c.args.range c.args.root c.in_ok-found.found old.contents c.read_parts.new.parts done.noted done.all c.in_ok-found.ensures.sound
-    (read g c honest here) (there g c honest here) (g.D.SectorDisk.size c.args.disk.now) (shaped g c honest here) c.requires.laid_out.within
-    (fits g c honest here)
-    new (stays.contents honest) c.requires.laid_out.apart (stays.time.honest.0 honest)
+    let stays = Stays-join (g.D.SectorDisk.medium c.args.disk.now) (g.D.SectorDisk.medium c.read_root.new.disk) (g.D.SectorDisk.medium c.read_parts.new.disk)
+    honest (c.read_root.ensures.reads.stays honest) (c.read_parts.ensures.reads.stays here.0) in
+    kept-matches (whole g m) (read g m honest here) (there g m honest here) (shaped g m honest here) c.requires.laid_out.within (fits g m honest here)
+    (g.D.SectorDisk.medium c.read_parts.new.disk) (stays.contents honest) c.requires.laid_out.apart (stays.time.honest.0 honest)
     (λ i now. durable i (stays.images i now) ∙ sym (stays.contents honest))
 
 pub returns-clause-free : goal.returns-clause-free
-returns-clause-free g c =
-    let done = c.in_ok-read_parts.ensures in
-    kept-free c.args.range c.args.root c.in_ok-found.found (g.D.SectorDisk.medium c.args.disk.now).contents c.read_parts.new.parts done.noted done.all
-    c.in_ok-found.ensures.sound
+returns-clause-free g c = kept-free (whole g (goal.at.returns-clause-free g c).In_ok-read_parts)
 
 pub returns-clause-table : goal.returns-clause-table
-returns-clause-table g c =
-    let done = c.in_ok-read_parts.ensures in
-    kept-table c.args.range c.args.root c.in_ok-found.found (g.D.SectorDisk.medium c.args.disk.now).contents c.read_parts.new.parts done.noted done.all
-    c.in_ok-found.ensures.sound done.table
+returns-clause-table g c = kept-table (whole g (goal.at.returns-clause-table g c).In_ok-read_parts) c.in_ok-read_parts.ensures.table

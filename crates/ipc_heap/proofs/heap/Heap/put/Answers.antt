@@ -1,5 +1,5 @@
 -- An object is put in: it stands in sectors that were free, and takes the place of the one of its number.
-use Rattle.std.proofs.Common.{◌≡◌, ℕ, ◌+◌, ◌/◌, ◌%◌, ◌^◌, ◌<◌, ◌≤◌, List, [], ◌∷◌, ◌++◌, length, take, drop, map, sym, ap, subst, ◌∙◌, arith, vec_capacity}
+use Rattle.std.proofs.Common.{◌≡◌, ℕ, ◌+◌, ◌/◌, ◌%◌, ◌^◌, ◌<◌, ◌≤◌, List, [], ◌∷◌, ◌++◌, length, take, drop, map, sym, ap, subst, ◌∙◌, arith}
 use Rattle.std.specs.Prelude.{All, Option, IfSome, slice_get, slice_index, flat_map, count_by}
 use Rattle.std.proofs.lemmas.Option.{slice_get-get_or, slice_get_within}
 use Rattle.std.proofs.lemmas.List.{take_at, drop_at, drop-drop, length-append, get_or-take}
@@ -8,15 +8,14 @@ use Rattle.ipc_disk.specs.Counts.{with_calls}
 use Rattle.ipc_disk.specs.Medium.{IsHonest}
 use Rattle.ipc_disk.specs.Since.{LeavesAlone}
 use Rattle.ipc_disk.specs.Standing.{sector_at, sectors_for}
-use Rattle.ipc_heap.specs.declared.uses.Use.{Use}
 use Rattle.ipc_heap.specs.Heap.{IsLaidOut, Placed, object_on, object_sectors, object_words}
 use Rattle.ipc_heap.specs.Matches.{HeapMatches, IsKept, StaysSaved}
 use Rattle.ipc_heap.specs.View.{HeapView, free, is_free, map_of, sizes_of, with_object}
 use Rattle.ipc_heap.specs.Relations.Table.{object_at}
 use Rattle.ipc_heap.specs.Relations.Uses.{AreGiven, AreTaken, IsNotFree}
-use Rattle.ipc_heap.specs.Relations.Words.{AreWords, IsHeap, IsPutIn, placed_in}
-use Rattle.ipc_heap.proofs.Changes.{AreObjectsOf, HasSize, back-heap, heap-few, heap-fits, objects-few, pushed-four, pushed-object, seen, with-heap}
-use Rattle.ipc_heap.proofs.Changes.{with-objects, with-placed, words-of}
+use Rattle.ipc_heap.specs.Relations.Words.{AreWords, IsPutIn, placed_in}
+use Rattle.ipc_heap.proofs.Changes.{HasSize, back-heap, heap-few, heap-fits, objects-few, pushed-four, pushed-object, seen, with-heap, IsHeapOf}
+use Rattle.ipc_heap.proofs.Changes.{words-of}
 use Rattle.ipc_heap.proofs.Images.{kept-images, kept-matches, kept-objects, put-are, put-map, put-seen}
 use Rattle.ipc_heap.proofs.Placed.{mapped-at}
 use Rattle.ipc_heap.proofs.Saved.{stays-saved}
@@ -107,20 +106,9 @@ module _ (g : Over) (c : After-put_in g) where
   abbrev m : After-write_object g
   m = (goal.at.invariant_of-self g c).After-write_object
 
-  abbrev new_uses : List Use
-  new_uses = c.put_in.new.uses
-
   put : IsPutIn c.self.inside.words.items c.number-number.result (object_words (placed g m)) c.self.inside.range.first c.write_object.new.uses c.put_in.new.uses
       c.put_in.new.words.items
-  put =
-      let Put : List ℕ → List ℕ → List Use → Type 0 =
-      λ table words uses. IsPutIn table c.number-number.result words c.self.inside.range.first uses c.put_in.new.uses c.put_in.new.words.items in
-      subst (λ (l : List ℕ). Put l (object_words (placed g m)) c.write_object.new.uses) (front g m)
-      (subst (λ (l : List ℕ). Put (take c.len-end.result c.write_object.new.words.items) l c.write_object.new.uses) (back g m)
-      c.put_in.ensures.put)
-
-  given : AreGiven c.self.inside.range.first c.write_object.new.uses (object_sectors put.found.here) new_uses
-  given = put.given
+  put = rw (front g m, back g m) at c.put_in.ensures.put
 
   some : 0 < length (object g m).1
   some = c.count-count.ensures.objects.some c.args.i (0, []) c.requires.object
@@ -128,26 +116,15 @@ module _ (g : Over) (c : After-put_in g) where
   size : HasSize (placed g m)
   size = (omega (arith, some, its_length g m), omega (arith, c.len.type_inv), c.in-Ok.ensures.all ∙ ap sectors_for (its_length g m))
 
-  room : vec_capacity c.put_in.new.words ≡ vec_capacity c.self.inside.words
-  room = c.put_in.ensures.capacity ∙ c.write_object.ensures.capacity ∙ c.push_u64-2.ensures.capacity ∙ c.push_u64.ensures.capacity
-
-  heap : IsHeap c.self.inside.range c.put_in.new.words c.self.inside.table new_uses
-  heap =
-      with-heap c.put_in.new.words new_uses (placed g m) c.self.invariant put.found (taken g m) given size
-      (omega (arith, c.number-number.type_inv)) put.now room
-
-  new_objects : AreObjectsOf c.self.inside.range (put.found.before ++ placed g m ∷ put.found.after) new_uses
-  new_objects =
-      with-objects c.put_in.new.words new_uses (placed g m) c.self.invariant put.found (taken g m) given size
-      (omega (arith, c.number-number.type_inv)) put.now room
-
-  new_placed : placed_in c.put_in.new.words.items ≡ put.found.before ++ placed g m ∷ put.found.after
-  new_placed =
-      with-placed c.put_in.new.words new_uses (placed g m) c.self.invariant put.found (taken g m) given size
-      (omega (arith, c.number-number.type_inv)) put.now room
+  -- the heap with it
+  new_heap : IsHeapOf c.self.inside.range (put.found.before ++ placed g m ∷ put.found.after) c.put_in.new.words c.self.inside.table c.put_in.new.uses
+  new_heap =
+      with-heap c.put_in.new.words c.put_in.new.uses (placed g m) c.self.invariant put.found (taken g m) put.given size
+      (omega (arith, c.number-number.type_inv)) put.now
+      (c.put_in.ensures.capacity ∙ c.write_object.ensures.capacity ∙ c.push_u64-2.ensures.capacity ∙ c.push_u64.ensures.capacity)
 
   abbrev next : HeapView
-  next = seen c.self.inside.range c.self.inside.root c.self.inside.next_root c.self.inside.epoch c.put_in.new.words c.self.inside.table new_uses
+  next = seen c.self.inside.range c.self.inside.root c.self.inside.next_root c.self.inside.epoch c.put_in.new.words c.self.inside.table c.put_in.new.uses
 
   module _ (saved : PlainObjects) (matches : HeapMatches (view g m) saved (g.D.SectorDisk.medium c.args.disk.now)) where
     kept : map (object_on (g.D.SectorDisk.medium c.args.disk.now).contents) (placed_in c.self.inside.words.items)
@@ -166,24 +143,20 @@ module _ (g : Over) (c : After-put_in g) where
     put_map =
         let new = (g.D.SectorDisk.medium c.write_object.new.disk).contents in
         let o : ℕ × List ℕ = object g m in
-        ap (λ (l : List Placed). map (object_on new) l) new_placed
-        ∙ put-map new put.found.before put.found.here put.found.after (placed g m) o.1 put.found.lower put.found.same put.found.one put.found.higher stands
-        ∙ ap (λ (l : List Placed). with_object (map (object_on new) l) c.number-number.result o.1) (sym put.found.are)
+        ap (λ (l : List Placed). map (object_on new) l) new_heap.placed_is ∙ put-map (placed g m) put.found new o.1 stands
         ∙ ap (λ (l : PlainObjects). with_object l c.number-number.result o.1) (sym kept)
         ∙ ap (λ (n : ℕ). with_object (map_of (view g m) (g.D.SectorDisk.medium c.args.disk.now)) n o.1) (sym (its_number g m))
 
     put_matches : HeapMatches next saved (g.D.SectorDisk.medium c.write_object.new.disk)
     put_matches =
         let new = g.D.SectorDisk.medium c.write_object.new.disk in
-        let few = objects-few c.self.inside.range (put.found.before ++ placed g m ∷ put.found.after) new_uses new_objects heap.all_uses in
+        let few = objects-few new_heap.objects new_heap.heap.all_uses in
         let are : AreObjects (map (object_on new.contents) (put.found.before ++ placed g m ∷ put.found.after)) =
-        put-are new.contents put.found.before put.found.here put.found.after (placed g m) (object g m).1 put.found.lower put.found.same put.found.one
-        put.found.higher stands (subst AreObjects (kept ∙ ap (λ (l : List Placed). map (object_on new.contents) l) put.found.are) matches.are)
-        new_objects.numbers some (omega (arith, its_length g m, c.len.type_inv))
-        (omega (arith, few, (laid g m).within, g.met.D.SectorDisk.fits c.args.disk.now)) in
+        put-are (placed g m) put.found new.contents (object g m).1 stands (subst AreObjects kept matches.are) new_heap.objects.numbers some
+        (omega (arith, its_length g m, c.len.type_inv)) (omega (arith, few, (laid g m).within, g.met.D.SectorDisk.fits c.args.disk.now)) in
         kept-matches (view g m) saved (g.D.SectorDisk.medium c.args.disk.now) new matches
-        (run g m matches.honest) (placed_in c.put_in.new.words.items) new_uses heap.all_uses (given.saved ∙ (taken g m).saved) heap.next_uses
-        (subst (λ (l : List Placed). AreObjects (map (object_on new.contents) l)) (sym new_placed) are)
+        (run g m matches.honest) (placed_in c.put_in.new.words.items) c.put_in.new.uses new_heap.heap.all_uses (put.given.saved ∙ (taken g m).saved)
+        new_heap.heap.next_uses (subst (λ (l : List Placed). AreObjects (map (object_on new.contents) l)) (sym new_heap.placed_is) are)
 
 -- ---- before the sectors are written
 
@@ -295,7 +268,7 @@ put_in-requires-clause-counted g c =
     )
 
 pub invariant_of-self : goal.invariant_of-self
-invariant_of-self g c = heap g c
+invariant_of-self g c = (new_heap g c).heap
 
 pub returns-in-Ok-clause-map : goal.returns-in-Ok-clause-map
 returns-in-Ok-clause-map g c =
@@ -313,13 +286,10 @@ returns-in-Ok-clause-matches g c =
 pub returns-in-Ok-clause-sizes : goal.returns-in-Ok-clause-sizes
 returns-in-Ok-clause-sizes g c =
     let size : Placed → ℕ × ℕ = λ q. (q.number, q.len) in
-    let found = (put g c).found in
     subst (λ (v : HeapView). IfSome (slice_get (g.O.Objects.objects c.args.objects.now) c.args.i)
     (λ o. sizes_of (next g c) ≡ with_object (sizes_of v) o.0 (length o.1))) c.self.view_is
     (of_object g (m g c) (λ o. sizes_of (next g c) ≡ with_object (sizes_of (view g (m g c))) o.0 (length o.1))
-    (ap (λ (l : List Placed). map size l) (new_placed g c)
-    ∙ put-seen (λ q. q.len) found.before found.here found.after (placed g (m g c)) found.lower found.same found.one found.higher
-    ∙ ap (λ (l : List Placed). with_object (map size l) c.number-number.result c.len.result) (sym found.are)
+    (ap (λ (l : List Placed). map size l) (new_heap g c).placed_is ∙ put-seen (placed g (m g c)) (put g c).found (λ q. q.len)
     ∙ ap (λ (n : ℕ). with_object (sizes_of (view g (m g c))) n c.len.result) (sym (its_number g (m g c)))
     ∙ ap (with_object (sizes_of (view g (m g c))) (object g (m g c)).0) (sym (its_length g (m g c)))))
 
@@ -331,8 +301,8 @@ returns-in-Ok-clause-others g c = others g (goal.at.returns-in-Ok-clause-others 
 
 pub returns-in-Ok-clause-spends : goal.returns-in-Ok-clause-spends
 returns-in-Ok-clause-spends g c =
-    of_object g (m g c) (λ o. free c.args.self.now ≤ count_by is_free (new_uses g c) + sectors_for (length o.1))
-    (omega (arith, (taken g (m g c)).left, (given g c).more, c.in-Ok.ensures.all, ap free c.self.view_is))
+    of_object g (m g c) (λ o. free c.args.self.now ≤ count_by is_free c.put_in.new.uses + sectors_for (length o.1))
+    (omega (arith, (taken g (m g c)).left, (put g c).given.more, c.in-Ok.ensures.all, ap free c.self.view_is))
 
 pub returns-in-Ok-clause-counts : goal.returns-in-Ok-clause-counts
 returns-in-Ok-clause-counts g c =
