@@ -1,284 +1,486 @@
 -- What the crates above cite of a journal: which batches stand on a disk, that a journal stays what it is over a turn,
 -- over reads, and over calls that leave its sectors alone, and what is read of one that grows.
-use Rattle.std.specs.Prelude.{◌≡◌, ℕ, ◌+◌, ◌^◌, ◌<◌, ◌≤◌, List, [], ◌∷◌, ◌++◌, length, take, replicate, refl}
+use Rattle.std.specs.Prelude.{◌≡◌, ℕ, ◌+◌, ◌^◌, ◌<◌, ◌≤◌, List, [], ◌∷◌, ◌++◌, length, take, refl}
 use Rattle.std.proofs.Common.{inl, inr, sym, ◌∙◌, ap, subst, arith}
-use Rattle.std.proofs.lemmas.List.{append-nil, append_assoc, drop_at}
-use Rattle.byteorder.specs.Endian.{big_bytes, big_number}
-use Rattle.byteorder.specs.Numbers.{big_from-take, big_number-reads_back, length-bytes_high_first}
+use Rattle.std.proofs.lemmas.List.{append-nil, append_assoc}
+use Rattle.byteorder.specs.Endian.{big_number}
+use Rattle.byteorder.specs.Numbers.{big_from-take}
 use Rattle.ipc_disk.specs.declared.range.Range.{Range}
-use Rattle.ipc_disk.specs.Medium.{Image, Medium, Stays}
+use Rattle.ipc_disk.specs.Medium.{Image, Medium, IsHonest, Stays}
 use Rattle.ipc_disk.specs.Range.{IsInside}
-use Rattle.ipc_disk.specs.Since.{EachImageSince, LeavesAlone}
+use Rattle.ipc_disk.specs.Since.{EachImageSince, LeavesAlone, SameAt}
+use Rattle.ipc_disk.specs.Standing.{sectors_for, sector_at, piece, StandsAt}
 use Rattle.ipc_disk.proofs.CallerLemmas.{EachImageSince-join, EachImageSince-now, EachImageSince-weaken, LeavesAlone-keeps}
 use Rattle.ipc_disk.proofs.CallerLemmas.{sector_at-same, stands-same, StandsAt-front}
+use Rattle.ipc_journal.specs.declared.form.Form.{Form}
+use Rattle.ipc_journal.specs.declared.form.Form.TheVariants.{Headed}
 use Rattle.ipc_journal.specs.declared.journal.Journal.{Journal}
-use Rattle.ipc_disk.specs.Standing.{sectors_for, sector_at}
-use Rattle.ipc_journal.specs.Journal.{sectors_of, epoch_in, used_in, length_in}
-use Rattle.ipc_disk.specs.Standing.{piece, StandsAt}
-use Rattle.ipc_journal.specs.Journal.{header_bytes, header_used, IsBatch, Fill, Holds}
-use Rattle.ipc_journal.specs.View.{range_of, epoch_of, used_of}
-use Rattle.ipc_journal.specs.Matches.{HoldsOneMoreOrNot, JournalMatches}
-use Rattle.ipc_journal.specs.Meanwhile.{ComesInOrder, IsReadFrom, KeepsBatches, Stand}
+use Rattle.ipc_journal.specs.Batch.{epoch_in, length_in, IsBatch}
+use Rattle.ipc_journal.specs.Headed.{header_bytes, used_in, Counts}
+use Rattle.ipc_journal.specs.Journal.{head, sector_of, sectors_in, sectors_of, IsAt, Fill, Stand, EndsAt, Holds, IsOlder, IsClear}
+use Rattle.ipc_journal.specs.Journal.{HasBadHeader, HasLater, HasMore, IsNext}
+use Rattle.ipc_journal.specs.View.{form_of, range_of, epoch_of, used_of, count_of}
+use Rattle.ipc_journal.specs.Matches.{HoldsOneMoreOrNot, JournalMatches, KeepsSectors}
+use Rattle.ipc_journal.specs.Meanwhile.{Comes, ComesInOrder, IsReadFrom, KeepsBatches}
+use Rattle.ipc_journal.proofs.Headers.{Counts-header, Counts-one, Counts-same, epoch_in-header, used_in-header}
 
-module _ (range : Range) where
-  -- where the batches end
-  pub Fill-end : (place end : ℕ) (batches : List (List ℕ)) (image : Image) → Fill range place end batches image
-      → place + sectors_of batches ≡ end
-  Fill-end place end [] image fill = omega (arith, fill)
-  Fill-end place end (batch ∷ batches) image fill =
-      omega (arith, Fill-end (place + sectors_for (length batch)) end batches image fill.2)
+-- a batch takes a sector or more
+pub sectors_in-some : (form : Form) (batch : List ℕ) → IsBatch batch → 0 < sectors_in form (length batch)
+sectors_in-some Headed batch is = omega (arith, is.field)
 
-  -- in the same sectors there are the same batches
-  pub Fill-same : (place end : ℕ) (batches : List (List ℕ)) (a b : Image)
-      → ((j : ℕ) → range.first + 1 ≤ j → j < range.first + 1 + end → sector_at a j ≡ sector_at b j)
-      → Fill range place end batches a → Fill range place end batches b
-  Fill-same place end [] a b same fill = fill
-  Fill-same place end (batch ∷ batches) a b same fill =
-      let total = Fill-end (place + sectors_for (length batch)) end batches a fill.2 in (
-        fill.0,
-        λ i lt. ap (λ (s : List ℕ). take (length (piece i batch)) s)
-            (sym (same (range.first + 1 + place + i) (omega arith) (omega (arith, total, lt)))) ∙ fill.1 i lt,
-        Fill-same (place + sectors_for (length batch)) end batches a b same fill.2,
-      )
+-- the sectors of one batch more
+pub sectors_of-push : (form : Form) (batches : List (List ℕ)) (batch : List ℕ)
+    → sectors_of form (batches ++ batch ∷ []) ≡ sectors_of form batches + sectors_in form (length batch)
+sectors_of-push form [] batch = omega arith
+sectors_of-push form (first ∷ batches) batch = omega (arith, sectors_of-push form batches batch)
 
-  -- one more batch after them
-  pub Fill-push : (place end : ℕ) (batches : List (List ℕ)) (batch : List ℕ) (image : Image) → Fill range place end batches image
-      → IsBatch batch → StandsAt (range.first + 1 + end) batch image
-      → Fill range place (end + sectors_for (length batch)) (batches ++ batch ∷ []) image
-  Fill-push place end [] batch image fill is stands =
-      (is, subst (λ (n : ℕ). StandsAt (range.first + 1 + n) batch image) (sym fill) stands, ap (λ (n : ℕ). n + sectors_for (length batch)) fill)
-  Fill-push place end (first ∷ batches) batch image fill is stands =
-      (fill.0, fill.1, Fill-push (place + sectors_for (length first)) end batches batch image fill.2 is stands)
+-- ---- one batch
 
-length-front : (at : ℕ) (batch : List ℕ) (image : Image) → 4 ≤ length batch → StandsAt at batch image
-    → length_in (sector_at image at) ≡ length_in batch
+length-front : (batch bytes : List ℕ) → take 4 bytes ≡ take 4 batch → length_in bytes ≡ length_in batch
 unfolding length_in
-length-front at batch image long stands =
-    sym (big_from-take 0 4 4 (sector_at image at) (omega arith))
-    ∙ ap (λ (l : List ℕ). big_number 4 l) (StandsAt-front at batch image long stands) ∙ big_from-take 0 4 4 batch (omega arith)
+length-front batch bytes same =
+    sym (big_from-take 0 4 4 bytes (omega arith)) ∙ ap (λ (l : List ℕ). big_number 4 l) same ∙ big_from-take 0 4 4 batch (omega arith)
 
--- so it says how long it is
+-- its first sector says how long it is
 pub length-there : (at : ℕ) (batch : List ℕ) (image : Image) → IsBatch batch → StandsAt at batch image
     → length_in (sector_at image at) + 4 ≡ length batch
-length-there at batch image is stands = omega (arith, length-front at batch image is.field stands, is.right)
-
--- a part of the body is filled by one list of batches alone
-Fill-one : (range : Range) (place end : ℕ) (xs ys : List (List ℕ)) (image : Image) → Fill range place end xs image → Fill range place end ys image → xs ≡ ys
-Fill-one range place end [] [] image first second = refl
-Fill-one range place end [] (y ∷ ys) image first second =
-    absurd (omega (arith, first, second.0.field, Fill-end range (place + sectors_for (length y)) end ys image second.2))
-Fill-one range place end (x ∷ xs) [] image first second =
-    absurd (omega (arith, second, first.0.field, Fill-end range (place + sectors_for (length x)) end xs image first.2))
-Fill-one range place end (x ∷ xs) (y ∷ ys) image first second =
-    let at = range.first + 1 + place in
-    let same : x ≡ y = stands-same at x y image (sym (length-there at x image first.0 first.1) ∙ length-there at y image second.0 second.1) first.1 second.1 in
-    let next : Fill range (place + sectors_for (length x)) end ys image =
-    subst (λ (l : List ℕ). Fill range (place + sectors_for (length l)) end ys image) (sym same) second.2 in
-    ap (λ (l : List ℕ). l ∷ xs) same ∙ ap (λ (l : List (List ℕ)). y ∷ l) (Fill-one range (place + sectors_for (length x)) end xs ys image first.2 next)
-
--- an image is one journal at an epoch
-pub Holds-one : (range : Range) (epoch : ℕ) (xs ys : List (List ℕ)) (image : Image) → Holds range epoch xs image → Holds range epoch ys image → xs ≡ ys
-Holds-one range epoch xs ys image (inl first) (inl second) = first.1 ∙ sym second.1
-Holds-one range epoch xs ys image (inl first) (inr second) = absurd (omega (arith, first.0.older, second.current))
-Holds-one range epoch xs ys image (inr first) (inl second) = absurd (omega (arith, second.0.older, first.current))
-Holds-one range epoch xs ys image (inr first) (inr second) = Fill-one range 0 (header_used range image) xs ys image first.filled second.filled
+length-there at batch image is stands =
+    omega (arith, length-front batch (sector_at image at) (StandsAt-front at batch image is.field stands), is.right)
 
 -- what stands there and is as long as the first sector says is a batch
 pub IsBatch-there : (at : ℕ) (batch : List ℕ) (image : Image) → 4 ≤ length batch → StandsAt at batch image
     → length_in (sector_at image at) + 4 ≡ length batch → IsBatch batch
 IsBatch-there at batch image long stands said = record {
   field = long;
-  right = omega (arith, length-front at batch image long stands, said);
+  right = omega (arith, length-front batch (sector_at image at) (StandsAt-front at batch image long stands), said);
 }
 
-module _ (range : Range) (epoch : ℕ) (batches : List (List ℕ)) where
-  -- the header and the batches' sectors decide it
-  pub Holds-same : (a b : Image) → ((j : ℕ) → range.first ≤ j → j < range.first + 1 + sectors_of batches
-      → sector_at a j ≡ sector_at b j)
-      → Holds range epoch batches a → Holds range epoch batches b
-  Holds-same a b same (inl older) =
-      let header = same range.first (omega arith) (omega arith) in
-      inl (record { older = subst (λ (s : List ℕ). epoch_in s < epoch) header older.0.older }, older.1)
-  Holds-same a b same (inr current) =
-      let header = same range.first (omega arith) (omega arith) in
-      let end = Fill-end range 0 (header_used range a) batches a current.filled in
-      let filled = Fill-same range 0 (header_used range a) batches a b
-      (λ j low high. same j (omega (arith, low)) (omega (arith, end, high))) current.filled in
-      inr (record {
-        current = ap epoch_in (sym header) ∙ current.current;
-        within = subst (λ (s : List ℕ). used_in s < range.count) header current.within;
-        filled = subst (λ (s : List ℕ). Fill range 0 (used_in s) batches b) header filled;
-      })
+-- one batch stands at a place
+pub IsAt-one : (form : Form) (range : Range) (epoch place before : ℕ) (x y : List ℕ) (image : Image) → IsBatch x → IsBatch y
+    → IsAt form range epoch place before x image → IsAt form range epoch place before y image → x ≡ y
+IsAt-one Headed range epoch place before x y image is other first second =
+    let at = sector_of Headed range place in
+    stands-same at x y image (sym (length-there at x image is first) ∙ length-there at y image other second) first second
 
-  -- the batches fill the body up to where they end
-  pub Holds-fill : (image : Image) → Holds range epoch batches image → Fill range 0 (sectors_of batches) batches image
-  Holds-fill image (inl older) = subst (λ (bs : List (List ℕ)). Fill range 0 (sectors_of bs) bs image) (sym older.1) refl
-  Holds-fill image (inr current) =
-      let end = Fill-end range 0 (header_used range image) batches image current.filled in
-      let same : header_used range image ≡ sectors_of batches = omega (arith, end) in
-      subst (λ (n : ℕ). Fill range 0 n batches image) same current.filled
+-- in the same sectors
+pub IsAt-same : (form : Form) (range : Range) (epoch place before : ℕ) (batch : List ℕ) (a b : Image)
+    → ((j : ℕ) → sector_of form range place ≤ j → j < sector_of form range place + sectors_in form (length batch) → sector_at a j ≡ sector_at b j)
+    → IsAt form range epoch place before batch a → IsAt form range epoch place before batch b
+IsAt-same Headed range epoch place before batch a b same here = λ i lt.
+    ap (λ (s : List ℕ). take (length (piece i batch)) s) (sym (same (sector_of Headed range place + i) (omega arith) (omega (arith, lt)))) ∙ here i lt
 
--- what stands in a header
-pub epoch_in-header : (epoch used : ℕ) → epoch < 2 ^ 64 → epoch_in (header_bytes epoch used) ≡ epoch
-unfolding epoch_in header_bytes
-epoch_in-header epoch used fits = big_number-reads_back 8 epoch (big_bytes 4 used ++ replicate 500 0) (omega arith)
+-- ---- batches one after another
 
-pub used_in-header : (epoch used : ℕ) → used < 2 ^ 32 → used_in (header_bytes epoch used) ≡ used
-unfolding used_in header_bytes
-used_in-header epoch used fits =
-    ap (λ (l : List ℕ). big_number 4 l)
-    (drop_at (big_bytes 8 epoch) (big_bytes 4 used ++ replicate 500 0) 8 (length-bytes_high_first 8 epoch))
-    ∙ big_number-reads_back 4 used (replicate 500 0) (omega arith)
+module _ (form : Form) (range : Range) (epoch : ℕ) where
+  -- in the same sectors there are the same batches
+  pub Fill-same : (place before : ℕ) (batches : List (List ℕ)) (a b : Image)
+      → ((j : ℕ) → sector_of form range place ≤ j → j < sector_of form range place + sectors_of form batches → sector_at a j ≡ sector_at b j)
+      → Fill form range epoch place before batches a → Fill form range epoch place before batches b
+  Fill-same place before [] a b same fill = tt
+  Fill-same place before (batch ∷ batches) a b same fill = (
+    fill.0,
+    IsAt-same form range epoch place before batch a b (λ j low high. same j low (omega (arith, high))) fill.1,
+    Fill-same (place + sectors_in form (length batch)) (before + 1) batches a b
+        (λ j low high. same j (omega (arith, low)) (omega (arith, high))) fill.2,
+  )
+
+  -- one more batch after them
+  pub Fill-push : (place before : ℕ) (batches : List (List ℕ)) (batch : List ℕ) (image : Image) → Fill form range epoch place before batches image
+      → IsBatch batch → IsAt form range epoch (place + sectors_of form batches) (before + length batches) batch image
+      → Fill form range epoch place before (batches ++ batch ∷ []) image
+  Fill-push place before [] batch image fill is here =
+      let no_sector : place + 0 ≡ place = omega arith in
+      let none : before + 0 ≡ before = omega arith in (
+        is,
+        subst (λ (n : ℕ). IsAt form range epoch n before batch image) no_sector
+            (subst (λ (n : ℕ). IsAt form range epoch (place + 0) n batch image) none here),
+        tt,
+      )
+  Fill-push place before (first ∷ batches) batch image fill is here =
+      let at : place + (sectors_in form (length first) + sectors_of form batches) ≡ place + sectors_in form (length first) + sectors_of form batches =
+      omega arith in
+      let after : before + (length batches + 1) ≡ before + 1 + length batches = omega arith in (
+        fill.0,
+        fill.1,
+        Fill-push (place + sectors_in form (length first)) (before + 1) batches batch image fill.2 is
+            (subst (λ (n : ℕ). IsAt form range epoch n (before + 1 + length batches) batch image) at
+            (subst (λ (n : ℕ). IsAt form range epoch (place + (sectors_in form (length first) + sectors_of form batches)) n batch image) (omega arith) here)),
+      )
+
+  -- the first ones of the batches stand where they stood
+  pub Fill-front : (place before : ℕ) (batches more : List (List ℕ)) (image : Image) → Fill form range epoch place before (batches ++ more) image
+      → Fill form range epoch place before batches image
+  Fill-front place before [] more image fill = tt
+  Fill-front place before (batch ∷ batches) more image fill =
+      (fill.0, fill.1, Fill-front (place + sectors_in form (length batch)) (before + 1) batches more image fill.2)
+
+-- where the journal ends, no batch is at a later end
+ends-short : (form : Form) (range : Range) (epoch place before last after : ℕ) (batch : List ℕ) (image : Image) → EndsAt form range epoch place before image
+    → IsBatch batch → IsAt form range epoch place before batch image → place + sectors_in form (length batch) ≤ last
+    → EndsAt form range epoch last after image → ⊥
+ends-short Headed range epoch place before last after batch image end is here more other =
+    omega (arith, Counts-one range epoch place last image end other, is.field, more)
+
+-- batches that stand from a place on to where the journal ends are one list
+Fill-one : (form : Form) (range : Range) (epoch place before : ℕ) (xs ys : List (List ℕ)) (image : Image)
+    → Fill form range epoch place before xs image → EndsAt form range epoch (place + sectors_of form xs) (before + length xs) image
+    → Fill form range epoch place before ys image → EndsAt form range epoch (place + sectors_of form ys) (before + length ys) image → xs ≡ ys
+Fill-one form range epoch place before [] [] image first end second other = refl
+Fill-one form range epoch place before [] (y ∷ ys) image first end second other =
+    let here : EndsAt form range epoch place before image = subst (λ (n : ℕ). EndsAt form range epoch n before image) (omega arith)
+    (subst (λ (n : ℕ). EndsAt form range epoch (place + 0) n image) (omega arith) end) in
+    absurd (ends-short form range epoch place before _ _ y image here second.0 second.1 (omega arith) other)
+Fill-one form range epoch place before (x ∷ xs) [] image first end second other =
+    let here : EndsAt form range epoch place before image = subst (λ (n : ℕ). EndsAt form range epoch n before image) (omega arith)
+    (subst (λ (n : ℕ). EndsAt form range epoch (place + 0) n image) (omega arith) other) in
+    absurd (ends-short form range epoch place before _ _ x image here first.0 first.1 (omega arith) end)
+Fill-one form range epoch place before (x ∷ xs) (y ∷ ys) image first end second other =
+    let same : x ≡ y = IsAt-one form range epoch place before x y image first.0 second.0 first.1 second.1 in
+    let next : ℕ = place + sectors_in form (length x) in
+    let fill : Fill form range epoch next (before + 1) ys image =
+    subst (λ (l : List ℕ). Fill form range epoch (place + sectors_in form (length l)) (before + 1) ys image) (sym same) second.2 in
+    let at : place + (sectors_in form (length y) + sectors_of form ys) ≡ next + sectors_of form ys =
+    omega (arith, ap (λ (l : List ℕ). sectors_in form (length l)) same) in
+    ap (λ (l : List ℕ). l ∷ xs) same
+    ∙ ap (λ (l : List (List ℕ)). y ∷ l) (Fill-one form range epoch next (before + 1) xs ys image first.2
+    (subst (λ (n : ℕ). EndsAt form range epoch n (before + 1 + length xs) image) (omega arith)
+    (subst (λ (n : ℕ). EndsAt form range epoch (place + (sectors_in form (length x) + sectors_of form xs)) n image) (omega arith) end))
+    fill
+    (subst (λ (n : ℕ). EndsAt form range epoch n (before + 1 + length ys) image) at
+    (subst (λ (n : ℕ). EndsAt form range epoch (place + (sectors_in form (length y) + sectors_of form ys)) n image) (omega arith) other)))
+
+-- ---- the journal of an image
+
+-- an image is one journal at an epoch
+pub Holds-one : (form : Form) (range : Range) (epoch : ℕ) (xs ys : List (List ℕ)) (image : Image) → Holds form range epoch xs image
+    → Holds form range epoch ys image → xs ≡ ys
+Holds-one form range epoch xs ys image first second =
+    Fill-one form range epoch 0 0 xs ys image first.stand (at_start xs first.ends) second.stand (at_start ys second.ends)
+  where
+    at_start : (bs : List (List ℕ)) → EndsAt form range epoch (sectors_of form bs) (length bs) image
+        → EndsAt form range epoch (0 + sectors_of form bs) (0 + length bs) image
+    at_start bs end = subst (λ (n : ℕ). EndsAt form range epoch n (0 + length bs) image) (omega arith)
+        (subst (λ (n : ℕ). EndsAt form range epoch (sectors_of form bs) n image) (omega arith) end)
+
+ends-same : (form : Form) (range : Range) (epoch place before : ℕ) (a b : Image)
+    → ((j : ℕ) → IsInside range j → sector_at a j ≡ sector_at b j) → 0 < range.count
+    → EndsAt form range epoch place before a → EndsAt form range epoch place before b
+ends-same Headed range epoch place before a b same some end = Counts-same range epoch place a b (same range.first (omega arith, omega (arith, some))) end
+
+-- where it ends is within its sectors
+pub EndsAt-within : (form : Form) (range : Range) (epoch place before : ℕ) (image : Image) → head form ≤ range.count
+    → EndsAt form range epoch place before image → head form + place ≤ range.count
+EndsAt-within Headed range epoch place before image some (Counts.Older older none) = omega (arith, none, some)
+EndsAt-within Headed range epoch place before image some (Counts.Current current said within) = omega (arith, within)
+
+head-some : (form : Form) (range : Range) → 0 < range.count → head form ≤ range.count
+head-some Headed range some = omega (arith, some)
+
+-- the sectors of a journal decide it
+pub Holds-same : (form : Form) (range : Range) (epoch : ℕ) (batches : List (List ℕ)) (a b : Image) → 0 < range.count
+    → ((j : ℕ) → IsInside range j → sector_at a j ≡ sector_at b j)
+    → Holds form range epoch batches a → Holds form range epoch batches b
+Holds-same form range epoch batches a b some same holds =
+    let room = EndsAt-within form range epoch (sectors_of form batches) (length batches) a (head-some form range some) holds.ends in
+    record {
+      stand = Fill-same form range epoch 0 0 batches a b
+          (λ j low high. same j (omega (arith, low), omega (arith, high, room))) holds.stand;
+      ends = ends-same form range epoch (sectors_of form batches) (length batches) a b same some holds.ends;
+    }
+
+-- where all that stands there is older, there is no batch
+pub Holds-older : (form : Form) (range : Range) (epoch : ℕ) (image : Image) → IsOlder form range epoch image → Holds form range epoch [] image
+Holds-older Headed range epoch image older = record { stand = tt; ends = Counts.Older older refl }
+
+-- then nothing there is of this epoch
+pub IsClear-older : (form : Form) (range : Range) (epoch used : ℕ) (image : Image) → IsOlder form range epoch image → IsClear form range epoch used image
+IsClear-older Headed range epoch used image older = tt
+
+-- under a later epoch all of a journal is older
+pub IsOlder-turned : (form : Form) (range : Range) (epoch later : ℕ) (batches : List (List ℕ)) (image : Image) → epoch < later
+    → Holds form range epoch batches image → IsClear form range epoch (sectors_of form batches) image → IsOlder form range later image
+IsOlder-turned Headed range epoch later batches image lt holds clear =
+    elim holds.ends [ Counts.Older older none ↦ omega (arith, older, lt) | Counts.Current current said within ↦ omega (arith, current, lt) ]
+
+-- and there is no batch
+pub Holds-turned : (form : Form) (range : Range) (epoch later : ℕ) (batches : List (List ℕ)) (image : Image) → epoch < later
+    → Holds form range epoch batches image → IsClear form range epoch (sectors_of form batches) image → Holds form range later [] image
+Holds-turned form range epoch later batches image lt holds clear =
+    Holds-older form range later image (IsOlder-turned form range epoch later batches image lt holds clear)
 
 -- an empty journal: the header of its epoch, and no used sector
 pub Holds-header : (range : Range) (epoch : ℕ) (image : Image) → 0 < range.count → epoch < 2 ^ 64
-    → sector_at image range.first ≡ header_bytes epoch 0 → Holds range epoch [] image
-Holds-header range epoch image has fits header =
-    let unused : header_used range image ≡ 0 = ap used_in header ∙ used_in-header epoch 0 (omega arith) in
-    inr (record {
-      current = ap epoch_in header ∙ epoch_in-header epoch 0 fits;
-      within = subst (λ (n : ℕ). n < range.count) (sym unused) has;
-      filled = sym unused;
-    })
+    → sector_at image range.first ≡ header_bytes epoch 0 → Holds Headed range epoch [] image
+Holds-header range epoch image has fits header = record {
+  stand = tt;
+  ends = Counts-header range epoch 0 image has (ap epoch_in header ∙ epoch_in-header epoch 0 fits) (ap used_in header ∙ used_in-header epoch 0 (omega arith));
+}
+
+-- ---- where a journal ends, and what comes next
+
+-- where it ends there is no next batch, no more, and no later epoch
+pub EndsAt-next : (form : Form) (range : Range) (epoch place before : ℕ) (batch : List ℕ) (image : Image) → EndsAt form range epoch place before image
+    → IsNext form range epoch place before batch image → ⊥
+EndsAt-next Headed range epoch place before batch image (Counts.Older older none) next = omega (arith, older, next.2)
+EndsAt-next Headed range epoch place before batch image (Counts.Current current said within) next = omega (arith, said, next.3, next.0.field)
+
+pub EndsAt-more : (form : Form) (range : Range) (epoch place before : ℕ) (image : Image) → EndsAt form range epoch place before image
+    → HasMore form range epoch place before image → ⊥
+EndsAt-more Headed range epoch place before image (Counts.Older older none) more = omega (arith, older, more.0)
+EndsAt-more Headed range epoch place before image (Counts.Current current said within) more = omega (arith, said, more.1)
+
+pub EndsAt-later : (form : Form) (range : Range) (epoch place before : ℕ) (image : Image) → EndsAt form range epoch place before image
+    → HasLater form range epoch place image → ⊥
+EndsAt-later Headed range epoch place before image end later = later
+
+-- the next batch is a batch, stands there, and is one more
+pub IsNext-is : (form : Form) (range : Range) (epoch place before : ℕ) (batch : List ℕ) (image : Image) → IsNext form range epoch place before batch image
+    → IsBatch batch
+IsNext-is Headed range epoch place before batch image next = next.0
+
+pub IsNext-at : (form : Form) (range : Range) (epoch place before : ℕ) (batch : List ℕ) (image : Image) → IsNext form range epoch place before batch image
+    → IsAt form range epoch place before batch image
+IsNext-at Headed range epoch place before batch image next = next.1
+
+pub IsNext-more : (form : Form) (range : Range) (epoch place before : ℕ) (batch : List ℕ) (image : Image) → IsNext form range epoch place before batch image
+    → HasMore form range epoch place before image
+IsNext-more Headed range epoch place before batch image next = (next.2, omega (arith, next.3, next.0.field))
+
+-- of the batches that fill the journal the first is the next
+pub IsNext-fill : (form : Form) (range : Range) (epoch place before : ℕ) (batch : List ℕ) (more : List (List ℕ)) (after : ℕ) (image : Image)
+    → Fill form range epoch place before (batch ∷ more) image
+    → EndsAt form range epoch (place + sectors_of form (batch ∷ more)) after image → IsNext form range epoch place before batch image
+IsNext-fill Headed range epoch place before batch more after image fill (Counts.Older older none) = absurd (omega (arith, none, fill.0.field))
+IsNext-fill Headed range epoch place before batch more after image fill (Counts.Current current said within) =
+    (fill.0, fill.1, current, omega (arith, said))
+
+-- where a batch stands, there is no later epoch
+pub HasLater-at : (form : Form) (range : Range) (epoch place before : ℕ) (batch : List ℕ) (image : Image) → IsAt form range epoch place before batch image
+    → HasLater form range epoch place image → ⊥
+HasLater-at Headed range epoch place before batch image here later = later
+
+-- under such a header there is no journal
+pub Holds-bad : (form : Form) (range : Range) (epoch : ℕ) (batches : List (List ℕ)) (image : Image) → HasBadHeader form range epoch image
+    → Holds form range epoch batches image → ⊥
+Holds-bad Headed range epoch batches image bad holds = ends bad holds.ends
+  where
+    ends : HasBadHeader Headed range epoch image → Counts range epoch (sectors_of Headed batches) image → ⊥
+    ends (inl later) (Counts.Older older none) = omega (arith, later, older)
+    ends (inl later) (Counts.Current current said within) = omega (arith, later, current)
+    ends (inr past) (Counts.Older older none) = omega (arith, past.0, older)
+    ends (inr past) (Counts.Current current said within) = omega (arith, past.1, said, within)
+
+-- ---- sectors that stay
+
+KeepsSectors-refl : (form : Form) (range : Range) (epoch : ℕ) (image : Image) → KeepsSectors form range epoch image image
+KeepsSectors-refl Headed range epoch image = tt
+
+KeepsSectors-same : (form : Form) (range : Range) (epoch : ℕ) (a b c d : Image)
+    → ((j : ℕ) → IsInside range j → sector_at a j ≡ sector_at c j) → ((j : ℕ) → IsInside range j → sector_at b j ≡ sector_at d j)
+    → KeepsSectors form range epoch a b → KeepsSectors form range epoch c d
+KeepsSectors-same Headed range epoch a b c d first second keeps = tt
+
+-- no sector is of a later epoch
+KeepsSectors-older : (form : Form) (range : Range) (epoch : ℕ) (a b : Image) → IsOlder form range epoch a → KeepsSectors form range epoch a b
+KeepsSectors-older Headed range epoch a b older = tt
+
+IsOlder-same : (form : Form) (range : Range) (epoch : ℕ) (a b : Image) → 0 < range.count
+    → ((j : ℕ) → IsInside range j → sector_at a j ≡ sector_at b j)
+    → IsOlder form range epoch a → IsOlder form range epoch b
+IsOlder-same Headed range epoch a b some same older =
+    subst (λ (s : List ℕ). epoch_in s < epoch) (same range.first (omega arith, omega (arith, some))) older
+
+IsClear-same : (form : Form) (range : Range) (epoch used : ℕ) (a b : Image) → ((j : ℕ) → IsInside range j → sector_at a j ≡ sector_at b j)
+    → IsClear form range epoch used a → IsClear form range epoch used b
+IsClear-same Headed range epoch used a b same clear = tt
+
+-- ---- a journal value and a disk
 
 -- a read or a sync of others
 pub JournalMatches-stays : (journal : Journal) (batches : List (List ℕ)) (old new : Medium) → Stays old new
     → JournalMatches journal batches old → JournalMatches journal batches new
 JournalMatches-stays journal batches old new call at = record {
-  honest = call.time.honest.0 at.honest;
   used = at.used;
-  images = λ image now. at.images image (call.images image now);
+  count = at.count;
+  kept = record {
+    honest = call.time.honest.0 at.kept.honest;
+    images = λ image now. at.kept.images image (call.images image now);
+    clear = λ image now. at.kept.clear image (call.images image now);
+    alike = λ a b here there. at.kept.alike a b (call.images a here) (call.images b there);
+  };
 }
 
--- calls that leave the journal's sectors alone, at each moment
-pub EachImageSince-alone : (places : ℕ → Type 0) (journal : Journal) (batches : List (List ℕ)) (old new : Medium)
-    → ((i : ℕ) → IsInside (range_of journal) i → places i)
-    → LeavesAlone places old new → JournalMatches journal batches old
-    → EachImageSince old new (Holds (range_of journal) (epoch_of journal) batches)
-EachImageSince-alone places journal batches old new inside run at =
-    LeavesAlone-keeps places old new (Holds (range_of journal) (epoch_of journal) batches) run at.images
-    (λ a b same holds. Holds-same (range_of journal) (epoch_of journal) batches a b
-    (λ j low high. sector_at-same places a b j same (inside j (low, omega (arith, high, at.used, journal.room)))) holds)
-
--- and after them
-pub JournalMatches-alone : (places : ℕ → Type 0) (journal : Journal) (batches : List (List ℕ)) (old new : Medium)
-    → ((i : ℕ) → IsInside (range_of journal) i → places i)
-    → LeavesAlone places old new → JournalMatches journal batches old → JournalMatches journal batches new
-JournalMatches-alone places journal batches old new inside run at = record {
-  honest = run.honest;
-  used = at.used;
-  images = EachImageSince-now old new (Holds (range_of journal) (epoch_of journal) batches)
-      (EachImageSince-alone places journal batches old new inside run at) run.honest;
+-- a journal that stands there, with a header, on a disk on which a crash leaves what is read
+pub JournalMatches-headed : (journal : Journal) (batches : List (List ℕ)) (medium : Medium) → form_of journal ≡ Headed
+    → used_of journal ≡ sectors_of (form_of journal) batches → count_of journal ≡ length batches → IsHonest medium
+    → ((image : Image) → medium.images_now image → Holds (form_of journal) (range_of journal) (epoch_of journal) batches image)
+    → JournalMatches journal batches medium
+JournalMatches-headed journal batches medium headed used count honest images = record {
+  used = used;
+  count = count;
+  kept = record {
+    honest = honest;
+    images = images;
+    clear = λ image now. subst (λ (f : Form). IsClear f (range_of journal) (epoch_of journal) (sectors_of f batches) image) (sym headed) tt;
+    alike = λ a b here there. subst (λ (f : Form). KeepsSectors f (range_of journal) (epoch_of journal) a b) (sym headed) tt;
+  };
 }
 
--- under a later epoch each image has no batch
-pub Holds-turned : (range : Range) (epoch later : ℕ) (batches : List (List ℕ)) (image : Image) → epoch < later
-    → Holds range epoch batches image → Holds range later [] image
-Holds-turned range epoch later batches image lt (inl older) =
-    inl (record { older = omega (arith, older.0.older) }, refl)
-Holds-turned range epoch later batches image lt (inr current) =
-    inl (record { older = omega (arith, current.current) }, refl)
+module _ (places : ℕ → Type 0) (journal : Journal) (batches : List (List ℕ)) (old new : Medium) (some : 0 < (range_of journal).count)
+    (inside : (i : ℕ) → IsInside (range_of journal) i → places i) (run : LeavesAlone places old new) (at : JournalMatches journal batches old) where
+  -- calls that leave the journal's sectors alone, at each moment
+  pub EachImageSince-alone : EachImageSince old new (Holds (form_of journal) (range_of journal) (epoch_of journal) batches)
+  EachImageSince-alone =
+      LeavesAlone-keeps places old new (Holds (form_of journal) (range_of journal) (epoch_of journal) batches) run at.kept.images
+      (λ a b same holds. Holds-same (form_of journal) (range_of journal) (epoch_of journal) batches a b some
+      (λ j here. sector_at-same places a b j same (inside j here)) holds)
+
+  from : (image : Image) → new.images_now image → (before : Image) × old.images_now before × SameAt places before image
+  from = EachImageSince-now old new _ run.images run.honest
+
+  same_as : (a b : Image) → SameAt places a b → (j : ℕ) → IsInside (range_of journal) j → sector_at a j ≡ sector_at b j
+  same_as a b same j here = sector_at-same places a b j same (inside j here)
+
+  -- under a later epoch all of it stays older
+  pub EachImageSince-older : (later : ℕ) → epoch_of journal < later → EachImageSince old new (IsOlder (form_of journal) (range_of journal) later)
+  EachImageSince-older later lt =
+      LeavesAlone-keeps places old new (IsOlder (form_of journal) (range_of journal) later) run
+      (λ image now. IsOlder-turned (form_of journal) (range_of journal) (epoch_of journal) later batches image lt (at.kept.images image now)
+      (at.kept.clear image now))
+      (λ a b same older. IsOlder-same (form_of journal) (range_of journal) later a b some (λ j here. sector_at-same places a b j same (inside j here)) older)
+
+  -- and after them
+  pub JournalMatches-alone : JournalMatches journal batches new
+  JournalMatches-alone = record {
+    used = at.used;
+    count = at.count;
+    kept = record {
+      honest = run.honest;
+      images = EachImageSince-now old new (Holds (form_of journal) (range_of journal) (epoch_of journal) batches) EachImageSince-alone run.honest;
+      clear = λ image now.
+          let was = from image now in
+          IsClear-same (form_of journal) (range_of journal) (epoch_of journal) _ was.0 image (same_as was.0 image was.2) (at.kept.clear was.0 was.1);
+      alike = λ a b here there.
+          let first = from a here in
+          let second = from b there in
+          KeepsSectors-same (form_of journal) (range_of journal) (epoch_of journal) first.0 second.0 a b (same_as first.0 a first.2)
+          (same_as second.0 b second.2) (at.kept.alike first.0 second.0 first.1 second.1);
+    };
+  }
 
 -- a turn
 pub JournalMatches-turned : (old new : Journal) (batches : List (List ℕ)) (medium : Medium)
-    → range_of new ≡ range_of old
-    → epoch_of old < epoch_of new → used_of new ≡ 0
+    → form_of new ≡ form_of old → range_of new ≡ range_of old
+    → epoch_of old < epoch_of new → used_of new ≡ 0 → count_of new ≡ 0
     → JournalMatches old batches medium → JournalMatches new [] medium
-JournalMatches-turned old new batches medium range lt used at = record {
-  honest = at.honest;
+JournalMatches-turned old new batches medium form range lt used count at = record {
   used = used;
-  images = λ image now. subst (λ (r : Range). Holds r (epoch_of new) [] image) (sym range)
-      (Holds-turned (range_of old) (epoch_of old) (epoch_of new) batches image lt (at.images image now));
+  count = count;
+  kept = record {
+    honest = at.kept.honest;
+    images = λ image now. Holds-older (form_of new) (range_of new) (epoch_of new) image (older image now);
+    clear = λ image now. IsClear-older (form_of new) (range_of new) (epoch_of new) 0 image (older image now);
+    alike = λ a b here there. KeepsSectors-older (form_of new) (range_of new) (epoch_of new) a b (older a here);
+  };
 }
+  where
+    older : (image : Image) → medium.images_now image → IsOlder (form_of new) (range_of new) (epoch_of new) image
+    older image now =
+        subst (λ (f : Form). IsOlder f (range_of new) (epoch_of new) image) (sym form)
+        (subst (λ (r : Range). IsOlder (form_of old) r (epoch_of new) image) (sym range)
+        (IsOlder-turned (form_of old) (range_of old) (epoch_of old) (epoch_of new) batches image lt (at.kept.images image now) (at.kept.clear image now)))
 
 -- ---- a journal that is read while it grows
 
--- the first ones of the batches stand where they stood
-Fill-front : (range : Range) (place end : ℕ) (batches more : List (List ℕ)) (image : Image) → Fill range place end (batches ++ more) image
-    → Fill range place (place + sectors_of batches) batches image
-Fill-front range place end [] more image fill = omega arith
-Fill-front range place end (batch ∷ batches) more image fill =
-    let next : ℕ = place + sectors_for (length batch) in
-    let rest = Fill-front range next end batches more image fill.2 in
-    (fill.0, fill.1, subst (λ (n : ℕ). Fill range next n batches image) (omega arith) rest)
-
 -- a sector that was read is that of an image in which these batches stand from a place on
-record Source (range : Range) (place : ℕ) (batches : List (List ℕ)) (read : Image) (i : ℕ) : Type 0 where
+record Source (range : Range) (epoch place before : ℕ) (batches : List (List ℕ)) (read : Image) (i : ℕ) : Type 0 where
   later : Image
-  end : ℕ
-  fill : Fill range place end batches later
+  fill : Fill Headed range epoch place before batches later
   same : sector_at read i ≡ sector_at later i
 
-Fill-read : (range : Range) (place end : ℕ) (batches : List (List ℕ)) (first read : Image) → Fill range place end batches first
-    → ((i : ℕ) → range.first + 1 + place ≤ i → i < range.first + 1 + end → Source range place batches read i) → Fill range place end batches read
-Fill-read range place end [] first read fill from = fill
-Fill-read range place end (batch ∷ batches) first read fill from =
-    let total = Fill-end range (place + sectors_for (length batch)) end batches first fill.2 in (
-      fill.0,
-      λ i lt. let source = from (range.first + 1 + place + i) (omega arith) (omega (arith, total, lt)) in
-          ap (λ (s : List ℕ). take (length (piece i batch)) s) source.same ∙ source.fill.1 i lt,
-      Fill-read range (place + sectors_for (length batch)) end batches first read fill.2
-          (λ i low high. let source = from i (omega (arith, low)) high in
-          record { later = source.later; end = source.end; fill = source.fill.2; same = source.same }),
-    )
+Fill-read : (range : Range) (epoch place before : ℕ) (batches : List (List ℕ)) (first read : Image) → Fill Headed range epoch place before batches first
+    → ((i : ℕ) → range.first + 1 + place ≤ i → i < range.first + 1 + place + sectors_of Headed batches → Source range epoch place before batches read i)
+    → Fill Headed range epoch place before batches read
+Fill-read range epoch place before [] first read fill from = tt
+Fill-read range epoch place before (batch ∷ batches) first read fill from = (
+  fill.0,
+  λ i lt. let source = from (range.first + 1 + place + i) (omega arith) (omega (arith, lt)) in
+      ap (λ (s : List ℕ). take (length (piece i batch)) s) source.same ∙ source.fill.1 i lt,
+  Fill-read range epoch (place + sectors_for (length batch)) (before + 1) batches first read fill.2
+      (λ i low high. let source = from i (omega (arith, low)) (omega (arith, high)) in
+      record { later = source.later; fill = source.fill.2; same = source.same }),
+)
 
-module _ (range : Range) (epoch : ℕ) where
-  -- what the header counts when it is read is read whole
-  pub Holds-read : (batches : List (List ℕ)) (first read : Image) → Holds range epoch batches first → IsReadFrom range epoch first read
-      → Holds range epoch batches read
-  Holds-read batches first read (inl older) is =
-      inl (record { older = subst (λ (s : List ℕ). epoch_in s < epoch) (sym is.header) older.0.older }, older.1)
-  Holds-read batches first read (inr current) is =
-      inr (record {
-        current = ap epoch_in is.header ∙ current.current;
-        within = subst (λ (s : List ℕ). used_in s < range.count) (sym is.header) current.within;
-        filled = subst (λ (s : List ℕ). Fill range 0 (used_in s) batches read) (sym is.header)
-            (Fill-read range 0 (header_used range first) batches first read current.filled
-            (λ i low high.
-            let from = is.body i (omega (arith, low)) (omega (arith, high, current.within)) in
-            record { later = from.0; end = sectors_of batches; fill = from.1 batches (inr current); same = from.2 }));
-      })
+-- what the header counts when it is read is read whole
+pub Holds-read : (range : Range) (epoch : ℕ) (batches : List (List ℕ)) (first read : Image) → Holds Headed range epoch batches first
+    → IsReadFrom range epoch first read → Holds Headed range epoch batches read
+Holds-read range epoch batches first read holds is =
+    record {
+      stand = Fill-read range epoch 0 0 batches first read holds.stand
+          (λ i low high. let from = is.body i (omega (arith, low)) (within holds.ends i low high) in
+          record { later = from.0; fill = from.1 batches holds; same = from.2 });
+      ends = Counts-same range epoch (sectors_of Headed batches) first read (sym is.header) holds.ends;
+    }
+  where
+    within : Counts range epoch (sectors_of Headed batches) first → (i : ℕ) → range.first + 1 + 0 ≤ i
+        → i < range.first + 1 + 0 + sectors_of Headed batches → i < range.first + range.count
+    within (Counts.Older older none) i low high = absurd (omega (arith, low, high, none))
+    within (Counts.Current current said room) i low high = omega (arith, high, room)
 
+module _ (form : Form) (range : Range) (epoch : ℕ) where
   -- what is kept stands
-  pub KeepsBatches-stand : (a b : Image) → KeepsBatches range epoch a b → (batches : List (List ℕ)) → Holds range epoch batches a
-      → Stand range batches b
+  pub KeepsBatches-stand : (a b : Image) → KeepsBatches form range epoch a b → (batches : List (List ℕ)) → Holds form range epoch batches a
+      → Stand form range epoch batches b
   KeepsBatches-stand a b keeps batches here =
       let more = keeps batches here in
-      subst (λ (n : ℕ). Fill range 0 n batches b) (omega arith)
-      (Fill-front range 0 (sectors_of (batches ++ more.0)) batches more.0 b (Holds-fill range epoch (batches ++ more.0) b more.1))
+      Fill-front form range epoch 0 0 batches more.0 b more.1.stand
 
   -- the same batches, and then more
-  pub KeepsBatches-same : (batches : List (List ℕ)) (a b : Image) → Holds range epoch batches a → Holds range epoch batches b → KeepsBatches range epoch a b
+  pub KeepsBatches-same : (batches : List (List ℕ)) (a b : Image) → Holds form range epoch batches a → Holds form range epoch batches b
+      → KeepsBatches form range epoch a b
   KeepsBatches-same batches a b before after xs here =
-      let same : batches ≡ xs ++ [] = Holds-one range epoch batches xs a before here ∙ sym (append-nil xs) in
-      ([], subst (λ (l : List (List ℕ)). Holds range epoch l b) same after)
+      let same : batches ≡ xs ++ [] = Holds-one form range epoch batches xs a before here ∙ sym (append-nil xs) in
+      ([], subst (λ (l : List (List ℕ)). Holds form range epoch l b) same after)
 
-  pub KeepsBatches-refl : (image : Image) → KeepsBatches range epoch image image
-  KeepsBatches-refl image batches here = ([], subst (λ (l : List (List ℕ)). Holds range epoch l image) (sym (append-nil batches)) here)
+  pub KeepsBatches-refl : (image : Image) → KeepsBatches form range epoch image image
+  KeepsBatches-refl image batches here = ([], subst (λ (l : List (List ℕ)). Holds form range epoch l image) (sym (append-nil batches)) here)
 
-  pub KeepsBatches-then : (a b c : Image) → KeepsBatches range epoch a b → KeepsBatches range epoch b c → KeepsBatches range epoch a c
+  pub KeepsBatches-then : (a b c : Image) → KeepsBatches form range epoch a b → KeepsBatches form range epoch b c → KeepsBatches form range epoch a c
   KeepsBatches-then a b c first next batches here =
       let one = first batches here in
       let two = next (batches ++ one.0) one.1 in
-      (one.0 ++ two.0, subst (λ (l : List (List ℕ)). Holds range epoch l c) (append_assoc batches one.0 two.0) two.1)
+      (one.0 ++ two.0, subst (λ (l : List (List ℕ)). Holds form range epoch l c) (append_assoc batches one.0 two.0) two.1)
+
+  -- an image that has one batch more, or not, keeps those of before
+  pub KeepsBatches-more : (batches : List (List ℕ)) (batch : List ℕ) (earlier later : Image) → Holds form range epoch batches earlier
+      → HoldsOneMoreOrNot form range epoch batches batch later → KeepsBatches form range epoch earlier later
+  KeepsBatches-more batches batch earlier later before (inl same) = KeepsBatches-same batches earlier later before same
+  KeepsBatches-more batches batch earlier later before (inr more) = λ xs here.
+      let same : batches ≡ xs = Holds-one form range epoch batches xs earlier before here in
+      (batch ∷ [], subst (λ (l : List (List ℕ)). Holds form range epoch (l ++ batch ∷ []) later) same more)
 
 -- while a batch is appended each image has it or not
-pub ComesInOrder-moment : {D : Type 0} (medium : D → Medium) (journal : Journal) (batches : List (List ℕ)) (batch : List ℕ) (old new : D)
-    → ComesInOrder medium journal batches batch old new → EachImageSince (medium old) (medium new) (HoldsOneMoreOrNot journal batches batch)
-ComesInOrder-moment medium journal batches batch old new (inl same) =
-    EachImageSince-weaken (medium old) (medium new) _ (HoldsOneMoreOrNot journal batches batch) same (λ image holds. inl holds)
-ComesInOrder-moment medium journal batches batch old new (inr (between, same, more)) =
-    let P : Image → Type 0 = HoldsOneMoreOrNot journal batches batch in
+pub Comes-moment : {D : Type 0} (medium : D → Medium) (form : Form) (range : Range) (epoch : ℕ) (batches : List (List ℕ)) (batch : List ℕ) (old new : D)
+    → Comes medium form range epoch batches batch old new
+    → EachImageSince (medium old) (medium new) (HoldsOneMoreOrNot form range epoch batches batch)
+Comes-moment medium Headed range epoch batches batch old new (inl same) =
+    EachImageSince-weaken (medium old) (medium new) _ _ same (λ image holds. inl holds)
+Comes-moment medium Headed range epoch batches batch old new (inr (between, same, more)) =
+    let P : Image → Type 0 = HoldsOneMoreOrNot Headed range epoch batches batch in
     EachImageSince-join (medium old) (medium between) (medium new) P
     (EachImageSince-weaken (medium old) (medium between) _ P same (λ image holds. inl holds))
     (EachImageSince-weaken (medium between) (medium new) _ P more (λ image both. both.1))
 
+pub ComesInOrder-moment : {D : Type 0} (medium : D → Medium) (journal : Journal) (batches : List (List ℕ)) (batch : List ℕ) (old new : D)
+    → ComesInOrder medium journal batches batch old new
+    → EachImageSince (medium old) (medium new) (HoldsOneMoreOrNot (form_of journal) (range_of journal) (epoch_of journal) batches batch)
+ComesInOrder-moment medium journal batches batch old new =
+    Comes-moment medium (form_of journal) (range_of journal) (epoch_of journal) batches batch old new
+
 -- and it keeps the batches of before
 pub KeepsBatches-append : (journal : Journal) (batches : List (List ℕ)) (batch : List ℕ) (old : Medium) → JournalMatches journal batches old
-    → (earlier later : Image) → old.images_now earlier → HoldsOneMoreOrNot journal batches batch later
-    → KeepsBatches (range_of journal) (epoch_of journal) earlier later
-KeepsBatches-append journal batches batch old at earlier later now (inl same) =
-    KeepsBatches-same (range_of journal) (epoch_of journal) batches earlier later (at.images earlier now) same
-KeepsBatches-append journal batches batch old at earlier later now (inr more) = λ xs here.
-    let same : batches ≡ xs = Holds-one (range_of journal) (epoch_of journal) batches xs earlier (at.images earlier now) here in
-    (batch ∷ [], subst (λ (l : List (List ℕ)). Holds (range_of journal) (epoch_of journal) (l ++ batch ∷ []) later) same more)
+    → (earlier later : Image) → old.images_now earlier
+    → HoldsOneMoreOrNot (form_of journal) (range_of journal) (epoch_of journal) batches batch later
+    → KeepsBatches (form_of journal) (range_of journal) (epoch_of journal) earlier later
+KeepsBatches-append journal batches batch old at earlier later now =
+    KeepsBatches-more (form_of journal) (range_of journal) (epoch_of journal) batches batch earlier later (at.kept.images earlier now)

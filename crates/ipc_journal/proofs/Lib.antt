@@ -1,5 +1,3 @@
 -- Lemmas on sectors of images, and on what a journal's images hold.
 pub mod CallerLemmas
 mod Headers
-mod Images
-mod Pieces

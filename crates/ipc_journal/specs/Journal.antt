@@ -1,64 +1,108 @@
--- What the sectors of a journal mean. The first sector of its range is the header: the epoch in 8 bytes, and in 4
--- how many of the sectors after it, the body, are used. There stand the batches, each from a sector of its own on.
--- Numbers have their highest byte first.
-use Rattle.std.specs.Prelude.{◌≡◌, ◌⊎◌, ℕ, ◌+◌, ◌≤◌, ◌<◌, List, [], ◌∷◌, ◌++◌, length, drop, replicate}
-use Rattle.byteorder.specs.Endian.{big_bytes, big_number}
+-- What the sectors of a journal mean, by its form: which batches an image has at an epoch, and what is no journal.
+use Rattle.std.specs.Prelude.{◌≡◌, ℕ, ◌+◌, ◌≤◌, ◌<◌, List, [], ◌∷◌, length}
 use Rattle.ipc_disk.specs.declared.range.Range.{Range}
 use Rattle.ipc_disk.specs.Medium.{Image}
-use Rattle.ipc_disk.specs.Standing.{sectors_for, sector_at, StandsAt}
+use Rattle.ipc_disk.specs.Standing.{sectors_for, sector_at, StandsAt, IsWrittenAt}
+use Rattle.ipc_journal.specs.declared.form.Form.{Form}
+use Rattle.ipc_journal.specs.declared.form.Form.TheVariants.{Headed}
+use Rattle.ipc_journal.specs.Batch.{IsBatch}
+use Rattle.ipc_journal.specs.Headed.{header_bytes, header_epoch, header_used, Counts, IsBadHeader}
+
+-- the sectors before the first batch
+abbrev pub head : Form → ℕ
+head Headed = 1
+
+-- the most sectors that it can have: a tag counts the sectors of a batch in two bytes
+abbrev pub most_sectors : Form → ℕ
+most_sectors Headed = 4294967295
+
+-- a journal of this form can have these sectors
+abbrev pub IsRangeFor : Form → Range → Type 0
+IsRangeFor form range = (head form ≤ range.count) × (range.count ≤ most_sectors form)
+
+-- the sector at a place, which counts the sectors of batches before it
+abbrev pub sector_of : Form → Range → ℕ → ℕ
+sector_of form range place = range.first + head form + place
+
+-- the sectors that a batch of so many bytes takes
+abbrev pub sectors_in : Form → ℕ → ℕ
+sectors_in Headed len = sectors_for len
 
 -- the sectors that these batches take
-abbrev pub sectors_of : List (List ℕ) → ℕ
-sectors_of [] = 0
-sectors_of (batch ∷ batches) = sectors_for (length batch) + sectors_of batches
+abbrev pub sectors_of : Form → List (List ℕ) → ℕ
+sectors_of form [] = 0
+sectors_of form (batch ∷ batches) = sectors_in form (length batch) + sectors_of form batches
 
--- the epoch that a header names
-unfoldable pub epoch_in : List ℕ → ℕ
-epoch_in sector = big_number 8 sector
+-- the sectors of a batch stand from this place on, after so many other batches
+abbrev pub IsAt : Form → Range → ℕ → ℕ → ℕ → List ℕ → Image → Type 0
+IsAt Headed range epoch place before batch image = StandsAt (sector_of Headed range place) batch image
 
--- the used sectors that a header names
-unfoldable pub used_in : List ℕ → ℕ
-used_in sector = big_number 4 (drop 8 sector)
+-- these batches stand one after another, from this place on, after so many others
+abbrev pub Fill : Form → Range → ℕ → ℕ → ℕ → List (List ℕ) → Image → Type 0
+Fill form range epoch place before [] image = Unit {0}
+Fill form range epoch place before (batch ∷ batches) image =
+    IsBatch batch × IsAt form range epoch place before batch image
+    × Fill form range epoch (place + sectors_in form (length batch)) (before + 1) batches image
 
--- the number in the first four bytes of a batch
-unfoldable pub length_in : List ℕ → ℕ
-length_in bytes = big_number 4 bytes
+-- these batches stand from the first place on, whether or not the journal has them
+abbrev pub Stand : Form → Range → ℕ → List (List ℕ) → Image → Type 0
+Stand form range epoch batches image = Fill form range epoch 0 0 batches image
 
--- the bytes of a header: its epoch, its used sectors, and zeros
-unfoldable pub header_bytes : ℕ → ℕ → List ℕ
-header_bytes epoch used = big_bytes 8 epoch ++ (big_bytes 4 used ++ replicate 500 0)
+-- the journal ends at this place, after so many batches: a header says so, or no whole batch goes on from there
+abbrev pub EndsAt : Form → Range → ℕ → ℕ → ℕ → Image → Type 0
+EndsAt Headed range epoch place before image = Counts range epoch place image
 
--- the epoch in an image's header
-abbrev pub header_epoch : Range → Image → ℕ
-header_epoch range image = epoch_in (sector_at image range.first)
+-- where they end at the latest: where the header says, or with the range
+abbrev pub IsEndRead : Form → Range → ℕ → ℕ → Image → Type 0
+IsEndRead Headed range epoch end image = Counts range epoch end image
 
--- the used sectors in an image's header
-abbrev pub header_used : Range → Image → ℕ
-header_used range image = used_in (sector_at image range.first)
+-- at this epoch the journal of the image is these batches
+pub record Holds (form : Form) (range : Range) (epoch : ℕ) (batches : List (List ℕ)) (image : Image) : Type 0 where
+  pub stand : Stand form range epoch batches image
+  pub ends : EndsAt form range epoch (sectors_of form batches) (length batches) image
 
--- a batch: its first four bytes are the number of the bytes after them
-pub record IsBatch (batch : List ℕ) : Type 0 where
-  pub field : 4 ≤ length batch
-  pub right : length_in batch + 4 ≡ length batch
+-- they take all of its sectors
+pub record IsFull (form : Form) (range : Range) (epoch : ℕ) (image : Image) : Type 0 where
+  pub batches : List (List ℕ)
+  pub holds : Holds form range epoch batches image
+  pub full : head form + sectors_of form batches ≡ range.count
 
--- the batches, one after another, fill the body's sectors from place to end
-abbrev pub Fill : Range → ℕ → ℕ → List (List ℕ) → Image → Type 0
-Fill range place end [] image = place ≡ end
-Fill range place end (batch ∷ batches) image =
-    IsBatch batch × StandsAt (range.first + 1 + place) batch image
-    × Fill range (place + sectors_for (length batch)) end batches image
+-- all that stands there is of earlier epochs
+abbrev pub IsOlder : Form → Range → ℕ → Image → Type 0
+IsOlder Headed range epoch image = header_epoch range image < epoch
 
--- the header is of an earlier epoch
-pub record IsOlder (range : Range) (epoch : ℕ) (image : Image) : Type 0 where
-  pub older : header_epoch range image < epoch
+-- so is what stands there from a place on; a header makes it meaningless whatever it is
+abbrev pub IsClear : Form → Range → ℕ → ℕ → Image → Type 0
+IsClear Headed range epoch used image = Unit {0}
 
--- the header is of this epoch, and the batches fill what is used
-pub record IsCurrent (range : Range) (epoch : ℕ) (batches : List (List ℕ)) (image : Image) : Type 0 where
-  pub current : header_epoch range image ≡ epoch
-  pub within : header_used range image < range.count
-  pub filled : Fill range 0 (header_used range image) batches image
+-- a batch is written to the byte, and a header that counts it
+abbrev pub IsWritten : Form → Range → ℕ → ℕ → ℕ → List ℕ → Image → Type 0
+IsWritten Headed range epoch place before batch image =
+    IsWrittenAt (sector_of Headed range place) batch image
+    × (sector_at image range.first ≡ header_bytes epoch (place + sectors_for (length batch)))
 
--- at this epoch the journal of the image is these batches; with a header of an earlier epoch it has none
-abbrev pub Holds : Range → ℕ → List (List ℕ) → Image → Type 0
-Holds range epoch batches image =
-    (IsOlder range epoch image × (batches ≡ [])) ⊎ IsCurrent range epoch batches image
+-- ---- what is no journal
+
+-- there is no good header
+abbrev pub HasBadHeader : Form → Range → ℕ → Image → Type 0
+HasBadHeader Headed range epoch image = IsBadHeader range epoch image
+
+-- one more batch is there: the header counts more sectors, or all sectors of one stand there
+abbrev pub HasMore : Form → Range → ℕ → ℕ → ℕ → Image → Type 0
+HasMore Headed range epoch place before image =
+    (header_epoch range image ≡ epoch) × (place < header_used range image)
+
+-- this is the batch
+abbrev pub IsNext : Form → Range → ℕ → ℕ → ℕ → List ℕ → Image → Type 0
+IsNext Headed range epoch place before batch image =
+    IsBatch batch × IsAt Headed range epoch place before batch image
+    × (header_epoch range image ≡ epoch) × (place + sectors_for (length batch) ≤ header_used range image)
+
+-- no batch of at most so many bytes is
+abbrev pub HasNone : Form → Range → ℕ → ℕ → ℕ → ℕ → Image → Type 0
+HasNone form range epoch place before most image =
+    (batch : List ℕ) → length batch ≤ most → IsNext form range epoch place before batch image → ⊥
+
+-- a sector of a later epoch stands there
+abbrev pub HasLater : Form → Range → ℕ → ℕ → Image → Type 0
+HasLater Headed range epoch place image = ⊥

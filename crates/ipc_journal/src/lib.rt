@@ -3,32 +3,31 @@
 //!
 //! Where a rule stands (definition, code, proof):
 //!
-//! - The bytes of the journal: `specs/Journal.antt`, `src/header.rt`, `src/journal.rt`; docs/DEVICE.md
+//! - Which batches an image has, whatever the form of the journal: `specs/Journal.antt`, `src/journal.rt`,
+//!   `src/reader.rt`
+//! - A journal with a header: `specs/Headed.antt`, `src/headed.rt`; docs/DEVICE.md
 //!
 //! What the clauses say:
 //!
 //! All of it holds over every disk that meets the trait and is honest.
 //!
 //! - `put_header` writes the header of an empty journal and does not sync (`header`); each image of a crash in the call
-//!   differs from one of before in the header at most (`header_or_not`). `create` makes an empty journal (`empty`). The
-//!   disk reads as before but for the header (`header`), and once it is Ok a crash leaves that (`durable`). Each image
-//!   of a crash in the call is one of before or holds the empty journal (`any_moment`), and differs from one of before
-//!   in the header at most (`header_or_not`).
+//!   differs from one of before in the header at most (`header_or_not`).
 //! - `append`: at every moment of the call each image that a crash may leave holds the batches of before, with the new
 //!   one or without. The sectors of the batch stand before a header counts it: up to some moment each image has the
 //!   batches of before, and from then on the sectors of the new one are there as well (`any_moment`, `ComesInOrder` of
-//!   `specs/Meanwhile.antt`). Once it is Ok every image has the new batch (`acknowledged`), which stands on the disk to
-//!   the byte (`written`), the header counts it (`header`), and a crash leaves what is read (`durable`). It makes one
+//!   `specs/Meanwhile.antt`). Once it is Ok every image has the new batch (`acknowledged`), which stands on the disk
+//!   to the byte, with a header that counts it (`written`), and a crash leaves what is read (`durable`). It makes one
 //!   write for each sector of the batch and one more, and two syncs (`counts`). If it fails, the value is as it was
 //!   (`kept`).
-//! - `open` finds the batches that every image holds (`stands`), and reads a header of an earlier epoch as empty
-//!   (`older`). It is `Damaged` only at a later epoch or at a count that is too large (`damaged`), with the header's
-//!   sector (`named`).
-//! - `next_batch` gives the batches in order (`in_order`), each of at least four bytes (`least`), and then `None`
-//!   (`end`). After `None` the place and the buffer are as they were (`none`); after a batch the bytes of the buffer
-//!   that follow it are (`beyond`); after `Damaged` all of the buffer is (`untouched`). It is `Damaged` only if a batch
-//!   passes what is used or what the buffer holds (`damaged`), with the batch's first sector (`named`). After an error
-//!   the place is as it was (`kept`).
+//! - `Reader` reads a journal from its beginning, each sector once and in rising order. `open` reads a header of an
+//!   earlier epoch as empty, and is `Damaged` only at a later epoch or at a count that is too large (`damaged`), with
+//!   the header's sector (`named`).
+//! - `next_batch` gives the batches that stand there, in order (`more`, `next`), each of at least four bytes (`least`).
+//!   After `None` the journal ends there, with the batches that were read (`ended`). It is `Damaged` only if the
+//!   journal has one batch more and none of at most so many bytes stands there (`damaged`), with the batch's first
+//!   sector (`named`). After an error and after `None` the reader is as it was (`kept`, `none`). `into_journal` is the
+//!   journal after what was read.
 //! - `fits` is exact, `used` is how many sectors batches take, and `range` are its sectors. `turn` empties the journal
 //!   without a write (`empty`).
 //! - No call writes outside the journal's range (`others`; `open` and `next_batch` only read: `reads`), and the disk is
@@ -40,10 +39,14 @@
 #![tactic(auto)]
 
 mod error;
-mod header;
+mod form;
+mod headed;
 mod journal;
 mod laws;
+mod reader;
 
 pub use error::JournalError;
-pub use journal::{Journal, Place};
+pub use form::Form;
+pub use journal::Journal;
 pub use laws::{a_journal_that_grows_is_read_whole, an_image_is_one_journal};
+pub use reader::Reader;

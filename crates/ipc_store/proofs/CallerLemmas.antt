@@ -21,7 +21,7 @@ use Rattle.ipc_image.proofs.CallerLemmas.{one-superblock, one-record, record-rea
 use Rattle.ipc_image.specs.Saved.{StandForStateIn}
 use Rattle.ipc_store.specs.Batch.{records_of, batch_bytes, exit_record, tick_record, AreBatchOf}
 use Rattle.ipc_store.specs.Histories.{Takes}
-use Rattle.ipc_store.specs.Image.{journal_range, layout_in, named_sectors, events_of, epoch_at, IsDeviceIn, HasObjectsIn, HasBatches, HasBaseIn}
+use Rattle.ipc_store.specs.Image.{journal_form, journal_range, layout_in, named_sectors, events_of, epoch_at, IsDeviceIn, HasObjectsIn, HasBatches, HasBaseIn}
 use Rattle.ipc_store.specs.Image.{StandsFor, StandsForIn}
 use Rattle.ipc_store.specs.View.{StoreView, HasRoomFor, events_left, numbers_used}
 use Rattle.ipc_store.proofs.Batches.{record-length, record-most}
@@ -100,7 +100,7 @@ module _ (form : Format) (known : IsFormat form) (limits others : Limits) where
       let same = HasBase-one is.epoch also.epoch is.base also.base image fits is.kept also.kept in
       let its : HasBatches is.epoch also.batches image = subst (λ (n : ℕ). HasBatches n also.batches image) (sym same.1) also.journal in
       let bytes : map batch_bytes is.batches ≡ map batch_bytes also.batches =
-      Holds-one journal_range is.epoch (map batch_bytes is.batches) (map batch_bytes also.batches) image is.journal its in
+      Holds-one journal_form journal_range is.epoch (map batch_bytes is.batches) (map batch_bytes also.batches) image is.journal its in
       let batches : is.batches ≡ also.batches = batches-one form.batch is.batches also.batches is.leads.each also.leads.each bytes in (
         same.0,
         is.leads.state ∙ ap (λ (l : Limits). (run l is.base (events_of is.batches)).state) same.0

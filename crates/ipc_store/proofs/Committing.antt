@@ -11,6 +11,7 @@ use Rattle.ipc_checkpoint.specs.declared.layout.Layout.{Layout}
 use Rattle.ipc_checkpoint.specs.Matches.{CheckpointMatches, HoldsEither}
 use Rattle.ipc_checkpoint.specs.View.{CheckpointView, epoch_of as saved_epoch, layout_of as saved_layout}
 use Rattle.ipc_checkpoint.proofs.CallerLemmas.{Holds-since, CheckpointMatches-holds, CheckpointMatches-alone}
+use Rattle.ipc_disk.specs.declared.range.Range.{Range}
 use Rattle.ipc_disk.specs.Calls.{CountsFaultIf}
 use Rattle.ipc_disk.specs.Counts.{Counts, counted, with_calls}
 use Rattle.ipc_disk.specs.Medium.{Image, Medium}
@@ -19,11 +20,14 @@ use Rattle.ipc_disk.specs.Since.{EachImageSince, LeavesAlone}
 use Rattle.ipc_disk.specs.Standing.{sector_at}
 use Rattle.ipc_disk.proofs.CallerLemmas.{EachImageSince-start, EachImageSince-both, EachImageSince-weaken, EachImageSince-now}
 use Rattle.ipc_journal.specs.declared.journal.Journal.{Journal}
-use Rattle.ipc_journal.specs.Journal.{length_in, IsBatch, Holds}
-use Rattle.ipc_journal.specs.View.{range_of, epoch_of, used_of}
+use Rattle.ipc_journal.specs.Batch.{length_in, IsBatch}
+use Rattle.ipc_journal.specs.Journal.{Holds, IsOlder}
+use Rattle.ipc_journal.specs.View.{form_of, range_of, epoch_of, used_of, count_of}
+use Rattle.ipc_journal.specs.declared.form.Form.{Form}
 use Rattle.ipc_journal.specs.Matches.{JournalMatches, HoldsOneMoreOrNot}
 use Rattle.ipc_journal.specs.Meanwhile.{ComesInOrder}
-use Rattle.ipc_journal.proofs.CallerLemmas.{ComesInOrder-moment, Holds-turned, EachImageSince-alone, JournalMatches-alone, JournalMatches-turned}
+use Rattle.ipc_journal.proofs.CallerLemmas.{ComesInOrder-moment, Holds-older, EachImageSince-alone, EachImageSince-older}
+use Rattle.ipc_journal.proofs.CallerLemmas.{JournalMatches-alone, JournalMatches-turned}
 use Rattle.ipc_state.specs.State.{State}
 use Rattle.ipc_engine.specs.Engine.{Machine}
 use Rattle.ipc_engine.specs.Event.{PlainEvent}
@@ -35,11 +39,11 @@ use Rattle.ipc_image.proofs.CallerLemmas.{others-there}
 use Rattle.ipc_store.specs.declared.fault.CommitError.{CommitError}
 use Rattle.ipc_store.specs.declared.fault.CommitError.TheVariants as commit
 use Rattle.ipc_store.specs.Batch.{most_bytes, batch_bytes, AreBatch}
-use Rattle.ipc_store.specs.Image.{StandsFor, LeadTo, epoch_at}
+use Rattle.ipc_store.specs.Image.{journal_range, StandsFor, LeadTo, epoch_at}
 use Rattle.ipc_store.specs.View.{StoreView, store_view}
 use Rattle.ipc_store.specs.Relations.Matches.{StoreMatches, StandsForEither}
-use Rattle.ipc_store.proofs.Devices.{IsPlace, IsPlace-since, stands-with, device-stands, objects-outside}
-use Rattle.ipc_store.proofs.Devices.{journal-outside, first-outside, first-elsewhere}
+use Rattle.ipc_store.proofs.Devices.{IsPlace, IsPlace-since, has-batches, stands-with, device-stands, objects-outside}
+use Rattle.ipc_store.proofs.Devices.{journal-outside, journal-some, first-outside, first-elsewhere}
 use Rattle.ipc_store.proofs.Histories.{LeadTo-start, LeadTo-more}
 
 -- the bytes of a batch say how many they are
@@ -153,25 +157,28 @@ module _ {D : Type 0} (old new : Medium) (store : StoreView D) (base : State) (p
     -- with or without it
     either : (image : Image)
         → (IsPlace store.machine.limits store.checkpoint image × HasObjectsThere image)
-        × HoldsOneMoreOrNot store.journal (map batch_bytes at.device.batches) batch image
+        × HoldsOneMoreOrNot (form_of store.journal) (range_of store.journal) (epoch_of store.journal) (map batch_bytes at.device.batches) batch image
         → Either store base pending image
     either image ((is-place, there), inl holds) =
-        inl (stands-with store.machine.limits (saved_layout store.checkpoint) (range_of store.journal) (saved_epoch store.checkpoint) image
-        is-place.0 is-place.1 at.device.range at.device.objects there at.device.from at.device.stand at.device.batches
-        (subst (λ (n : ℕ). Holds (range_of store.journal) n (map batch_bytes at.device.batches) image) at.device.epoch holds) base at.device.leads)
+        inl (stands-with store.machine.limits (saved_layout store.checkpoint) (saved_epoch store.checkpoint) image
+        is-place.0 is-place.1 at.device.objects there at.device.from at.device.stand at.device.batches
+        (has-batches store.journal (saved_epoch store.checkpoint) at.device.batches image at.device.form at.device.range at.device.epoch holds)
+        base at.device.leads)
     either image ((is-place, there), inr holds) =
-        inr (stands-with store.machine.limits (saved_layout store.checkpoint) (range_of store.journal) (saved_epoch store.checkpoint) image
-        is-place.0 is-place.1 at.device.range at.device.objects there at.device.from at.device.stand (at.device.batches ++ pending ∷ [])
-        (subst (λ (n : ℕ). Holds (range_of store.journal) n (map batch_bytes (at.device.batches ++ pending ∷ [])) image) at.device.epoch
-        (subst (λ (bs : List (List ℕ)). Holds (range_of store.journal) (epoch_of store.journal) bs image) more holds))
+        inr (stands-with store.machine.limits (saved_layout store.checkpoint) (saved_epoch store.checkpoint) image
+        is-place.0 is-place.1 at.device.objects there at.device.from at.device.stand (at.device.batches ++ pending ∷ [])
+        (has-batches store.journal (saved_epoch store.checkpoint) (at.device.batches ++ pending ∷ []) image at.device.form at.device.range
+        at.device.epoch
+        (subst (λ (bs : List (List ℕ)). Holds (form_of store.journal) (range_of store.journal) (epoch_of store.journal) bs image) more holds))
         (run store.machine.limits base pending).state (leads-more old store base pending at size))
 
     -- at any moment
     either-append : ((batches : List (List ℕ)) → JournalMatches store.journal batches old
-        → EachImageSince old new (HoldsOneMoreOrNot store.journal batches batch))
+        → EachImageSince old new (HoldsOneMoreOrNot (form_of store.journal) (range_of store.journal) (epoch_of store.journal) batches batch))
         → EachImageSince old new (Either store base pending)
     either-append moments =
-        let one_more : Image → Type 0 = HoldsOneMoreOrNot store.journal (map batch_bytes at.device.batches) batch in
+        let one_more : Image → Type 0 =
+        HoldsOneMoreOrNot (form_of store.journal) (range_of store.journal) (epoch_of store.journal) (map batch_bytes at.device.batches) batch in
         let both = EachImageSince-both old new (IsPlace store.machine.limits store.checkpoint) HasObjectsThere places objects in
         EachImageSince-weaken old new (λ image. (IsPlace store.machine.limits store.checkpoint image × HasObjectsThere image) × one_more image)
         (Either store base pending)
@@ -181,13 +188,14 @@ module _ {D : Type 0} (old new : Medium) (store : StoreView D) (base : State) (p
 
     -- and then
     pub committed : (disk : D) (journal : Journal) (confirmed : ℕ)
-        → range_of journal ≡ range_of store.journal → epoch_of journal ≡ epoch_of store.journal
+        → form_of journal ≡ form_of store.journal → range_of journal ≡ range_of store.journal → epoch_of journal ≡ epoch_of store.journal
         → ((batches : List (List ℕ)) → JournalMatches store.journal batches old → JournalMatches journal (batches ++ batch ∷ []) new)
         → StoreMatches new (after store store.machine disk store.checkpoint journal confirmed) (run store.machine.limits base pending).state []
-    committed disk journal confirmed range epoch acknowledged = record {
+    committed disk journal confirmed form range epoch acknowledged = record {
       running = at.running;
       device = record {
         honest = alone.honest;
+        form = form ∙ at.device.form;
         range = range ∙ at.device.range;
         epoch = epoch ∙ at.device.epoch;
         device = EachImageSince-now old new (IsPlace store.machine.limits store.checkpoint) places alone.honest;
@@ -230,12 +238,22 @@ module _ {D : Type 0} (old new : Medium) (store : StoreView D) (base : State) (p
         (first-elsewhere old store.machine.limits store.checkpoint store.journal base at.device) alone at.device.device
 
     abbrev HasBatchesThere : Image → Type 0
-    HasBatchesThere = Holds (range_of store.journal) (epoch_of store.journal) (map batch_bytes at.device.batches)
+    HasBatchesThere image =
+        Holds (form_of store.journal) (range_of store.journal) (epoch_of store.journal) (map batch_bytes at.device.batches) image
+        × IsOlder (form_of store.journal) (range_of store.journal) epoch image
 
+    -- in the journal's sectors, which stay, all is older than the epoch of the save
     batches-there : EachImageSince old new HasBatchesThere
     batches-there =
-        EachImageSince-alone (IsElsewhere (saved_layout store.checkpoint)) store.journal (map batch_bytes at.device.batches) old new
-        (journal-outside old store.machine.limits store.checkpoint store.journal base at.device) alone at.device.appended
+        let places : ℕ → Type 0 = IsElsewhere (saved_layout store.checkpoint) in
+        let inside = journal-outside old store.machine.limits store.checkpoint store.journal base at.device in
+        let some = journal-some old store.machine.limits store.checkpoint store.journal base at.device in
+        EachImageSince-both old new
+        (Holds (form_of store.journal) (range_of store.journal) (epoch_of store.journal) (map batch_bytes at.device.batches))
+        (IsOlder (form_of store.journal) (range_of store.journal) epoch)
+        (EachImageSince-alone places store.journal (map batch_bytes at.device.batches) old new some inside alone at.device.appended)
+        (EachImageSince-older places store.journal (map batch_bytes at.device.batches) old new some inside alone at.device.appended epoch
+        (omega (arith, at.device.epoch, later)))
 
     -- no batch leads from the new objects to the state after what waits
     no-batch : LeadTo store.machine.limits store.machine.state [] (run store.machine.limits base pending).state
@@ -249,14 +267,16 @@ module _ {D : Type 0} (old new : Medium) (store : StoreView D) (base : State) (p
         × HoldsEither (saved_layout store.checkpoint) (saved_epoch store.checkpoint) at.device.objects epoch next image
         → Either store base pending image
     turned-or-not image ((is-place, holds), inl there) =
-        inl (stands-with store.machine.limits (saved_layout store.checkpoint) (range_of store.journal) (saved_epoch store.checkpoint) image
-        is-place.0 is-place.1 at.device.range at.device.objects there at.device.from at.device.stand at.device.batches
-        (subst (λ (n : ℕ). Holds (range_of store.journal) n (map batch_bytes at.device.batches) image) at.device.epoch holds) base at.device.leads)
+        inl (stands-with store.machine.limits (saved_layout store.checkpoint) (saved_epoch store.checkpoint) image
+        is-place.0 is-place.1 at.device.objects there at.device.from at.device.stand at.device.batches
+        (has-batches store.journal (saved_epoch store.checkpoint) at.device.batches image at.device.form at.device.range at.device.epoch holds.0)
+        base at.device.leads)
     turned-or-not image ((is-place, holds), inr there) =
-        let earlier : epoch_of store.journal < epoch = omega (arith, at.device.epoch, later) in
-        inr (stands-with store.machine.limits (saved_layout store.checkpoint) (range_of store.journal) epoch image
-        is-place.0 is-place.1 at.device.range next there store.machine.state stand []
-        (Holds-turned (range_of store.journal) (epoch_of store.journal) epoch (map batch_bytes at.device.batches) image earlier holds)
+        inr (stands-with store.machine.limits (saved_layout store.checkpoint) epoch image
+        is-place.0 is-place.1 next there store.machine.state stand []
+        (subst (λ (f : Form). Holds f journal_range epoch [] image) at.device.form
+        (subst (λ (r : Range). Holds (form_of store.journal) r epoch [] image) at.device.range
+        (Holds-older (form_of store.journal) (range_of store.journal) epoch image holds.1)))
         (run store.machine.limits base pending).state no-batch)
 
     -- at any moment
@@ -276,14 +296,16 @@ module _ {D : Type 0} (old new : Medium) (store : StoreView D) (base : State) (p
     -- and then
     pub saved : (disk : D) (checkpoint : CheckpointView) (journal : Journal) (confirmed : ℕ)
         → saved_layout checkpoint ≡ saved_layout store.checkpoint → saved_epoch checkpoint ≡ epoch
-        → range_of journal ≡ range_of store.journal → epoch_of journal ≡ epoch → used_of journal ≡ 0
+        → form_of journal ≡ form_of store.journal → range_of journal ≡ range_of store.journal → epoch_of journal ≡ epoch
+        → used_of journal ≡ 0 → count_of journal ≡ 0
         → ((objects : PlainObjects) → CheckpointMatches store.checkpoint objects old → CheckpointMatches checkpoint next new)
         → StoreMatches new (after store (record store.machine { changed = [] }) disk checkpoint journal confirmed)
         (run store.machine.limits base pending).state []
-    saved disk checkpoint journal confirmed lies is-epoch range journal-epoch used matches = record {
+    saved disk checkpoint journal confirmed lies is-epoch form range journal-epoch used count matches = record {
       running = at.running;
       device = record {
         honest = alone.honest;
+        form = form ∙ at.device.form;
         range = range ∙ at.device.range;
         epoch = journal-epoch ∙ sym is-epoch;
         device = λ image now. let is = EachImageSince-now old new (IsPlace store.machine.limits store.checkpoint) spots alone.honest image now in
@@ -293,9 +315,10 @@ module _ {D : Type 0} (old new : Medium) (store : StoreView D) (base : State) (p
         stand = stand;
         saved = matches at.device.objects at.device.saved;
         batches = [];
-        appended = JournalMatches-turned store.journal journal (map batch_bytes at.device.batches) new range
-            (omega (arith, at.device.epoch, later, journal-epoch)) used
+        appended = JournalMatches-turned store.journal journal (map batch_bytes at.device.batches) new form range
+            (omega (arith, at.device.epoch, later, journal-epoch)) used count
             (JournalMatches-alone (IsElsewhere (saved_layout store.checkpoint)) store.journal (map batch_bytes at.device.batches) old new
+            (journal-some old store.machine.limits store.checkpoint store.journal base at.device)
             (journal-outside old store.machine.limits store.checkpoint store.journal base at.device) alone at.device.appended);
         leads = no-batch;
       };

@@ -16,9 +16,10 @@ use Rattle.ipc_disk.specs.Since.{EachImageSince, SameAt, LeavesAlone}
 use Rattle.ipc_disk.specs.Standing.{sector_at}
 use Rattle.ipc_disk.proofs.CallerLemmas.{sector_at-same, LeavesAlone-keeps}
 use Rattle.ipc_journal.specs.declared.journal.Journal.{Journal}
-use Rattle.ipc_journal.specs.Journal.{sectors_of, Holds}
-use Rattle.ipc_journal.specs.View.{range_of, epoch_of}
-use Rattle.ipc_journal.proofs.CallerLemmas.{Fill-end, Holds-same}
+use Rattle.ipc_journal.specs.declared.form.Form.{Form}
+use Rattle.ipc_journal.specs.Journal.{Holds}
+use Rattle.ipc_journal.specs.View.{form_of, range_of, epoch_of}
+use Rattle.ipc_journal.proofs.CallerLemmas.{Holds-same}
 use Rattle.ipc_state.specs.State.{State}
 use Rattle.ipc_engine.specs.Event.{PlainEvent}
 use Rattle.ipc_image.specs.Saved.{StandForState}
@@ -26,7 +27,7 @@ use Rattle.ipc_image.specs.declared.format.Format.{Format}
 use Rattle.ipc_image.specs.Format.{format}
 use Rattle.ipc_image.specs.Superblock.{sectors_in, IsSuperblockIn}
 use Rattle.ipc_store.specs.Batch.{batch_bytes}
-use Rattle.ipc_store.specs.Image.{journal_range, layout_of, named_sectors, HasBatches, IsDevice, IsDeviceIn, LeadTo, StandsFor}
+use Rattle.ipc_store.specs.Image.{journal_form, journal_range, layout_of, named_sectors, HasBatches, IsDevice, IsDeviceIn, LeadTo, StandsFor}
 use Rattle.ipc_store.specs.Relations.Matches.{AreOnDisk, DeviceMatches}
 
 -- a device is one by its first sector, if the disk has the sectors that it names
@@ -39,19 +40,30 @@ IsDeviceIn-same form places limits a b first same device =
       whole = omega (arith, device.whole, same.count, ap sectors_in sector);
     }
 
--- the batches of a journal have room in it
-pub journal-short : (epoch : ℕ) (batches : List (List PlainEvent)) (image : Image) → HasBatches epoch batches image
-    → sectors_of (map batch_bytes batches) < journal_range.count
-journal-short epoch batches image (inl older) = omega (arith, ap (λ (l : List (List ℕ)). sectors_of l) older.1)
-journal-short epoch batches image (inr current) =
-    omega (arith, current.within, Fill-end journal_range 0 _ (map batch_bytes batches) image current.filled)
+-- the batches that a journal value has are those of the device
+pub has-batches : (journal : Journal) (epoch : ℕ) (batches : List (List PlainEvent)) (image : Image) → form_of journal ≡ journal_form
+    → range_of journal ≡ journal_range → epoch_of journal ≡ epoch
+    → Holds (form_of journal) (range_of journal) (epoch_of journal) (map batch_bytes batches) image → HasBatches epoch batches image
+has-batches journal epoch batches image form range is holds =
+    subst (λ (n : ℕ). Holds journal_form journal_range n (map batch_bytes batches) image) is
+    (subst (λ (r : Range). Holds journal_form r (epoch_of journal) (map batch_bytes batches) image) range
+    (subst (λ (f : Form). Holds f (range_of journal) (epoch_of journal) (map batch_bytes batches) image) form holds))
 
--- and stand in its sectors
+-- and back
+pub of-batches : (journal : Journal) (epoch : ℕ) (batches : List (List PlainEvent)) (image : Image) → form_of journal ≡ journal_form
+    → range_of journal ≡ journal_range → epoch_of journal ≡ epoch → HasBatches epoch batches image
+    → Holds (form_of journal) (range_of journal) (epoch_of journal) (map batch_bytes batches) image
+of-batches journal epoch batches image form range is holds =
+    subst (λ (f : Form). Holds f (range_of journal) (epoch_of journal) (map batch_bytes batches) image) (sym form)
+    (subst (λ (r : Range). Holds journal_form r (epoch_of journal) (map batch_bytes batches) image) (sym range)
+    (subst (λ (n : ℕ). Holds journal_form journal_range n (map batch_bytes batches) image) (sym is) holds))
+
+-- they stand in the journal's sectors
 pub journal-same : (places : ℕ → Type 0) (epoch : ℕ) (batches : List (List PlainEvent)) (a b : Image)
     → ((i : ℕ) → IsInside journal_range i → places i) → SameAt places a b → HasBatches epoch batches a → HasBatches epoch batches b
 journal-same places epoch batches a b inside same holds =
-    Holds-same journal_range epoch (map batch_bytes batches) a b
-    (λ j low high. sector_at-same places a b j same (inside j (low, omega (arith, high, journal-short epoch batches a holds)))) holds
+    Holds-same journal_form journal_range epoch (map batch_bytes batches) a b (omega arith)
+    (λ j here. sector_at-same places a b j same (inside j here)) holds
 
 -- the image is of a device with these limits, where the checkpoint lies
 abbrev pub IsPlace : Limits → CheckpointView → Image → Type 0
@@ -78,29 +90,32 @@ journal-elsewhere : (limits : Limits) (sectors i : ℕ) → IsInside journal_ran
 journal-elsewhere limits sectors i inside = (λ root. absurd (omega (arith, root, inside.0)), inl (omega (arith, inside.1)))
 
 -- objects and batches that are there at one epoch make a state
-pub stands-with : (limits : Limits) (layout : Layout) (range : Range) (epoch : ℕ) (image : Image) → IsDevice limits image
-    → layout ≡ layout_of limits (named_sectors image) → range ≡ journal_range
+pub stands-with : (limits : Limits) (layout : Layout) (epoch : ℕ) (image : Image) → IsDevice limits image
+    → layout ≡ layout_of limits (named_sectors image)
     → (objects : PlainObjects) → HoldsObjects layout epoch objects image → (base : State) → StandForState limits base objects
-    → (batches : List (List PlainEvent)) → Holds range epoch (map batch_bytes batches) image → (s : State) → LeadTo limits base batches s
+    → (batches : List (List PlainEvent)) → HasBatches epoch batches image → (s : State) → LeadTo limits base batches s
     → StandsFor limits s image
-stands-with limits layout range epoch image device lies range-is objects there base stand batches holds s leads = record {
+stands-with limits layout epoch image device lies objects there base stand batches holds s leads = record {
   epoch = epoch;
   base = base;
   kept = record { device = device; objects = objects; there = subst (λ (l : Layout). HoldsObjects l epoch objects image) lies there; stand = stand };
   batches = batches;
-  journal = subst (λ (r : Range). Holds r epoch (map batch_bytes batches) image) range-is holds;
+  journal = holds;
   leads = leads;
 }
 
 module _ (medium : Medium) (limits : Limits) (checkpoint : CheckpointView) (journal : Journal) (base : State)
     (at : DeviceMatches medium limits checkpoint journal base) where
-  -- each image now stands for the base
+  -- each image now has the batches
+  pub batches-now : (image : Image) → medium.images_now image → HasBatches (saved_epoch checkpoint) at.batches image
+  batches-now image now = has-batches journal (saved_epoch checkpoint) at.batches image at.form at.range at.epoch (at.appended.kept.images image now)
+
+  -- and stands for the base
   pub device-stands : (image : Image) → medium.images_now image → StandsFor limits base image
   device-stands image now =
       let is = at.device image now in
-      stands-with limits (saved_layout checkpoint) (range_of journal) (saved_epoch checkpoint) image is.0 is.1 at.range at.objects
-      (CheckpointMatches-holds checkpoint at.objects medium at.saved image now) at.from at.stand at.batches
-      (subst (λ (n : ℕ). Holds (range_of journal) n (map batch_bytes at.batches) image) at.epoch (at.appended.images image now)) base at.leads
+      stands-with limits (saved_layout checkpoint) (saved_epoch checkpoint) image is.0 is.1 at.objects
+      (CheckpointMatches-holds checkpoint at.objects medium at.saved image now) at.from at.stand at.batches (batches-now image now) base at.leads
 
   -- where the checkpoint lies
   here : IsPlace limits checkpoint medium.contents
@@ -116,6 +131,9 @@ module _ (medium : Medium) (limits : Limits) (checkpoint : CheckpointView) (jour
       subst (λ (l : Layout). IsElsewhere l i) (sym here.1)
       (journal-elsewhere limits (named_sectors medium.contents) i (subst (λ (r : Range). IsInside r i) at.range inside))
 
+  pub journal-some : 0 < (range_of journal).count
+  journal-some = subst (λ (r : Range). 0 < r.count) (sym at.range) (omega arith)
+
   pub first-outside : IsOutside (range_of journal) 0
   first-outside = subst (λ (r : Range). IsOutside r 0) (sym at.range) (inl (omega arith))
 
@@ -125,11 +143,13 @@ module _ (medium : Medium) (limits : Limits) (checkpoint : CheckpointView) (jour
 
 -- where a checkpoint and a journal lie that have changed their epoch alone
 pub stays-on-disk : (limits : Limits) (old new : ℕ) (checkpoint next : CheckpointView) (journal more : Journal) → new ≡ old
-    → saved_layout next ≡ saved_layout checkpoint → range_of more ≡ range_of journal → epoch_of more ≡ saved_epoch next
+    → saved_layout next ≡ saved_layout checkpoint → form_of more ≡ form_of journal → range_of more ≡ range_of journal
+    → epoch_of more ≡ saved_epoch next
     → AreOnDisk old limits checkpoint journal → AreOnDisk new limits next more
-stays-on-disk limits old new checkpoint next journal more size layout range epoch on = record {
+stays-on-disk limits old new checkpoint next journal more size layout form range epoch on = record {
   objects = subst (λ (l : Layout). IsLaidOut l new) (sym layout) (subst (λ (n : ℕ). IsLaidOut (saved_layout checkpoint) n) (sym size) on.objects);
   room = ap (λ (l : Layout). l.area) layout ∙ on.room;
+  form = form ∙ on.form;
   within = subst (λ (r : Range). IsWithin r new) (sym range) (subst (λ (n : ℕ). IsWithin (range_of journal) n) (sym size) on.within);
   epoch = epoch;
 }

@@ -11,7 +11,7 @@ use Rattle.ipc_disk.specs.Since.{EachImageSince, SameAt, LeavesAlone}
 use Rattle.ipc_disk.proofs.CallerLemmas.{EachImageSince-join, EachImageSince-weaken, EachImageSince-now, EachImageSince-set}
 use Rattle.ipc_disk.proofs.CallerLemmas.{SameAt-set, LeavesAlone-keeps, sector_at-same, sector_at-set_same}
 use Rattle.ipc_disk.specs.Standing.{sector_at}
-use Rattle.ipc_journal.specs.Journal.{header_bytes}
+use Rattle.ipc_journal.specs.Headed.{header_bytes}
 use Rattle.ipc_journal.proofs.CallerLemmas.{Holds-header, Holds-same}
 use Rattle.ipc_checkpoint.specs.declared.layout.Layout.{Layout}
 use Rattle.ipc_checkpoint.specs.Checkpoint.{IsLaidOut, IsElsewhere, Holds as HoldsObjects}
@@ -23,7 +23,7 @@ use Rattle.ipc_image.specs.Format.{format, format_one, IsFormat}
 use Rattle.ipc_image.specs.Sizes.{area_in, area_of, need_in}
 use Rattle.ipc_image.specs.Superblock.{magic, IsFormatted, sectors_in, IsSuperblock}
 use Rattle.ipc_image.proofs.CallerLemmas.{area-counted, superblock-sectors}
-use Rattle.ipc_store.specs.Image.{journal_range, first_epoch, layout_in, layout_of, named_sectors, NamesAll, StandsFor, IsNotFormatted}
+use Rattle.ipc_store.specs.Image.{journal_form, journal_range, first_epoch, layout_in, layout_of, named_sectors, NamesAll, StandsFor, IsNotFormatted}
 use Rattle.ipc_store.specs.Relations.Format.{EachNow, IsErased, IsPrepared}
 
 -- the root of each form lies before the journal
@@ -136,8 +136,8 @@ becomes-device limits s bytes image fits is prepared =
         stand = prepared.stand;
       };
       batches = [];
-      journal = Holds-same journal_range prepared.epoch [] image new
-          (λ j low high. sector_at-same (IsPast 0) image new j kept (omega (arith, low))) prepared.journal;
+      journal = Holds-same journal_form journal_range prepared.epoch [] image new (omega arith)
+          (λ j inside. sector_at-same (IsPast 0) image new j kept (omega (arith, inside.0))) prepared.journal;
       leads = record { each = All-nil _; named = tt; state = refl };
     }
 

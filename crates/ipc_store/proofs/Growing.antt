@@ -15,8 +15,7 @@ use Rattle.ipc_image.specs.declared.format.Format.{Format}
 use Rattle.ipc_image.specs.Format.{IsFormat}
 use Rattle.ipc_image.specs.Superblock.{sectors_in, IsSuperblockIn}
 use Rattle.ipc_store.specs.Batch.{batch_bytes}
-use Rattle.ipc_store.specs.Image.{journal_range, objects_range, named_sectors, IsDeviceIn, StandsForIn}
-use Rattle.ipc_store.proofs.Devices.{journal-short}
+use Rattle.ipc_store.specs.Image.{journal_form, journal_range, objects_range, named_sectors, IsDeviceIn, StandsForIn}
 use Rattle.ipc_store.proofs.Formatting.{form-root}
 
 module _ (more : ℕ) (image : Image) where
@@ -53,9 +52,8 @@ module _ (more : ℕ) (image : Image) where
             stand = is.kept.stand;
           };
           batches = is.batches;
-          journal = Holds-same journal_range is.epoch (map batch_bytes is.batches) image after
-              (λ j low high. sym (sector_at-grown more image j
-              (omega (arith, high, journal-short is.epoch is.batches image is.journal, device.superblock.room, device.whole)))) is.journal;
+          journal = Holds-same journal_form journal_range is.epoch (map batch_bytes is.batches) image after (omega arith)
+              (λ j inside. sym (sector_at-grown more image j (omega (arith, inside.1, device.superblock.room, device.whole)))) is.journal;
           leads = is.leads;
         }
 

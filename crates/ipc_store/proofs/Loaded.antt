@@ -16,7 +16,7 @@ use Rattle.ipc_disk.specs.Calls.{IsOneCall, OnlyReads}
 use Rattle.ipc_disk.specs.Counts.{Counts, counted, with_sync}
 use Rattle.ipc_journal.specs.declared.journal.Journal.{Journal}
 use Rattle.ipc_journal.specs.Matches.{JournalMatches}
-use Rattle.ipc_journal.specs.View.{range_of, epoch_of}
+use Rattle.ipc_journal.specs.View.{form_of, range_of, epoch_of}
 use Rattle.ipc_state.specs.State.{State}
 use Rattle.ipc_engine.specs.Changes.{IsTracked}
 use Rattle.ipc_engine.specs.Engine.{Machine}
@@ -26,7 +26,7 @@ use Rattle.ipc_image.specs.Format.{format}
 use Rattle.ipc_image.specs.Saved.{StandForStateIn}
 use Rattle.ipc_image.specs.Sizes.{area_of, need_of}
 use Rattle.ipc_store.specs.Batch.{batch_bytes}
-use Rattle.ipc_store.specs.Image.{journal_range, layout_of, named_sectors, IsDevice, LeadTo}
+use Rattle.ipc_store.specs.Image.{journal_form, journal_range, layout_of, named_sectors, IsDevice, LeadTo}
 use Rattle.ipc_store.specs.Relations.Loading.{OnlySyncs}
 use Rattle.ipc_store.specs.Relations.Matches.{AreOnDisk, DeviceMatches, MachineMatches}
 use Rattle.ipc_store.proofs.Formatting.{laid-out}
@@ -111,7 +111,8 @@ Led limits from to journal medium =
     (batches : List (List PlainEvent)) × JournalMatches journal (map batch_bytes batches) medium × LeadTo limits from batches to
 
 module _ (limits : Limits) (sectors : ℕ) (checkpoint : CheckpointView) (layout : saved_layout checkpoint ≡ layout_of limits sectors) where
-  module _ (journal : Journal) (range : range_of journal ≡ journal_range) (epoch : epoch_of journal ≡ saved_epoch checkpoint)
+  module _ (journal : Journal) (form : form_of journal ≡ journal_form) (range : range_of journal ≡ journal_range)
+      (epoch : epoch_of journal ≡ saved_epoch checkpoint)
       (machine : Machine) (same : machine.limits ≡ limits) where
     -- the whole device
     pub loaded : (medium : Medium) (from : State) → IsHonest medium → IsDurable medium → IsDevice limits medium.contents
@@ -124,6 +125,7 @@ module _ (limits : Limits) (sectors : ℕ) (checkpoint : CheckpointView) (layout
         subst Both (sym same) (
           record {
             honest = honest;
+            form = form;
             range = range;
             epoch = epoch;
             device = λ image now.
@@ -146,6 +148,7 @@ module _ (limits : Limits) (sectors : ℕ) (checkpoint : CheckpointView) (layout
     on-disk last there passed room = record {
       objects = subst (λ (l : Layout). IsLaidOut l last) (sym layout) (laid-out format (inr refl) limits sectors last passed room there);
       room = ap (λ (l : Layout). l.area) layout ∙ ap area_of (sym same);
+      form = form;
       within = subst (λ (r : Range). IsWithin r last) (sym range) (omega (arith, there, room));
       epoch = epoch;
     }

@@ -22,21 +22,22 @@ use Rattle.ipc_heap.specs.Meanwhile.{IsUsedIn, KeepsUsed}
 use Rattle.ipc_heap.proofs.CallerLemmas.{EachLater-start, HoldsIn-one, HoldsIn-sectors}
 use Rattle.ipc_journal.specs.Journal.{Holds}
 use Rattle.ipc_journal.specs.Matches.{HoldsOneMoreOrNot, JournalMatches}
-use Rattle.ipc_journal.specs.Meanwhile.{ComesInOrder, IsReadFrom, KeepsBatches}
-use Rattle.ipc_journal.specs.View.{epoch_of, range_of}
-use Rattle.ipc_journal.proofs.CallerLemmas.{ComesInOrder-moment, EachImageSince-alone, Holds-fill, Holds-read}
+use Rattle.ipc_journal.specs.Meanwhile.{Comes, ComesInOrder, IsReadFrom, KeepsBatches}
+use Rattle.ipc_journal.specs.View.{form_of, epoch_of, range_of}
+use Rattle.ipc_journal.specs.declared.form.Form.{Form}
+use Rattle.ipc_journal.proofs.CallerLemmas.{ComesInOrder-moment, EachImageSince-alone, Holds-read}
 use Rattle.ipc_journal.proofs.CallerLemmas.{KeepsBatches-append, KeepsBatches-refl, KeepsBatches-same, KeepsBatches-then}
 use Rattle.ipc_state.specs.State.{State}
 use Rattle.ipc_engine.specs.Event.{PlainEvent}
 use Rattle.ipc_image.specs.Format.{format}
 use Rattle.ipc_image.specs.Superblock.{IsSuperblockIn, sectors_in}
 use Rattle.ipc_store.specs.Batch.{batch_bytes}
-use Rattle.ipc_store.specs.Image.{HasBatches, StandsFor, epoch_at, journal_range, layout_of, named_sectors, objects_range}
+use Rattle.ipc_store.specs.Image.{HasBatches, StandsFor, epoch_at, journal_form, journal_range, layout_of, named_sectors, objects_range}
 use Rattle.ipc_store.specs.Meanwhile.{GoesOn, HasOneRoot, IsNeeded, IsOfSameSave, IsRead, StaysReadable}
 use Rattle.ipc_store.specs.Relations.Matches.{StoreMatches}
 use Rattle.ipc_store.specs.View.{StoreView}
 use Rattle.ipc_store.proofs.Committing.{bytes-are}
-use Rattle.ipc_store.proofs.Devices.{journal-outside, journal-same}
+use Rattle.ipc_store.proofs.Devices.{batches-now, journal-outside, journal-same, journal-some}
 
 -- where the objects of an image lie
 abbrev its_range : Image → Range
@@ -55,7 +56,7 @@ needed-outside image i (inr (inr u)) =
 pub same-refl : (image : Image) → IsOfSameSave image image
 same-refl image = record {
   needed = record { count = refl; sectors = λ i here. refl };
-  journal = KeepsBatches-refl journal_range (epoch_at image) image;
+  journal = KeepsBatches-refl journal_form journal_range (epoch_at image) image;
 }
 
 module _ (a b : Image) (same : IsOfSameSave a b) where
@@ -93,8 +94,8 @@ module _ (a b : Image) (same : IsOfSameSave a b) where
       count = same.needed.count ∙ next.needed.count;
       sectors = λ i need. same.needed.sectors i need ∙ next.needed.sectors i (same-needed i need);
     };
-    journal = KeepsBatches-then journal_range (epoch_at a) a b c same.journal
-        (subst (λ (e : ℕ). KeepsBatches journal_range e b c) (sym same-epoch) next.journal);
+    journal = KeepsBatches-then journal_form journal_range (epoch_at a) a b c same.journal
+        (subst (λ (e : ℕ). KeepsBatches journal_form journal_range e b c) (sym same-epoch) next.journal);
   }
 
 -- it goes on from there
@@ -121,7 +122,7 @@ read-same image =
       one_root = one;
       journal = record {
         header = refl;
-        body = λ i low high. (image, (λ batches holds. Holds-fill journal_range (epoch_at image) batches image holds), refl);
+        body = λ i low high. (image, (λ batches holds. holds.stand), refl);
       };
     }
 
@@ -194,23 +195,28 @@ module _ {D : Type 0} (old new : Medium) (store : StoreView D) (base : State) (p
 
   -- a batch is appended
   appended : (batch : List ℕ) (earlier later : Image) → old.images_now earlier → SameAt (IsOutside (range_of store.journal)) earlier later
-      → HoldsOneMoreOrNot store.journal (map batch_bytes at.device.batches) batch later → IsOfSameSave earlier later
+      → HoldsOneMoreOrNot (form_of store.journal) (range_of store.journal) (epoch_of store.journal) (map batch_bytes at.device.batches) batch later
+      → IsOfSameSave earlier later
   appended batch earlier later now same more = record {
     needed = record {
       count = same.count;
       sectors = λ i need. same.sectors i (subst (λ (r : Range). IsOutside r i) (sym at.device.range) (needed-outside earlier i need));
     };
-    journal = subst (λ (r : Range). KeepsBatches r (epoch_at earlier) earlier later) at.device.range
-        (subst (λ (e : ℕ). KeepsBatches (range_of store.journal) e earlier later) (epoch-is earlier now)
-        (KeepsBatches-append store.journal (map batch_bytes at.device.batches) batch old at.device.appended earlier later now more));
+    journal = subst (λ (f : Form). KeepsBatches f journal_range (epoch_at earlier) earlier later) at.device.form
+        (subst (λ (r : Range). KeepsBatches (form_of store.journal) r (epoch_at earlier) earlier later) at.device.range
+        (subst (λ (e : ℕ). KeepsBatches (form_of store.journal) (range_of store.journal) e earlier later) (epoch-is earlier now)
+        (KeepsBatches-append store.journal (map batch_bytes at.device.batches) batch old at.device.appended earlier later now more)));
   }
 
   goes-on-append : (batch : List ℕ) → LeavesAlone (IsOutside (range_of store.journal)) old new
-      → EachImageSince old new (HoldsOneMoreOrNot store.journal (map batch_bytes at.device.batches) batch) → EachLater GoesOn old new
+      → EachImageSince old new
+      (HoldsOneMoreOrNot (form_of store.journal) (range_of store.journal) (epoch_of store.journal) (map batch_bytes at.device.batches) batch)
+      → EachLater GoesOn old new
   goes-on-append batch alone moments =
       let P : Image → Type 0 =
       λ image. (earlier : Image) × old.images_now earlier × SameAt (IsOutside (range_of store.journal)) earlier image in
-      let one_more : Image → Type 0 = HoldsOneMoreOrNot store.journal (map batch_bytes at.device.batches) batch in
+      let one_more : Image → Type 0 =
+      HoldsOneMoreOrNot (form_of store.journal) (range_of store.journal) (epoch_of store.journal) (map batch_bytes at.device.batches) batch in
       EachImageSince-weaken old new (λ image. P image × one_more image) (λ image. (earlier : Image) × old.images_now earlier × GoesOn earlier image)
       (EachImageSince-both old new P one_more alone.images moments)
       (λ image both. let from = both.0 in (from.0, from.1, inl (appended batch from.0 image from.1 from.2 both.1)))
@@ -221,15 +227,14 @@ module _ {D : Type 0} (old new : Medium) (store : StoreView D) (base : State) (p
       let R : Range = its_range earlier in
       let places : ℕ → Type 0 = λ i. IsOutside R i ⊎ IsUsedIn R format.root earlier i in
       let here : HasBatches (epoch_at earlier) at.device.batches earlier =
-      subst (λ (r : Range). Holds r (epoch_at earlier) (map batch_bytes at.device.batches) earlier) at.device.range
-      (subst (λ (e : ℕ). Holds (range_of store.journal) e (map batch_bytes at.device.batches) earlier) (epoch-is earlier now)
-      (at.device.appended.images earlier now)) in
+      subst (λ (e : ℕ). HasBatches e at.device.batches earlier) (sym (epoch-now earlier now))
+      (batches-now old store.machine.limits store.checkpoint store.journal base at.device earlier now) in
       record {
         needed = record {
           count = kept.count;
           sectors = λ i need. kept.sectors i (place i need);
         };
-        journal = KeepsBatches-same journal_range (epoch_at earlier) (map batch_bytes at.device.batches) earlier later here
+        journal = KeepsBatches-same journal_form journal_range (epoch_at earlier) (map batch_bytes at.device.batches) earlier later here
             (journal-same places (epoch_at earlier) at.device.batches earlier later (λ i inside. inl (inl (omega (arith, inside.1)))) kept here);
       }
     where
@@ -250,13 +255,25 @@ module _ {D : Type 0} (old new : Medium) (store : StoreView D) (base : State) (p
       (from.0, from.1, ⊎_elim (λ kept. inl (kept-saved from.0 image from.1 kept)) (λ turned. inr turned) either))
 
 module _ {D : Type 0} (medium : D → Medium) (store : StoreView D) where
+  -- no batch comes
+  stands-still : (new : D) (base : State) (pending : List PlainEvent) (at : StoreMatches (medium store.disk) store base pending)
+      → EachImageSince (medium store.disk) (medium new)
+      (Holds (form_of store.journal) (range_of store.journal) (epoch_of store.journal) (map batch_bytes at.device.batches))
+      → ComesInOrder medium store.journal (map batch_bytes at.device.batches) (batch_bytes pending) store.disk new
+  stands-still new base pending at same =
+      subst (λ (f : Form). Comes medium f (range_of store.journal) (epoch_of store.journal) (map batch_bytes at.device.batches) (batch_bytes pending)
+      store.disk new) (sym at.device.form)
+      (inl (subst (λ (f : Form). EachImageSince (medium store.disk) (medium new)
+      (Holds f (range_of store.journal) (epoch_of store.journal) (map batch_bytes at.device.batches))) at.device.form same))
+
   -- no call was made
   pub readable-none : ((image : Image) → (medium store.disk).images_since (medium store.disk).moment image → (medium store.disk).images_now image)
       → StaysReadable medium store store.disk
   readable-none law = record {
     goes_on = λ base pending at. EachLater-start GoesOn (medium store.disk) law (λ image. inl (same-refl image));
-    stands_first = λ base pending at. inl (EachImageSince-start (medium store.disk)
-        (Holds (range_of store.journal) (epoch_of store.journal) (map batch_bytes at.device.batches)) law at.device.appended.images);
+    stands_first = λ base pending at. stands-still store.disk base pending at (EachImageSince-start (medium store.disk)
+        (Holds (form_of store.journal) (range_of store.journal) (epoch_of store.journal) (map batch_bytes at.device.batches)) law
+        at.device.appended.kept.images);
   }
 
   pub readable-append : (new : D) (batch : List ℕ) → batch ≡ big_bytes 4 (length store.records) ++ store.records
@@ -280,8 +297,10 @@ module _ {D : Type 0} (medium : D → Medium) (store : StoreView D) where
   readable-save new alone saves = record {
     goes_on = λ base pending at.
         goes-on-save (medium store.disk) (medium new) store base pending at (saves at.device.objects at.device.saved);
-    stands_first = λ base pending at. inl (EachImageSince-alone (IsElsewhere (saved_layout store.checkpoint)) store.journal
+    stands_first = λ base pending at. stands-still new base pending at
+        (EachImageSince-alone (IsElsewhere (saved_layout store.checkpoint)) store.journal
         (map batch_bytes at.device.batches) (medium store.disk) (medium new)
+        (journal-some (medium store.disk) store.machine.limits store.checkpoint store.journal base at.device)
         (journal-outside (medium store.disk) store.machine.limits store.checkpoint store.journal base at.device) (alone at.device.honest)
         at.device.appended);
   }

@@ -1,5 +1,5 @@
 -- What an open leaves at each moment, and the store that it gives.
-use Rattle.std.proofs.Common.{◌≡◌, ◌⊎◌, inl, inr, ⊎_elim, ℕ, ◌+◌, ◌<◌, List, [], false, length, refl, sym, ap, subst, ◌∙◌, arith}
+use Rattle.std.proofs.Common.{◌≡◌, ◌⊎◌, inl, inr, ⊎_elim, ℕ, ◌+◌, List, [], false, length, map, refl, sym, ap, subst, ◌∙◌, arith}
 use Rattle.std.proofs.lemmas.Bool.{cases_lt}
 use Rattle.std.proofs.lemmas.List.Elements.{All-nil}
 use Rattle.ipc_base.specs.declared.limits.Limits.{Limits}
@@ -11,9 +11,10 @@ use Rattle.ipc_heap.proofs.CallerLemmas.{EachLater-join}
 use Rattle.ipc_checkpoint.specs.View.{CheckpointView}
 use Rattle.ipc_disk.specs.declared.range.Range.{Range}
 use Rattle.ipc_journal.specs.declared.journal.Journal.{Journal}
-use Rattle.ipc_journal.specs.Journal.{header_epoch, header_used}
-use Rattle.ipc_disk.specs.Standing.{sectors_for}
-use Rattle.ipc_journal.specs.View.{range_of, epoch_of, used_of, Fits}
+use Rattle.ipc_journal.specs.Journal.{head, sectors_in, sectors_of}
+use Rattle.ipc_journal.specs.declared.form.Form.{Form}
+use Rattle.ipc_journal.specs.declared.form.Form.TheVariants.{Headed}
+use Rattle.ipc_journal.specs.View.{form_of, range_of, used_of, Fits}
 use Rattle.ipc_state.specs.State.{State, restart}
 use Rattle.ipc_engine.specs.Engine.{Machine}
 use Rattle.ipc_engine.specs.Event.{Restart}
@@ -22,13 +23,15 @@ use Rattle.ipc_store.specs.declared.fault.OpenError.{OpenError}
 use Rattle.ipc_store.specs.declared.fault.OpenError.TheVariants as errors
 use Rattle.ipc_store.proofs.Opened.{device-begins}
 use Rattle.ipc_image.specs.Format.{format}
-use Rattle.ipc_store.specs.Image.{journal_range, last_epoch, epoch_at, IsAtEnd, StandsFor}
+use Rattle.ipc_store.specs.Batch.{batch_bytes}
+use Rattle.ipc_store.specs.Image.{journal_form, journal_range, last_epoch, epoch_at, HasBatches, IsAtEnd, StandsFor}
 use Rattle.ipc_store.specs.Meanwhile.{GoesOn}
 use Rattle.ipc_store.specs.Refusals.{IsRefusal}
 use Rattle.ipc_store.specs.View.{StoreView, IsAtLastEpoch, store_view}
 use Rattle.ipc_store.specs.Relations.Matches.{MachineMatches, StoreMatches, StandsForEither, OpensTo}
 use Rattle.ipc_store.proofs.Batches.{record-length}
 use Rattle.ipc_store.proofs.Committing.{stands_now, root-epoch}
+use Rattle.ipc_store.proofs.Devices.{batches-now}
 use Rattle.ipc_store.proofs.Meanwhile.{goes-on-then, same-refl}
 
 -- calls that only read leave what was there before
@@ -111,32 +114,49 @@ taken m before after new base disk limits moments =
     subst (λ (l : Limits). EachImageSince (m before.disk) new (StandsForEither l base (restart base))) limits
     (subst (λ d. EachImageSince (m d) new (StandsForEither after.machine.limits base (restart base))) disk moments)
 
--- a journal in which a restart does not fit has one sector left for its header alone
+-- a restart takes one sector
+restart-sectors : (form : Form) → sectors_in form 17 ≡ 1
+restart-sectors Headed = omega arith
+
+-- a journal in which a restart does not fit has no sector left
 pub full_journal : (journal : Journal) (records : List ℕ) → records ≡ record_bytes Restart → ¬ Fits journal (4 + length records)
-    → used_of journal + 1 ≡ (range_of journal).count
+    → head (form_of journal) + used_of journal ≡ (range_of journal).count
 full_journal journal records are full =
     let size : length records ≡ 13 = ap (λ (x : List ℕ). length x) are ∙ record-length Restart in
-    ⊎_elim (λ lt. absurd (full (subst (λ (n : ℕ). used_of journal + sectors_for (4 + n) < (range_of journal).count) (sym size) lt)))
-    (λ ge. omega (arith, ge, journal.room)) (cases_lt (used_of journal + 1) (range_of journal).count)
+    let one : sectors_in (form_of journal) (4 + length records) ≡ 1 =
+    ap (sectors_in (form_of journal)) (omega (arith, size)) ∙ restart-sectors (form_of journal) in
+    ⊎_elim (λ lt. absurd (full (omega (arith, one, lt)))) (λ ge. omega (arith, ge, journal.room))
+    (cases_lt (head (form_of journal) + used_of journal) (range_of journal).count)
 
 -- the image is at the end of its epochs, if the store over it is and its journal has no room for a restart
 pub at_end : {D : Type 0} (medium : Medium) (store : StoreView D) (base : State) (image : Image) → StoreMatches medium store base []
-    → medium.contents ≡ image → IsAtLastEpoch store → used_of store.journal + 1 ≡ (range_of store.journal).count
-    → (0 < used_of store.journal → used_of store.journal ≡ header_used journal_range image)
-    → (0 < used_of store.journal → header_epoch journal_range image ≡ epoch_of store.journal) → IsAtEnd image
-at_end medium store base image matches same last full used current =
+    → medium.contents ≡ image → IsAtLastEpoch store → head (form_of store.journal) + used_of store.journal ≡ (range_of store.journal).count
+    → IsAtEnd image
+at_end medium store base image matches same last full =
     let at = matches.device in
-    let count : used_of store.journal + 1 ≡ journal_range.count = full ∙ ap (λ (r : Range). r.count) at.range in
+    let holds : HasBatches last_epoch at.batches medium.contents =
+    subst (λ (n : ℕ). HasBatches n at.batches medium.contents) last
+    (batches-now medium store.machine.limits store.checkpoint store.journal base at medium.contents at.honest.reads) in
     record {
       limits = store.machine.limits;
       state = base;
       stands = subst (StandsFor store.machine.limits base) same
           (stands_now medium store base [] matches medium.contents at.honest.reads);
-      current = current (omega (arith, count)) ∙ at.epoch ∙ last;
       epoch = subst (λ (i : Image). epoch_at i ≡ last_epoch) same
           (root-epoch medium store base [] matches ∙ last);
-      used = ap (λ (n : ℕ). n + 1) (sym (used (omega (arith, count)))) ∙ count;
+      full = record {
+        batches = map batch_bytes at.batches;
+        holds = subst (HasBatches last_epoch at.batches) same holds;
+        full = count (form_of store.journal) (used_of store.journal) (range_of store.journal) (map batch_bytes at.batches) at.form at.range
+            at.appended.used full;
+      };
     }
+  where
+    count : (form : Form) (used : ℕ) (range : Range) (batches : List (List ℕ)) → form ≡ journal_form → range ≡ journal_range
+        → used ≡ sectors_of form batches → head form + used ≡ range.count → head journal_form + sectors_of journal_form batches ≡ journal_range.count
+    count form used range batches is range-is used-is all =
+        subst (λ (f : Form). head f + sectors_of f batches ≡ journal_range.count) is
+        (ap (λ (n : ℕ). head form + n) (sym used-is) ∙ all ∙ ap (λ (r : Range). r.count) range-is)
 
 -- a disk that stands for a state has no fault of its own
 pub refused_by : (image : Image) (limits : Limits) (s : State) (error : OpenError) → StandsFor limits s image → IsRefusal format image error

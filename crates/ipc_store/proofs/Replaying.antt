@@ -4,7 +4,7 @@ use Rattle.std.proofs.Common.{refl, sym, ◌∙◌, ap, subst, arith}
 use Rattle.std.specs.Prelude.{All, slice_index}
 use Rattle.std.specs.Int.{w32, from_be_bytes}
 use Rattle.std.proofs.lemmas.List.{take_at, drop_at, take-append-drop, drop-take, drop-drop}
-use Rattle.std.proofs.lemmas.List.{length-take, length-take-le, length-drop, length-append, get_or-take, get_or_past, map-append}
+use Rattle.std.proofs.lemmas.List.{length-take, length-take-le, length-drop, length-append, length-map, get_or-take, get_or_past, map-append}
 use Rattle.std.proofs.lemmas.Bool.{cases_lt}
 use Rattle.std.proofs.lemmas.List.Elements.{All-head, All-tail, All-push}
 use Rattle.std.proofs.lemmas.Nat.{be_bytes_4}
@@ -12,13 +12,15 @@ use Rattle.std.proofs.Math.Seq.{take-add}
 use Rattle.byteorder.specs.Endian.{big_bytes, big_number}
 use Rattle.byteorder.specs.Numbers.{big_from-take}
 use Rattle.ipc_base.specs.declared.limits.Limits.{Limits}
-use Rattle.ipc_disk.specs.Medium.{Image, Medium, IsHonest, IsShaped, Stays}
-use Rattle.ipc_journal.specs.declared.journal.Journal.{Journal}
-use Rattle.ipc_disk.specs.Standing.{sectors_for, sector_at, StandsAt}
-use Rattle.ipc_journal.specs.Journal.{sectors_of, length_in, IsBatch, Fill}
-use Rattle.ipc_journal.specs.View.{range_of, used_of}
-use Rattle.ipc_disk.proofs.CallerLemmas.{StandsAt-front, stands-same}
-use Rattle.ipc_journal.proofs.CallerLemmas.{Fill-end, Fill-push, IsBatch-there, length-there}
+use Rattle.ipc_disk.specs.declared.range.Range.{Range}
+use Rattle.ipc_disk.specs.Medium.{Image}
+use Rattle.ipc_journal.specs.declared.form.Form.{Form}
+use Rattle.ipc_journal.specs.declared.reader.Reader.{Reader}
+use Rattle.ipc_journal.specs.Batch.{length_in, IsBatch}
+use Rattle.ipc_journal.specs.Journal.{sector_of, sectors_in, sectors_of, EndsAt, Fill, Stand, HasLater, HasMore, HasNone, IsNext}
+use Rattle.ipc_journal.specs.Reader.{place_of, before_of, form_read, range_read, epoch_read, HasRead, IsReaderOf}
+use Rattle.ipc_journal.proofs.CallerLemmas.{EndsAt-later, EndsAt-more, EndsAt-next, HasLater-at, IsAt-one}
+use Rattle.ipc_journal.proofs.CallerLemmas.{IsNext-at, IsNext-fill, IsNext-is, IsNext-more}
 use Rattle.ipc_state.specs.State.{State}
 use Rattle.ipc_engine.specs.Engine.{IsForProcess}
 use Rattle.ipc_engine.specs.Event.{PlainEvent}
@@ -26,8 +28,9 @@ use Rattle.ipc_engine.specs.Step.{step, run}
 use Rattle.ipc_engine.proofs.CallerLemmas.{run-parts}
 use Rattle.ipc_image.specs.Records.{record_bytes, HasRecord, BeginsWith}
 use Rattle.ipc_store.specs.Batch.{most_bytes, records_of, batch_bytes, AreBatchOf}
-use Rattle.ipc_store.specs.Image.{AreFor, events_of, LeadToBy, HasNoBatchOfAt}
-use Rattle.ipc_store.specs.Relations.Replay.{AreRecords, Replays, IsGoodUpTo}
+use Rattle.ipc_store.specs.Image.{journal_form, journal_range, place_after, AreFor, events_of, LeadToBy}
+use Rattle.ipc_store.specs.Image.{HasBatchesThere, HasLaterAfter, HasNoBatchAfter}
+use Rattle.ipc_store.specs.Relations.Replay.{AreRecords, Replays, IsBadAt, IsGoodUpTo}
 use Rattle.ipc_store.proofs.Accepting.{records-more}
 use Rattle.ipc_store.proofs.Committing.{is_batch}
 use Rattle.ipc_store.proofs.Histories.{AreFor-parts, LeadTo-start, LeadTo-more}
@@ -143,27 +146,13 @@ records_in : (events : List PlainEvent) → drop 4 (batch_bytes events) ≡ reco
 unfolding batch_bytes
 records_in events = drop_at (big_bytes 4 (length (records_of events))) (records_of events) 4 refl
 
--- each byte of a sector is below 256
-sector_below : (size : ℕ) (image : Image) (at : ℕ) → IsShaped size image → (i : ℕ) → slice_index (sector_at image at) i < 256
-sector_below size image at shaped i =
-    elim (cases_lt at (length image)) [
-      | inl lt ↦ byte_below (sector_at image at) (shaped.sectors at [] lt).bytes i
-      | inr le ↦ rw (get_or_past image at [] le) (omega arith)
+-- the first bytes of some that are below 256 are too
+pub take_below : (n : ℕ) (xs : List ℕ) → ((i : ℕ) → slice_index xs i < 256) → (i : ℕ) → slice_index (take n xs) i < 256
+take_below n xs below i =
+    elim (cases_lt i n) [
+      | inl lt ↦ rw (get_or-take n xs i 0 lt) (below i)
+      | inr le ↦ rw (get_or_past (take n xs) i 0 (omega (arith, length-take n xs, le))) (omega arith)
     ]
-  where
-    byte_below : (sector : List ℕ) → All (λ b. b < 256) sector → (i : ℕ) → slice_index sector i < 256
-    byte_below sector all i =
-        elim (cases_lt i (length sector)) [ inl lt ↦ all i 0 lt | inr le ↦ rw (get_or_past sector i 0 le) (omega arith) ]
-
--- so is each of a length field
-field_below : (size : ℕ) (at : ℕ) (batch : List ℕ) (image : Image) → IsShaped size image → 4 ≤ length batch → StandsAt at batch image
-    → (i : ℕ) → slice_index (take 4 batch) i < 256
-field_below size at batch image shaped long stands i =
-    subst (λ (l : List ℕ). slice_index l i < 256) (StandsAt-front at batch image long stands)
-    (elim (cases_lt i 4) [
-      | inl lt ↦ rw (get_or-take 4 (sector_at image at) i 0 lt) (sector_below size image at shaped i)
-      | inr le ↦ rw (get_or_past (take 4 (sector_at image at)) i 0 (omega (arith, length-take 4 (sector_at image at)))) (omega arith)
-    ])
 
 number_is : (bytes : List ℕ) → big_number 4 bytes ≡ from_be_bytes w32 (take 4 bytes)
 number_is bytes = sym (big_from-take 0 4 4 bytes (omega arith)) ∙ omega arith
@@ -181,56 +170,73 @@ batch_is batch events is below records =
 
 -- ---- the batches of a journal
 
--- batches that go on from a place, and lead from the state there to another
-record GoOn (most : ℕ) (limits : Limits) (journal : Journal) (image : Image) (place : ℕ) (s : State) (more : List (List PlainEvent)) (to : State) : Type 0 where
-  filled : Fill (range_of journal) place (used_of journal) (map batch_bytes more) image
+-- what holds of the journal that is read holds of that of the device
+pub as-journal : (P : Form → Range → ℕ → Type 0) (epoch : ℕ) (reader : Reader) → IsReaderOf journal_form journal_range epoch reader
+    → P (form_read reader) (range_read reader) (epoch_read reader) → P journal_form journal_range epoch
+as-journal P epoch reader is p =
+    subst (λ (n : ℕ). P journal_form journal_range n) is.epoch_is
+    (subst (λ (r : Range). P journal_form r (epoch_read reader)) is.range_is
+    (subst (λ (f : Form). P f (range_read reader) (epoch_read reader)) is.form_is p))
+
+-- batches that go on from a place, after so many others, to where the journal ends, and lead from the state there to another
+record GoOn (most : ℕ) (limits : Limits) (epoch : ℕ) (image : Image) (place before : ℕ) (s : State) (more : List (List PlainEvent)) (to : State)
+    : Type 0 where
+  fill : Fill journal_form journal_range epoch place before (map batch_bytes more) image
+  ends : EndsAt journal_form journal_range epoch (place + sectors_of journal_form (map batch_bytes more)) (before + length (map batch_bytes more)) image
   each : All (AreBatchOf most) more
   named : AreFor limits s (events_of more)
   state : to ≡ (run limits s (events_of more)).state
 
--- the machine has gone through the batches before this place
-pub record Replayed (most : ℕ) (limits : Limits) (from : State) (journal : Journal) (image : Image) (place : ℕ) (s : State) : Type 0 where
-  so_far : (batches : List (List PlainEvent)) × LeadToBy most limits from batches s × Fill (range_of journal) 0 place (map batch_bytes batches) image
-  ahead : (batches : List (List PlainEvent)) (to : State) → Replays most limits from journal image batches to
-      → (more : List (List PlainEvent)) × GoOn most limits journal image place s more to
+-- the machine has gone through the batches that were read
+pub record Replayed (most : ℕ) (limits : Limits) (from : State) (epoch : ℕ) (image : Image) (reader : Reader) (s : State) : Type 0 where
+  pub of : IsReaderOf journal_form journal_range epoch reader
+  pub so_far : (batches : List (List PlainEvent)) × LeadToBy most limits from batches s × HasRead reader (map batch_bytes batches) image
+  ahead : (batches : List (List PlainEvent)) (to : State) → Replays most limits from epoch image batches to
+      → (more : List (List PlainEvent)) × GoOn most limits epoch image (place_of reader) (before_of reader) s more to
 
-pub replayed_none : (most : ℕ) (limits : Limits) (from : State) (journal : Journal) (image : Image) → Replayed most limits from journal image 0 from
-replayed_none most limits from journal image = record {
-  so_far = ([], LeadTo-start most limits from, refl);
-  ahead = λ batches to is. (batches, record { filled = is.filled; each = is.leads.each; named = is.leads.named; state = is.leads.state });
+pub replayed_none : (most : ℕ) (limits : Limits) (from : State) (epoch : ℕ) (image : Image) (reader : Reader)
+    → IsReaderOf journal_form journal_range epoch reader → HasRead reader [] image → Replayed most limits from epoch image reader from
+replayed_none most limits from epoch image reader is read = record {
+  of = is;
+  so_far = ([], LeadTo-start most limits from, read);
+  ahead = λ batches to good. (
+    batches,
+    subst (λ (n : ℕ). GoOn most limits epoch image n (before_of reader) from batches to) (sym (place_is reader read))
+        (subst (λ (n : ℕ). GoOn most limits epoch image 0 n from batches to) (sym read.count) (record {
+          fill = good.holds.stand;
+          ends = at_start (map batch_bytes batches) good.holds.ends;
+          each = good.leads.each;
+          named = good.leads.named;
+          state = good.leads.state;
+        })),
+  );
 }
+  where
+    place_is : (r : Reader) → HasRead r [] image → place_of r ≡ 0
+    place_is r was = was.used
+
+    at_start : (bs : List (List ℕ)) → EndsAt journal_form journal_range epoch (sectors_of journal_form bs) (length bs) image
+        → EndsAt journal_form journal_range epoch (0 + sectors_of journal_form bs) (0 + length bs) image
+    at_start bs end =
+        let place : sectors_of journal_form bs ≡ 0 + sectors_of journal_form bs = omega arith in
+        let count : length bs ≡ 0 + length bs = omega arith in
+        subst (λ (n : ℕ). EndsAt journal_form journal_range epoch n (0 + length bs) image) place
+        (subst (λ (n : ℕ). EndsAt journal_form journal_range epoch (sectors_of journal_form bs) n image) count end)
 
 -- the bytes of a batch say how many they are
 batch-right : (most : ℕ) → most ≤ most_bytes → (events : List PlainEvent) → AreBatchOf most events → IsBatch (batch_bytes events)
 unfolding batch_bytes
 batch-right most few events batch = is_batch (records_of events) (batch_bytes events) refl (omega (arith, batch.size, few))
 
--- the batch that was found at a place
-pub record Found (most : ℕ) (journal : Journal) (image : Image) (place : ℕ) (batch : List ℕ) : Type 0 where
-  pub is : IsBatch batch
-  pub stands : StandsAt ((range_of journal).first + 1 + place) batch image
+-- a batch has at most so many bytes
+batch-short : (most : ℕ) (events : List PlainEvent) → AreBatchOf most events → length (batch_bytes events) ≤ most
+batch-short most events batch = omega (arith, batch.size, length_batch events)
+
+-- the batch that was found after what was read
+pub record Found (most epoch : ℕ) (image : Image) (place before : ℕ) (batch : List ℕ) : Type 0 where
+  pub next : IsNext journal_form journal_range epoch place before batch image
   pub short : length batch ≤ most
   pub field : (i : ℕ) → slice_index (take 4 batch) i < 256
-  pub inside : place + sectors_for (length batch) ≤ used_of journal
-
-pub found_batch : (most : ℕ) (journal : Journal) (old mid : Medium) (place next len size : ℕ) (room : List ℕ) → IsHonest old → Stays old mid
-    → ((image : Image) → mid.images_now image → IsShaped size image) → length room ≡ most → 4 ≤ len → len ≤ most
-    → (IsHonest mid → StandsAt ((range_of journal).first + 1 + place) (take len room) mid.contents)
-    → (IsHonest mid → len ≡ length_in (sector_at mid.contents ((range_of journal).first + 1 + place)) + 4)
-    → next ≡ place + sectors_for len → next ≤ used_of journal → Found most journal old.contents place (take len room)
-found_batch most journal old mid place next len size room honest reads shaped whole least fits stands said passes inside =
-    let at = (range_of journal).first + 1 + place in
-    let image = mid.contents in
-    let now = reads.time.honest.0 honest in
-    let long : length (take len room) ≡ len = length-take-le len room (omega (arith, fits, whole)) in
-    let here : Found most journal image place (take len room) = record {
-      is = IsBatch-there at (take len room) image (omega (arith, long, least)) (stands now) (omega (arith, long, said now));
-      stands = stands now;
-      short = omega (arith, long, fits);
-      field = field_below size at (take len room) image (shaped image now.reads) (omega (arith, long, least)) (stands now);
-      inside = subst (λ (n : ℕ). place + sectors_for n ≤ used_of journal) (sym long) (omega (arith, passes, inside));
-    } in
-    subst (λ (c : Image). Found most journal c place (take len room)) (reads.contents honest) here
 
 -- the records in a batch
 pub records_slice : (len : ℕ) (room : List ℕ) → 4 ≤ len → take (len - 4) (drop 4 room) ≡ drop 4 (take len room)
@@ -244,15 +250,14 @@ AreRecords-same a b s t x y events limits bytes are =
     subst (λ (l : Limits). AreRecords l s y events t) limits (subst (λ (z : List ℕ). AreRecords a s z events t) bytes are)
 
 -- what goes on from a place begins with the batch that is found there
-module _ (most : ℕ) (limits : Limits) (journal : Journal) (image : Image) (place : ℕ) (s : State) (batch : List ℕ)
-    (found : Found most journal image place batch)
-    (m : List PlainEvent) (ms : List (List PlainEvent)) (to : State) (left : GoOn most limits journal image place s (m ∷ ms) to) where
+module _ (most : ℕ) (limits : Limits) (epoch : ℕ) (image : Image) (place before : ℕ) (s : State) (batch : List ℕ)
+    (found : Found most epoch image place before batch)
+    (m : List PlainEvent) (ms : List (List PlainEvent)) (to : State) (left : GoOn most limits epoch image place before s (m ∷ ms) to) where
   first_is : batch_bytes m ≡ batch
   first_is =
-      let at = (range_of journal).first + 1 + place in
-      stands-same at (batch_bytes m) batch image
-      (sym (length-there at (batch_bytes m) image left.filled.0 left.filled.1) ∙ length-there at batch image found.is found.stands)
-      left.filled.1 found.stands
+      IsAt-one journal_form journal_range epoch place before (batch_bytes m) batch image left.fill.0
+      (IsNext-is journal_form journal_range epoch place before batch image found.next) left.fill.1
+      (IsNext-at journal_form journal_range epoch place before batch image found.next)
 
   first_records : AreRecords limits s (drop 4 batch) m (run limits s m).state
   first_records = record {
@@ -262,128 +267,214 @@ module _ (most : ℕ) (limits : Limits) (journal : Journal) (image : Image) (pla
     state = refl;
   }
 
-  after_first : GoOn most limits journal image (place + sectors_for (length batch)) (run limits s m).state ms to
-  after_first = record {
-    filled = subst (λ (l : List ℕ). Fill (range_of journal) (place + sectors_for (length l)) (used_of journal) (map batch_bytes ms) image)
-        first_is left.filled.2;
-    each = All-tail (AreBatchOf most) m ms left.each;
-    named = AreFor-next limits s m (events_of ms) left.named;
-    state = left.state ∙ run-parts limits s m (events_of ms);
-  }
+  after_first : GoOn most limits epoch image (place + sectors_in journal_form (length batch)) (before + 1) (run limits s m).state ms to
+  after_first =
+      let taken : ℕ = sectors_in journal_form (length (batch_bytes m)) in
+      let left_of : ℕ = sectors_of journal_form (map batch_bytes ms) in
+      let ends_at : place + (taken + left_of) ≡ place + taken + left_of = omega arith in
+      let after : before + (length (map batch_bytes ms) + 1) ≡ before + 1 + length (map batch_bytes ms) = omega arith in
+      subst (λ (l : List ℕ). GoOn most limits epoch image (place + sectors_in journal_form (length l)) (before + 1) (run limits s m).state ms to)
+      first_is (record {
+        fill = left.fill.2;
+        ends = subst (λ (n : ℕ). EndsAt journal_form journal_range epoch n (before + 1 + length (map batch_bytes ms)) image) ends_at
+            (subst (λ (n : ℕ). EndsAt journal_form journal_range epoch (place + (taken + left_of)) n image) after left.ends);
+        each = All-tail (AreBatchOf most) m ms left.each;
+        named = AreFor-next limits s m (events_of ms) left.named;
+        state = left.state ∙ run-parts limits s m (events_of ms);
+      })
 
-module _ (most : ℕ) (few : most ≤ most_bytes) (limits : Limits) (from : State) (journal : Journal) (image : Image) (place : ℕ) (s : State) (batch : List ℕ)
-    (replayed : Replayed most limits from journal image place s)
-    (found : Found most journal image place batch) where
-  -- where a batch was found, something goes on
-  something : (to : State) → GoOn most limits journal image place s [] to → ⊥
-  something to left = omega (arith, left.filled, found.inside, found.is.field)
+-- where the journal goes on to its end, it ends at the place if nothing more is there
+ends-here : (most : ℕ) (limits : Limits) (epoch : ℕ) (image : Image) (place before : ℕ) (s to : State) → GoOn most limits epoch image place before s [] to
+    → EndsAt journal_form journal_range epoch place before image
+ends-here most limits epoch image place before s to left =
+    let no_sector : place + 0 ≡ place = omega arith in
+    let none : before + 0 ≡ before = omega arith in
+    subst (λ (n : ℕ). EndsAt journal_form journal_range epoch n before image) no_sector
+    (subst (λ (n : ℕ). EndsAt journal_form journal_range epoch (place + 0) n image) none left.ends)
 
-  -- batches that are good are not refused
-  pub replayed_refused : ((events : List PlainEvent) (to : State) → AreRecords limits s (drop 4 batch) events to → ⊥)
-      → (batches : List (List PlainEvent)) (to : State) → Replays most limits from journal image batches to → ⊥
-  replayed_refused refuses batches to good = let rest = replayed.ahead batches to good in first rest.0 rest.1
-    where
-      first : (more : List (List PlainEvent)) → GoOn most limits journal image place s more to → ⊥
-      first [] left = something to left
-      first (m ∷ ms) left = refuses m (run limits s m).state (first_records most limits journal image place s batch found m ms to left)
+module _ (most : ℕ) (few : most ≤ most_bytes) (limits : Limits) (from : State) (epoch : ℕ) (image : Image) (reader : Reader) (s : State)
+    (replayed : Replayed most limits from epoch image reader s) where
+  abbrev so_far : List (List PlainEvent)
+  so_far = replayed.so_far.0
 
-  -- nor does one stand there that can come
-  pub none_refused : ((events : List PlainEvent) (to : State) → AreRecords limits s (drop 4 batch) events to → ⊥)
-      → HasNoBatchOfAt most limits s (range_of journal) place (used_of journal) image
-  none_refused refuses events each named stands =
-      let at = (range_of journal).first + 1 + place in
-      let right = batch-right most few events each in
-      let same : batch_bytes events ≡ batch =
-      stands-same at (batch_bytes events) batch image
-      (sym (length-there at (batch_bytes events) image right stands) ∙ length-there at batch image found.is found.stands) stands found.stands in
-      absurd (refuses events (run limits s events).state
-      (record { each = each.each; spelled = ap (drop 4) (sym same) ∙ records_in events; named = named; state = refl }))
+  abbrev read : HasRead reader (map batch_bytes so_far) image
+  read = replayed.so_far.2
 
-  module _ (events : List PlainEvent) (t : State) (are : AreRecords limits s (drop 4 batch) events t)
-      (only : (es : List PlainEvent) (to : State) → AreRecords limits s (drop 4 batch) es to → t ≡ to) where
-    next_leads : LeadToBy most limits from (replayed.so_far.0 ++ events ∷ []) t
-    next_leads =
-        let batch_of : AreBatchOf most events = record {
-          each = are.each;
-          size = omega (arith, ap length are.spelled, length-drop 4 batch, found.is.field, found.short);
-        } in
-        subst (λ (u : State). LeadToBy most limits from (replayed.so_far.0 ++ events ∷ []) u) (sym are.state)
-        (LeadTo-more most limits from replayed.so_far.0 events s replayed.so_far.1 batch_of are.named)
+  form_is : form_read reader ≡ journal_form
+  form_is = replayed.of.form_is
 
-    next_filled : Fill (range_of journal) 0 (place + sectors_for (length batch)) (map batch_bytes (replayed.so_far.0 ++ events ∷ [])) image
-    next_filled =
-        let batches = replayed.so_far.0 in
-        let same : map batch_bytes batches ++ batch ∷ [] ≡ map batch_bytes (batches ++ events ∷ []) =
-        ap (λ (l : List ℕ). map batch_bytes batches ++ l ∷ []) (batch_is batch events found.is found.field are.spelled)
-        ∙ sym (map-append batch_bytes batches (events ∷ [])) in
-        subst (λ (bs : List (List ℕ)). Fill (range_of journal) 0 (place + sectors_for (length batch)) bs image) same
-        (Fill-push (range_of journal) 0 place (map batch_bytes batches) batch image replayed.so_far.2 found.is found.stands)
+  -- they take as many sectors as were passed, and are as many
+  place_is : place_of reader ≡ place_after so_far
+  place_is = read.used ∙ ap (λ (f : Form). sectors_of f (map batch_bytes so_far)) form_is
 
-    ahead_next : (more : List (List PlainEvent)) (to : State) → GoOn most limits journal image place s more to
-        → (rest : List (List PlainEvent)) × GoOn most limits journal image (place + sectors_for (length batch)) t rest to
-    ahead_next [] to left = absurd (something to left)
-    ahead_next (m ∷ ms) to left =
-        let same : t ≡ (run limits s m).state = only m (run limits s m).state (first_records most limits journal image place s batch found m ms to left) in (
-          ms,
-          subst (λ (u : State). GoOn most limits journal image (place + sectors_for (length batch)) u ms to) (sym same)
-              (after_first most limits journal image place s batch found m ms to left),
-        )
+  before_is : before_of reader ≡ length so_far
+  before_is = read.count ∙ length-map so_far batch_bytes
 
-    -- one batch more
-    pub replayed_more : Replayed most limits from journal image (place + sectors_for (length batch)) t
-    replayed_more = record {
-      so_far = (replayed.so_far.0 ++ events ∷ [], next_leads, next_filled);
-      ahead = λ all to good. let rest = replayed.ahead all to good in ahead_next rest.0 to rest.1;
-    }
+  there : HasBatchesThere epoch so_far image
+  there =
+      subst (λ (n : ℕ). Stand journal_form journal_range n (map batch_bytes so_far) image) replayed.of.epoch_is
+      (subst (λ (r : Range). Stand journal_form r (epoch_read reader) (map batch_bytes so_far) image) replayed.of.range_is
+      (subst (λ (f : Form). Stand f (range_read reader) (epoch_read reader) (map batch_bytes so_far) image) form_is read.stand))
 
-module _ (most : ℕ) (few : most ≤ most_bytes) (limits : Limits) (from : State) (journal : Journal) (image : Image) (place : ℕ) (s : State)
-    (replayed : Replayed most limits from journal image place s) where
-  -- where no more is used, the journal is gone through
-  pub replayed_all : place ≡ used_of journal → (batches : List (List PlainEvent)) × Replays most limits from journal image batches s
-  replayed_all end =
-      let batches = replayed.so_far.0 in (
-        batches,
-        record {
-          filled = subst (λ (n : ℕ). Fill (range_of journal) 0 n (map batch_bytes batches) image) end replayed.so_far.2;
-          leads = replayed.so_far.1;
-        },
-      )
-
-  -- a batch that does not fit is none
-  pub replayed_damaged : (size said : ℕ) → size ≡ most → said ≡ length_in (sector_at image ((range_of journal).first + 1 + place))
-      → place < used_of journal → (used_of journal < place + sectors_for (said + 4)) ⊎ (size < said + 4)
-      → (batches : List (List PlainEvent)) (to : State) → Replays most limits from journal image batches to → ⊥
-  replayed_damaged size said room there more_used bad batches to good = let rest = replayed.ahead batches to good in first rest.0 rest.1
-    where
-      first : (more : List (List PlainEvent)) → GoOn most limits journal image place s more to → ⊥
-      first [] left = omega (arith, left.filled, more_used)
-      first (m ∷ ms) left =
-          let long = length-there ((range_of journal).first + 1 + place) (batch_bytes m) image left.filled.0 left.filled.1 in
-          let after = Fill-end (range_of journal) (place + sectors_for (length (batch_bytes m))) (used_of journal) (map batch_bytes ms) image left.filled.2 in
-          let short = (All-head (AreBatchOf most) m ms left.each).size in
-          ⊎_elim (λ over. omega (arith, over, long, there, after)) (λ over. omega (arith, over, long, there, room, length_batch m, short)) bad
-
-  -- a batch that does not fit is none that can come
-  pub none_damaged : (size said : ℕ) → size ≡ most → said ≡ length_in (sector_at image ((range_of journal).first + 1 + place))
-      → (used_of journal < place + sectors_for (said + 4)) ⊎ (size < said + 4)
-      → HasNoBatchOfAt most limits s (range_of journal) place (used_of journal) image
-  none_damaged size said room there bad events batch named stands =
-      let long = length-there ((range_of journal).first + 1 + place) (batch_bytes events) image (batch-right most few events batch) stands in
-      ⊎_elim (λ over. omega (arith, over, long, there)) (λ over. absurd (omega (arith, over, long, there, room, length_batch events, batch.size))) bad
+  -- where the journal ends, all of it was read
+  pub replayed_all : EndsAt journal_form journal_range epoch (place_of reader) (before_of reader) image
+      → (batches : List (List PlainEvent)) × Replays most limits from epoch image batches s × HasRead reader (map batch_bytes batches) image
+  replayed_all end = (
+    so_far,
+    record {
+      holds = record {
+        stand = there;
+        ends = subst (λ (n : ℕ). EndsAt journal_form journal_range epoch n (length (map batch_bytes so_far)) image) place_is
+            (subst (λ (n : ℕ). EndsAt journal_form journal_range epoch (place_of reader) n image) read.count end);
+      };
+      leads = replayed.so_far.1;
+    },
+    read,
+  )
 
   -- what is before the place is good
-  pub replayed_good : (sector : ℕ) → sector ≡ (range_of journal).first + 1 + place → place < used_of journal
-      → HasNoBatchOfAt most limits s (range_of journal) place (used_of journal) image → IsGoodUpTo most limits from journal image sector
-  replayed_good sector is more_used none =
-      let batches = replayed.so_far.0 in
-      let end : place ≡ sectors_of (map batch_bytes batches) =
-      omega (arith, Fill-end (range_of journal) 0 place (map batch_bytes batches) image replayed.so_far.2) in
-      record {
-        batches = batches;
-        state = s;
-        leads = replayed.so_far.1;
-        filled = subst (λ (n : ℕ). Fill (range_of journal) 0 n (map batch_bytes batches) image) end replayed.so_far.2;
-        sector_is = is ∙ ap (λ (n : ℕ). (range_of journal).first + 1 + n) end;
-        used = subst (λ (n : ℕ). n < used_of journal) end more_used;
-        none = subst (λ (n : ℕ). HasNoBatchOfAt most limits s (range_of journal) n (used_of journal) image) end none;
+  good-before : (sector : ℕ) → sector ≡ sector_of journal_form journal_range (place_of reader)
+      → HasNoBatchAfter most limits s epoch so_far image ⊎ HasLaterAfter epoch so_far image → IsGoodUpTo most limits from epoch image sector
+  good-before sector is none = record {
+    batches = so_far;
+    state = s;
+    leads = replayed.so_far.1;
+    there = there;
+    sector_is = is ∙ ap (sector_of journal_form journal_range) place_is;
+    none = none;
+  }
+
+  -- where nothing goes on, the journal ends
+  here : (to : State) → GoOn most limits epoch image (place_of reader) (before_of reader) s [] to
+      → EndsAt journal_form journal_range epoch (place_of reader) (before_of reader) image
+  here to left = ends-here most limits epoch image (place_of reader) (before_of reader) s to left
+
+  -- what stands there is no batch, or of a later epoch
+  module _ (bad : HasLater journal_form journal_range epoch (place_of reader) image
+      ⊎ (HasMore journal_form journal_range epoch (place_of reader) (before_of reader) image
+      × HasNone journal_form journal_range epoch (place_of reader) (before_of reader) most image)) where
+    damaged-none : (batches : List (List PlainEvent)) (to : State) → Replays most limits from epoch image batches to → ⊥
+    damaged-none batches to good = let rest = replayed.ahead batches to good in first rest.0 rest.1 bad
+      where
+        first : (more : List (List PlainEvent)) → GoOn most limits epoch image (place_of reader) (before_of reader) s more to
+            → HasLater journal_form journal_range epoch (place_of reader) image
+            ⊎ (HasMore journal_form journal_range epoch (place_of reader) (before_of reader) image
+            × HasNone journal_form journal_range epoch (place_of reader) (before_of reader) most image) → ⊥
+        first [] left (inl later) =
+            EndsAt-later journal_form journal_range epoch (place_of reader) (before_of reader) image (here to left) later
+        first [] left (inr more) =
+            EndsAt-more journal_form journal_range epoch (place_of reader) (before_of reader) image (here to left) more.0
+        first (m ∷ ms) left (inl later) =
+            HasLater-at journal_form journal_range epoch (place_of reader) (before_of reader) (batch_bytes m) image left.fill.1 later
+        first (m ∷ ms) left (inr more) =
+            more.1 (batch_bytes m) (batch-short most m (All-head (AreBatchOf most) m ms left.each))
+            (IsNext-fill journal_form journal_range epoch (place_of reader) (before_of reader) (batch_bytes m) (map batch_bytes ms)
+            (before_of reader + length (map batch_bytes (m ∷ ms))) image left.fill left.ends)
+
+    damaged-after : HasNoBatchAfter most limits s epoch so_far image ⊎ HasLaterAfter epoch so_far image
+    damaged-after = ⊎_elim
+        (λ later. inr (subst (λ (n : ℕ). HasLater journal_form journal_range epoch n image) place_is later))
+        (λ more. inl (subst (λ (n : ℕ). NoneAt n (length so_far)) place_is (subst (NoneAt (place_of reader)) before_is (more.0, none more.1))))
+        bad
+      where
+        NoneAt : ℕ → ℕ → Type 0
+        NoneAt place before = HasMore journal_form journal_range epoch place before image
+            × ((events : List PlainEvent) → AreBatchOf most events → AreFor limits s events
+            → ¬ IsNext journal_form journal_range epoch place before (batch_bytes events) image)
+
+        none : HasNone journal_form journal_range epoch (place_of reader) (before_of reader) most image
+            → (events : List PlainEvent) → AreBatchOf most events → AreFor limits s events
+            → ¬ IsNext journal_form journal_range epoch (place_of reader) (before_of reader) (batch_bytes events) image
+        none refuses events each named next = refuses (batch_bytes events) (batch-short most events each) next
+
+    pub replayed_damaged : (sector : ℕ) → sector ≡ sector_of journal_form journal_range (place_of reader)
+        → IsBadAt most limits from epoch image sector
+    replayed_damaged sector is = record { none = damaged-none; first = good-before sector is damaged-after }
+
+  module _ (batch : List ℕ) (found : Found most epoch image (place_of reader) (before_of reader) batch) where
+    -- where a batch was found, something goes on
+    something : (to : State) → GoOn most limits epoch image (place_of reader) (before_of reader) s [] to → ⊥
+    something to left =
+        EndsAt-next journal_form journal_range epoch (place_of reader) (before_of reader) batch image (here to left) found.next
+
+    -- its records are those of no events that can come there
+    module _ (refuses : (events : List PlainEvent) (to : State) → AreRecords limits s (drop 4 batch) events to → ⊥) where
+      refused-none : (batches : List (List PlainEvent)) (to : State) → Replays most limits from epoch image batches to → ⊥
+      refused-none batches to good = let rest = replayed.ahead batches to good in first rest.0 rest.1
+        where
+          first : (more : List (List PlainEvent)) → GoOn most limits epoch image (place_of reader) (before_of reader) s more to → ⊥
+          first [] left = something to left
+          first (m ∷ ms) left =
+              refuses m (run limits s m).state
+              (first_records most limits epoch image (place_of reader) (before_of reader) s batch found m ms to left)
+
+      no-batch : (events : List PlainEvent) → AreBatchOf most events → AreFor limits s events
+          → ¬ IsNext journal_form journal_range epoch (place_of reader) (before_of reader) (batch_bytes events) image
+      no-batch events each named next =
+          let same : batch_bytes events ≡ batch =
+          IsAt-one journal_form journal_range epoch (place_of reader) (before_of reader) (batch_bytes events) batch image
+          (IsNext-is journal_form journal_range epoch (place_of reader) (before_of reader) (batch_bytes events) image next)
+          (IsNext-is journal_form journal_range epoch (place_of reader) (before_of reader) batch image found.next)
+          (IsNext-at journal_form journal_range epoch (place_of reader) (before_of reader) (batch_bytes events) image next)
+          (IsNext-at journal_form journal_range epoch (place_of reader) (before_of reader) batch image found.next) in
+          refuses events (run limits s events).state
+          (record { each = each.each; spelled = ap (drop 4) (sym same) ∙ records_in events; named = named; state = refl })
+
+      pub replayed_refused : (sector : ℕ) → sector ≡ sector_of journal_form journal_range (place_of reader)
+          → IsBadAt most limits from epoch image sector
+      replayed_refused sector is = record {
+        none = refused-none;
+        first = good-before sector is
+            (inl (subst (λ (n : ℕ). NoneAt n (length so_far)) place_is (subst (NoneAt (place_of reader)) before_is
+            (IsNext-more journal_form journal_range epoch (place_of reader) (before_of reader) batch image found.next, no-batch))));
+      }
+        where
+          NoneAt : ℕ → ℕ → Type 0
+          NoneAt place before = HasMore journal_form journal_range epoch place before image
+              × ((events : List PlainEvent) → AreBatchOf most events → AreFor limits s events
+              → ¬ IsNext journal_form journal_range epoch place before (batch_bytes events) image)
+
+    -- the machine goes through them
+    module _ (next : Reader) (is : IsReaderOf journal_form journal_range epoch next)
+        (read-next : HasRead next (map batch_bytes so_far ++ batch ∷ []) image)
+        (passes : place_of next ≡ place_of reader + sectors_in journal_form (length batch)) (count : before_of next ≡ before_of reader + 1)
+        (events : List PlainEvent) (t : State) (are : AreRecords limits s (drop 4 batch) events t)
+        (only : (es : List PlainEvent) (to : State) → AreRecords limits s (drop 4 batch) es to → t ≡ to) where
+      next_leads : LeadToBy most limits from (so_far ++ events ∷ []) t
+      next_leads =
+          let right = IsNext-is journal_form journal_range epoch (place_of reader) (before_of reader) batch image found.next in
+          let batch_of : AreBatchOf most events = record {
+            each = are.each;
+            size = omega (arith, ap length are.spelled, length-drop 4 batch, right.field, found.short);
+          } in
+          subst (λ (u : State). LeadToBy most limits from (so_far ++ events ∷ []) u) (sym are.state)
+          (LeadTo-more most limits from so_far events s replayed.so_far.1 batch_of are.named)
+
+      next_read : HasRead next (map batch_bytes (so_far ++ events ∷ [])) image
+      next_read =
+          let right = IsNext-is journal_form journal_range epoch (place_of reader) (before_of reader) batch image found.next in
+          let same : map batch_bytes so_far ++ batch ∷ [] ≡ map batch_bytes (so_far ++ events ∷ []) =
+          ap (λ (l : List ℕ). map batch_bytes so_far ++ l ∷ []) (batch_is batch events right found.field are.spelled)
+          ∙ sym (map-append batch_bytes so_far (events ∷ [])) in
+          subst (λ (bs : List (List ℕ)). HasRead next bs image) same read-next
+
+      ahead_next : (more : List (List PlainEvent)) (to : State) → GoOn most limits epoch image (place_of reader) (before_of reader) s more to
+          → (rest : List (List PlainEvent)) × GoOn most limits epoch image (place_of next) (before_of next) t rest to
+      ahead_next [] to left = absurd (something to left)
+      ahead_next (m ∷ ms) to left =
+          let same : t ≡ (run limits s m).state =
+          only m (run limits s m).state (first_records most limits epoch image (place_of reader) (before_of reader) s batch found m ms to left) in (
+            ms,
+            subst (λ (n : ℕ). GoOn most limits epoch image n (before_of next) t ms to) (sym passes)
+                (subst (λ (n : ℕ). GoOn most limits epoch image (place_of reader + sectors_in journal_form (length batch)) n t ms to) (sym count)
+                (subst (λ (u : State). GoOn most limits epoch image (place_of reader + sectors_in journal_form (length batch)) (before_of reader + 1) u ms to)
+                (sym same) (after_first most limits epoch image (place_of reader) (before_of reader) s batch found m ms to left))),
+          )
+
+      -- one batch more
+      pub replayed_more : Replayed most limits from epoch image next t
+      replayed_more = record {
+        of = is;
+        so_far = (so_far ++ events ∷ [], next_leads, next_read);
+        ahead = λ all to good. let rest = replayed.ahead all to good in ahead_next rest.0 to rest.1;
       }

@@ -19,7 +19,7 @@ use Rattle.ipc_image.specs.Format.{format_one}
 use Rattle.ipc_image.specs.Saved.{StandForState, StandForStateIn}
 use Rattle.ipc_image.specs.Superblock.{sectors_in}
 use Rattle.ipc_store.specs.Batch.{batch_bytes}
-use Rattle.ipc_store.specs.Image.{journal_range, layout_of, objects_range, named_sectors, HasBatches, IsDeviceIn, LeadToBy, StandsForIn}
+use Rattle.ipc_store.specs.Image.{journal_form, journal_range, layout_of, objects_range, named_sectors, HasBatches, IsDeviceIn, LeadToBy, StandsForIn}
 use Rattle.ipc_store.specs.Relations.Format.{IsPrepared}
 use Rattle.ipc_store.specs.Relations.Upgrade.{HasOld}
 use Rattle.ipc_store.proofs.Devices.{IsDeviceIn-same, journal-same}
@@ -87,5 +87,5 @@ old-prepared own limits epoch objects new batches s image old there stand = reco
   objects = new;
   there = there;
   stand = stand;
-  journal = Holds-turned journal_range epoch (epoch + 1) (map batch_bytes batches) image (omega arith) old.journal;
+  journal = Holds-turned journal_form journal_range epoch (epoch + 1) (map batch_bytes batches) image (omega arith) old.journal tt;
 }

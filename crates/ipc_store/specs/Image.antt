@@ -1,14 +1,17 @@
 -- What an image of a device stands for, by the form of the device. Its objects stand for a base, the state that the
 -- last save has kept, and the batches of its journal at the same epoch lead from there to the state of the image.
-use Rattle.std.specs.Prelude.{◌≡◌, ◌≢◌, ◌⊎◌, ◌<◌, ◌≤◌, ◌+◌, ◌-◌, ◌^◌}
+use Rattle.std.specs.Prelude.{◌≡◌, ◌≢◌, ◌⊎◌, ◌<◌, ◌≤◌, ◌-◌, ◌^◌}
 use Rattle.std.specs.Prelude.{ℕ, List, [], ◌∷◌, length, map, All}
 use Rattle.std.specs.List.{flat_map}
 use Rattle.ipc_base.specs.declared.limits.Limits.{Limits}
 use Rattle.ipc_base.specs.Objects.{PlainObjects}
 use Rattle.ipc_disk.specs.declared.range.Range.{Range}
 use Rattle.ipc_disk.specs.Medium.{Image}
-use Rattle.ipc_disk.specs.Standing.{sector_at, sectors_for, StandsAt}
-use Rattle.ipc_journal.specs.Journal.{sectors_of, header_epoch, header_used, Fill, Holds}
+use Rattle.ipc_disk.specs.Standing.{sector_at}
+use Rattle.ipc_journal.specs.declared.form.Form.{Form}
+use Rattle.ipc_journal.specs.declared.form.Form.TheVariants.{Headed}
+use Rattle.ipc_journal.specs.Journal.{sector_of, sectors_of, Holds, IsFull, Stand}
+use Rattle.ipc_journal.specs.Journal.{HasBadHeader, HasLater, HasMore, IsNext}
 use Rattle.ipc_checkpoint.specs.declared.layout.Layout.{Layout}
 use Rattle.ipc_checkpoint.specs.Checkpoint.{IsFirstDamage, epoch_in, Holds as HoldsObjects}
 use Rattle.ipc_state.specs.State.{State}
@@ -25,6 +28,10 @@ use Rattle.ipc_store.specs.Batch.{batch_bytes, AreBatchOf, most_bytes}
 -- the sectors of the journal
 abbrev pub journal_range : Range
 journal_range = record { first = journal_first; count = journal_count }
+
+-- its form: it has a header
+abbrev pub journal_form : Form
+journal_form = Headed
 
 -- the object area of a device of so many sectors, after the journal to the end
 abbrev pub objects_range : ℕ → Range
@@ -90,7 +97,7 @@ HasObjects = HasObjectsIn format
 
 -- at this epoch its journal has these batches
 abbrev pub HasBatches : ℕ → List (List PlainEvent) → Image → Type 0
-HasBatches epoch batches image = Holds journal_range epoch (map batch_bytes batches) image
+HasBatches epoch batches image = Holds journal_form journal_range epoch (map batch_bytes batches) image
 
 -- it is of a device with these limits, and at this epoch its objects stand for the base
 pub record HasBaseIn (form : Format) (limits : Limits) (epoch : ℕ) (base : State) (image : Image) : Type 0 where
@@ -159,24 +166,30 @@ pub record IsAtEnd (image : Image) : Type 0 where
   pub state : State
   pub stands : StandsFor limits state image
   pub epoch : epoch_at image ≡ last_epoch
-  pub current : header_epoch journal_range image ≡ last_epoch
-  pub used : header_used journal_range image + 1 ≡ journal_range.count
+  pub full : IsFull journal_form journal_range last_epoch image
 
--- the header of the journal is of a later epoch than this, or is of this one and counts sectors past the end
-abbrev pub HasNoHeader : ℕ → Image → Type 0
-HasNoHeader epoch image = (epoch < header_epoch journal_range image)
-    ⊎ ((header_epoch journal_range image ≡ epoch) × (journal_range.count ≤ header_used journal_range image))
+-- these batches stand in the journal from its first sector on
+abbrev pub HasBatchesThere : ℕ → List (List PlainEvent) → Image → Type 0
+HasBatchesThere epoch batches image = Stand journal_form journal_range epoch (map batch_bytes batches) image
 
--- no batch of events that can come, of at most so many bytes, stands at this place, within the sectors that are used
-abbrev pub HasNoBatchOfAt : ℕ → Limits → State → Range → ℕ → ℕ → Image → Type 0
-HasNoBatchOfAt most limits s range place used image =
-    (events : List PlainEvent) → AreBatchOf most events → AreFor limits s events
-    → StandsAt (range.first + 1 + place) (batch_bytes events) image
-    → used < place + sectors_for (length (batch_bytes events))
+-- how many sectors they take
+abbrev pub place_after : List (List PlainEvent) → ℕ
+place_after batches = sectors_of journal_form (map batch_bytes batches)
+
+-- the journal has one batch more after these, but none of events that can come there, of at most so many bytes
+abbrev pub HasNoBatchAfter : ℕ → Limits → State → ℕ → List (List PlainEvent) → Image → Type 0
+HasNoBatchAfter most limits s epoch batches image =
+    HasMore journal_form journal_range epoch (place_after batches) (length batches) image
+    × ((events : List PlainEvent) → AreBatchOf most events → AreFor limits s events
+    → ¬ IsNext journal_form journal_range epoch (place_after batches) (length batches) (batch_bytes events) image)
+
+-- or a sector of a later epoch stands after them
+abbrev pub HasLaterAfter : ℕ → List (List PlainEvent) → Image → Type 0
+HasLaterAfter epoch batches image = HasLater journal_form journal_range epoch (place_after batches) image
 
 -- Where a damage is first seen: in sector 0, which is no superblock of this device; in the root or the sectors of the
 -- objects, which are none; in the root, whose objects stand for no state; in the header of the journal; or after
--- good batches, where more is used but no batch of events that can come there stands within it.
+-- good batches, where one more is none of events that can come there, or a sector is of a later epoch.
 pub data IsFirstFaultIn (form : Format) (image : Image) : ℕ → Type 0 where
   Superblock : ((limits : Limits) → ¬ IsDeviceIn form limits image) → IsFirstFaultIn form image 0
   Objects : (limits : Limits) (sector : ℕ) → IsDeviceIn form limits image
@@ -186,14 +199,12 @@ pub data IsFirstFaultIn (form : Format) (image : Image) : ℕ → Type 0 where
       → HasObjectsIn form limits epoch objects image → ((s : State) → ¬ StandForStateIn form limits s objects)
       → IsFirstFaultIn form image form.root
   Header : (limits : Limits) (epoch : ℕ) (base : State) → HasBaseIn form limits epoch base image
-      → HasNoHeader epoch image → IsFirstFaultIn form image journal_first
+      → HasBadHeader journal_form journal_range epoch image → IsFirstFaultIn form image journal_first
   AtBatch : (limits : Limits) (epoch : ℕ) (base : State) (batches : List (List PlainEvent)) (s : State)
       → HasBaseIn form limits epoch base image → LeadToBy form.batch limits base batches s
-      → Fill journal_range 0 (sectors_of (map batch_bytes batches)) (map batch_bytes batches) image
-      → sectors_of (map batch_bytes batches) < header_used journal_range image
-      → HasNoBatchOfAt form.batch limits s journal_range (sectors_of (map batch_bytes batches))
-      (header_used journal_range image) image
-      → IsFirstFaultIn form image (journal_first + 1 + sectors_of (map batch_bytes batches))
+      → HasBatchesThere epoch batches image
+      → HasNoBatchAfter form.batch limits s epoch batches image ⊎ HasLaterAfter epoch batches image
+      → IsFirstFaultIn form image (sector_of journal_form journal_range (place_after batches))
 
 abbrev pub IsFirstFault : Image → ℕ → Type 0
 IsFirstFault = IsFirstFaultIn format

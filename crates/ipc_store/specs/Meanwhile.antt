@@ -12,7 +12,7 @@ use Rattle.ipc_state.specs.State.{State}
 use Rattle.ipc_engine.specs.Event.{PlainEvent}
 use Rattle.ipc_image.specs.Format.{format}
 use Rattle.ipc_store.specs.Batch.{batch_bytes}
-use Rattle.ipc_store.specs.Image.{epoch_at, journal_range, named_sectors, objects_range}
+use Rattle.ipc_store.specs.Image.{epoch_at, journal_form, journal_range, named_sectors, objects_range}
 use Rattle.ipc_store.specs.Relations.Matches.{StoreMatches}
 use Rattle.ipc_store.specs.View.{StoreView}
 
@@ -26,7 +26,7 @@ IsNeeded image sector =
 -- the earlier one, and may have more after them.
 pub record IsOfSameSave (earlier later : Image) : Type 0 where
   pub needed : SameAt (IsNeeded earlier) earlier later
-  pub journal : KeepsBatches journal_range (epoch_at earlier) earlier later
+  pub journal : KeepsBatches journal_form journal_range (epoch_at earlier) earlier later
 
 -- so it is, or it is of a later save, whose root has a later epoch
 abbrev pub GoesOn : Image → Image → Type 0

@@ -10,9 +10,8 @@ ghost use Rattle.ipc_checkpoint.specs.View.{free_of, saved_root, HasSpare};
 ghost use Rattle.ipc_disk.specs.Calls.{OnlyReads};
 ghost use Rattle.ipc_disk.specs.Medium.{IsHonest, IsDurable};
 ghost use Rattle.ipc_disk.specs.Range.{IsWithin};
-ghost use Rattle.ipc_journal.specs.Journal.{header_epoch, header_used};
 ghost use Rattle.ipc_journal.specs.Matches.{JournalMatches};
-ghost use Rattle.ipc_journal.specs.View.{range_of, epoch_of, used_of};
+ghost use Rattle.ipc_journal.specs.View.{form_of, range_of, epoch_of};
 ghost use Rattle.ipc_state.specs.State.{State};
 ghost use Rattle.ipc_image.specs.Format.{format, objects_first, IsFormat};
 ghost use Rattle.ipc_image.specs.Saved.{StandForStateIn};
@@ -22,7 +21,8 @@ ghost use Rattle.ipc_image.specs.declared.format.Format.{Format as AnyForm};
 ghost use Rattle.ipc_engine.specs.Changes.{IsTracked};
 ghost use Rattle.ipc_engine.specs.Event.{PlainEvent};
 ghost use Rattle.ipc_store.specs.Batch.{most_bytes, batch_bytes};
-ghost use Rattle.ipc_store.specs.Image.{journal_range, layout_in, named_sectors, IsDeviceIn, HasBaseIn, LeadToBy};
+ghost use Rattle.ipc_store.specs.Image.{journal_form, journal_range, layout_in, named_sectors};
+ghost use Rattle.ipc_store.specs.Image.{IsDeviceIn, HasBaseIn, LeadToBy};
 ghost use Rattle.ipc_store.specs.Image.{HasBatches, StandsFor};
 ghost use Rattle.ipc_store.specs.Refusals.{IsRefusal};
 ghost use Rattle.ipc_store.specs.Relations.Loading.{HasNoBase, IsDamage, IsFoundDamaged, IsObjectDamage};
@@ -30,7 +30,7 @@ ghost use Rattle.ipc_store.specs.Relations.Loading.{IsSuperblockRefusal, OnlySyn
 ghost use Rattle.ipc_store.specs.Relations.Matches.{AreOnDisk, MachineMatches};
 
 use crate::fault::OpenError;
-use crate::places::{JOURNAL_RANGE, layout_in};
+use crate::places::{JOURNAL_FORM, JOURNAL_RANGE, layout_in};
 use crate::replay::replay;
 use ipc_base::Limits;
 use ipc_checkpoint::{Checkpoint, Layout};
@@ -39,7 +39,7 @@ use ipc_engine::{Engine, StateFault};
 use ipc_image::{
     FORMAT, Format, SUPERBLOCK, Superblock, SuperblockFault, engine_of, read_superblock,
 };
-use ipc_journal::Journal;
+use ipc_journal::{Journal, Reader};
 use std::alloc::Global;
 
 /// The fewest sectors that a superblock can be read of.
@@ -162,6 +162,7 @@ pub(crate) fn load_journal<D: SectorDisk>(
 ) -> Result<Journal, OpenError>
     requires within { IsWithin journal_range (D.size disk.old) }
     requires room { length room.old ≤ most_bytes }
+    ensures form { IfOk result (λ journal. form_of journal ≡ journal_form) }
     ensures range { IfOk result (λ journal. range_of journal ≡ journal_range) }
     ensures epoch { IfOk result (λ journal. epoch_of journal ≡ saved_epoch checkpoint.now) }
     ensures limits { engine.new.limits ≡ engine.old.limits }
@@ -173,10 +174,6 @@ pub(crate) fn load_journal<D: SectorDisk>(
     ensures stands { IfOk result (λ journal. IsHonest (D.medium disk.old) → (batches : List (List PlainEvent))
         × HasBatches (saved_epoch checkpoint.now) batches (D.medium disk.old).contents
         × LeadToBy (length room.old) engine.old.limits engine.old.state batches engine.new.state) }
-    ensures used { IfOk result (λ journal. IsHonest (D.medium disk.old) → 0 < used_of journal
-        → used_of journal ≡ header_used journal_range (D.medium disk.old).contents) }
-    ensures current { IfOk result (λ journal. IsHonest (D.medium disk.old) → 0 < used_of journal
-        → header_epoch journal_range (D.medium disk.old).contents ≡ epoch_of journal) }
     ensures room { length room.new ≡ length room.old }
     // Refusals.
     ensures refused { IfErr result (IsDamage (λ sector. (form : AnyForm) → IsFormat form
@@ -186,9 +183,9 @@ pub(crate) fn load_journal<D: SectorDisk>(
     // It only reads.
     ensures reads { OnlyReads D.size D.medium D.counts (IsErrOf result OpenError.Device) disk.old disk.new }
 {
-    let journal = Journal::open(disk, JOURNAL_RANGE, checkpoint.epoch())?;
-    replay(disk, &journal, engine, room)?;
-    Ok(journal)
+    let mut reader = Reader::open(disk, JOURNAL_FORM, JOURNAL_RANGE, checkpoint.epoch())?;
+    replay(disk, &mut reader, engine, room)?;
+    Ok(reader.into_journal())
 }
 
 /// Reads what stands on a device: its objects, its journal, and the machine after the events of the journal. Each batch
@@ -205,10 +202,6 @@ pub(crate) fn read_all<D: SectorDisk>(
         → StandsFor found.2.limits found.2.state (D.medium disk.old).contents) }
     ensures matches { IfOk result (λ found. IsHonest (D.medium disk.old) → IsDurable (D.medium disk.old)
         → MachineMatches (D.medium disk.new) found.2 found.0 found.1) }
-    ensures used { IfOk result (λ found. IsHonest (D.medium disk.old) → 0 < used_of found.1
-        → used_of found.1 ≡ header_used journal_range (D.medium disk.old).contents) }
-    ensures current { IfOk result (λ found. IsHonest (D.medium disk.old) → 0 < used_of found.1
-        → header_epoch journal_range (D.medium disk.old).contents ≡ epoch_of found.1) }
     ensures room { length room.new ≡ most_bytes }
     // Refusals.
     ensures refused { IfErr result (λ error. IsHonest (D.medium disk.old)
@@ -233,10 +226,6 @@ pub(crate) fn load<D: SectorDisk>(
     ensures spare { IfOk result (λ found. HasSpare found.0) }
     ensures matches { IfOk result (λ found. IsHonest (D.medium disk.old)
         → MachineMatches (D.medium disk.new) found.2 found.0 found.1) }
-    ensures used { IfOk result (λ found. IsHonest (D.medium disk.old) → 0 < used_of found.1
-        → used_of found.1 ≡ header_used journal_range (D.medium disk.old).contents) }
-    ensures current { IfOk result (λ found. IsHonest (D.medium disk.old) → 0 < used_of found.1
-        → header_epoch journal_range (D.medium disk.old).contents ≡ epoch_of found.1) }
     ensures room { length room.new ≡ most_bytes }
     // Refusals.
     ensures refused { IfErr result (λ error. IsHonest (D.medium disk.old)

@@ -9,12 +9,11 @@ ghost use Rattle.ipc_checkpoint.specs.View.{HasSpare};
 ghost use Rattle.ipc_disk.specs.Calls.{CountsFaultIf};
 ghost use Rattle.ipc_disk.specs.Medium.{IsHonest};
 ghost use Rattle.ipc_disk.specs.Since.{EachImageSince};
-ghost use Rattle.ipc_journal.specs.Journal.{header_epoch, header_used};
-ghost use Rattle.ipc_journal.specs.View.{range_of, epoch_of, used_of};
+ghost use Rattle.ipc_journal.specs.Journal.{head};
+ghost use Rattle.ipc_journal.specs.View.{form_of, range_of, used_of};
 ghost use Rattle.ipc_state.specs.State.{State, restart};
 ghost use Rattle.ipc_image.specs.Format.{format};
 ghost use Rattle.ipc_store.specs.Image.{
-  journal_range,
   StandsFor,
   HasNoState,
   IsAtEnd,
@@ -119,7 +118,7 @@ impl<D: SectorDisk> Store<D> {
         ensures faults { OnErr result ((result ≡ Err OpenError.Device)
             ⊎ (result ≡ Err (OpenError.Damaged format.root))) }
         ensures at_end { result ≡ Err (OpenError.Damaged format.root) → IsAtLastEpoch self.old
-            × (used_of self.old.journal + 1 ≡ (range_of self.old.journal).count) }
+            × (head (form_of self.old.journal) + used_of self.old.journal ≡ (range_of self.old.journal).count) }
         ensures unwritten { (result ≡ Err OpenError.Device) ⊎ OnErr result (self.new.disk ≡ self.old.disk) }
         ensures size { D.size self.new.disk ≡ D.size self.old.disk }
         ensures counts { CountsFaultIf D.counts (result ≡ Err OpenError.Device) self.old.disk self.new.disk }
@@ -146,10 +145,6 @@ fn read_device<D: SectorDisk>(
     ensures spare { IfOk result (λ found. HasSpare found.0) }
     ensures matches { IfOk result (λ found. IsHonest (D.medium disk.old)
         → MachineMatches (D.medium disk.new) found.2 found.0 found.1) }
-    ensures used { IfOk result (λ found. IsHonest (D.medium disk.old) → 0 < used_of found.1
-        → used_of found.1 ≡ header_used journal_range (D.medium disk.old).contents) }
-    ensures current { IfOk result (λ found. IsHonest (D.medium disk.old) → 0 < used_of found.1
-        → header_epoch journal_range (D.medium disk.old).contents ≡ epoch_of found.1) }
     ensures batch { IfOk result (λ found. found.3 ≡ record { records = []; count = 0 }) }
     ensures refused { IfErr result (λ error. IsHonest (D.medium disk.old)
         → IsRefusal format (D.medium disk.old).contents error) }

@@ -9,6 +9,10 @@ use ipc_base::Limits;
 use ipc_checkpoint::Layout;
 use ipc_disk::Range;
 use ipc_image::{Format, JOURNAL, JOURNAL_COUNT, OBJECTS, area};
+use ipc_journal::Form;
+
+/// The form of the journal.
+pub(crate) const JOURNAL_FORM: Form = Form::Headed;
 
 /// The sectors of the journal.
 pub(crate) const JOURNAL_RANGE: Range = Range {

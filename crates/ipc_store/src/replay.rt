@@ -1,15 +1,16 @@
 //! The replay of a journal: a machine goes through the events of its batches.
 
-ghost use Rattle.std.specs.Prelude.{◌≡◌, ◌≤◌, true, List, length, OnOk};
+ghost use Rattle.std.specs.Prelude.{◌≡◌, ◌≤◌, true, ℕ, [], List, length, map, OnOk};
 ghost use Rattle.std.specs.Prelude.{IfOk, IfErr, IsErrOf};
 ghost use Rattle.ipc_disk.specs.Calls.{OnlyReads};
 ghost use Rattle.ipc_disk.specs.Medium.{IsHonest};
 ghost use Rattle.ipc_disk.specs.Range.{IsWithin};
-ghost use Rattle.ipc_journal.specs.View.{range_of};
+ghost use Rattle.ipc_journal.specs.Reader.{place_of, range_read, HasRead, IsReaderOf};
 ghost use Rattle.ipc_state.specs.State.{State};
 ghost use Rattle.ipc_engine.specs.Changes.{IsTracked};
 ghost use Rattle.ipc_engine.specs.Event.{PlainEvent};
-ghost use Rattle.ipc_store.specs.Batch.{most_bytes};
+ghost use Rattle.ipc_store.specs.Batch.{batch_bytes, most_bytes};
+ghost use Rattle.ipc_store.specs.Image.{journal_form, journal_range};
 ghost use Rattle.ipc_store.specs.Relations.Loading.{IsDamage};
 ghost use Rattle.ipc_store.specs.Relations.Replay.{Replays, IsBadAt, AreRecords};
 
@@ -17,38 +18,41 @@ use crate::fault::OpenError;
 use ipc_disk::SectorDisk;
 use ipc_engine::Engine;
 use ipc_image::read_event;
-use ipc_journal::{Journal, Place};
+use ipc_journal::Reader;
 use std::alloc::AllocError;
 
 /// Leads a machine through the events of a journal. Each of its batches is read into `room`, and has at most so many
 /// bytes.
 pub(crate) fn replay<D: SectorDisk>(
     disk: &mut D,
-    journal: &Journal,
+    reader: &mut Reader,
     engine: &mut Engine,
     room: &mut [u8],
 ) -> Result<(), OpenError>
-    requires within { IsWithin (range_of journal.now) (D.size disk.old) }
+    requires within { IsWithin (range_read reader.old) (D.size disk.old) }
     requires room { length room.old ≤ most_bytes }
+    ensures of { (epoch : ℕ) → IsReaderOf journal_form journal_range epoch reader.old
+        → IsReaderOf journal_form journal_range epoch reader.new }
     // The batches lead to the state of the machine.
     ensures limits { engine.new.limits ≡ engine.old.limits }
     ensures tracked { (base : State) → IsTracked engine.old.changed base engine.old.state
         → IsTracked engine.new.changed base engine.new.state }
-    ensures replays { OnOk result (IsHonest (D.medium disk.old) → (batches : List (List PlainEvent))
-        × Replays (length room.old) engine.old.limits engine.old.state journal.now (D.medium disk.old).contents
-        batches engine.new.state) }
+    ensures replays { OnOk result (IsHonest (D.medium disk.old) → (epoch : ℕ)
+        → IsReaderOf journal_form journal_range epoch reader.old → HasRead reader.old [] (D.medium disk.old).contents
+        → (batches : List (List PlainEvent))
+        × Replays (length room.old) engine.old.limits engine.old.state epoch (D.medium disk.old).contents
+        batches engine.new.state × HasRead reader.new (map batch_bytes batches) (D.medium disk.old).contents) }
     // Some bytes are no such batches; the fault is in the first batch that goes wrong.
-    ensures refused { IfErr result (IsDamage (λ sector. IsHonest (D.medium disk.old)
-        → IsBadAt (length room.old) engine.old.limits engine.old.state journal.now
-        (D.medium disk.old).contents sector)) }
+    ensures refused { IfErr result (IsDamage (λ sector. IsHonest (D.medium disk.old) → (epoch : ℕ)
+        → IsReaderOf journal_form journal_range epoch reader.old → HasRead reader.old [] (D.medium disk.old).contents
+        → IsBadAt (length room.old) engine.old.limits engine.old.state epoch (D.medium disk.old).contents sector)) }
     // It only reads.
     ensures reads { OnlyReads D.size D.medium D.counts (IsErrOf result OpenError.Device) disk.old disk.new }
     ensures room { length room.new ≡ length room.old }
 {
-    let mut place = Place { sector: 0 };
     loop {
-        let sector = journal.range().first + 1 + place.sector;
-        let Some(len) = journal.next_batch(disk, &mut place, room)? else {
+        let sector = reader.sector();
+        let Some(len) = reader.next_batch(disk, room)? else {
             return Ok(());
         };
         if !go_through(engine, &room[4..len])? {

@@ -9,7 +9,7 @@ use Rattle.ipc_disk.specs.Medium.{Image, Medium, IsHonest}
 use Rattle.ipc_disk.specs.Range.{IsWithin}
 use Rattle.ipc_journal.specs.declared.journal.Journal.{Journal}
 use Rattle.ipc_journal.specs.Matches.{JournalMatches}
-use Rattle.ipc_journal.specs.View.{range_of, epoch_of}
+use Rattle.ipc_journal.specs.View.{form_of, range_of, epoch_of}
 use Rattle.ipc_state.specs.State.{State, restart}
 use Rattle.ipc_engine.specs.Changes.{IsTracked}
 use Rattle.ipc_engine.specs.Engine.{Machine}
@@ -19,7 +19,8 @@ use Rattle.ipc_image.specs.Records.{HasRecord}
 use Rattle.ipc_image.specs.Saved.{StandForState}
 use Rattle.ipc_image.specs.Sizes.{area_of}
 use Rattle.ipc_store.specs.Batch.{records_of, batch_bytes}
-use Rattle.ipc_store.specs.Image.{journal_range, layout_of, named_sectors, AreFor, LeadTo, IsDevice, StandsFor}
+use Rattle.ipc_store.specs.Image.{journal_form, journal_range, layout_of, named_sectors}
+use Rattle.ipc_store.specs.Image.{AreFor, IsDevice, LeadTo, StandsFor}
 use Rattle.ipc_store.specs.View.{StoreView}
 
 -- the objects and the journal lie on a disk of so many sectors, with room for a state under these limits, and are of
@@ -27,6 +28,7 @@ use Rattle.ipc_store.specs.View.{StoreView}
 pub record AreOnDisk (size : ℕ) (limits : Limits) (checkpoint : CheckpointView) (journal : Journal) : Type 0 where
   pub objects : IsLaidOut (saved_layout checkpoint) size
   pub room : (saved_layout checkpoint).area ≡ area_of limits
+  pub form : form_of journal ≡ journal_form
   pub within : IsWithin (range_of journal) size
   pub epoch : epoch_of journal ≡ saved_epoch checkpoint
 
@@ -35,6 +37,7 @@ pub record AreOnDisk (size : ℕ) (limits : Limits) (checkpoint : CheckpointView
 pub record DeviceMatches (medium : Medium) (limits : Limits) (checkpoint : CheckpointView) (journal : Journal)
     (base : State) : Type 0 where
   pub honest : IsHonest medium
+  pub form : form_of journal ≡ journal_form
   pub range : range_of journal ≡ journal_range
   pub epoch : epoch_of journal ≡ saved_epoch checkpoint
   pub device : (image : Image) → medium.images_now image

@@ -5,6 +5,8 @@ use Rattle.std.proofs.KnownBytes.{Appends-nil}
 use Rattle.std.proofs.lemmas.Bool.Decides.{nat_tests}
 use Rattle.ipc_script.specs.declared.fault.ScriptFault.{ScriptFault}
 use Rattle.ipc_script.specs.declared.fault.ScriptFault.TheVariants.{BadLine}
+use Rattle.ipc_script.specs.declared.line.Line.{Line as LineForm}
+use Rattle.ipc_script.specs.declared.line.Line.TheVariants as lines
 use Rattle.ipc_script.specs.Line.{PlainLine, Stop, line_of, lines_of}
 use Rattle.ipc_script.specs.Relations.Lines.{plain_line}
 use Rattle.ipc_script.specs.Script.{Cut, Progress, WritesPart, line_done, text_done}
@@ -22,6 +24,15 @@ use Rattle.ipc_script.proofs.WrittenText.{part_none, grown_none}
 use Rattle.ipc_script.proofs.LineLengths.{cost-fits}
 use Rattle.ipc_script.proofs.NumbersSpent.{young-has, spends-none, spends-both, left-beyond, failed-beyond}
 use Rattle.ipc_script.proofs.script.run_lines.Goals as goal
+
+-- only a stop stands for one
+only-stop : (line : LineForm) → (line ≡ lines.Stop → ⊥) → plain_line line ≡ Stop → ⊥
+only-stop (lines.Open conn) not is = cc
+only-stop (lines.Data moment conn hex) not is = cc
+only-stop (lines.End moment conn) not is = cc
+only-stop (lines.Tick moment) not is = cc
+only-stop lines.Save not is = cc
+only-stop lines.Stop not is = not refl
 
 pub lines-init : goal.lines-init
 lines-init g c = record {
@@ -311,3 +322,7 @@ returns-clause-leaves g c = λ limits h matches none may.
             λ young. (c.lines.invariant.spends (young-has c.args.hub.store c.args.script.now young c.requires) may).running,
           );
     }
+
+-- a line that is no stop stands for none
+pub run_line-requires : goal.run_line-requires
+run_line-requires g c = only-stop c.in-Some.line c.in_default-line.not-Stop

@@ -1,11 +1,8 @@
 -- What is read is what stood there before the sync.
-use Rattle.std.proofs.Common.{◌≡◌, subst}
+use Rattle.std.proofs.Common.{subst}
 use Rattle.std.proofs.lemmas.Result.{IfErr-weaker, IfOk-weaker}
 use Rattle.ipc_disk.specs.Medium.{Image}
-use Rattle.ipc_journal.specs.Journal.{header_epoch, header_used}
-use Rattle.ipc_journal.specs.View.{epoch_of, used_of}
 use Rattle.ipc_image.specs.Format.{format}
-use Rattle.ipc_store.specs.Image.{journal_range}
 use Rattle.ipc_store.specs.Refusals.{IsRefusal}
 use Rattle.ipc_store.proofs.Loaded.{OnlySyncs-call, OnlySyncs-then}
 use Rattle.ipc_store.proofs.loading.load.Goals as goal
@@ -14,22 +11,6 @@ pub returns-clause-matches : goal.returns-clause-matches
 returns-clause-matches g c =
     IfOk-weaker c.read_all.result _ _
     (λ found matches honest. matches (c.sync.ensures.medium.time.honest.0 honest) c.in_ok-sync.ensures.durable) c.read_all.ensures.matches
-
-pub returns-clause-used : goal.returns-clause-used
-returns-clause-used g c =
-    IfOk-weaker c.read_all.result _ _
-    (λ found used honest some.
-    subst (λ (i : Image). used_of found.1 ≡ header_used journal_range i) (c.sync.ensures.medium.contents honest)
-    (used (c.sync.ensures.medium.time.honest.0 honest) some))
-    c.read_all.ensures.used
-
-pub returns-clause-current : goal.returns-clause-current
-returns-clause-current g c =
-    IfOk-weaker c.read_all.result _ _
-    (λ found current honest some.
-    subst (λ (i : Image). header_epoch journal_range i ≡ epoch_of found.1) (c.sync.ensures.medium.contents honest)
-    (current (c.sync.ensures.medium.time.honest.0 honest) some))
-    c.read_all.ensures.current
 
 pub returns-clause-refused : goal.returns-clause-refused
 returns-clause-refused g c =

@@ -9,7 +9,6 @@ use Rattle.ipc_checkpoint.proofs.CallerLemmas.{Holds-one}
 use Rattle.ipc_disk.specs.Medium.{Image}
 use Rattle.ipc_image.specs.Saved.{StandForStateIn}
 use Rattle.ipc_store.specs.Image.{layout_in, named_sectors, IsFirstFaultIn}
-use Rattle.ipc_store.specs.Relations.Loading.{HasNoBase}
 use Rattle.ipc_store.proofs.Formatting.{laid-out}
 use Rattle.ipc_store.proofs.Refusals.{damage-map}
 use Rattle.ipc_store.proofs.loading.load_base.Goals as goal

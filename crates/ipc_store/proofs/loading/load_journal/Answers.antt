@@ -1,50 +1,58 @@
--- Each exit: the journal that was opened, and what its batches lead to.
-use Rattle.std.proofs.Common.{ℕ, ◌<◌, ◌^◌, Err, length, refl, sym, ap, subst, ◌∙◌, arith}
+-- Each exit: the journal that was read, and what its batches lead to.
+use Rattle.std.proofs.Common.{[], ℕ, List, ◌<◌, ◌^◌, Err, length, sym, ap, subst, ◌∙◌, arith}
 use Rattle.std.specs.Prelude.{map}
-use Rattle.ipc_disk.specs.Medium.{Image, Medium, IsHonest}
+use Rattle.ipc_disk.specs.Medium.{Image, IsHonest}
 use Rattle.ipc_checkpoint.specs.View.{epoch_of as saved_epoch}
-use Rattle.ipc_journal.specs.View.{used_of}
 use Rattle.ipc_disk.proofs.CallerLemmas.{OnlyReads-as}
-use Rattle.ipc_journal.proofs.CallerLemmas.{JournalMatches-stays}
+use Rattle.ipc_journal.specs.declared.form.Form.{Form}
+use Rattle.ipc_journal.specs.Journal.{HasBadHeader, sectors_of}
+use Rattle.ipc_journal.specs.Reader.{HasRead, IsReaderOf}
+use Rattle.ipc_journal.proofs.CallerLemmas.{JournalMatches-headed}
+use Rattle.ipc_engine.specs.Event.{PlainEvent}
 use Rattle.ipc_store.specs.Batch.{batch_bytes}
-use Rattle.ipc_store.specs.Image.{HasBatches, HasNoHeader}
+use Rattle.ipc_store.specs.Image.{journal_form, journal_range, HasBatches}
 use Rattle.ipc_store.specs.View.{of_journal_error}
-use Rattle.ipc_store.specs.Relations.Replay.{IsOpened, Replays, IsGoodUpTo}
+use Rattle.ipc_store.specs.Relations.Replay.{IsBadAt, Replays}
+use Rattle.ipc_store.proofs.Devices.{of-batches}
 use Rattle.ipc_store.proofs.Faults.{journal-device, opened-damage}
-use Rattle.ipc_store.proofs.Opened.{header-damaged, is_opened, batch-damaged, batches-hold, current-is}
+use Rattle.ipc_store.proofs.Loaded.{chain}
+use Rattle.ipc_store.proofs.Opened.{header-damaged, batch-damaged}
 use Rattle.ipc_store.proofs.Refusals.{damage-map, passed}
 use Rattle.ipc_store.proofs.loading.load_journal.Given.{Over}
 use Rattle.ipc_store.proofs.loading.load_journal.Goals as goal
-use Rattle.ipc_store.proofs.loading.load_journal.Goals.{In_ok-journal}
-
--- the journal of the image
-opened_on : (g : Over) (c : In_ok-journal g) → IsHonest (g.D.SectorDisk.medium c.args.disk.now)
-    → IsOpened c.in_ok-journal.journal (g.D.SectorDisk.medium c.args.disk.now).contents
-opened_on g c honest =
-    is_opened c.in_ok-journal.journal c.epoch.result _ _ refl c.in_ok-journal.ensures.range c.in_ok-journal.ensures.epoch
-    (c.in_ok-journal.ensures.older honest) (c.in_ok-journal.ensures.current honest) (c.in_ok-journal.ensures.not_newer honest)
+use Rattle.ipc_store.proofs.loading.load_journal.Goals.{In_ok-reader, In_ok-replay}
 
 -- the image has no more sectors than can be counted
-fits : (g : Over) (c : In_ok-journal g) → IsHonest (g.D.SectorDisk.medium c.args.disk.now)
+fits : (g : Over) (c : In_ok-reader g) → IsHonest (g.D.SectorDisk.medium c.args.disk.now)
     → length (g.D.SectorDisk.medium c.args.disk.now).contents < 2 ^ 32
 fits g c honest =
     omega (arith, (g.met.D.SectorDisk.shaped c.args.disk.now _ honest.reads).count, g.met.D.SectorDisk.fits c.args.disk.now)
 
-pub returns-in_err-journal-clause-refused : goal.returns-in_err-journal-clause-refused
-returns-in_err-journal-clause-refused g c =
-    passed _ c.from_residual.result (of_journal_error c.in_err-journal.field-0.0) c.from_residual.ensures.1
-    (opened-damage c.in_err-journal.field-0.0 _
+-- the reader is of the journal at the epoch of the objects
+reader_of : (g : Over) (c : In_ok-reader g) → IsReaderOf journal_form journal_range (saved_epoch c.args.checkpoint.now) c.in_ok-reader.reader
+reader_of g c = subst (λ (n : ℕ). IsReaderOf journal_form journal_range n c.in_ok-reader.reader) c.epoch.ensures c.in_ok-reader.ensures.of
+
+-- it has read nothing yet
+begins : (g : Over) (c : In_ok-reader g) → IsHonest (g.D.SectorDisk.medium c.args.disk.now)
+    → HasRead c.in_ok-reader.reader [] (g.D.SectorDisk.medium c.open.new.disk).contents
+begins g c honest =
+    subst (HasRead c.in_ok-reader.reader []) (sym ((c.open.ensures.reads.stays honest).contents honest)) (c.in_ok-reader.ensures.begins honest)
+
+pub returns-in_err-reader-clause-refused : goal.returns-in_err-reader-clause-refused
+returns-in_err-reader-clause-refused g c =
+    passed _ c.from_residual.result (of_journal_error c.in_err-reader.field-0.0) c.from_residual.ensures.1
+    (opened-damage c.in_err-reader.field-0.0 _
     (λ sector is form known most honest has.
     let image : Image = (g.D.SectorDisk.medium c.args.disk.now).contents in
     let few : length image < 2 ^ 32 =
     omega (arith, (g.met.D.SectorDisk.shaped c.args.disk.now image honest.reads).count, g.met.D.SectorDisk.fits c.args.disk.now) in
     header-damaged form known c.args.engine.now.limits (saved_epoch c.args.checkpoint.now) c.args.engine.now.state image few has sector
-    (c.in_err-journal.ensures.named sector (ap Err is))
-    (subst (λ (n : ℕ). HasNoHeader n image) c.epoch.ensures (c.in_err-journal.ensures.damaged sector (ap Err is) honest))))
+    (c.in_err-reader.ensures.named sector (ap Err is))
+    (subst (λ (n : ℕ). HasBadHeader journal_form journal_range n image) c.epoch.ensures (c.in_err-reader.ensures.damaged sector (ap Err is) honest))))
 
-pub returns-in_err-journal-clause-reads : goal.returns-in_err-journal-clause-reads
-returns-in_err-journal-clause-reads g c =
-    let device = journal-device c.open.result c.from_residual.result c.in_err-journal.field-0.0 c.in_err-journal.was c.from_residual.ensures.1 in
+pub returns-in_err-reader-clause-reads : goal.returns-in_err-reader-clause-reads
+returns-in_err-reader-clause-reads g c =
+    let device = journal-device c.open.result c.from_residual.result c.in_err-reader.field-0.0 c.in_err-reader.was c.from_residual.ensures.1 in
     OnlyReads-as device.0 device.1 c.open.ensures.reads
 
 pub returns-in_err-replay-clause-refused : goal.returns-in_err-replay-clause-refused
@@ -52,63 +60,70 @@ returns-in_err-replay-clause-refused g c =
     passed _ c.from_residual-in_err-replay.result c.in_err-replay.field-0.0 c.from_residual-in_err-replay.ensures.1
     (damage-map _ _ c.in_err-replay.field-0.0
     (λ sector found-bad form known most honest has.
-    let here = (goal.at.returns-in_err-replay-clause-refused g c).In_ok-journal in
+    let here = (goal.at.returns-in_err-replay-clause-refused g c).In_ok-reader in
     let image : Image = (g.D.SectorDisk.medium c.args.disk.now).contents in
     let limits = c.args.engine.now.limits in
     let s = c.args.engine.now.state in
-    let journal = c.in_ok-journal.journal in
-    let same = c.open.ensures.stays.contents honest in
-    let damage = found-bad (c.open.ensures.stays.time.honest.0 honest) in
-    batch-damaged form known limits (saved_epoch c.args.checkpoint.now) s image (fits g here honest) has journal c.in_ok-journal.ensures.range
-    (c.in_ok-journal.ensures.epoch ∙ c.epoch.ensures) (opened_on g here honest)
-    (λ batches t found. damage.none batches t
-    (subst (λ (x : Image). Replays (length c.args.room.now) limits s journal x batches t) (sym same)
-    (subst (λ (n : ℕ). Replays n limits s journal image batches t) most found)))
-    sector
-    (subst (λ (n : ℕ). IsGoodUpTo n limits s journal image sector) (sym most)
-    (subst (λ (x : Image). IsGoodUpTo (length c.args.room.now) limits s journal x sector) same damage.first)))
+    let epoch : ℕ = saved_epoch c.args.checkpoint.now in
+    let calls = c.open.ensures.reads.stays honest in
+    let bad = found-bad (calls.time.honest.0 honest) epoch (reader_of g here) (begins g here honest) in
+    batch-damaged form known limits epoch s image (fits g here honest) has sector
+    (subst (λ (n : ℕ). IsBadAt n limits s epoch image sector) (sym most)
+    (subst (λ (x : Image). IsBadAt (length c.args.room.now) limits s epoch x sector) (calls.contents honest) bad)))
     c.in_err-replay.ensures.refused)
+
+-- the batches that were gone through
+replays : (g : Over) (c : In_ok-replay g) → IsHonest (g.D.SectorDisk.medium c.args.disk.now) → (batches : List (List PlainEvent))
+    × Replays (length c.args.room.now) c.args.engine.now.limits c.args.engine.now.state (saved_epoch c.args.checkpoint.now)
+    (g.D.SectorDisk.medium c.args.disk.now).contents batches c.replay.new.engine.state
+    × HasRead c.replay.new.reader (map batch_bytes batches) (g.D.SectorDisk.medium c.args.disk.now).contents
+replays g c honest =
+    let here = (goal.at.In_ok-replay g c).In_ok-reader in
+    let calls = c.open.ensures.reads.stays honest in
+    let limits = c.args.engine.now.limits in
+    let s = c.args.engine.now.state in
+    let epoch : ℕ = saved_epoch c.args.checkpoint.now in
+    let found = c.in_ok-replay.ensures.replays (calls.time.honest.0 honest) epoch (reader_of g here) (begins g here honest) in (
+      found.0,
+      subst (λ (x : Image). Replays (length c.args.room.now) limits s epoch x found.0 c.replay.new.engine.state) (calls.contents honest) found.1,
+      subst (HasRead c.replay.new.reader (map batch_bytes found.0)) (calls.contents honest) found.2,
+    )
 
 pub returns-clause-stands : goal.returns-clause-stands
 returns-clause-stands g c = λ honest.
-    let here = (goal.at.returns-clause-stands g c).In_ok-journal in
-    let image : Image = (g.D.SectorDisk.medium c.args.disk.now).contents in
-    let journal = c.in_ok-journal.journal in
-    let limits = c.args.engine.now.limits in
-    let from = c.args.engine.now.state in
-    let found = c.in_ok-replay.ensures.replays (c.open.ensures.stays.time.honest.0 honest) in
-    let replays = subst (λ (x : Image). Replays (length c.args.room.now) limits from journal x found.0 c.replay.new.engine.state)
-    (c.open.ensures.stays.contents honest) found.1 in (
-      found.0,
-      subst (λ (n : ℕ). HasBatches n found.0 image) (c.in_ok-journal.ensures.epoch ∙ c.epoch.ensures)
-          (batches-hold journal image (opened_on g here honest) c.in_ok-journal.ensures.range (length c.args.room.now) limits from found.0 _ replays),
-      found.1.leads,
-    )
+    let found = replays g (goal.at.returns-clause-stands g c).In_ok-replay honest in (found.0, found.1.holds, found.1.leads)
+
+-- the value is of that journal
+reader_after : (g : Over) (c : In_ok-replay g) → IsReaderOf journal_form journal_range (saved_epoch c.args.checkpoint.now) c.replay.new.reader
+reader_after g c = c.replay.ensures.of (saved_epoch c.args.checkpoint.now) (reader_of g (goal.at.In_ok-replay g c).In_ok-reader)
+
+pub returns-clause-form : goal.returns-clause-form
+returns-clause-form g c = c.into_journal.ensures.form ∙ (reader_after g (goal.at.returns-clause-form g c).In_ok-replay).form_is
+
+pub returns-clause-range : goal.returns-clause-range
+returns-clause-range g c = c.into_journal.ensures.range ∙ (reader_after g (goal.at.returns-clause-range g c).In_ok-replay).range_is
+
+pub returns-clause-epoch : goal.returns-clause-epoch
+returns-clause-epoch g c = c.into_journal.ensures.epoch ∙ (reader_after g (goal.at.returns-clause-epoch g c).In_ok-replay).epoch_is
 
 pub returns-clause-leads : goal.returns-clause-leads
 returns-clause-leads g c = λ honest durable.
-    let here = (goal.at.returns-clause-leads g c).In_ok-journal in
-    let m : g.row.D.Denot → Medium = g.D.SectorDisk.medium in
-    let image : Image = (m c.args.disk.now).contents in
-    let journal = c.in_ok-journal.journal in
-    let limits = c.args.engine.now.limits in
-    let from = c.args.engine.now.state in
-    let still = c.open.ensures.stays.time.honest.0 honest in
-    let found = c.in_ok-replay.ensures.replays still in
-    let replays = subst (λ (x : Image). Replays (length c.args.room.now) limits from journal x found.0 c.replay.new.engine.state)
-    (c.open.ensures.stays.contents honest) found.1 in
-    let stands : HasBatches c.epoch.result found.0 image =
-    subst (λ (n : ℕ). HasBatches n found.0 image) c.in_ok-journal.ensures.epoch
-    (batches-hold journal image (opened_on g here honest) c.in_ok-journal.ensures.range (length c.args.room.now) limits from found.0 _ replays) in (
+    let here = (goal.at.returns-clause-leads g c).In_ok-replay in
+    let m = g.D.SectorDisk.medium in
+    let found = replays g here honest in
+    let journal = c.into_journal.result in
+    let epoch : ℕ = saved_epoch c.args.checkpoint.now in
+    let of = reader_after g here in
+    let form = c.into_journal.ensures.form ∙ of.form_is in
+    let range = c.into_journal.ensures.range ∙ of.range_is in
+    let is = c.into_journal.ensures.epoch ∙ of.epoch_is in
+    let calls = chain (m c.args.disk.now) (m c.open.new.disk) (m c.replay.new.disk) honest (c.open.ensures.reads.stays honest)
+    c.replay.ensures.reads.stays in (
       found.0,
-      JournalMatches-stays journal (map batch_bytes found.0) (m c.open.new.disk) (m c.replay.new.disk) (c.replay.ensures.reads.stays still)
-          (c.in_ok-journal.ensures.stands honest (map batch_bytes found.0)
-          (λ now left. subst (HasBatches c.epoch.result found.0) (sym (durable now left)) stands)),
+      JournalMatches-headed journal (map batch_bytes found.0) (m c.replay.new.disk) form
+          (c.into_journal.ensures.used ∙ found.2.used ∙ ap (λ (f : Form). sectors_of f (map batch_bytes found.0)) (sym c.into_journal.ensures.form))
+          (c.into_journal.ensures.count ∙ found.2.count) (calls.time.honest.0 honest)
+          (λ image now. of-batches journal epoch found.0 image form range is
+          (subst (HasBatches epoch found.0) (sym (durable image (calls.images image now))) found.1.holds)),
       found.1.leads,
     )
-
-pub returns-clause-current : goal.returns-clause-current
-returns-clause-current g c = λ honest some.
-    current-is (g.D.SectorDisk.medium c.args.disk.now).contents c.epoch.result (used_of c.in_ok-journal.journal)
-    (c.in_ok-journal.ensures.older honest) (c.in_ok-journal.ensures.not_newer honest) some
-    ∙ sym c.in_ok-journal.ensures.epoch

@@ -7,8 +7,6 @@ use Rattle.ipc_checkpoint.proofs.CallerLemmas.{CheckpointMatches-stays}
 use Rattle.ipc_disk.proofs.CallerLemmas.{OnlyReads-as, OnlyReads-ok, OnlyReads-then}
 use Rattle.ipc_disk.specs.Calls.{OnlyReads}
 use Rattle.ipc_disk.specs.Medium.{Image, Medium, IsHonest, Stays}
-use Rattle.ipc_journal.specs.Journal.{header_epoch, header_used}
-use Rattle.ipc_journal.specs.View.{epoch_of, used_of}
 use Rattle.ipc_state.specs.declared.parked.Object.{Object}
 use Rattle.ipc_engine.specs.Changes.{IsTracked}
 use Rattle.ipc_image.specs.Format.{format}
@@ -16,7 +14,7 @@ use Rattle.ipc_image.specs.Saved.{StandForState}
 use Rattle.ipc_image.specs.Sizes.{area_of}
 use Rattle.ipc_image.specs.declared.superblock.Superblock.{Superblock}
 use Rattle.ipc_image.proofs.CallerLemmas.{saved-fits}
-use Rattle.ipc_store.specs.Image.{journal_range, layout_of, named_sectors, IsDevice, HasBase, LeadToBy}
+use Rattle.ipc_store.specs.Image.{layout_of, named_sectors, IsDevice, HasBase, LeadToBy}
 use Rattle.ipc_store.specs.Image.{StandsFor}
 use Rattle.ipc_store.proofs.Devices.{has-spare}
 use Rattle.ipc_store.specs.Refusals.{IsRefusal}
@@ -131,22 +129,10 @@ returns-clause-reads g c =
     OnlyReads-as (λ never. absurd never) (λ failed. cc)
     (OnlyReads-then (read-base g (goal.at.returns-clause-reads g c).In_ok-checkpoint) (OnlyReads-ok (λ failed. cc) c.in_ok-journal.ensures.reads))
 
-pub returns-clause-used : goal.returns-clause-used
-returns-clause-used g c = λ honest some.
-    let s2 = reads-base g (goal.at.returns-clause-used g c).In_ok-checkpoint honest in
-    subst (λ (i : Image). used_of c.in_ok-journal.journal ≡ header_used journal_range i) (s2.contents honest)
-    (c.in_ok-journal.ensures.used (s2.time.honest.0 honest) some)
-
-pub returns-clause-current : goal.returns-clause-current
-returns-clause-current g c = λ honest some.
-    let s2 = reads-base g (goal.at.returns-clause-current g c).In_ok-checkpoint honest in
-    subst (λ (i : Image). header_epoch journal_range i ≡ epoch_of c.in_ok-journal.journal) (s2.contents honest)
-    (c.in_ok-journal.ensures.current (s2.time.honest.0 honest) some)
-
 pub returns-clause-on_disk : goal.returns-clause-on_disk
 returns-clause-on_disk g c =
     on-disk c.in_ok-superblock.superblock.limits c.in_ok-superblock.superblock.sectors c.in_ok-checkpoint.checkpoint c.in_ok-checkpoint.ensures.layout
-    c.in_ok-journal.journal c.in_ok-journal.ensures.range c.in_ok-journal.ensures.epoch c.load_journal.new.engine
+    c.in_ok-journal.journal c.in_ok-journal.ensures.form c.in_ok-journal.ensures.range c.in_ok-journal.ensures.epoch c.load_journal.new.engine
     (c.load_journal.ensures.limits ∙ c.in_ok-checkpoint.ensures.limits) (g.D.SectorDisk.size c.load_journal.new.disk)
     (omega (
       arith,
@@ -206,7 +192,7 @@ returns-clause-matches g c = λ honest durable.
     subst (λ (l : Limits). Led l from c.load_journal.new.engine.state c.in_ok-journal.journal m3) c.in_ok-checkpoint.ensures.limits
     (read.0, read.1, subst (λ (n : ℕ). LeadToBy n engine.limits engine.state read.0 c.load_journal.new.engine.state) c.requires read.2) in
     loaded limits c.in_ok-superblock.superblock.sectors c.in_ok-checkpoint.checkpoint c.in_ok-checkpoint.ensures.layout
-    c.in_ok-journal.journal c.in_ok-journal.ensures.range c.in_ok-journal.ensures.epoch c.load_journal.new.engine
+    c.in_ok-journal.journal c.in_ok-journal.ensures.form c.in_ok-journal.ensures.range c.in_ok-journal.ensures.epoch c.load_journal.new.engine
     (c.load_journal.ensures.limits ∙ c.in_ok-checkpoint.ensures.limits) m3 from (s23.time.honest.0 h2)
     (stays-durable m2 m3 h2 s23 d2) names.0 names.1
     (base.0, base.1, CheckpointMatches-stays c.in_ok-checkpoint.checkpoint base.0 m2 m3 s23 (base.3 h1 d1)) led tracked

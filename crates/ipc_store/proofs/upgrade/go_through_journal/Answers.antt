@@ -1,16 +1,11 @@
 -- The journal leads from the objects to a state, and there is a next epoch or none.
 use Rattle.std.proofs.Common.{◌≡◌, inl, inr, ℕ, List, length, refl, sym, ap, subst, ◌∙◌}
-use Rattle.std.specs.Prelude.{map}
 use Rattle.ipc_checkpoint.specs.View.{epoch_of as saved_epoch}
-use Rattle.ipc_disk.specs.declared.range.Range.{Range}
 use Rattle.ipc_disk.specs.Medium.{Image, IsHonest, IsDurable}
-use Rattle.ipc_journal.specs.Journal.{Holds}
-use Rattle.ipc_journal.specs.View.{range_of, epoch_of}
 use Rattle.ipc_engine.specs.Event.{PlainEvent}
 use Rattle.ipc_image.specs.Format.{format_one}
-use Rattle.ipc_store.specs.Batch.{batch_bytes}
-use Rattle.ipc_store.specs.Image.{journal_range, HasBatches, LeadToBy}
-use Rattle.ipc_store.specs.Refusals.{IsOldDamage}
+use Rattle.ipc_store.specs.Image.{HasBatches, LeadToBy}
+use Rattle.ipc_store.proofs.Devices.{has-batches}
 use Rattle.ipc_store.proofs.Refusals.{damage-map, passed}
 use Rattle.ipc_store.proofs.upgrade.go_through_journal.Given.{Over}
 use Rattle.ipc_store.proofs.upgrade.go_through_journal.Goals as goal
@@ -26,15 +21,14 @@ led : (g : Over) (c : In_ok-load_journal g) → IsHonest (g.D.SectorDisk.medium 
     × LeadToBy format_one.batch c.args.engine.now.limits c.args.engine.now.state batches c.load_journal.new.engine.state
 led g c honest durable =
     let found = c.in_ok-load_journal.ensures.leads honest durable in
-    let batches : List (List ℕ) = map batch_bytes found.0 in
     let journal = c.in_ok-load_journal.field-0 in
     let reads = c.load_journal.ensures.reads.stays honest in
     let after : Image = (g.D.SectorDisk.medium c.load_journal.new.disk).contents in
-    let there : Holds (range_of journal) (epoch_of journal) batches after = found.1.images after (reads.time.honest.0 honest).reads in (
+    let there = found.1.kept.images after (reads.time.honest.0 honest).reads in (
       found.0,
-      subst (λ (image : Image). Holds journal_range (saved_epoch c.args.checkpoint.now) batches image) (reads.contents honest)
-          (subst (λ (n : ℕ). Holds journal_range n batches after) c.in_ok-load_journal.ensures.epoch
-          (subst (λ (r : Range). Holds r (epoch_of journal) batches after) c.in_ok-load_journal.ensures.range there)),
+      subst (HasBatches (saved_epoch c.args.checkpoint.now) found.0) (reads.contents honest)
+          (has-batches journal (saved_epoch c.args.checkpoint.now) found.0 after c.in_ok-load_journal.ensures.form c.in_ok-load_journal.ensures.range
+          c.in_ok-load_journal.ensures.epoch there),
       subst (λ (n : ℕ). LeadToBy n c.args.engine.now.limits c.args.engine.now.state found.0 c.load_journal.new.engine.state) (long g c) found.2,
     )
 

@@ -30,11 +30,12 @@ returns-clause-meanwhile g c = rw (sym c.self.view_is)
 pub returns-clause-matches : goal.returns-clause-matches
 returns-clause-matches g c = rw (sym c.self.view_is, c.clear.ensures) (λ base pending at.
     committed _ _ _ base pending at c.bytes.ensures.size _ c.bytes.ensures.bytes (c.append.ensures.others at.device.honest) _ _ _
-    c.append.ensures.range c.append.ensures.epoch c.in_default.ensures.acknowledged)
+    c.append.ensures.form c.append.ensures.range c.append.ensures.epoch c.in_default.ensures.acknowledged)
 
 pub invariant_of-self-2 : goal.invariant_of-self-2
 invariant_of-self-2 g c = (
-  stays-on-disk _ _ _ _ _ _ _ c.append.ensures.same.sectors refl c.append.ensures.range (c.append.ensures.epoch ∙ c.self.invariant.0.epoch) c.self.invariant.0,
+  stays-on-disk _ _ _ _ _ _ _ c.append.ensures.same.sectors refl c.append.ensures.form c.append.ensures.range
+      (c.append.ensures.epoch ∙ c.self.invariant.0.epoch) c.self.invariant.0,
   omega (arith, c.self.invariant.1, c.count.ensures.count, ap (λ b. b.count) c.clear.ensures),
   λ goes honest. let found = c.self.invariant.2 goes (c.append.ensures.same.honest.1 honest) in
       let at = found.1.1 in
@@ -43,7 +44,7 @@ invariant_of-self-2 g c = (
         (
           [],
           committed _ _ _ found.0 found.1.0 at c.bytes.ensures.size _ c.bytes.ensures.bytes (c.append.ensures.others at.device.honest) _ _ _
-              c.append.ensures.range c.append.ensures.epoch c.in_default.ensures.acknowledged,
+              c.append.ensures.form c.append.ensures.range c.append.ensures.epoch c.in_default.ensures.acknowledged,
         ),
       ),
   c.self.invariant.3,

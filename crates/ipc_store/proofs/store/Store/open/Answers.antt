@@ -1,9 +1,8 @@
 -- Each exit: what a crash leaves, and what was read.
-use Rattle.std.proofs.Common.{◌≡◌, ◌<◌, inl, inr, ⊎_elim, [], Err, sym, ap, subst, ◌∙◌, arith}
+use Rattle.std.proofs.Common.{◌≡◌, inl, inr, ⊎_elim, [], Err, sym, ap, subst, ◌∙◌, arith}
 use Rattle.ipc_checkpoint.specs.View.{epoch_of}
 use Rattle.ipc_disk.specs.Counts.{counted}
 use Rattle.ipc_disk.specs.Medium.{IsHonest}
-use Rattle.ipc_journal.specs.View.{used_of, epoch_of as journal_epoch}
 use Rattle.std.specs.Prelude.{⊤, Result}
 use Rattle.ipc_image.specs.Format.{format}
 use Rattle.ipc_store.specs.declared.fault.OpenError.{OpenError}
@@ -42,10 +41,6 @@ ended g c honest is =
     at_end (m store.disk) store c.in-Ok.found.2.state (m c.args.disk).contents
     (begins m c.read_device.new.disk c.in-Ok.found.0 c.in-Ok.found.1 c.in-Ok.found.2 (c.in-Ok.ensures.matches honest) store over)
     (ap (λ v. (m v.disk).contents) over ∙ stays.contents honest) old.0 old.1
-    (λ some. ap (λ v. used_of v.journal) over
-    ∙ c.in-Ok.ensures.used honest (subst (λ v. 0 < used_of v.journal) over some))
-    (λ some. c.in-Ok.ensures.current honest (subst (λ v. 0 < used_of v.journal) over some)
-    ∙ sym (ap (λ v. journal_epoch v.journal) over))
 
 pub returns-in-Ok-restart-clause-counts : goal.returns-in-Ok-restart-clause-counts
 returns-in-Ok-restart-clause-counts g c =

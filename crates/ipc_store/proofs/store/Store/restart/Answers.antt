@@ -5,7 +5,8 @@ use Rattle.ipc_checkpoint.specs.View.{CheckpointView, epoch_of}
 use Rattle.ipc_store.specs.Image.{last_epoch}
 use Rattle.ipc_store.specs.Meanwhile.{GoesOn}
 use Rattle.ipc_journal.specs.declared.journal.Journal.{Journal}
-use Rattle.ipc_journal.specs.View.{range_of, used_of}
+use Rattle.ipc_journal.specs.Journal.{head}
+use Rattle.ipc_journal.specs.View.{form_of, range_of, used_of}
 use Rattle.ipc_engine.specs.Event.{Restart}
 use Rattle.ipc_image.specs.Records.{record_bytes}
 use Rattle.ipc_store.proofs.Batches.{record-length}
@@ -43,7 +44,7 @@ returns-in-Err-Stopped-clause-at_end g c = λ is.
     let why = ⊎_elim (λ stopped. absurd (never (sym stopped ∙ goes))) (λ end. end)
     (c.commit.ensures.stopped.0 (c.in-Err-Stopped.is ∙ ap Err c.in-Err-Stopped.field-0-is)) in (
       subst IsLast c.step.ensures.checkpoint why.0,
-      subst (λ (j : Journal). used_of j + 1 ≡ (range_of j).count) c.step.ensures.journal
+      subst (λ (j : Journal). head (form_of j) + used_of j ≡ (range_of j).count) c.step.ensures.journal
           (full_journal c.step.new.self.journal c.step.new.self.records all why.2),
     )
   where

@@ -54,12 +54,13 @@ returns-clause-matches g c = rw (sym c.self.view_is, c.mark_saved.ensures, c.cle
     saved _ _ _ base pending at _ (omega (arith, c.epoch.ensures, c.in-Some.ensures)) _
     (stands c.objects_of-objects.ensures.objects c.objects_of-objects.ensures.stand)
     (c.save.ensures.others at.device.honest) _ _ _ _
-    c.save.ensures.layout c.in_default-save.ensures.epoch c.turn.ensures.range c.turn.ensures.epoch c.turn.ensures.unused
+    c.save.ensures.layout c.in_default-save.ensures.epoch c.turn.ensures.form c.turn.ensures.range c.turn.ensures.epoch c.turn.ensures.unused
+    c.turn.ensures.none
     c.in_default-save.ensures.matches)
 
 pub invariant_of-self-2 : goal.invariant_of-self-2
 invariant_of-self-2 g c = rw c.mark_saved.ensures (
-  stays-on-disk _ _ _ _ _ _ _ c.save.ensures.same.sectors c.save.ensures.layout c.turn.ensures.range
+  stays-on-disk _ _ _ _ _ _ _ c.save.ensures.same.sectors c.save.ensures.layout c.turn.ensures.form c.turn.ensures.range
       (c.turn.ensures.epoch ∙ sym c.in_default-save.ensures.epoch) c.self.invariant.0,
   omega (arith, c.self.invariant.1, c.count.ensures.count, ap (λ b. b.count) c.clear.ensures),
   λ goes honest. let found = c.self.invariant.2 goes (c.save.ensures.same.honest.1 honest) in
@@ -70,8 +71,8 @@ invariant_of-self-2 g c = rw c.mark_saved.ensures (
           [],
           saved _ _ _ found.0 found.1.0 at _ (omega (arith, c.epoch.ensures, c.in-Some.ensures)) _
               (stands c.objects_of-objects.ensures.objects c.objects_of-objects.ensures.stand)
-              (c.save.ensures.others at.device.honest) _ _ _ _ c.save.ensures.layout c.in_default-save.ensures.epoch c.turn.ensures.range
-              c.turn.ensures.epoch c.turn.ensures.unused c.in_default-save.ensures.matches,
+              (c.save.ensures.others at.device.honest) _ _ _ _ c.save.ensures.layout c.in_default-save.ensures.epoch c.turn.ensures.form c.turn.ensures.range
+              c.turn.ensures.epoch c.turn.ensures.unused c.turn.ensures.none c.in_default-save.ensures.matches,
         ),
       ),
   λ goes.

@@ -68,3 +68,6 @@ invariant_of-self-2 g c =
       ),
       c.self.invariant.3,
     )
+
+pub invariant_of-self : goal.invariant_of-self
+invariant_of-self g c = rw c.in-Err.ensures.err c.self.invariant

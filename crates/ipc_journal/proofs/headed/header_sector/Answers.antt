@@ -1,9 +1,9 @@
 -- What a header says.
 use Rattle.std.proofs.Common.{◌∙◌, ap, arith}
-use Rattle.ipc_journal.specs.Journal.{epoch_in, used_in}
-use Rattle.ipc_journal.proofs.CallerLemmas.{epoch_in-header, used_in-header}
-use Rattle.ipc_journal.proofs.Headers.{bytes-header}
-use Rattle.ipc_journal.proofs.header.header_sector.Goals as goal
+use Rattle.ipc_journal.specs.Batch.{epoch_in}
+use Rattle.ipc_journal.specs.Headed.{used_in}
+use Rattle.ipc_journal.proofs.Headers.{bytes-header, epoch_in-header, used_in-header}
+use Rattle.ipc_journal.proofs.headed.header_sector.Goals as goal
 
 pub returns-clause-bytes : goal.returns-clause-bytes
 returns-clause-bytes c = bytes-header c.args.epoch c.args.used _ _ c.write_u64.ensures c.write_u32.ensures
