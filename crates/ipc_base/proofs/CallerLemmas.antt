@@ -1,17 +1,17 @@
 -- What the crates above cite of fields side by side, of tables, of numbers that rise, and of limits that were checked.
 use Rattle.std.proofs.Common.{◌≡◌, ◌≢◌, ℕ, zero, suc, ◌+◌, ◌<◌, ◌≤◌, Bool, true, false, not, ◌&&◌, leb, cond, ◌⊎◌, inl, inr, List, [], ◌∷◌, ◌++◌, length}
 use Rattle.std.proofs.Common.{map, find, get_or, set, is_some, Option, Some, None, refl, sym, ap, subst, ◌∙◌, arith}
-use Rattle.std.specs.Prelude.{nat_eq, nat_lt, if◌then◌else◌, All, ◌||◌, option_map}
+use Rattle.std.specs.Prelude.{nat_eq, nat_lt, if◌then◌else◌, All, ◌||◌, option_map, replicate}
 use Rattle.std.specs.List.{list_any, remove, position, position_or_len, IsDistinct, AllByRecursion}
 use Rattle.std.specs.Cmp.{IsEquivalence}
-use Rattle.std.proofs.lemmas.Bool.{ltb-false, leb-true, eqb-true, eq-eqb}
+use Rattle.std.proofs.lemmas.Bool.{ltb-false, leb-true, le-leb, eqb-true, eq-eqb}
 use Rattle.std.proofs.lemmas.Bool.Decides.{nat_tests}
 use Rattle.std.proofs.lemmas.List.Elements.{All-cons, All-head, All-tail}
 use Rattle.std.proofs.lemmas.List.Quantifiers.{position-Some}
 use Rattle.std.proofs.lemmas.List.Sums.{fails_before_first}
 use Rattle.std.proofs.lemmas.Map.Keys.{IsDistinct-head, IsDistinct-tail, IsDistinct-cons}
 use Rattle.ipc_base.specs.declared.limits.Limits.{Limits}
-use Rattle.ipc_base.specs.Limits.{tests, is_within, ArePassed, longest_body, longest_reply}
+use Rattle.ipc_base.specs.Limits.{tests, is_within, greatest_limits, AreWithin, ArePassed, longest_body, longest_reply}
 use Rattle.ipc_base.specs.Table.{value_at, with_value, without, with_entry, keys_of, seen_as, EachValue, ArePaired, IsRising}
 use Rattle.std.specs.List.{flat_map}
 use Rattle.std.proofs.lemmas.Grind.{flat_map-append}
@@ -693,36 +693,36 @@ within-bounds value most h =
     let both = both_true (leb 1 value) (leb value most) h in
     (leb-true 1 value both.0, leb-true value most both.1)
 
--- what is used of limits that were checked
-pub record PassedBounds (l : Limits) : Type 0 where
-  pub processes : (1 ≤ l.processes) × (l.processes ≤ 64)
-  pub msgmni : l.msgmni ≤ 64
-  pub msgmax : (1 ≤ l.msgmax) × (l.msgmax ≤ 65536) × (l.msgmax ≤ l.msgmnb)
-  pub msgmnb : (1 ≤ l.msgmnb) × (l.msgmnb ≤ 65536)
-  pub semmni : l.semmni ≤ 32
-  pub semmsl : l.semmsl ≤ 64
-  pub semmns : l.semmns ≤ 512
-  pub semopm : l.semopm ≤ 32
-  pub queues : l.queues ≤ 32
-  pub maxmsg : l.maxmsg ≤ 10
-  pub msgsize : l.msgsize ≤ 8192
-  pub named_semaphores : l.named_semaphores ≤ 64
-  pub segments : l.segments ≤ 32
-  pub segment_bytes : l.segment_bytes ≤ 1048576
-  pub call_bytes : l.call_bytes ≤ 8192
-  pub descriptors : l.descriptors ≤ 32
-  pub shmmni : l.shmmni ≤ 32
-  pub shmmax : (1 ≤ l.shmmax) × (l.shmmax ≤ 1048576) × (l.shmmax ≤ l.shmall)
-  pub shmall : l.shmall ≤ 1048576
+-- what is used of limits that are within greatest values
+pub record AreBounded (most l : Limits) : Type 0 where
+  pub processes : (1 ≤ l.processes) × (l.processes ≤ most.processes)
+  pub msgmni : l.msgmni ≤ most.msgmni
+  pub msgmax : (1 ≤ l.msgmax) × (l.msgmax ≤ most.msgmax) × (l.msgmax ≤ l.msgmnb)
+  pub msgmnb : (1 ≤ l.msgmnb) × (l.msgmnb ≤ most.msgmnb)
+  pub semmni : l.semmni ≤ most.semmni
+  pub semmsl : l.semmsl ≤ most.semmsl
+  pub semmns : l.semmns ≤ most.semmns
+  pub semopm : l.semopm ≤ most.semopm
+  pub queues : l.queues ≤ most.queues
+  pub maxmsg : l.maxmsg ≤ most.maxmsg
+  pub msgsize : l.msgsize ≤ most.msgsize
+  pub named_semaphores : l.named_semaphores ≤ most.named_semaphores
+  pub segments : l.segments ≤ most.segments
+  pub segment_bytes : l.segment_bytes ≤ most.segment_bytes
+  pub call_bytes : l.call_bytes ≤ most.call_bytes
+  pub descriptors : l.descriptors ≤ most.descriptors
+  pub shmmni : l.shmmni ≤ most.shmmni
+  pub shmmax : (1 ≤ l.shmmax) × (l.shmmax ≤ most.shmmax) × (l.shmmax ≤ l.shmall)
+  pub shmall : l.shmall ≤ most.shmall
 
-pub passed-bounds : (l : Limits) → ArePassed l → PassedBounds l
-passed-bounds l passed =
-    let all = each_passes (tests l) passed in
-    let size = both_true (is_within l.msgmax 65536) (leb l.msgmax l.msgmnb) (all 2 (omega arith)) in
-    let msgmax = within-bounds l.msgmax 65536 size.0 in
-    let segment = both_true (is_within l.shmmax 1048576) (leb l.shmmax l.shmall) (all 17 (omega arith)) in
-    let shmmax = within-bounds l.shmmax 1048576 segment.0 in
-    let set = both_true (is_within l.semmsl 64) (leb l.semmsl l.semmns) (all 5 (omega arith)) in
+pub bounds-within : (most l : Limits) → AreWithin most l → AreBounded most l
+bounds-within most l within =
+    let all = each_passes (tests most l) within in
+    let size = both_true (is_within l.msgmax most.msgmax) (leb l.msgmax l.msgmnb) (all 2 (omega arith)) in
+    let msgmax = within-bounds l.msgmax most.msgmax size.0 in
+    let segment = both_true (is_within l.shmmax most.shmmax) (leb l.shmmax l.shmall) (all 17 (omega arith)) in
+    let shmmax = within-bounds l.shmmax most.shmmax segment.0 in
+    let set = both_true (is_within l.semmsl most.semmsl) (leb l.semmsl l.semmns) (all 5 (omega arith)) in
     record {
       processes = within-bounds _ _ (all 0 (omega arith));
       msgmni = (within-bounds _ _ (all 1 (omega arith))).1;
@@ -744,6 +744,46 @@ passed-bounds l passed =
       shmmax = (shmmax.0, shmmax.1, leb-true _ _ segment.1);
       shmall = (within-bounds _ _ (all 18 (omega arith))).1;
     }
+
+-- each is at most the greatest of any device
+pub passed-bounds : (l : Limits) → ArePassed l → AreBounded greatest_limits l
+passed-bounds = bounds-within greatest_limits
+
+-- a value that is within a bound is within a greater one
+module _ (value most more : ℕ) (le : most ≤ more) where
+  within-more : is_within value most ≡ true → is_within value more ≡ true
+  within-more h = let b = within-bounds value most h in rw (le-leb 1 value b.0) (le-leb value more (omega (arith, le, b.1)))
+
+  below-more : (all : ℕ) → (is_within value most && leb value all) ≡ true → (is_within value more && leb value all) ≡ true
+  below-more all h = let both = both_true (is_within value most) (leb value all) h in rw (within-more both.0) both.1
+
+-- limits within greatest values that are within others are within these too
+pub within-greater : (most more l : Limits) → AreWithin more most → AreWithin most l → AreWithin more l
+within-greater most more l below within =
+    let m = bounds-within more most below in
+    let all = each_passes (tests most l) within in
+    let passes : tests more l ≡ replicate 19 true =
+    λ i. within-more l.processes most.processes more.processes m.processes.1 (all 0 (omega arith)) i
+    ∷ within-more l.msgmni most.msgmni more.msgmni m.msgmni (all 1 (omega arith)) i
+    ∷ below-more l.msgmax most.msgmax more.msgmax m.msgmax.1 l.msgmnb (all 2 (omega arith)) i
+    ∷ within-more l.msgmnb most.msgmnb more.msgmnb m.msgmnb.1 (all 3 (omega arith)) i
+    ∷ within-more l.semmni most.semmni more.semmni m.semmni (all 4 (omega arith)) i
+    ∷ below-more l.semmsl most.semmsl more.semmsl m.semmsl l.semmns (all 5 (omega arith)) i
+    ∷ within-more l.semmns most.semmns more.semmns m.semmns (all 6 (omega arith)) i
+    ∷ within-more l.semopm most.semopm more.semopm m.semopm (all 7 (omega arith)) i
+    ∷ within-more l.queues most.queues more.queues m.queues (all 8 (omega arith)) i
+    ∷ within-more l.maxmsg most.maxmsg more.maxmsg m.maxmsg (all 9 (omega arith)) i
+    ∷ within-more l.msgsize most.msgsize more.msgsize m.msgsize (all 10 (omega arith)) i
+    ∷ within-more l.named_semaphores most.named_semaphores more.named_semaphores m.named_semaphores (all 11 (omega arith)) i
+    ∷ within-more l.segments most.segments more.segments m.segments (all 12 (omega arith)) i
+    ∷ within-more l.segment_bytes most.segment_bytes more.segment_bytes m.segment_bytes (all 13 (omega arith)) i
+    ∷ within-more l.call_bytes most.call_bytes more.call_bytes m.call_bytes (all 14 (omega arith)) i
+    ∷ within-more l.descriptors most.descriptors more.descriptors m.descriptors (all 15 (omega arith)) i
+    ∷ within-more l.shmmni most.shmmni more.shmmni m.shmmni (all 16 (omega arith)) i
+    ∷ below-more l.shmmax most.shmmax more.shmmax m.shmmax.1 l.shmall (all 17 (omega arith)) i
+    ∷ within-more l.shmall most.shmall more.shmall m.shmall (all 18 (omega arith)) i
+    ∷ [] in
+    ap (position not) passes
 
 pub longest_reply-bound : (l : Limits) → ArePassed l → longest_reply l ≤ 65554
 longest_reply-bound l passed =

@@ -1,5 +1,5 @@
--- The limits: each at least 1 and at most the standard one, a message no longer than a queue, a set no larger than all
--- sets, a System V segment no longer than all of them.
+-- The limits: each at least 1 and at most a greatest value, a message no longer than a queue, a set no larger than all
+-- sets, a System V segment no longer than all of them. What is greatest differs by the version of a device.
 use Rattle.std.specs.Prelude.{◌≡◌, ℕ, ◌+◌, ◌*◌, max, Bool, not, List, [], ◌∷◌, nat_le, ◌&&◌, position, None}
 use Rattle.ipc_base.specs.declared.limits.Limits.{Limits}
 
@@ -51,36 +51,67 @@ small_limits =
       shmall = 2048;
     }
 
+-- The greatest values that any device may have. The memory of a queue's messages, of a process's adjustments and
+-- descriptors, and of a new segment is taken for the same number under any limits. So msgmnb, maxmsg, semmns,
+-- descriptors, segment_bytes and shmmax are that number.
+abbrev pub greatest_limits : Limits
+greatest_limits =
+    record {
+      processes = 4096;
+      msgmni = 32768;
+      msgmax = 65536;
+      msgmnb = 65536;
+      semmni = 32768;
+      semmsl = 64;
+      semmns = 512;
+      semopm = 32;
+      queues = 32768;
+      maxmsg = 10;
+      msgsize = 65536;
+      named_semaphores = 32768;
+      segments = 32768;
+      segment_bytes = 1048576;
+      call_bytes = 65536;
+      descriptors = 32;
+      shmmni = 32768;
+      shmmax = 1048576;
+      shmall = 536870912;
+    }
+
 abbrev pub is_within : ℕ → ℕ → Bool
 is_within value most = nat_le 1 value && nat_le value most
 
--- whether each field passes, in the order of the fields
-abbrev pub tests : Limits → List Bool
-tests l =
-    is_within l.processes standard_limits.processes
-    ∷ is_within l.msgmni standard_limits.msgmni
-    ∷ (is_within l.msgmax standard_limits.msgmax && nat_le l.msgmax l.msgmnb)
-    ∷ is_within l.msgmnb standard_limits.msgmnb
-    ∷ is_within l.semmni standard_limits.semmni
-    ∷ (is_within l.semmsl standard_limits.semmsl && nat_le l.semmsl l.semmns)
-    ∷ is_within l.semmns standard_limits.semmns
-    ∷ is_within l.semopm standard_limits.semopm
-    ∷ is_within l.queues standard_limits.queues
-    ∷ is_within l.maxmsg standard_limits.maxmsg
-    ∷ is_within l.msgsize standard_limits.msgsize
-    ∷ is_within l.named_semaphores standard_limits.named_semaphores
-    ∷ is_within l.segments standard_limits.segments
-    ∷ is_within l.segment_bytes standard_limits.segment_bytes
-    ∷ is_within l.call_bytes standard_limits.call_bytes
-    ∷ is_within l.descriptors standard_limits.descriptors
-    ∷ is_within l.shmmni standard_limits.shmmni
-    ∷ (is_within l.shmmax standard_limits.shmmax && nat_le l.shmmax l.shmall)
-    ∷ is_within l.shmall standard_limits.shmall
+-- whether each field passes where these are the greatest values, in the order of the fields
+abbrev pub tests : Limits → Limits → List Bool
+tests most l =
+    is_within l.processes most.processes
+    ∷ is_within l.msgmni most.msgmni
+    ∷ (is_within l.msgmax most.msgmax && nat_le l.msgmax l.msgmnb)
+    ∷ is_within l.msgmnb most.msgmnb
+    ∷ is_within l.semmni most.semmni
+    ∷ (is_within l.semmsl most.semmsl && nat_le l.semmsl l.semmns)
+    ∷ is_within l.semmns most.semmns
+    ∷ is_within l.semopm most.semopm
+    ∷ is_within l.queues most.queues
+    ∷ is_within l.maxmsg most.maxmsg
+    ∷ is_within l.msgsize most.msgsize
+    ∷ is_within l.named_semaphores most.named_semaphores
+    ∷ is_within l.segments most.segments
+    ∷ is_within l.segment_bytes most.segment_bytes
+    ∷ is_within l.call_bytes most.call_bytes
+    ∷ is_within l.descriptors most.descriptors
+    ∷ is_within l.shmmni most.shmmni
+    ∷ (is_within l.shmmax most.shmmax && nat_le l.shmmax l.shmall)
+    ∷ is_within l.shmall most.shmall
     ∷ []
 
 -- each field passes
+abbrev pub AreWithin : Limits → Limits → Type 0
+AreWithin most l = position not (tests most l) ≡ None
+
+-- each passes where the greatest values are those of any device
 abbrev pub ArePassed : Limits → Type 0
-ArePassed l = position not (tests l) ≡ None
+ArePassed l = AreWithin greatest_limits l
 
 -- The longest body of a reply: the record that msgctl(2) gives of a queue, a message with its type, the values of a
 -- semaphore set, a POSIX message with its priority, or the bytes of a segment that one call reads.

@@ -13,8 +13,10 @@
 //!
 //! - `Errno::number` is the number of Linux. `from_number` answers the error that has a number (`each`), and answers no
 //!   error with another number (`known`).
-//! - If `Limits::check` is Ok, each field passes (`ok`); if it is not, its error names the first field that fails
-//!   (`first`). `standard` and `small` are the limits of the definitions (`limits`), and pass their check (`passed`).
+//! - If `Limits::check` is Ok, each field passes by the greatest values that it was given (`ok`), and by those of any
+//!   device, if the given ones do (`passed`); if it is not, its error names the first field that fails (`first`).
+//!   `standard` and `small` are the limits of the definitions (`limits`), and pass by the greatest values of any device
+//!   (`passed`).
 //!   `longest_reply` is the length of the longest reply under limits that passed (`longest`), and is at most 65554
 //!   (`bounded`).
 //! - `Cursor` reads exactly the field at the front of its bytes and leaves the rest. If fewer bytes are there than the
@@ -44,6 +46,6 @@ pub use errno::Errno;
 pub use field::{Field, FieldBytes, Size, take_fields};
 pub use flags::{GetFlags, MsgFlags, OpenFlags, SemFlags, ShmFlags};
 pub use identity::{Cred, Id, Moment, Pid};
-pub use limits::{BadLimits, Limits};
+pub use limits::{BadLimits, Limits, STANDARD};
 pub use objects::{Mark, ObjectMap, Objects, window_of};
 pub use put::Put;

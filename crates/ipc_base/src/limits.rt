@@ -6,14 +6,15 @@ ghost use Rattle.ipc_base.specs.Limits.{
   standard_limits,
   small_limits,
   ArePassed,
+  AreWithin,
   longest_reply,
   is_within as passes_within,
 };
 
 use thiserror::Error;
 
-/// The limits of a server, named as in the manual pages. Each is at least 1 and at most its value in
-/// `standard`.
+/// The limits of a server, named as in the manual pages. Each is at least 1, and at most a value that the version of
+/// its device fixes.
 #[derive(Clone, Copy, Debug, PartialEq, Eq)]
 pub struct Limits {
     /// Processes at a time.
@@ -63,33 +64,36 @@ pub struct BadLimits {
     pub field: u32,
 }
 
+/// Those of a server that serves, as `Limits::standard` gives them.
+pub const STANDARD: Limits = Limits {
+    processes: 64,
+    msgmni: 64,
+    msgmax: 65536,
+    msgmnb: 65536,
+    semmni: 32,
+    semmsl: 64,
+    semmns: 512,
+    semopm: 32,
+    queues: 32,
+    maxmsg: 10,
+    msgsize: 8192,
+    named_semaphores: 64,
+    segments: 32,
+    segment_bytes: 1048576,
+    call_bytes: 8192,
+    descriptors: 32,
+    shmmni: 32,
+    shmmax: 1048576,
+    shmall: 1048576,
+};
+
 impl Limits {
     /// The limits of a server that serves.
     pub fn standard() -> Limits
         ensures limits { result ≡ standard_limits }
         ensures passed { ArePassed result }
     {
-        Limits {
-            processes: 64,
-            msgmni: 64,
-            msgmax: 65536,
-            msgmnb: 65536,
-            semmni: 32,
-            semmsl: 64,
-            semmns: 512,
-            semopm: 32,
-            queues: 32,
-            maxmsg: 10,
-            msgsize: 8192,
-            named_semaphores: 64,
-            segments: 32,
-            segment_bytes: 1048576,
-            call_bytes: 8192,
-            descriptors: 32,
-            shmmni: 32,
-            shmmax: 1048576,
-            shmall: 1048576,
-        }
+        STANDARD
     }
 
     /// The limits of a small server, as for trials.
@@ -120,32 +124,33 @@ impl Limits {
         }
     }
 
-    /// Tests each field in order: it is at least 1 and at most the standard value, `msgmax` is at most `msgmnb`,
+    /// Tests each field in order: it is at least 1 and at most its value in `most`, `msgmax` is at most `msgmnb`,
     /// `semmsl` at most `semmns`, and `shmmax` at most `shmall`. The fault names the first field that fails.
-    pub fn check(&self) -> Result<(), BadLimits>
-        ensures ok { OnOk result (ArePassed self.now) }
-        ensures first { IfErr result (λ fault. position not (tests self.now) ≡ Some fault.field) }
+    pub fn check(&self, most: &Limits) -> Result<(), BadLimits>
+        ensures ok { OnOk result (AreWithin most.now self.now) }
+        ensures passed { ArePassed most.now → OnOk result (ArePassed self.now) }
+        ensures first { IfErr result (λ fault. position not (tests most.now self.now) ≡ Some fault.field) }
     {
         let passes = [
-            is_within(self.processes, 64),
-            is_within(self.msgmni, 64),
-            is_within(self.msgmax, 65536) && self.msgmax <= self.msgmnb,
-            is_within(self.msgmnb, 65536),
-            is_within(self.semmni, 32),
-            is_within(self.semmsl, 64) && self.semmsl <= self.semmns,
-            is_within(self.semmns, 512),
-            is_within(self.semopm, 32),
-            is_within(self.queues, 32),
-            is_within(self.maxmsg, 10),
-            is_within(self.msgsize, 8192),
-            is_within(self.named_semaphores, 64),
-            is_within(self.segments, 32),
-            is_within(self.segment_bytes, 1048576),
-            is_within(self.call_bytes, 8192),
-            is_within(self.descriptors, 32),
-            is_within(self.shmmni, 32),
-            is_within(self.shmmax, 1048576) && self.shmmax <= self.shmall,
-            is_within(self.shmall, 1048576),
+            is_within(self.processes, most.processes),
+            is_within(self.msgmni, most.msgmni),
+            is_within(self.msgmax, most.msgmax) && self.msgmax <= self.msgmnb,
+            is_within(self.msgmnb, most.msgmnb),
+            is_within(self.semmni, most.semmni),
+            is_within(self.semmsl, most.semmsl) && self.semmsl <= self.semmns,
+            is_within(self.semmns, most.semmns),
+            is_within(self.semopm, most.semopm),
+            is_within(self.queues, most.queues),
+            is_within(self.maxmsg, most.maxmsg),
+            is_within(self.msgsize, most.msgsize),
+            is_within(self.named_semaphores, most.named_semaphores),
+            is_within(self.segments, most.segments),
+            is_within(self.segment_bytes, most.segment_bytes),
+            is_within(self.call_bytes, most.call_bytes),
+            is_within(self.descriptors, most.descriptors),
+            is_within(self.shmmni, most.shmmni),
+            is_within(self.shmmax, most.shmmax) && self.shmmax <= self.shmall,
+            is_within(self.shmall, most.shmall),
         ];
         match first_failing(&passes) {
             None => Ok(()),

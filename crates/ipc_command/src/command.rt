@@ -2,7 +2,7 @@
 
 ghost use Rattle.std.specs.Prelude.{◌≡◌, ℕ, Bool, true, false, List, [], ◌∷◌, ◌++◌, map, codes};
 ghost use Rattle.std.specs.Prelude.{IfOk, IfSome, IsSome, Option, option_and_then, option_map, string_bytes};
-ghost use Rattle.ipc_base.specs.Limits.{ArePassed};
+ghost use Rattle.ipc_base.specs.Limits.{ArePassed, AreWithin, standard_limits};
 ghost use Rattle.clap.specs.Words.{app_of, rule_of, fault_of, subcommand_of, subcommand_rows_of};
 ghost use Rattle.clap.specs.Words.{FailsBy, first_of, found_of, rows_of};
 ghost use Rattle.clap.specs.declared.builder.command.Command.TheViews.{out-Command};
@@ -524,6 +524,7 @@ fn number_in(command: &ArgMatches<'_>, name: &str) -> Option<u32>
 pub fn limits_of(small: bool) -> Limits
     ensures limits { result ≡ limits_asked small }
     ensures passed { ArePassed result }
+    ensures within { AreWithin standard_limits result }
 {
     if small {
         Limits::small()

@@ -17,7 +17,7 @@
 //!   memory alone. No words are taken in which the parser's definitions find a fault, and the error is one of their
 //!   faults, or want of memory (`refused`).
 //! - `Refusal::status` is the exit status of a command line that asks for nothing, and `limits_of` the limits by
-//!   whether small ones are asked for (`limits`), which passed their check (`passed`).
+//!   whether small ones are asked for (`limits`), which are within the standard ones (`passed`, `within`).
 #![tactic(auto)]
 
 mod command;

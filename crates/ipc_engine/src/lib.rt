@@ -13,9 +13,9 @@
 //!
 //! What the clauses say:
 //!
-//! - `Engine::new` wants limits that passed their check (`ArePassed`); `Limits::check` tests it, and the two sets of
-//!   limits have it. The new engine has the state `start`, no replies, no object that has changed and these limits
-//!   (`state`, `outcomes`, `changed`, `limits`).
+//! - `Engine::new` wants limits that pass by the greatest values of any device (`ArePassed`); `Limits::check` by values
+//!   within these tests it, and the two sets of limits have it. The new engine has the state `start`, no replies, no
+//!   object that has changed and these limits (`state`, `outcomes`, `changed`, `limits`).
 //! - `Engine::step` on a HELLO, a call, an INTERRUPT, a tick, an exit or a restart is the step of the definitions: its
 //!   state (`state`) and its replies in order (`outcomes`). It wants the process of a call, an INTERRUPT or an exit to
 //!   be connected, and nothing else.

@@ -29,12 +29,12 @@
 //!   free (`full`). After `remove` no fewer are free (`free`).
 //! - `flip`: at every moment of the call, also of one that fails, each image that a crash may leave has what was saved
 //!   at the old epoch, or all of the map at the new one, under the root that `set_next_root` has named (`any_moment`).
-//!   `set_next_root` makes the next flip write another root. Then what was saved stays under the old one at every moment
-//!   of the flip and after it (`kept`), until a put or a flip that follows. Once it is Ok, the map is what is saved
-//!   (`matches`, `map`, `durable`, `epoch`), and each sector that neither it nor its table uses is free (`free`). It is
-//!   `Full` only if fewer sectors are free than its table takes (`full`). If no other root was named,
-//!   each image has to the byte what one of then has in all sectors but those of the range that nothing used
-//!   there, or its root is of a later epoch (`meanwhile`, `KeepsUsedOrTurns` of `specs/Meanwhile.antt`).
+//!   `set_next_root` makes the next flip write another root. Then what was saved stays under the old one at every
+//!   moment of the flip and after it (`kept`), until a put or a flip that follows. Once it is Ok, the map is what is
+//!   saved (`matches`, `map`, `durable`, `epoch`), and each sector that neither it nor its table uses is free
+//!   (`free`). It is `Full` only if fewer sectors are free than its table takes (`full`). If no other root was named,
+//!   each image has to the byte what one of then has in all sectors but those of the range that nothing used there, or
+//!   its root is of a later epoch (`meanwhile`, `KeepsUsedOrTurns` of `specs/Meanwhile.antt`).
 //! - No call writes outside the range and the root (`others`), the disk is the same after each (`same`), a failure is
 //!   answered only if the disk counted one (`fault`, `counts`; of `open` and `read` `reads`), and what is written is
 //!   counted: the sectors of an object by a put, those of the table and the root by a flip, with two syncs (`counts`).

@@ -1,16 +1,24 @@
--- The sizes under limits that passed their check: none of their sums and products overflows.
-use Rattle.std.proofs.Common.{◌+◌, ◌*◌, ◌≤◌, arith}
+-- The sizes under limits that a device may have: none of their sums and products overflows.
+use Rattle.std.proofs.Common.{◌+◌, ◌*◌, ◌≤◌, refl, arith}
 use Rattle.std.proofs.lemmas.Nat.{mul-le}
 use Rattle.ipc_base.specs.declared.limits.Limits.{Limits}
-use Rattle.ipc_base.specs.Limits.{ArePassed}
-use Rattle.ipc_base.proofs.CallerLemmas.{passed-bounds}
+use Rattle.ipc_base.specs.Limits.{AreWithin, standard_limits}
+use Rattle.ipc_base.proofs.CallerLemmas.{AreBounded, bounds-within, within-greater}
 use Rattle.ipc_image.specs.declared.format.Format.{Format}
 use Rattle.ipc_image.specs.Format.{IsFormat}
-use Rattle.ipc_image.specs.Sizes.{sectors, process_sectors, shm_sectors, object_sectors}
+use Rattle.ipc_image.specs.Sizes.{sectors, process_sectors, shm_sectors, object_sectors, entries}
+use Rattle.ipc_image.specs.Superblock.{AreOf}
 use Rattle.ipc_image.proofs.Formats.{by-form}
+
+-- no version allows greater limits than the standard ones
+pub standard-bounds : (form : Format) (l : Limits) → IsFormat form → AreOf form l → AreBounded standard_limits l
+standard-bounds form l known of =
+    let below = by-form (λ f. AreWithin standard_limits f.most) refl refl form known in
+    bounds-within standard_limits l (within-greater form.most standard_limits l below of.within)
 
 -- what is used of them
 pub record Bounds (form : Format) (l : Limits) : Type 0 where
+  pub each : AreBounded standard_limits l
   pub numbers : form.numbers ≤ 6
   pub requests : l.processes * (16 + form.request) ≤ 4211712
   pub descriptors : l.processes * (16 + 16 * l.descriptors) ≤ 33792
@@ -21,11 +29,13 @@ pub record Bounds (form : Format) (l : Limits) : Type 0 where
   pub messages : l.maxmsg * (8 + l.msgsize) ≤ 82000
   pub posix_queues : l.queues * sectors (299 + l.maxmsg * (8 + l.msgsize)) ≤ 5152
   pub named_semaphores : l.named_semaphores * sectors 271 ≤ 64
+  pub shms : shm_sectors form l ≤ 2112
   pub objects : object_sectors form l ≤ 116032
+  pub few : entries form l ≤ 260
 
-pub bounds : (form : Format) (l : Limits) → IsFormat form → ArePassed l → Bounds form l
-bounds form l known passed =
-    let b = passed-bounds l passed in
+pub bounds : (form : Format) (l : Limits) → IsFormat form → AreOf form l → Bounds form l
+bounds form l known of =
+    let b = standard-bounds form l known of in
     let numbers : form.numbers ≤ 6 = by-form (λ f. f.numbers ≤ 6) (omega arith) (omega arith) form known in
     let request : form.request ≤ 65792 = by-form (λ f. f.request ≤ 65792) (omega arith) (omega arith) form known in
     let descriptors : l.processes * (16 + 16 * l.descriptors) ≤ 33792 =
@@ -47,6 +57,7 @@ bounds form l known passed =
     let shms : shm_sectors form l ≤ 2112 =
     by-form (λ f. shm_sectors f l ≤ 2112) (omega arith) (omega (arith, b.shmmni, b.shmall)) form known in
     record {
+      each = b;
       numbers = numbers;
       requests = requests;
       descriptors = descriptors;
@@ -57,5 +68,7 @@ bounds form l known passed =
       messages = messages;
       posix_queues = posix_queues;
       named_semaphores = named;
+      shms = shms;
       objects = omega (arith, queues, sets, posix_queues, named, segments, shms);
+      few = by-form (λ f. entries f l ≤ 260) (omega (arith, b)) (omega (arith, b)) form known;
     }

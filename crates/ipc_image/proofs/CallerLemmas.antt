@@ -1,19 +1,18 @@
 -- What the crates above cite of superblocks, of records, and of states as objects.
-use Rattle.std.proofs.Common.{◌≡◌, ℕ, ◌+◌, ◌*◌, ◌≤◌, ◌<◌, ◌^◌, List, [], ◌++◌, length, Some, inl, inr, refl, sym, ap, subst, ◌∙◌, arith}
+use Rattle.std.proofs.Common.{◌≡◌, ℕ, ◌+◌, ◌*◌, ◌<◌, ◌^◌, List, [], ◌++◌, length, Some, inl, inr, refl, sym, ap, subst, ◌∙◌, arith}
 use Rattle.std.specs.Int.{w32, w64, to_be_bytes}
 use Rattle.std.proofs.lemmas.List.{take_at}
 use Rattle.std.proofs.lemmas.Nat.{from_be_bytes-to_be_bytes_4, from_be_bytes-to_be_bytes_8}
 use Rattle.ipc_base.specs.declared.limits.Limits.{Limits}
-use Rattle.ipc_base.specs.Limits.{ArePassed}
+use Rattle.ipc_base.specs.Limits.{ArePassed, AreWithin}
 use Rattle.ipc_base.specs.Objects.{Fit, PlainObjects, object_sectors, table_bytes}
-use Rattle.ipc_base.proofs.CallerLemmas.{passed-bounds}
 use Rattle.ipc_engine.specs.Sound.{IsSound}
 use Rattle.ipc_state.specs.State.{State, start}
 use Rattle.ipc_engine.proofs.CallerLemmas.{start-sound}
 use Rattle.ipc_image.specs.declared.format.Format.{Format}
 use Rattle.ipc_image.specs.Format.{IsFormat, format, format_one}
 use Rattle.ipc_image.specs.Saved.{saved, saved_in, StandForState, StandForStateIn}
-use Rattle.ipc_image.specs.Sizes.{entries, area_of}
+use Rattle.ipc_image.specs.Sizes.{area_in, area_of}
 use Rattle.ipc_image.proofs.Bounds.{bounds}
 use Rattle.ipc_image.proofs.SavedObjects as objects
 use Rattle.ipc_image.proofs.SavedObjects.{saved-fit, start-places}
@@ -39,8 +38,8 @@ last-known = inr refl
 pub one-known : IsFormat format_one
 one-known = inl refl
 
--- limits that passed their check are of the last version
-pub last-of : (limits : Limits) → ArePassed limits → AreOf format limits
+-- limits within the greatest values of the last version are limits of it
+pub last-of : (limits : Limits) → AreWithin format.most limits → AreOf format limits
 last-of = reading.last_of
 
 -- a superblock begins as one
@@ -64,11 +63,8 @@ pub one-superblock : (form : Format) → IsFormat form → (sectors others : ℕ
 one-superblock = reading.one_superblock
 
 -- the bytes of an area can be counted in four
-pub area-counted : (limits : Limits) → ArePassed limits → 512 * area_of limits < 2 ^ 32
-area-counted limits passed =
-    let b = bounds format limits last-known passed in
-    let few : entries format limits ≤ 260 = omega (arith, passed-bounds limits passed) in
-    omega (arith, b.processes, b.objects, few)
+pub area-counted : (form : Format) → IsFormat form → (limits : Limits) → AreOf form limits → 512 * area_in form limits < 2 ^ 32
+area-counted form known limits of = let b = bounds form limits known of in omega (arith, b.processes, b.objects, b.few)
 
 -- a sound state fits where it is kept
 pub saved-fits : (limits : Limits) (s : State) → ArePassed limits → IsSound limits s → Fit (area_of limits) (saved s)

@@ -121,7 +121,7 @@ module _ {X : Type 0} (size : ℕ × X → ℕ) (object : ℕ × X → ℕ × Li
       All-cons (IsWithin most) e es (omega (arith, all, more)) (segment-within es most (omega (arith, all, more)))
 
   -- their bytes can be counted
-  segments-few : (es : List (ℕ × X)) (most : ℕ) → most ≤ 1048576 → sum_by size es ≤ most → All IsAround es → All (λ e. length (object e).1 < 2 ^ 64) es
+  segments-few : (es : List (ℕ × X)) (most : ℕ) → most ≤ 536870912 → sum_by size es ≤ most → All IsAround es → All (λ e. length (object e).1 < 2 ^ 64) es
   segments-few es most few all around = both es (segment-within es most all) around
     where
       both : (ds : List (ℕ × X)) → All (IsWithin most) ds → All IsAround ds → All (λ e. length (object e).1 < 2 ^ 64) ds
@@ -227,7 +227,7 @@ module _ (limits : Limits) (s : State) where
     pub later-are : ArePassed limits → AreBytes (later_objects o)
     later-are passed =
         let b = passed-bounds limits passed in
-        let most : most_mq limits < 2 ^ 64 = omega (arith, mul-le limits.maxmsg (8 + limits.msgsize) 10 8200 b.maxmsg (omega (arith, b.msgsize))) in
+        let most : most_mq limits < 2 ^ 64 = omega (arith, mul-le limits.maxmsg (8 + limits.msgsize) 10 65544 b.maxmsg (omega (arith, b.msgsize))) in
         let Some-bytes : ℕ × List ℕ → Type 0 = λ x. 0 < length x.1 in
         let Few-bytes : ℕ × List ℕ → Type 0 = λ x. length x.1 < 2 ^ 64 in
         let Short : ℕ × NamedEntry Mq → Type 0 = λ e. length (mq_bytes e.1) ≤ most_mq limits in
@@ -240,7 +240,7 @@ module _ (limits : Limits) (s : State) where
           few = later-have Few-bytes o (objects-have Few-bytes mq_object Short (λ e short. omega (arith, short, most)) o.mq.entries mqs-short)
               (objects-have Few-bytes psem_object (HasName 251) (λ e short. omega (arith, short, psem-long e.1)) o.psem.entries (names-short names.Psem))
               (All-map Few-bytes pshm_object o.pshm.entries
-              (segments-few pshm_size pshm_object o.pshm.entries limits.segment_bytes b.segment_bytes (sound.parts.named names.Pshm).together
+              (segments-few pshm_size pshm_object o.pshm.entries limits.segment_bytes (omega (arith, b.segment_bytes)) (sound.parts.named names.Pshm).together
               segments-around))
               (All-map Few-bytes shm_object o.shm.entries
               (segments-few shm_size shm_object o.shm.entries limits.shmall b.shmall sound.parts.shm.together (shms-around o.shm.entries)));

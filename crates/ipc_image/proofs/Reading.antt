@@ -1,6 +1,6 @@
 -- What a sector that is a superblock holds, and what makes one of it.
 use Rattle.std.proofs.Common.{◌≡◌, ℕ, zero, suc, ◌+◌, ◌*◌, ◌≤◌, ◌<◌, ◌^◌, Bool, true, false, eqb, List, [], ◌∷◌, ◌++◌, take, drop, get_or}
-use Rattle.std.proofs.Common.{inl, refl, sym, ap, ◌∙◌, arith}
+use Rattle.std.proofs.Common.{inl, inr, refl, sym, ap, ◌∙◌, arith}
 use Rattle.std.specs.Prelude.{All, Option, Result, Ok, Err, Some, None, IfErr, OnOk, if◌then◌else◌, not, position, replicate}
 use Rattle.std.proofs.lemmas.List.Elements.{All-nil}
 use Rattle.std.specs.Cmp.Lexicographic.{pointwise}
@@ -15,9 +15,9 @@ use Rattle.ipc_base.specs.declared.limits.Limits.{Limits}
 use Rattle.ipc_base.specs.declared.limits.BadLimits.{BadLimits}
 use Rattle.ipc_base.specs.declared.field.Size.{Size}
 use Rattle.ipc_base.specs.declared.field.Size.TheVariants.{Four}
-use Rattle.ipc_base.specs.Limits.{ArePassed, tests}
+use Rattle.ipc_base.specs.Limits.{ArePassed, AreWithin, greatest_limits, tests}
 use Rattle.ipc_base.specs.Numbers.{fields_bytes, FitFields}
-use Rattle.ipc_base.proofs.CallerLemmas.{passed-bounds, fields_one}
+use Rattle.ipc_base.proofs.CallerLemmas.{passed-bounds, within-greater, fields_one}
 use Rattle.ipc_image.specs.declared.format.Format.{Format}
 use Rattle.ipc_image.specs.Format.{IsFormat, format, format_one, has_shms}
 use Rattle.ipc_image.specs.Sizes.{need_of}
@@ -100,17 +100,20 @@ module _ (form : Format) (known : IsFormat form) (sectors : ℕ) (limits : Limit
       sym (take-append-drop (4 * form.limits) all)
       ∙ ap (λ (l : List ℕ). l ++ after_limits) (take-take (4 * form.limits) 476 (drop 36 sector) few ∙ after 36 (4 * form.limits) refl ∙ limits_spelled)
 
--- limits that passed their check are of the last version
-pub last_of : (limits : Limits) → ArePassed limits → AreOf format limits
-last_of limits passed =
-    let b = passed-bounds limits passed in
-    record { passed = passed; msgmni = b.msgmni; msgmax = b.msgmax.1; msgmnb = b.msgmnb.1; others = All-nil _ }
+-- limits within the greatest values of a version passed the check of any
+pub within_passed : (form : Format) → IsFormat form → (limits : Limits) → AreWithin form.most limits → ArePassed limits
+within_passed form known limits =
+    within-greater form.most greatest_limits limits (by-form (λ f. ArePassed f.most) refl refl form known)
+
+-- those of the last version have all limits
+pub last_of : (limits : Limits) → AreWithin format.most limits → AreOf format limits
+last_of limits within = record { passed = within_passed format (inr refl) limits within; within = within; others = All-nil _ }
 
 -- what was written is a superblock
-pub written : (sectors : ℕ) (limits : Limits) → ArePassed limits → need_of limits ≤ sectors
+pub written : (sectors : ℕ) (limits : Limits) → AreOf format limits → need_of limits ≤ sectors
     → IsSuperblock sectors limits (superblock_bytes sectors limits)
 unfolding named_bytes
-written sectors limits passed room = record { named = refl; of = last_of limits passed; room = room }
+written sectors limits of room = record { named = refl; of = of; room = room }
 
 -- the limits among the numbers, and those of System V segments
 abbrev pub limits_in : List ℕ → List ℕ → Limits
@@ -218,12 +221,13 @@ agree xs ys other tested is = (slice_eq-Decides Decides-eqb xs ys (pointwise eqb
     by_test true e = refl
     by_test false e = cc
 
--- limits that the check refused did not pass it, and the others did
-pub refused : {T : Type 0} (limits : Limits) (checked : Result T BadLimits) → IfErr checked (λ fault. position not (tests limits) ≡ Some fault.field)
-    → is_err checked ≡ true → ArePassed limits → ⊥
-refused limits (Ok x) first is passed = cc
-refused limits (Err fault) first is passed = let both : Some fault.field ≡ None = sym first ∙ passed in cc
+-- limits that the check refused are not within the greatest values, and the others are limits of the version
+pub refused : {T : Type 0} (most limits : Limits) (checked : Result T BadLimits)
+    → IfErr checked (λ fault. position not (tests most limits) ≡ Some fault.field) → is_err checked ≡ true → AreWithin most limits → ⊥
+refused most limits (Ok x) first is within = cc
+refused most limits (Err fault) first is within = let both : Some fault.field ≡ None = sym first ∙ within in cc
 
-pub accepted : {T : Type 0} (limits : Limits) (checked : Result T BadLimits) → OnOk checked (ArePassed limits) → is_err checked ≡ false → ArePassed limits
-accepted limits (Ok x) passed is = passed
-accepted limits (Err fault) passed is = cc
+pub accepted : {T : Type 0} (form : Format) → IsFormat form → (limits : Limits) (checked : Result T BadLimits)
+    → OnOk checked (AreWithin form.most limits) → is_err checked ≡ false → All (λ n. n ≡ 1) (drop form.limits (limit_fields limits)) → AreOf form limits
+accepted form known limits (Ok x) within is others = record { passed = within_passed form known limits within; within = within; others = others }
+accepted form known limits (Err fault) within is others = cc

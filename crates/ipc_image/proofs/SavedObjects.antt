@@ -309,7 +309,7 @@ module _ (limits : Limits) (s : State) (passed : ArePassed limits) (sound : IsSo
   pub undo-counted : length (adjustments_in s.undo) < 2 ^ 32
   undo-counted =
       let b = passed-bounds limits passed in
-      omega (arith, undo-few, mul-le limits.processes limits.semmns 64 512 b.processes.1 b.semmns)
+      omega (arith, undo-few, mul-le limits.processes limits.semmns 4096 512 b.processes.1 b.semmns)
 
   numbers-rise : IsRising 0 (keys_of (saved s)) (2 ^ 64)
   unfolding saved_in
@@ -332,8 +332,8 @@ module _ (limits : Limits) (s : State) (passed : ArePassed limits) (sound : IsSo
       let Few-bytes : ℕ × List ℕ → Type 0 = λ o. length o.1 < 2 ^ 64 in
       let IsShort : ℕ × KeyedEntry Set → Type 0 = λ e. length (set_bytes e.1) ≤ 44 + 6 * limits.semmsl in
       let later = later-are limits s sound passed in
-      let processes : limits.processes * (16 + 16 * limits.descriptors) ≤ 64 * 528 =
-      mul-le limits.processes (16 + 16 * limits.descriptors) 64 528 b.processes.1 (omega (arith, b.descriptors)) in
+      let processes : limits.processes * (16 + 16 * limits.descriptors) ≤ 4096 * 528 =
+      mul-le limits.processes (16 + 16 * limits.descriptors) 4096 528 b.processes.1 (omega (arith, b.descriptors)) in
       record {
         numbers = numbers-rise;
         some = each-saved s Some-bytes (omega arith) (omega (arith, processes-long s.processes.entries)) (omega (arith, waits-long s.wait))

@@ -1,5 +1,6 @@
 -- The form of a device: what a version of it fixes, and the places that are the same on each.
 use Rattle.std.specs.Prelude.{◌≡◌, ◌⊎◌, ℕ, ◌+◌, Bool, nat_eq}
+use Rattle.ipc_base.specs.Limits.{standard_limits}
 use Rattle.ipc_wire.specs.Sizes.{greatest_length}
 use Rattle.ipc_image.specs.declared.format.Format.{Format}
 
@@ -13,9 +14,7 @@ format =
       numbers = 6;
       request = greatest_length;
       batch = 131072;
-      msgmni = 64;
-      msgmax = 65536;
-      msgmnb = 65536;
+      most = standard_limits;
     }
 
 -- the one before it, of the devices that can be upgraded
@@ -28,9 +27,15 @@ format_one =
       numbers = 5;
       request = 8448;
       batch = 32768;
-      msgmni = 32;
-      msgmax = 8192;
-      msgmnb = 16384;
+      -- the queues are smaller, and what it lacks is 1
+      most = record standard_limits {
+        msgmni = 32;
+        msgmax = 8192;
+        msgmnb = 16384;
+        shmmni = 1;
+        shmmax = 1;
+        shmall = 1;
+      };
     }
 
 -- there is no other

@@ -3,7 +3,7 @@ use Rattle.std.specs.Prelude.{◌≡◌, ◌≤◌, ◌-◌, ℕ, ◌+◌, ◌*�
 use Rattle.std.specs.Int.{w32, to_be_bytes, from_be_bytes}
 use Rattle.std.specs.List.{flat_map}
 use Rattle.ipc_base.specs.declared.limits.Limits.{Limits}
-use Rattle.ipc_base.specs.Limits.{ArePassed}
+use Rattle.ipc_base.specs.Limits.{ArePassed, AreWithin}
 use Rattle.ipc_base.specs.declared.field.Size.{Size}
 use Rattle.ipc_base.specs.declared.field.Size.TheVariants.{Four}
 use Rattle.ipc_image.specs.Format.{format, journal_first, journal_count, objects_first}
@@ -74,9 +74,7 @@ sectors_in sector = from_be_bytes w32 (take 4 (drop 12 sector))
 -- limits that a device of that version may have; those that the version lacks are 1
 pub record AreOf (form : Format) (limits : Limits) : Type 0 where
   pub passed : ArePassed limits
-  pub msgmni : limits.msgmni ≤ form.msgmni
-  pub msgmax : limits.msgmax ≤ form.msgmax
-  pub msgmnb : limits.msgmnb ≤ form.msgmnb
+  pub within : AreWithin form.most limits
   pub others : All (λ n. n ≡ 1) (drop form.limits (limit_fields limits))
 
 -- The sector is the superblock of a device of so many sectors, with these limits. Bytes without a meaning may be any. A

@@ -3,6 +3,7 @@
 ghost use Rattle.std.specs.Prelude.{◌≡◌};
 ghost use Rattle.ipc_image.specs.Format.{has_shms};
 
+use ipc_base::{Limits, STANDARD};
 use ipc_wire::GREATEST_LENGTH;
 
 /// What a version of the device fixes.
@@ -20,12 +21,8 @@ pub struct Format {
     pub request: u32,
     /// The most bytes of a batch of events, with its length.
     pub batch: u32,
-    /// The most message queues that its limits may allow.
-    pub msgmni: u32,
-    /// The most bytes of one message that they may allow.
-    pub msgmax: u32,
-    /// The most bytes of one queue that they may allow.
-    pub msgmnb: u32,
+    /// The greatest values of its limits, by which they are tested; 1 for those that it lacks.
+    pub most: Limits,
 }
 
 /// The one of the devices that are made and opened.
@@ -36,9 +33,7 @@ pub const FORMAT: Format = Format {
     numbers: 6,
     request: GREATEST_LENGTH,
     batch: 131072,
-    msgmni: 64,
-    msgmax: 65536,
-    msgmnb: 65536,
+    most: STANDARD,
 };
 
 /// The one before it, of the devices that can be upgraded.
@@ -49,9 +44,15 @@ pub const FORMAT_ONE: Format = Format {
     numbers: 5,
     request: 8448,
     batch: 32768,
-    msgmni: 32,
-    msgmax: 8192,
-    msgmnb: 16384,
+    most: Limits {
+        msgmni: 32,
+        msgmax: 8192,
+        msgmnb: 16384,
+        shmmni: 1,
+        shmmax: 1,
+        shmall: 1,
+        ..STANDARD
+    },
 };
 
 impl Format {

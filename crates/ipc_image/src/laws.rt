@@ -9,15 +9,15 @@ ghost use Rattle.ipc_engine.specs.Sound.{IsSound};
 ghost use Rattle.ipc_state.specs.State.{State};
 ghost use Rattle.ipc_image.specs.Records.{record_bytes, HasRecord, BeginsWith};
 ghost use Rattle.ipc_image.specs.declared.format.Format.{Format};
-ghost use Rattle.ipc_image.specs.Format.{IsFormat};
+ghost use Rattle.ipc_image.specs.Format.{IsFormat, format};
 ghost use Rattle.ipc_image.specs.Saved.{saved, StandForStateIn};
-ghost use Rattle.ipc_image.specs.Sizes.{area_of, need_of};
-ghost use Rattle.ipc_image.specs.Superblock.{IsSuperblock, IsSuperblockIn, superblock_bytes};
+ghost use Rattle.ipc_image.specs.Sizes.{area_in, area_of, need_of};
+ghost use Rattle.ipc_image.specs.Superblock.{AreOf, IsSuperblock, IsSuperblockIn, superblock_bytes};
 
-/// What was written is the superblock of that device with those limits, if they passed their check
-/// and the device has room for them.
+/// What was written is the superblock of that device with those limits, if its version may have them and the device has
+/// room for them.
 pub fn superblock_is_read()
-    ensures { (sectors : ℕ) (limits : Limits) → ArePassed limits → need_of limits ≤ sectors
+    ensures { (sectors : ℕ) (limits : Limits) → AreOf format limits → need_of limits ≤ sectors
         → IsSuperblock sectors limits (superblock_bytes sectors limits) }
 {}
 
@@ -51,8 +51,9 @@ pub fn objects_stand_for_one_state()
         → StandForStateIn form limits s objects → StandForStateIn form others t objects → s ≡ t }
 {}
 
-/// An area takes at most 126090 sectors under limits that passed their check, so its bytes can be
+/// An area takes at most 126090 sectors under limits that a device may have, so its bytes can be
 /// counted in four.
 pub fn an_area_can_be_counted()
-    ensures { (limits : Limits) → ArePassed limits → 512 * area_of limits < 2 ^ 32 }
+    ensures { (form : Format) → IsFormat form → (limits : Limits) → AreOf form limits
+        → 512 * area_in form limits < 2 ^ 32 }
 {}

@@ -31,12 +31,14 @@
 //!
 //! - What a device says is read by its form (`Format`): version 1 or version 2, and no other (`specs/Format.antt`).
 //! - `area` and `need` are the numbers of sectors of the definitions (`specs/Sizes.antt`) for a device of a given form,
-//!   under limits that passed their check (`exact`): at most 126090 and 252440 (`bounded`). No sum or product on the
-//!   way overflows.
+//!   under limits that it may have (`AreOf`; `exact`): at most 126090 and 252440 (`bounded`). No sum or product on the
+//!   way overflows. `checked_need` is `need` of version 2 (`exact`) if `check` by the greatest values of that version
+//!   accepts the limits, which it may then have (`within`, `of`); else it names the first field that fails (`first`).
 //! - `write_superblock` makes the sector exactly the bytes of the definition (`specs/Superblock.antt`), zeros included.
 //! - `read_superblock` answers a number of sectors and limits only if the sector is the superblock of a device of the
 //!   given form, of so many with these limits (`ok`), of no more than the disk has (`room`), and answers them whenever
-//!   it is (`only`); the limits passed their check (`passed`), and one of which the version has no number is 1 (`of`).
+//!   it is (`only`); the limits passed their check (`passed`) by the greatest values of the version, and one of which
+//!   it has no number is 1 (`of`).
 //!   Each fault is answered if, and only if, it is the first: `NotFormatted` if the sector does not begin as a
 //!   superblock (`not_formatted`), `Version` with the version that it names, if that is not the form's (`version`),
 //!   `Damaged` if the version is the form's and the sector is the superblock of no device of this form for which the
@@ -108,6 +110,6 @@ pub use laws::{
 pub use places::{JOURNAL, JOURNAL_COUNT, OBJECTS, SUPERBLOCK};
 pub use records::{read_event, record_len, write_event};
 pub use restoring::engine_of;
-pub use sizes::{area, need};
+pub use sizes::{area, checked_need, need};
 pub use state_objects::{StateObjects, start_objects};
 pub use superblock::{Superblock, read_superblock, write_superblock};

@@ -1,8 +1,9 @@
 //! How many sectors a device must have under given limits.
 
 ghost use Rattle.std.specs.Prelude.{◌≡◌, ◌≤◌, ◌<◌, ◌+◌, ◌*◌, ◌^◌, if◌then◌else◌};
-ghost use Rattle.ipc_base.specs.Limits.{ArePassed};
-ghost use Rattle.ipc_image.specs.Format.{IsFormat, has_shms};
+ghost use Rattle.std.specs.Prelude.{IfErr, IfOk, OnOk, Some, not, position};
+ghost use Rattle.ipc_base.specs.Limits.{tests, AreWithin};
+ghost use Rattle.ipc_image.specs.Format.{IsFormat, format, has_shms};
 ghost use Rattle.ipc_image.specs.Sizes.{
   sectors,
   process_sectors,
@@ -11,17 +12,19 @@ ghost use Rattle.ipc_image.specs.Sizes.{
   entries,
   area_in,
   need_in,
+  need_of,
 };
+ghost use Rattle.ipc_image.specs.Superblock.{AreOf};
 
-use crate::format::Format;
+use crate::format::{FORMAT, Format};
 use crate::places::OBJECTS;
-use ipc_base::Limits;
+use ipc_base::{BadLimits, Limits};
 
 /// How many sectors an image of all that is kept takes at most, with its table, on a device of that version: of the
 /// last one 553 under small limits, 126090 under standard ones.
 pub fn area(form: Format, limits: &Limits) -> u32
-    requires passed { ArePassed limits.now }
     requires known { IsFormat form }
+    requires of { AreOf form limits.now }
     ensures exact { result ≡ area_in form limits.now }
     ensures bounded { result ≤ 126090 }
 {
@@ -33,19 +36,30 @@ pub fn area(form: Format, limits: &Limits) -> u32
 /// How many sectors a device of that version has at least: room for the image that is there and for the next one, so a
 /// save is never short of sectors. Of the last one 1366 under small limits, 252440 under standard ones.
 pub fn need(form: Format, limits: &Limits) -> u32
-    requires passed { ArePassed limits.now }
     requires known { IsFormat form }
+    requires of { AreOf form limits.now }
     ensures exact { result ≡ need_in form limits.now }
     ensures bounded { result ≤ 252440 }
 {
     OBJECTS + 2 * area(form, limits)
 }
 
+/// `need` for a new device, whose limits are not tested yet. Refused for limits that `check` by `FORMAT.most` refuses.
+pub fn checked_need(limits: &Limits) -> Result<u32, BadLimits>
+    ensures within { OnOk result (AreWithin format.most limits.now) }
+    ensures of { OnOk result (AreOf format limits.now) }
+    ensures exact { IfOk result (λ need. need ≡ need_of limits.now) }
+    ensures first { IfErr result (λ fault. position not (tests format.most limits.now) ≡ Some fault.field) }
+{
+    limits.check(&FORMAT.most)?;
+    Ok(need(FORMAT, limits))
+}
+
 /// The clock, the processes, their waiting calls and their adjustments.
 #[tactic(auto, using(crate::proofs::Bounds::bounds))]
 fn process_part(form: Format, limits: &Limits) -> u32
-    requires passed { ArePassed limits.now }
     requires known { IsFormat form }
+    requires of { AreOf form limits.now }
     ensures exact { result ≡ process_sectors form limits.now }
     ensures bounded { result ≤ 9064 }
 {
@@ -59,8 +73,8 @@ fn process_part(form: Format, limits: &Limits) -> u32
 /// The objects of each kind.
 #[tactic(auto, using(crate::proofs::Bounds::bounds))]
 fn object_part(form: Format, limits: &Limits) -> u32
-    requires passed { ArePassed limits.now }
     requires known { IsFormat form }
+    requires of { AreOf form limits.now }
     ensures exact { result ≡ object_sectors form limits.now }
     ensures bounded { result ≤ 116032 }
 {
@@ -75,7 +89,8 @@ fn object_part(form: Format, limits: &Limits) -> u32
 /// The System V segments.
 #[tactic(auto, using(crate::proofs::Bounds::bounds))]
 fn shm_part(form: Format, limits: &Limits) -> u32
-    requires passed { ArePassed limits.now }
+    requires known { IsFormat form }
+    requires of { AreOf form limits.now }
     ensures exact { result ≡ shm_sectors form limits.now }
     ensures bounded { result ≤ 2112 }
 {
@@ -86,8 +101,10 @@ fn shm_part(form: Format, limits: &Limits) -> u32
 }
 
 /// The entries of the table.
+#[tactic(auto, using(crate::proofs::Bounds::bounds))]
 fn entry_count(form: Format, limits: &Limits) -> u32
-    requires passed { ArePassed limits.now }
+    requires known { IsFormat form }
+    requires of { AreOf form limits.now }
     ensures exact { result ≡ entries form limits.now }
     ensures bounded { result ≤ 260 }
 {

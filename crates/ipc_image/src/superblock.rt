@@ -1,7 +1,7 @@
 //! The superblock: written, and read.
 
 ghost use Rattle.std.specs.Prelude.{◌≡◌, ◌≢◌, ◌≤◌, ◌+◌, ◌↔◌, ◌++◌, ℕ, List, Some, take, drop, replicate};
-ghost use Rattle.std.specs.Prelude.{Ok, IfOk, IfSome, IsErrOf, IsTrue, All, true, false};
+ghost use Rattle.std.specs.Prelude.{Ok, IfOk, IfSome, IsErrOf, All, true, false};
 ghost use Rattle.std.specs.Int.{w32, to_be_bytes};
 ghost use Rattle.std.specs.List.{flat_map};
 ghost use Rattle.ipc_base.specs.Limits.{ArePassed};
@@ -50,7 +50,8 @@ pub struct Superblock {
 }
 
 /// Makes the sector the superblock of a device of so many sectors, with these limits, of the last version. It tests
-/// neither: if `check` refuses the limits, or the sectors are fewer than `need`, the sector is read as `Damaged`.
+/// neither: if `check` by `FORMAT.most` refuses the limits, or the sectors are fewer than `need`, the sector is read as
+/// `Damaged`.
 pub fn write_superblock(into: &mut [u8; 512], sectors: u32, limits: &Limits)
     ensures { into.new ≡ superblock_bytes sectors limits.now }
 {
@@ -133,8 +134,7 @@ fn limits_of(form: Format, sector: &[u8; 512], sectors: u32) -> Option<Limits>
     let limits = limits_in(form, &sector[36..])?;
     let again = superblock_of(form, sectors, &limits);
     if named_bytes(form, &again) != named_bytes(form, sector)
-        || limits.check().is_err()
-        || !are_within(form, &limits)
+        || limits.check(&form.most).is_err()
         || need(form, &limits) > sectors
     {
         return None;
@@ -148,14 +148,6 @@ fn named_bytes(form: Format, sector: &[u8; 512]) -> &[u8]
     ensures { result.now ≡ take (named_length form) sector.now }
 {
     &sector[..36 + 4 * form.limits as usize]
-}
-
-/// Whether the limits whose greatest values differ by version are within those of this one.
-fn are_within(form: Format, limits: &Limits) -> bool
-    ensures { IsTrue result ↔ ((limits.now.msgmni ≤ form.msgmni) × (limits.now.msgmax ≤ form.msgmax)
-        × (limits.now.msgmnb ≤ form.msgmnb)) }
-{
-    limits.msgmni <= form.msgmni && limits.msgmax <= form.msgmax && limits.msgmnb <= form.msgmnb
 }
 
 /// The version that a sector names.

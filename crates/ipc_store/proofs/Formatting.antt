@@ -4,7 +4,6 @@ use Rattle.std.proofs.Common.{inl, inr, ⊎_elim, sym, ◌∙◌, ap, subst, ari
 use Rattle.std.proofs.lemmas.List.{get_or-set_same, get_or-set_other, length-set}
 use Rattle.std.proofs.lemmas.List.Elements.{All-nil}
 use Rattle.ipc_base.specs.declared.limits.Limits.{Limits}
-use Rattle.ipc_base.specs.Limits.{ArePassed}
 use Rattle.ipc_base.specs.Objects.{PlainObjects}
 use Rattle.ipc_disk.specs.Medium.{Image, Medium, IsHonest, SetOrNot}
 use Rattle.ipc_disk.specs.Since.{EachImageSince, SameAt, LeavesAlone}
@@ -19,9 +18,9 @@ use Rattle.ipc_checkpoint.proofs.CallerLemmas.{Holds-alone}
 use Rattle.ipc_state.specs.State.{State}
 use Rattle.ipc_image.specs.Saved.{StandForState}
 use Rattle.ipc_image.specs.declared.format.Format.{Format}
-use Rattle.ipc_image.specs.Format.{format, format_one, IsFormat}
-use Rattle.ipc_image.specs.Sizes.{area_in, area_of, need_in}
-use Rattle.ipc_image.specs.Superblock.{magic, IsFormatted, sectors_in, IsSuperblock}
+use Rattle.ipc_image.specs.Format.{format, IsFormat}
+use Rattle.ipc_image.specs.Sizes.{need_in}
+use Rattle.ipc_image.specs.Superblock.{AreOf, magic, IsFormatted, sectors_in, IsSuperblock}
 use Rattle.ipc_image.proofs.CallerLemmas.{area-counted, superblock-sectors}
 use Rattle.ipc_store.specs.Image.{journal_form, journal_range, first_epoch, layout_in, layout_of, named_sectors, NamesAll, StandsFor, IsNotFormatted}
 use Rattle.ipc_store.specs.Relations.Format.{EachNow, IsErased, IsPrepared}
@@ -46,24 +45,16 @@ erased-other image at bytes elsewhere erased =
     subst (λ (s : List ℕ). ¬ IsFormatted s)
     (sym (get_or-set_other image at 0 bytes [] (λ same. absurd (omega (arith, same))))) erased
 
--- an area of the old version is no larger than one of today under the same limits
-area-least : (form : Format) → IsFormat form → (limits : Limits) → area_in form limits ≤ area_of limits
-area-least form known limits = ⊎_elim (λ one. subst (λ (f : Format). area_in f limits ≤ area_of limits) (sym one) smaller)
-    (λ two. omega (arith, ap (λ (f : Format). area_in f limits) two)) known
-  where
-    smaller : area_in format_one limits ≤ area_of limits
-    smaller = omega arith
-
 -- where the objects lie there is room for them, if the device is large enough
-pub laid-out : (form : Format) → IsFormat form → (limits : Limits) (sectors size : ℕ) → ArePassed limits → need_in form limits ≤ sectors → sectors ≤ size
+pub laid-out : (form : Format) → IsFormat form → (limits : Limits) (sectors size : ℕ) → AreOf form limits → need_in form limits ≤ sectors → sectors ≤ size
     → IsLaidOut (layout_in form limits sectors) size
-laid-out form known limits sectors size passed room there = record {
+laid-out form known limits sectors size of room there = record {
   within = omega (arith, room, there);
   root = omega (arith, room, there, form-root form known);
   apart = inl (omega (arith, form-root form known));
   not_first = omega arith;
   room = omega (arith, room, there);
-  counted = omega (arith, area-counted limits passed, area-least form known limits);
+  counted = omega (arith, area-counted form known limits of);
 }
 
 -- the header of the journal is written

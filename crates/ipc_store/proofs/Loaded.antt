@@ -2,7 +2,6 @@
 use Rattle.std.proofs.Common.{◌≡◌, inl, inr, ⊎_elim, ℕ, ◌≤◌, List, Ok, sym, ap, subst, refl, ◌∙◌, arith}
 use Rattle.std.specs.Prelude.{map}
 use Rattle.ipc_base.specs.declared.limits.Limits.{Limits}
-use Rattle.ipc_base.specs.Limits.{ArePassed}
 use Rattle.ipc_base.specs.Objects.{PlainObjects}
 use Rattle.ipc_checkpoint.specs.declared.layout.Layout.{Layout}
 use Rattle.ipc_checkpoint.specs.Checkpoint.{IsLaidOut}
@@ -25,6 +24,7 @@ use Rattle.ipc_image.specs.declared.format.Format.{Format}
 use Rattle.ipc_image.specs.Format.{format}
 use Rattle.ipc_image.specs.Saved.{StandForStateIn}
 use Rattle.ipc_image.specs.Sizes.{area_of, need_of}
+use Rattle.ipc_image.specs.Superblock.{AreOf}
 use Rattle.ipc_store.specs.Batch.{batch_bytes}
 use Rattle.ipc_store.specs.Image.{journal_form, journal_range, layout_of, named_sectors, IsDevice, LeadTo}
 use Rattle.ipc_store.specs.Relations.Loading.{OnlySyncs}
@@ -144,9 +144,9 @@ module _ (limits : Limits) (sectors : ℕ) (checkpoint : CheckpointView) (layout
         record { device = both.0; tracked = both.1 }
 
     -- and where it lies
-    pub on-disk : (last : ℕ) → sectors ≤ last → ArePassed limits → need_of limits ≤ sectors → AreOnDisk last machine.limits checkpoint journal
-    on-disk last there passed room = record {
-      objects = subst (λ (l : Layout). IsLaidOut l last) (sym layout) (laid-out format (inr refl) limits sectors last passed room there);
+    pub on-disk : (last : ℕ) → sectors ≤ last → AreOf format limits → need_of limits ≤ sectors → AreOnDisk last machine.limits checkpoint journal
+    on-disk last there of room = record {
+      objects = subst (λ (l : Layout). IsLaidOut l last) (sym layout) (laid-out format (inr refl) limits sectors last of room there);
       room = ap (λ (l : Layout). l.area) layout ∙ ap area_of (sym same);
       form = form;
       within = subst (λ (r : Range). IsWithin r last) (sym range) (omega (arith, there, room));

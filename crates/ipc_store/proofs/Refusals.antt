@@ -3,11 +3,11 @@ use Rattle.std.proofs.Common.{◌≡◌, ◌<◌, inl, inr, ℕ, sym, subst}
 use Rattle.std.specs.Prelude.{IfErr, Result}
 use Rattle.std.specs.Result.{IsErrAnd}
 use Rattle.std.proofs.lemmas.Result.{err_from_is_err_and}
-use Rattle.ipc_base.specs.Limits.{ArePassed}
 use Rattle.ipc_base.specs.declared.limits.Limits.{Limits}
 use Rattle.ipc_disk.specs.Medium.{Image}
-use Rattle.ipc_image.specs.Format.{format_one}
+use Rattle.ipc_image.specs.Format.{format, format_one}
 use Rattle.ipc_image.specs.Sizes.{need_of}
+use Rattle.ipc_image.specs.Superblock.{AreOf}
 use Rattle.ipc_image.specs.declared.format.Format.{Format}
 use Rattle.ipc_store.specs.Image.{IsDeviceIn, IsFirstFaultIn}
 use Rattle.ipc_store.specs.Refusals.{IsOldDamage, IsRefusal, IsUpgradeRefusal, MayBecome}
@@ -48,7 +48,7 @@ module _ (form : Format) (image : Image) where
       (is.damaged, subst (IsFirstFaultIn form image) (sym is.first) (IsFirstFaultIn.Superblock is.none))
   superblock-refused errors.NoMemory is = absurd is
 
-module _ (limits : Limits) (size : ℕ) (image : Image) (checked : ArePassed limits) where
+module _ (limits : Limits) (size : ℕ) (image : Image) (checked : AreOf format limits) where
   pub superblock-upgrade : (error : OpenError) → IsSuperblockRefusal format_one image error → IsUpgradeRefusal limits size image (of_open_error error)
   superblock-upgrade errors.Device is = tt
   superblock-upgrade errors.NotFormatted is = (checked, is)

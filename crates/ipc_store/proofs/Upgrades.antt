@@ -2,7 +2,6 @@
 use Rattle.std.proofs.Common.{◌≡◌, ◌⊎◌, inl, inr, ⊎_elim, ℕ, ◌<◌, ◌≤◌, ◌^◌, [], length, refl, sym, ap, subst, ◌∙◌, arith}
 use Rattle.std.specs.Prelude.{position, not as is_not}
 use Rattle.std.proofs.lemmas.Option.{none-some}
-use Rattle.ipc_base.specs.Limits.{ArePassed}
 use Rattle.ipc_base.specs.declared.limits.Limits.{Limits}
 use Rattle.ipc_disk.specs.Growth.{HasGrown}
 use Rattle.ipc_disk.specs.Medium.{Image, Medium, IsHonest, Stays}
@@ -11,6 +10,7 @@ use Rattle.ipc_state.specs.State.{State, restart}
 use Rattle.ipc_image.specs.Format.{format, format_one}
 use Rattle.ipc_image.specs.Greater.{AreAtLeast, at_least}
 use Rattle.ipc_image.specs.Sizes.{need_of}
+use Rattle.ipc_image.specs.Superblock.{AreOf}
 use Rattle.ipc_store.specs.declared.fault.UpgradeError.{UpgradeError}
 use Rattle.ipc_store.specs.declared.fault.UpgradeError.TheVariants as errors
 use Rattle.ipc_store.specs.Image.{StandsFor, StandsForIn}
@@ -86,19 +86,19 @@ only-read limits old new call law = record {
 
 -- a disk that stands for a state has no fault of its own, and limits and room that do are not refused
 module _ (limits own : Limits) (s : State) (size : ℕ) (image : Image) where
-  pub refused-by : (error : UpgradeError) → length image < 2 ^ 32 → StandsForIn format_one own s image → ArePassed limits → AreAtLeast limits own
+  pub refused-by : (error : UpgradeError) → length image < 2 ^ 32 → StandsForIn format_one own s image → AreOf format limits → AreAtLeast limits own
       → need_of limits ≤ size → IsUpgradeRefusal limits size image error → (error ≡ errors.Device) ⊎ (error ≡ errors.NoMemory) ⊎ HasNoNextEpoch image
-  refused-by errors.Device fits stands passed greater room is = inl refl
-  refused-by errors.NoMemory fits stands passed greater room is = inr (inl refl)
-  refused-by errors.NotFormatted fits stands passed greater room is =
+  refused-by errors.Device fits stands of greater room is = inl refl
+  refused-by errors.NoMemory fits stands of greater room is = inr (inl refl)
+  refused-by errors.NotFormatted fits stands of greater room is =
       absurd ((device-begins format_one (inl refl) own image stands.kept.device).0 is.1)
-  refused-by (errors.Version found) fits stands passed greater room is =
+  refused-by (errors.Version found) fits stands of greater room is =
       absurd (is.1.other (sym is.1.version ∙ (device-begins format_one (inl refl) own image stands.kept.device).1))
-  refused-by (errors.BadLimits bad) fits stands passed greater room (inl untold) = absurd (none-some bad.field (sym passed ∙ untold))
-  refused-by (errors.BadLimits bad) fits stands passed greater room (inr below) =
+  refused-by (errors.BadLimits bad) fits stands of greater room (inl untold) = absurd (none-some bad.field (sym of.within ∙ untold))
+  refused-by (errors.BadLimits bad) fits stands of greater room (inr below) =
       let same = IsDevice-one format_one (inl refl) own below.1 image fits stands.kept.device below.2 in
       absurd (none-some bad.field (sym greater ∙ ap (λ (l : Limits). position is_not (at_least limits l)) same ∙ below.3))
-  refused-by (errors.TooSmall need) fits stands passed greater room is = absurd (omega (arith, is.1, is.2, room))
-  refused-by (errors.Damaged sector) fits stands passed greater room is =
+  refused-by (errors.TooSmall need) fits stands of greater room is = absurd (omega (arith, is.1, is.2, room))
+  refused-by (errors.Damaged sector) fits stands of greater room is =
       ⊎_elim (λ none. absurd (none.none own stands.kept.device))
       (λ damage. ⊎_elim (λ found. absurd (found.0.stands_for_none own s stands)) (λ end. inr (inr end.0)) damage.1) is.1

@@ -1,12 +1,13 @@
 -- Why a device is refused: what an error says of its image. That the disk has failed, or that memory was refused, says
 -- nothing of the image.
 use Rattle.std.specs.Prelude.{◌≡◌, ◌⊎◌, ◌<◌, ◌≤◌, ℕ, Some, position, not as is_not}
-use Rattle.ipc_base.specs.Limits.{ArePassed, tests}
+use Rattle.ipc_base.specs.Limits.{tests}
 use Rattle.ipc_base.specs.declared.limits.Limits.{Limits}
 use Rattle.ipc_disk.specs.Medium.{Image}
-use Rattle.ipc_image.specs.Format.{format_one}
+use Rattle.ipc_image.specs.Format.{format, format_one}
 use Rattle.ipc_image.specs.Greater.{AreAtLeast, at_least}
 use Rattle.ipc_image.specs.Sizes.{need_of}
+use Rattle.ipc_image.specs.Superblock.{AreOf}
 use Rattle.ipc_image.specs.declared.format.Format.{Format}
 use Rattle.ipc_store.specs.Image.{IsDeviceIn, IsDamagedIn, IsFirstFaultIn, IsNotFormatted, HasVersionBut}
 use Rattle.ipc_store.specs.Upgrade.{HasNoNextEpoch}
@@ -48,16 +49,16 @@ IsOldDamage image sector =
 -- and all else that stands there.
 abbrev pub IsUpgradeRefusal : Limits → ℕ → Image → UpgradeError → Type 0
 IsUpgradeRefusal limits size image (upgrades.BadLimits bad) =
-    (position is_not (tests limits) ≡ Some bad.field)
-    ⊎ (ArePassed limits × (own : Limits) × IsDeviceIn format_one own image
+    (position is_not (tests format.most limits) ≡ Some bad.field)
+    ⊎ (AreOf format limits × (own : Limits) × IsDeviceIn format_one own image
     × (position is_not (at_least limits own) ≡ Some bad.field))
-IsUpgradeRefusal limits size image upgrades.NotFormatted = ArePassed limits × IsNotFormatted image
-IsUpgradeRefusal limits size image (upgrades.Version found) = ArePassed limits × HasVersionBut format_one found image
+IsUpgradeRefusal limits size image upgrades.NotFormatted = AreOf format limits × IsNotFormatted image
+IsUpgradeRefusal limits size image (upgrades.Version found) = AreOf format limits × HasVersionBut format_one found image
 IsUpgradeRefusal limits size image (upgrades.TooSmall need) =
-    ArePassed limits × (need ≡ need_of limits) × (size < need) × (own : Limits) × IsDeviceIn format_one own image
+    AreOf format limits × (need ≡ need_of limits) × (size < need) × (own : Limits) × IsDeviceIn format_one own image
     × AreAtLeast limits own
 IsUpgradeRefusal limits size image (upgrades.Damaged sector) =
-    ArePassed limits
+    AreOf format limits
     × (IsNoSuperblock format_one image sector ⊎ (MayBecome limits size image × IsOldDamage image sector))
 IsUpgradeRefusal limits size image upgrades.Device = Unit {0}
 IsUpgradeRefusal limits size image upgrades.NoMemory = Unit {0}

@@ -2,17 +2,17 @@
 
 ghost use Rattle.std.specs.Prelude.{◌≡◌, ◌⊎◌, ◌<◌, ◌≤◌, ◌↔◌, ℕ, Some, position, not};
 ghost use Rattle.std.specs.Prelude.{slice_set, OnOk, IsErrOf};
-ghost use Rattle.ipc_base.specs.Limits.{ArePassed, tests};
+ghost use Rattle.ipc_base.specs.Limits.{AreWithin, tests};
 ghost use Rattle.ipc_base.specs.Objects.{Fit};
 ghost use Rattle.ipc_base.specs.declared.limits.BadLimits.{BadLimits as BadLimit};
 ghost use Rattle.ipc_disk.specs.Calls.{IsSameDisk, CountsFault, CountsFaultIf};
 ghost use Rattle.ipc_disk.specs.Medium.{Image, IsHonest, IsDurable, SetOrNot};
 ghost use Rattle.ipc_disk.specs.Since.{EachImageSince};
 ghost use Rattle.ipc_state.specs.State.{State, start};
-ghost use Rattle.ipc_image.specs.Format.{objects_first};
+ghost use Rattle.ipc_image.specs.Format.{format, objects_first};
 ghost use Rattle.ipc_image.specs.Saved.{StandForState};
 ghost use Rattle.ipc_image.specs.Sizes.{area_of, need_of};
-ghost use Rattle.ipc_image.specs.Superblock.{IsSuperblock};
+ghost use Rattle.ipc_image.specs.Superblock.{AreOf, IsSuperblock};
 ghost use Rattle.ipc_store.specs.Image.{StandsFor, IsNotFormatted, NamesAll};
 ghost use Rattle.ipc_store.specs.Relations.Format.{EachNow, IsErased, IsPrepared};
 
@@ -22,13 +22,15 @@ use crate::store::Store;
 use ipc_base::{Limits, Objects};
 use ipc_checkpoint::Checkpoint;
 use ipc_disk::{DiskFault, SectorDisk, write_durably};
-use ipc_image::{FORMAT, SUPERBLOCK, need, start_objects, superblock_is_read, write_superblock};
+use ipc_image::{
+    FORMAT, SUPERBLOCK, checked_need, start_objects, superblock_is_read, write_superblock,
+};
 use ipc_journal::Journal;
 
 impl<D: SectorDisk> Store<D> {
     /// Makes a device of the disk: it stands for the first state under these limits. All that stood there is lost.
-    /// Refused, in this order, for limits that `check` refuses, for a disk with fewer sectors than `need`, and by the
-    /// disk. A crash leaves the disk as it was, or not formatted, or formatted.
+    /// Refused, in this order, for limits that `check` by `FORMAT.most` refuses, for a disk with fewer sectors than
+    /// `need`, and by the disk. A crash leaves the disk as it was, or not formatted, or formatted.
     pub fn format(disk: &mut D, limits: &Limits) -> Result<(), FormatError>
         // Each image that a crash may leave from then on stands for the first state.
         ensures ok { OnOk result (IsHonest (D.medium disk.old) → (image : Image)
@@ -42,9 +44,9 @@ impl<D: SectorDisk> Store<D> {
             ⊎ StandsFor limits.now start image) }
         // Refusals, in their order.
         ensures limits { (field : ℕ) → IsErrOf result (FormatError.BadLimits (record { field = field }))
-            ↔ (position not (tests limits.now) ≡ Some field) }
+            ↔ (position not (tests format.most limits.now) ≡ Some field) }
         ensures small { (need : ℕ) → IsErrOf result (FormatError.TooSmall need)
-            ↔ (ArePassed limits.now × (need ≡ need_of limits.now) × (D.size disk.old < need)) }
+            ↔ (AreWithin format.most limits.now × (need ≡ need_of limits.now) × (D.size disk.old < need)) }
         ensures untouched { ((field : ℕ) → IsErrOf result (FormatError.BadLimits (record { field = field }))
             → disk.new ≡ disk.old)
             × ((need : ℕ) → IsErrOf result (FormatError.TooSmall need) → disk.new ≡ disk.old) }
@@ -52,8 +54,7 @@ impl<D: SectorDisk> Store<D> {
         ensures same { IsSameDisk D.size D.medium disk.old disk.new }
         ensures counts { CountsFaultIf D.counts (IsErrOf result FormatError.Device) disk.old disk.new }
     {
-        limits.check()?;
-        let need = need(FORMAT, limits);
+        let need = checked_need(limits)?;
         if disk.sectors() < need {
             return Err(FormatError::TooSmall { need });
         }
@@ -70,7 +71,7 @@ pub(crate) fn make<D: SectorDisk, O: Objects>(
     limits: &Limits,
     objects: &O,
 ) -> Result<(), DiskFault>
-    requires passed { ArePassed limits.now }
+    requires of { AreOf format limits.now }
     requires room { need_of limits.now ≤ D.size disk.old }
     requires fits { Fit (area_of limits.now) (O.objects objects.now) }
     ensures ok { OnOk result ((s : State) → StandForState limits.now s (O.objects objects.now)
@@ -109,7 +110,7 @@ fn prepare<D: SectorDisk, O: Objects>(
     limits: &Limits,
     objects: &O,
 ) -> Result<(), DiskFault>
-    requires passed { ArePassed limits.now }
+    requires of { AreOf format limits.now }
     requires room { need_of limits.now ≤ D.size disk.old }
     requires fits { Fit (area_of limits.now) (O.objects objects.now) }
     ensures prepared { OnOk result ((s : State) → StandForState limits.now s (O.objects objects.now)
@@ -128,7 +129,7 @@ fn prepare<D: SectorDisk, O: Objects>(
 
 // The disk becomes a device: its superblock is the last that is written.
 pub(crate) fn put_superblock<D: SectorDisk>(disk: &mut D, limits: &Limits) -> Result<(), DiskFault>
-    requires passed { ArePassed limits.now }
+    requires of { AreOf format limits.now }
     requires room { need_of limits.now ≤ D.size disk.old }
     ensures ok { OnOk result ((s : State) → IsHonest (D.medium disk.old)
         → EachNow (D.medium disk.old) (IsPrepared limits.now s)
@@ -148,7 +149,7 @@ pub(crate) fn put_superblock<D: SectorDisk>(disk: &mut D, limits: &Limits) -> Re
 
 // The superblock of a device of so many sectors.
 fn superblock_of(sectors: u32, limits: &Limits) -> [u8; 512]
-    requires passed { ArePassed limits.now }
+    requires of { AreOf format limits.now }
     requires room { need_of limits.now ≤ sectors }
     ensures { IsSuperblock sectors limits.now result }
 {

@@ -27,14 +27,14 @@
 //!
 //! - `Store::format` makes a device: every image that a crash may leave afterwards stands for the first state under the
 //!   limits (`ok`), and it is what is read (`durable`). During the call each image is one of before, or not formatted,
-//!   or stands for the first state (`any_moment`). It is refused for limits that `check` refuses (`limits`), then for
-//!   too few sectors (`small`), each exactly then and with the disk untouched (`untouched`), and by the disk
-//!   (`counts`). The superblock names all sectors of the disk (`whole`).
+//!   or stands for the first state (`any_moment`). It is refused for limits that `check` by `FORMAT.most` refuses
+//!   (`limits`), then for too few sectors (`small`), each exactly then and with the disk untouched (`untouched`), and
+//!   by the disk (`counts`). The superblock names all sectors of the disk (`whole`).
 //! - `Store::copy_onto` does the same with the limits and the state of a machine: every image that a crash may leave
 //!   afterwards stands for that state (`ok`, `durable`), and during the call each is one of before, or not formatted,
-//!   or stands for that state (`any_moment`). Too few sectors are refused, exactly then and with the disk untouched
-//!   (`small`, `untouched`); limits are not, since those of a machine have passed (`passed`). The superblock names all
-//!   sectors of the disk (`whole`).
+//!   or stands for that state (`any_moment`). It is refused as `Store::format` is
+//!   (`limits`, `small`, `untouched`, `counts`); the limits of a device of this version are not. The superblock names
+//!   all sectors of the disk (`whole`).
 //! - `Store::open` gives a store that goes on from the state for which the disk stood, after a restart, with no event
 //!   waiting (`ok`) and one confirmed (`confirmed`); its epoch is at most the one after that of the disk (`numbers`).
 //!   During the call each image is one of before, or stands for that state or for that state after a restart

@@ -124,7 +124,7 @@ pub(crate) fn load_base<D: SectorDisk>(
     superblock: Superblock,
 ) -> Result<(Checkpoint, Engine), OpenError>
     requires known { IsFormat form }
-    requires passed { ArePassed superblock.limits }
+    requires of { AreOf form superblock.limits }
     requires room { need_in form superblock.limits ≤ superblock.sectors }
     requires there { superblock.sectors ≤ D.size disk.old }
     ensures layout { IfOk result (λ found. saved_layout found.0

@@ -1,8 +1,8 @@
 //! Where the journal and the objects of a device stand, and how they begin.
 
 ghost use Rattle.std.specs.Prelude.{◌≡◌, ◌≤◌};
-ghost use Rattle.ipc_base.specs.Limits.{ArePassed};
 ghost use Rattle.ipc_image.specs.Format.{objects_first, IsFormat};
+ghost use Rattle.ipc_image.specs.Superblock.{AreOf};
 ghost use Rattle.ipc_store.specs.Image.{layout_in};
 
 use ipc_base::Limits;
@@ -26,7 +26,7 @@ pub(crate) const FIRST_EPOCH: u64 = 1;
 /// Where the objects of a device of so many sectors lie.
 pub(crate) fn layout_in(form: Format, limits: &Limits, sectors: u32) -> Layout
     requires known { IsFormat form }
-    requires passed { ArePassed limits.now }
+    requires of { AreOf form limits.now }
     requires least { objects_first ≤ sectors }
     ensures exact { result ≡ layout_in form limits.now sectors }
     ensures bounded { result.area ≤ 126090 }

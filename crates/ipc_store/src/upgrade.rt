@@ -58,15 +58,15 @@ impl<D: SectorDisk> Store<D> {
     /// Makes a device of version 1 one of version 2, where it lies, under these limits: it stands for what a restart
     /// makes of the state for which it stood. It has all sectors of the disk then.
     ///
-    /// Refused, in this order, for limits that `check` refuses, for a disk that is not formatted or of another version,
-    /// for a superblock that is damaged, for limits below the device's, for a disk with fewer sectors than `need`, for
-    /// a device that is damaged; and where the disk fails or memory is refused. A crash leaves the device as it was, or
-    /// upgraded.
+    /// Refused, in this order, for limits that `check` by `FORMAT.most` refuses, for a disk that is not formatted or of
+    /// another version, for a superblock that is damaged, for limits below the device's, for a disk with fewer sectors
+    /// than `need`, for a device that is damaged; and where the disk fails or memory is refused. A crash leaves the
+    /// device as it was, or upgraded.
     pub fn upgrade(alloc: Global, disk: D, limits: &Limits) -> Result<D, Unupgraded<D>>
         // Each image that a crash may leave from then on stands for that.
         ensures ok { IfOk result (λ new. IsHonest (D.medium disk)
             → IsUpgraded limits.now (D.medium disk) (D.medium new)) }
-        ensures accepted { IfOk result (λ new. ArePassed limits.now × (need_of limits.now ≤ D.size disk)) }
+        ensures accepted { IfOk result (λ new. AreOf format limits.now × (need_of limits.now ≤ D.size disk)) }
         ensures durable { IfOk result (λ new. IsDurable (D.medium new)) }
         // A crash at any moment of the call, also of one that fails.
         ensures any_moment { IsHonest (D.medium disk)
@@ -75,11 +75,11 @@ impl<D: SectorDisk> Store<D> {
         // Refusals. Where limits and room are right, a disk that stands for a state is refused by the disk, for want of
         // memory, or because there is no next epoch.
         ensures refusals { IfErr result (λ fault. (own : AnyLimits) (s : State) → IsHonest (D.medium disk)
-            → StandsForIn format_one own s (D.medium disk).contents → ArePassed limits.now → AreAtLeast limits.now own
-            → need_of limits.now ≤ D.size disk
+            → StandsForIn format_one own s (D.medium disk).contents → AreOf format limits.now
+            → AreAtLeast limits.now own → need_of limits.now ≤ D.size disk
             → (fault.error ≡ errors.Device) ⊎ (fault.error ≡ errors.NoMemory)
             ⊎ HasNoNextEpoch (D.medium disk).contents) }
-        ensures checked { (field : ℕ) → position not (tests limits.now) ≡ Some field
+        ensures checked { (field : ℕ) → position not (tests format.most limits.now) ≡ Some field
             → IfErr result (λ fault. (fault.error ≡ errors.BadLimits (record { field = field }))
             × (fault.disk ≡ disk)) }
         ensures refused { IfErr result (λ fault. IsHonest (D.medium disk)
@@ -116,7 +116,7 @@ fn read_old<D: SectorDisk>(
     limits: &Limits,
 ) -> Result<(Checkpoint, Engine), UpgradeError>
     // The objects lie where the new ones will, with room for these beside them.
-    ensures passed { IfOk result (λ found. ArePassed limits.now) }
+    ensures of { IfOk result (λ found. AreOf format limits.now) }
     ensures room { IfOk result (λ found. need_of limits.now ≤ D.size disk.old) }
     ensures layout { IfOk result (λ found. saved_layout found.0 ≡ whole_layout limits.now (D.size disk.old)) }
     ensures root { IfOk result (λ found. saved_root found.0 ≡ format_one.root) }
@@ -127,7 +127,7 @@ fn read_old<D: SectorDisk>(
     ensures read { IfOk result (λ found. IsHonest (D.medium disk.old)
         → IsReadOld (D.medium disk.new) found.0 found.1) }
     // Refusals, in their order.
-    ensures checked { (field : ℕ) → position not (tests limits.now) ≡ Some field
+    ensures checked { (field : ℕ) → position not (tests format.most limits.now) ≡ Some field
         → IsErrOf result (UpgradeError.BadLimits (record { field = field })) × (disk.new ≡ disk.old) }
     ensures refused { IfErr result (λ error. IsHonest (D.medium disk.old)
         → IsUpgradeRefusal limits.now (D.size disk.old) (D.medium disk.old).contents error) }
@@ -136,7 +136,7 @@ fn read_old<D: SectorDisk>(
     // It only reads.
     ensures reads { OnlySyncs D.size D.medium D.counts (IsErrOf result UpgradeError.Device) disk.old disk.new }
 {
-    limits.check()?;
+    limits.check(&FORMAT.most)?;
     let superblock = read_limits(disk, limits)?;
     let found = read_state(alloc, disk, limits, superblock)?;
     Ok(found)
@@ -145,7 +145,7 @@ fn read_old<D: SectorDisk>(
 // Makes what stands on the device last, and reads its superblock. The limits are none below its own, and the disk has
 // room for them.
 fn read_limits<D: SectorDisk>(disk: &mut D, limits: &Limits) -> Result<Superblock, UpgradeError>
-    requires { ArePassed limits.now }
+    requires { AreOf format limits.now }
     ensures device { IfOk result (λ found. IsHonest (D.medium disk.old)
         → IsNamed found (D.medium disk.old).contents) }
     ensures limits { IfOk result (λ found. AreOf format_one found.limits) }
@@ -176,7 +176,7 @@ fn read_state<D: SectorDisk>(
     limits: &Limits,
     superblock: Superblock,
 ) -> Result<(Checkpoint, Engine), OpenError>
-    requires passed { ArePassed limits.now }
+    requires of { AreOf format limits.now }
     requires own { AreOf format_one superblock.limits }
     requires own_room { need_in format_one superblock.limits ≤ superblock.sectors }
     requires there { superblock.sectors ≤ D.size disk.old }
@@ -205,7 +205,7 @@ fn read_state<D: SectorDisk>(
 
 // Whether these limits are none below the device's own, and the disk has room for them.
 fn test_room(limits: &Limits, own: &Limits, sectors: u32) -> Result<(), UpgradeError>
-    requires { ArePassed limits.now }
+    requires { AreOf format limits.now }
     ensures ok { OnOk result (AreAtLeast limits.now own.now × (need_of limits.now ≤ sectors)) }
     ensures refused { IfErr result (IsRoomRefusal limits.now own.now sectors) }
 {
@@ -226,7 +226,7 @@ fn load_whole<D: SectorDisk>(
     limits: &Limits,
     own: Limits,
 ) -> Result<(Checkpoint, Engine), OpenError>
-    requires passed { ArePassed limits.now }
+    requires of { AreOf format limits.now }
     requires own { ArePassed own }
     requires room { need_of limits.now ≤ D.size disk.old }
     ensures layout { IfOk result (λ found. saved_layout found.0 ≡ whole_layout limits.now (D.size disk.old)) }
@@ -293,7 +293,7 @@ fn write_new<D: SectorDisk>(
     engine: &Engine,
     limits: &Limits,
 ) -> Result<(), DiskFault>
-    requires passed { ArePassed limits.now }
+    requires of { AreOf format limits.now }
     requires room { need_of limits.now ≤ D.size disk.old }
     requires layout { saved_layout checkpoint ≡ whole_layout limits.now (D.size disk.old) }
     requires root { saved_root checkpoint ≡ format_one.root }

@@ -2,13 +2,13 @@
 
 ghost use Rattle.std.specs.Prelude.{◌≡◌, ◌⊎◌, ◌<◌, ◌≤◌, ℕ, Ok, Err, IfOk, IfErr, IfSome};
 ghost use Rattle.ipc_base.specs.declared.limits.Limits.{Limits};
-ghost use Rattle.ipc_base.specs.Limits.{ArePassed};
 ghost use Rattle.ipc_disk.specs.File.{file_size};
 ghost use Rattle.ipc_disk.specs.Joined.{disk_under};
 ghost use Rattle.ipc_disk.specs.Medium.{IsHonest};
 ghost use Rattle.ipc_disk.specs.Memory.{memory_medium};
 ghost use Rattle.ipc_image.specs.Format.{format};
 ghost use Rattle.ipc_image.specs.Sizes.{need_of};
+ghost use Rattle.ipc_image.specs.Superblock.{AreOf};
 ghost use Rattle.ipc_state.specs.State.{start};
 ghost use Rattle.ipc_store.specs.Histories.{Keeps, OpensOn, Past, new_past, reopened};
 ghost use Rattle.ipc_store.specs.Image.{IsAtEnd};
@@ -26,6 +26,7 @@ ghost use Rattle.ipcd.specs.Device.{sectors_given};
 use crate::ending::Fault;
 use crate::meter::Meter;
 use ipc_base::Limits;
+use ipc_command::limits_of;
 use ipc_disk::{DiskFault, FileDisk, MemoryDisk, SectorDisk};
 use ipc_engine::Engine;
 use ipc_image::{FORMAT, need};
@@ -36,10 +37,17 @@ use std::fs::{File, symlink_metadata};
 use std::io::IsTerminal;
 use std::rt::Files;
 
+/// The limits that a command line asks for: a device may have them.
+pub fn limits_for(small: bool) -> Limits
+    ensures { AreOf format result }
+{
+    limits_of(small)
+}
+
 /// A store over a new device in memory, which has as many sectors as these limits need. Its machine
 /// is in the first state.
 pub fn new_store(alloc: Global, limits: &Limits) -> Result<Store<MemoryDisk>, Fault>
-    requires { ArePassed limits.now }
+    requires { AreOf format limits.now }
     ensures limits { IfOk result (λ store. store.machine.limits ≡ limits.now) }
     ensures state { IfOk result (λ store. store.machine.state ≡ start) }
     ensures confirmed { IfOk result (λ store. store.confirmed ≡ 1) }
@@ -84,7 +92,7 @@ pub fn format_file<R: Files<File = File> + AllocGlobal, E: Eprint + IsTerminal>(
     limits: &Limits,
     asked: Option<u32>,
 ) -> Result<u32, Fault>
-    requires { ArePassed limits.now }
+    requires { AreOf format limits.now }
     ensures ok { IfOk result (λ sectors. sectors_given (need_of limits.now) asked ≡ Ok sectors) }
     ensures err { IfErr result (λ fault. (fault ≡ device_fault)
         ⊎ (sectors_given (need_of limits.now) asked ≡ Err fault)) }
@@ -100,7 +108,7 @@ pub fn format_file<R: Files<File = File> + AllocGlobal, E: Eprint + IsTerminal>(
 
 /// How many sectors a new device gets.
 fn sectors_for(limits: &Limits, asked: Option<u32>) -> Result<u32, Fault>
-    requires { ArePassed limits.now }
+    requires { AreOf format limits.now }
     ensures { result ≡ sectors_given (need_of limits.now) asked }
 {
     let need = need(FORMAT, limits);
@@ -121,7 +129,7 @@ pub fn upgrade_file<R: Files<File = File> + AllocGlobal, E: Eprint + IsTerminal>
     limits: &Limits,
     asked: Option<u32>,
 ) -> Result<u32, Fault>
-    requires { ArePassed limits.now }
+    requires { AreOf format limits.now }
     ensures ok { IfOk result (λ sectors. IfSome asked (λ least. least ≤ sectors)) }
     ensures named { IfErr result (λ fault. (error : UpgradeError) × (fault ≡ of_upgrade_error error)) }
 {
@@ -137,7 +145,7 @@ pub fn upgrade_file<R: Files<File = File> + AllocGlobal, E: Eprint + IsTerminal>
 
 /// Brings the device of a disk from version 1 to the version of today, under these limits.
 fn upgrade_disk<D: SectorDisk + Drop>(alloc: Global, disk: D, limits: &Limits) -> Result<D, Fault>
-    requires { ArePassed limits.now }
+    requires { AreOf format limits.now }
     // It stands for the state for which the disk stood, after a restart.
     ensures ok { IfOk result (λ made. IsHonest (D.medium disk)
         → IsUpgraded limits.now (D.medium disk) (D.medium made)) }

@@ -51,9 +51,11 @@ mod serve;
 mod timed;
 
 use checking::check;
-use device::{copy_file, format_file, look_at_file, new_store, open_file, upgrade_file};
+use device::{
+    copy_file, format_file, limits_for, look_at_file, new_store, open_file, upgrade_file,
+};
 use ending::{Fault, exit_of};
-use ipc_command::{Refusal, Request, limits_of, request_of};
+use ipc_command::{Refusal, Request, request_of};
 use ipc_disk::SectorDisk;
 use ipc_script::{ScriptFault, dump, list_objects, run_script};
 use ipc_store::Store;
@@ -138,7 +140,7 @@ fn answer(
 
 /// Runs the script on standard input, on a new device in memory.
 fn replay(rt: &(impl Input + Print + AllocGlobal), small: bool) -> Result<(), Fault> {
-    run_on(rt, new_store(rt.alloc(), &limits_of(small))?)
+    run_on(rt, new_store(rt.alloc(), &limits_for(small))?)
 }
 
 /// Runs it on the device in a file.
@@ -190,7 +192,7 @@ fn format(
     small: bool,
     sectors: Option<u32>,
 ) -> Result<(), Fault> {
-    let made = format_file(rt, errors, device, &limits_of(small), sectors)?;
+    let made = format_file(rt, errors, device, &limits_for(small), sectors)?;
     say_made(rt, "formatted", made)
 }
 
@@ -202,7 +204,7 @@ fn upgrade(
     small: bool,
     sectors: Option<u32>,
 ) -> Result<(), Fault> {
-    let made = upgrade_file(rt, errors, device, &limits_of(small), sectors)?;
+    let made = upgrade_file(rt, errors, device, &limits_for(small), sectors)?;
     say_made(rt, "upgraded", made)
 }
 

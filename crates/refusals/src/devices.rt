@@ -8,7 +8,7 @@ use ipc_checkpoint::{Checkpoint, Layout, LoadError};
 use ipc_disk::{MemoryDisk, Range, SectorDisk, sectors_for_len, write_bytes};
 use ipc_engine::StateFault;
 use ipc_heap::Heap;
-use ipc_image::{FORMAT, OBJECTS, engine_of, need};
+use ipc_image::{FORMAT, OBJECTS, checked_need, engine_of};
 use ipc_store::Store;
 use std::alloc::Global;
 
@@ -69,7 +69,10 @@ pub(crate) fn old_device(alloc: Global, image: &[u8]) -> Result<Device, Fault> {
     let mut disk = MemoryDisk::new(alloc, sectors)?;
     write_bytes(&mut disk, 0, image)?;
     disk.sync()?;
-    disk.grow(need(FORMAT, &Limits::small()))?;
+    let Ok(need) = checked_need(&Limits::small()) else {
+        return Err(Fault::Unready);
+    };
+    disk.grow(need)?;
     Ok(Device {
         alloc,
         disk: Some(disk),

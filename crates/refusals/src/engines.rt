@@ -138,7 +138,7 @@ pub(crate) fn engine_for(alloc: Global) -> Result<Engine, Fault> {
         descriptors: 5,
         ..Limits::small()
     };
-    if limits.check().is_err() {
+    if limits.check(&Limits::standard()).is_err() {
         return Err(Fault::Unready);
     }
     let mut engine = Engine::new(alloc, limits)?;

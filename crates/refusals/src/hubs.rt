@@ -5,7 +5,7 @@ use crate::subject::{Seen, Subject, seen};
 use ipc_base::{Limits, Moment};
 use ipc_disk::MemoryDisk;
 use ipc_hub::Hub;
-use ipc_image::{FORMAT, need};
+use ipc_image::checked_need;
 use ipc_server::{Server, ServerError};
 use ipc_store::Store;
 use mio::net::UnixListener;
@@ -76,10 +76,10 @@ pub(crate) fn used_disk(alloc: Global) -> Result<MemoryDisk, Fault> {
 /// A new device under small limits, on a disk of just as many sectors as it needs.
 fn new_device(alloc: Global) -> Result<MemoryDisk, Fault> {
     let limits = Limits::small();
-    if limits.check().is_err() {
+    let Ok(need) = checked_need(&limits) else {
         return Err(Fault::Unready);
-    }
-    let mut disk = MemoryDisk::new(alloc, need(FORMAT, &limits))?;
+    };
+    let mut disk = MemoryDisk::new(alloc, need)?;
     Store::format(&mut disk, &limits)?;
     Ok(disk)
 }

@@ -3,7 +3,7 @@
 use crate::fault::Fault;
 use ipc_base::Limits;
 use ipc_disk::{MemoryDisk, SectorDisk};
-use ipc_image::{FORMAT, need};
+use ipc_image::checked_need;
 use ipc_script::run_script;
 use ipc_store::Store;
 use std::alloc::Global;
@@ -44,10 +44,10 @@ pub(crate) fn device(alloc: Global) -> Result<MemoryDisk, Fault> {
 
 /// A new device on a disk of just as many sectors as it needs.
 pub(crate) fn new_device(alloc: Global, limits: &Limits) -> Result<MemoryDisk, Fault> {
-    if limits.check().is_err() {
+    let Ok(need) = checked_need(limits) else {
         return Err(Fault::Unready);
-    }
-    let mut disk = MemoryDisk::new(alloc, need(FORMAT, limits))?;
+    };
+    let mut disk = MemoryDisk::new(alloc, need)?;
     Store::format(&mut disk, limits)?;
     Ok(disk)
 }

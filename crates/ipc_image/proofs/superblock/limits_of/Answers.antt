@@ -1,17 +1,16 @@
-use Rattle.std.proofs.Common.{◌≡◌, ◌≤◌, ℕ, List, true, false, take, refl, sym, ap, subst, ◌∙◌, arith}
+use Rattle.std.proofs.Common.{◌≡◌, ◌≤◌, ℕ, List, take, refl, sym, ap, subst, ◌∙◌, arith}
 use Rattle.std.proofs.lemmas.Option.{none-some, same_Some}
 use Rattle.ipc_base.specs.declared.limits.Limits.{Limits}
-use Rattle.ipc_base.specs.Limits.{ArePassed}
+use Rattle.ipc_base.specs.Limits.{AreWithin}
 use Rattle.ipc_image.specs.declared.format.Format.{Format}
 use Rattle.ipc_image.specs.Format.{IsFormat}
 use Rattle.ipc_image.specs.Sizes.{need_in}
-use Rattle.ipc_image.specs.Superblock.{AreOf, named_bytes, named_length, superblock_bytes_in}
+use Rattle.ipc_image.specs.Superblock.{named_bytes, named_length, superblock_bytes_in}
 use Rattle.ipc_image.proofs.Formats.{by-form}
 use Rattle.ipc_image.proofs.Reading.{limits_stand, after_limits, differ, agree, refused, accepted}
 use Rattle.ipc_image.proofs.superblock.limits_of.Goals as goal
 use Rattle.ipc_image.proofs.superblock.limits_of.Goals.{then-ne-via-then-ne, then-ne-via-else-ne+then-is_err}
-use Rattle.ipc_image.proofs.superblock.limits_of.Goals.{then-ne-via-else-ne+else-is_err+then-not-are_within}
-use Rattle.ipc_image.proofs.superblock.limits_of.Goals.{then-ne-via-else-ne+else-is_err+else-not-are_within+then-need-sectors}
+use Rattle.ipc_image.proofs.superblock.limits_of.Goals.{then-ne-via-else-ne+else-is_err+then-need-sectors}
 
 -- what was written begins with the bytes that have a meaning
 written : (form : Format) → IsFormat form → (sectors : ℕ) (limits : Limits)
@@ -19,6 +18,11 @@ written : (form : Format) → IsFormat form → (sectors : ℕ) (limits : Limits
 unfolding named_bytes
 written form known sectors limits =
     by-form (λ f. take (named_length f) (superblock_bytes_in f sectors limits) ≡ named_bytes f sectors limits) refl refl form known
+
+pub need-requires-clause-of : goal.need-requires-clause-of
+need-requires-clause-of c =
+    accepted c.args.form c.requires.known c.in_ok-limits.limits c.check.result c.check.ensures.ok (sym c.is_err.ensures.value ∙ c.if-is_err.false)
+    c.in_ok-limits.ensures.others
 
 pub returns-in_err-limits-clause-only : goal.returns-in_err-limits-clause-only
 returns-in_err-limits-clause-only c limits is =
@@ -38,14 +42,9 @@ returns-then-ne-clause-only c limits is =
       | then-ne-via-then-ne w ↦ differ c.named_bytes.result.now c.named_bytes-2.result.now c.ne.result c.ne.ensures w.if-ne.true
           (c.named_bytes.ensures ∙ ap (take (named_length form)) c.superblock_of-again.ensures ∙ written form c.requires.known c.args.sectors found
           ∙ ap (named_bytes form c.args.sectors) own ∙ sym (c.named_bytes-2.ensures ∙ is.named))
-      | then-ne-via-else-ne+then-is_err w ↦ refused found w.check.result w.check.ensures.first
-          (sym w.is_err.ensures.value ∙ w.if-is_err.true) (subst ArePassed (sym own) is.of.passed)
-      | then-ne-via-else-ne+else-is_err+then-not-are_within w ↦
-          let other : AreOf form found = subst (AreOf form) (sym own) is.of in
-          let within : w.are_within.result ≡ true = w.are_within.ensures.1 (other.msgmni, other.msgmax, other.msgmnb) in
-          let outside : w.are_within.result ≡ false = w.if-not-are_within.true in
-          cc
-      | then-ne-via-else-ne+else-is_err+else-not-are_within+then-need-sectors w ↦
+      | then-ne-via-else-ne+then-is_err w ↦ refused form.most found w.check.result w.check.ensures.first
+          (sym w.is_err.ensures.value ∙ w.if-is_err.true) (subst (AreWithin form.most) (sym own) is.of.within)
+      | then-ne-via-else-ne+else-is_err+then-need-sectors w ↦
           let room : need_in form found ≤ c.args.sectors = subst (λ (l : Limits). need_in form l ≤ c.args.sectors) (sym own) is.room in
           omega (arith, w.need.ensures.exact, w.if-need-sectors.true)
     ])
@@ -54,17 +53,11 @@ pub returns-clause-some : goal.returns-clause-some
 returns-clause-some c =
     let form : Format = c.args.form in
     let found : Limits = c.in_ok-limits.limits in
-    let within = c.are_within.ensures.0 c.if-not-are_within.false in
     record {
       named = sym c.named_bytes-2.ensures ∙ sym (agree c.named_bytes.result.now c.named_bytes-2.result.now c.ne.result c.ne.ensures c.if-ne.false)
           ∙ c.named_bytes.ensures ∙ ap (take (named_length form)) c.superblock_of-again.ensures ∙ written form c.requires.known c.args.sectors found;
-      of = record {
-        passed = accepted found c.check.result c.check.ensures.ok (sym c.is_err.ensures.value ∙ c.if-is_err.false);
-        msgmni = within.0;
-        msgmax = within.1;
-        msgmnb = within.2;
-        others = c.in_ok-limits.ensures.others;
-      };
+      of = accepted form c.requires.known found c.check.result c.check.ensures.ok (sym c.is_err.ensures.value ∙ c.if-is_err.false)
+          c.in_ok-limits.ensures.others;
       room = omega (arith, c.need.ensures.exact, c.if-need-sectors.false);
     }
 

@@ -18,7 +18,7 @@ create-requires-clause-laid_out g c =
     c.layout_in-layout.ensures.exact ∙ ap (layout_of c.args.limits.now) c.sectors.ensures in
     subst (λ (l : Layout). IsLaidOut l (g.D.SectorDisk.size c.put_header.new.disk)) (sym there)
     (subst (IsLaidOut (layout_of c.args.limits.now size)) (sym c.put_header.ensures.same.sectors)
-    (laid-out format (inr refl) c.args.limits.now size size c.requires.passed c.requires.room (omega arith)))
+    (laid-out format (inr refl) c.args.limits.now size size c.requires.of c.requires.room (omega arith)))
 
 pub returns-in_err-put_header-clause-any_moment : goal.returns-in_err-put_header-clause-any_moment
 returns-in_err-put_header-clause-any_moment g c = λ honest erased.

@@ -17,7 +17,7 @@ pub load_objects-requires-clause-laid_out : goal.load_objects-requires-clause-la
 load_objects-requires-clause-laid_out g c =
     subst (λ (l : Layout). IsLaidOut l (g.D.SectorDisk.size c.args.disk.now)) (sym c.layout_in-layout.ensures.exact)
     (laid-out c.args.form c.requires.known c.args.superblock.limits c.args.superblock.sectors (g.D.SectorDisk.size c.args.disk.now)
-    c.requires.passed c.requires.room c.requires.there)
+    c.requires.of c.requires.room c.requires.there)
 
 pub returns-clause-refused : goal.returns-clause-refused
 returns-clause-refused g c = IfErr-weaker c.load_objects.result _ _
@@ -60,3 +60,9 @@ returns-clause-there g c =
       stand = there.1;
     })
     c.load_objects.ensures.there
+
+pub returns-clause-base : goal.returns-clause-base
+returns-clause-base g c =
+    IfOk-weaker c.load_objects.result _ _
+    (λ found base. (base.0, base.1, base.2 ∙ ap (λ (l : Layout). l.range.count) c.layout_in-layout.ensures.exact, base.3))
+    c.load_objects.ensures.base

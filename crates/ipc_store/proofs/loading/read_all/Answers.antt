@@ -141,7 +141,7 @@ returns-clause-on_disk g c =
       c.load_base.ensures.reads.same.sectors,
       c.load_journal.ensures.reads.same.sectors,
     ))
-    c.in_ok-superblock.ensures.limits.passed c.in_ok-superblock.ensures.room
+    c.in_ok-superblock.ensures.limits c.in_ok-superblock.ensures.room
 
 -- the image stands for the state after the batches
 pub returns-clause-stands : goal.returns-clause-stands

@@ -60,12 +60,12 @@ pub save_beside-requires-clause-laid_out : goal.save_beside-requires-clause-laid
 save_beside-requires-clause-laid_out g c =
     let size = g.D.SectorDisk.size c.args.disk.now in
     subst (λ (l : Layout). IsLaidOut l size) (sym (ap with_new_root c.requires.layout))
-    (laid-out format last-known c.args.limits.now size size c.requires.passed c.requires.room (omega arith))
+    (laid-out format last-known c.args.limits.now size size c.requires.of c.requires.room (omega arith))
 
 pub save_beside-requires-clause-fits : goal.save_beside-requires-clause-fits
 save_beside-requires-clause-fits g c =
     subst (λ (n : ℕ). Fit n (saved c.args.engine.now.state)) (sym (ap (λ (l : Layout). l.area) c.requires.layout))
-    (saved-fits c.args.limits.now c.args.engine.now.state c.requires.passed c.requires.sound)
+    (saved-fits c.args.limits.now c.args.engine.now.state c.requires.of.passed c.requires.sound)
 
 pub returns-in_err-save_beside-clause-any_moment : goal.returns-in_err-save_beside-clause-any_moment
 returns-in_err-save_beside-clause-any_moment g c = saved-stands g (goal.at.returns-in_err-save_beside-clause-any_moment g c).After-save_beside

@@ -7,6 +7,6 @@ use Rattle.ipcd.proofs.device.put_in_file.Goals as goal
 pub returns-in_err-copy_onto-clause-err : goal.returns-in_err-copy_onto-clause-err
 returns-in_err-copy_onto-clause-err g c =
     let q = err_from_is_err_and c.from_residual-in_err-copy_onto.result c.from_residual-in_err-copy_onto.ensures.1 in
-    rw (q.1, q.2) (λ enough. refused {P = Unit} c.in_err-copy_onto.field-0.0 _ _ (λ need is.
-    let small = (c.in_err-copy_onto.ensures.small need).0 (ap (λ e. Err e) is) in (tt, small.0, small.1))
+    rw (q.1, q.2) (λ enough. refused c.in_err-copy_onto.field-0.0 _ _ (λ need is.
+    (c.in_err-copy_onto.ensures.small need).0 (ap (λ e. Err e) is))
     (omega (arith, enough, c.in_ok-disk.ensures.size)))

@@ -11,7 +11,7 @@ use Rattle.ipc_engine.proofs.engine.Engine.owed.Goals.{After-registrations}
 use Rattle.ipc_engine.proofs.engine.Engine.owed.Goals as goal
 
 -- no more than there may be queues
-few : (c : After-registrations) → c.registrations.result ≤ 32
+few : (c : After-registrations) → c.registrations.result ≤ 32768
 few c =
     let s = c.self.inside.state in
     omega (

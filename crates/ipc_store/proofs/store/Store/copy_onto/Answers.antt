@@ -29,7 +29,7 @@ returns-in_err-make-clause-any_moment g c = λ honest.
 
 pub returns-in_err-make-clause-counts : goal.returns-in_err-make-clause-counts
 returns-in_err-make-clause-counts g c =
-    let q = err_from_is_err_and c.from_residual.result c.from_residual.ensures.1 in
+    let q = err_from_is_err_and c.from_residual-in_err-make.result c.from_residual-in_err-make.ensures.1 in
     record { failure = λ is. c.in_err-make.ensures.counts.err; no_failure = inl (rw (q.1, q.2) refl) }
 
 pub returns-clause-ok : goal.returns-clause-ok
