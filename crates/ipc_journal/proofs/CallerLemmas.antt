@@ -1,8 +1,9 @@
 -- What the crates above cite of a journal: which batches stand on a disk, that a journal stays what it is over a turn,
 -- over reads, and over calls that leave its sectors alone, and what is read of one that grows.
-use Rattle.std.specs.Prelude.{◌≡◌, ℕ, ◌+◌, ◌^◌, ◌<◌, ◌≤◌, List, [], ◌∷◌, ◌++◌, length, take, refl}
+use Rattle.std.specs.Prelude.{◌≡◌, ℕ, ◌+◌, ◌-◌, ◌^◌, ◌<◌, ◌≤◌, List, [], ◌∷◌, ◌++◌, length, take, drop, refl}
 use Rattle.std.proofs.Common.{inl, inr, sym, ◌∙◌, ap, subst, arith}
 use Rattle.std.proofs.lemmas.List.{append-nil, append_assoc}
+use Rattle.std.proofs.lemmas.Bool.{cases_lt}
 use Rattle.byteorder.specs.Endian.{big_number}
 use Rattle.byteorder.specs.Numbers.{big_from-take}
 use Rattle.ipc_disk.specs.declared.range.Range.{Range}
@@ -13,20 +14,23 @@ use Rattle.ipc_disk.specs.Standing.{sectors_for, sector_at, piece, StandsAt}
 use Rattle.ipc_disk.proofs.CallerLemmas.{EachImageSince-join, EachImageSince-now, EachImageSince-weaken, LeavesAlone-keeps}
 use Rattle.ipc_disk.proofs.CallerLemmas.{sector_at-same, stands-same, StandsAt-front}
 use Rattle.ipc_journal.specs.declared.form.Form.{Form}
-use Rattle.ipc_journal.specs.declared.form.Form.TheVariants.{Headed}
+use Rattle.ipc_journal.specs.declared.form.Form.TheVariants.{Headed, Tagged}
 use Rattle.ipc_journal.specs.declared.journal.Journal.{Journal}
 use Rattle.ipc_journal.specs.Batch.{epoch_in, length_in, IsBatch}
 use Rattle.ipc_journal.specs.Headed.{header_bytes, used_in, Counts}
+use Rattle.ipc_journal.specs.Tagged.{pieces_for, StandsTagged}
 use Rattle.ipc_journal.specs.Journal.{head, sector_of, sectors_in, sectors_of, IsAt, Fill, Stand, EndsAt, Holds, IsOlder, IsClear}
 use Rattle.ipc_journal.specs.Journal.{HasBadHeader, HasLater, HasMore, IsNext}
 use Rattle.ipc_journal.specs.View.{form_of, range_of, epoch_of, used_of, count_of}
 use Rattle.ipc_journal.specs.Matches.{HoldsOneMoreOrNot, JournalMatches, KeepsSectors}
 use Rattle.ipc_journal.specs.Meanwhile.{Comes, ComesInOrder, IsReadFrom, KeepsBatches}
 use Rattle.ipc_journal.proofs.Headers.{Counts-header, Counts-one, Counts-same, epoch_in-header, used_in-header}
+use Rattle.ipc_journal.proofs.Tags.{IsWhole-same, StandsTagged-same, IsEnd-same, tagged-same, tagged-front}
 
 -- a batch takes a sector or more
 pub sectors_in-some : (form : Form) (batch : List ℕ) → IsBatch batch → 0 < sectors_in form (length batch)
 sectors_in-some Headed batch is = omega (arith, is.field)
+sectors_in-some Tagged batch is = omega (arith, is.field)
 
 -- the sectors of one batch more
 pub sectors_of-push : (form : Form) (batches : List (List ℕ)) (batch : List ℕ)
@@ -55,12 +59,28 @@ IsBatch-there at batch image long stands said = record {
   right = omega (arith, length-front batch (sector_at image at) (StandsAt-front at batch image long stands), said);
 }
 
+-- so does the first tagged one
+pub length-tagged : (at : ℕ) (batch : List ℕ) (image : Image) → IsBatch batch → StandsTagged at batch image
+    → length_in (drop 16 (sector_at image at)) + 4 ≡ length batch
+length-tagged at batch image is stands =
+    omega (arith, length-front batch (drop 16 (sector_at image at)) (tagged-front at batch image is.field stands), is.right)
+
+pub IsBatch-tagged : (at : ℕ) (batch : List ℕ) (image : Image) → 4 ≤ length batch → StandsTagged at batch image
+    → length_in (drop 16 (sector_at image at)) + 4 ≡ length batch → IsBatch batch
+IsBatch-tagged at batch image long stands said = record {
+  field = long;
+  right = omega (arith, length-front batch (drop 16 (sector_at image at)) (tagged-front at batch image long stands), said);
+}
+
 -- one batch stands at a place
 pub IsAt-one : (form : Form) (range : Range) (epoch place before : ℕ) (x y : List ℕ) (image : Image) → IsBatch x → IsBatch y
     → IsAt form range epoch place before x image → IsAt form range epoch place before y image → x ≡ y
 IsAt-one Headed range epoch place before x y image is other first second =
     let at = sector_of Headed range place in
     stands-same at x y image (sym (length-there at x image is first) ∙ length-there at y image other second) first second
+IsAt-one Tagged range epoch place before x y image is other first second =
+    let at = sector_of Tagged range place in
+    tagged-same at x y image (sym (length-tagged at x image is first.1) ∙ length-tagged at y image other second.1) first.1 second.1
 
 -- in the same sectors
 pub IsAt-same : (form : Form) (range : Range) (epoch place before : ℕ) (batch : List ℕ) (a b : Image)
@@ -68,6 +88,10 @@ pub IsAt-same : (form : Form) (range : Range) (epoch place before : ℕ) (batch 
     → IsAt form range epoch place before batch a → IsAt form range epoch place before batch b
 IsAt-same Headed range epoch place before batch a b same here = λ i lt.
     ap (λ (s : List ℕ). take (length (piece i batch)) s) (sym (same (sector_of Headed range place + i) (omega arith) (omega (arith, lt)))) ∙ here i lt
+IsAt-same Tagged range epoch place before batch a b same here = (
+  IsWhole-same range epoch place before (pieces_for (length batch)) a b (λ j low high. same j (omega (arith, low)) (omega (arith, high))) here.0,
+  StandsTagged-same (sector_of Tagged range place) batch a b same here.1,
+)
 
 -- ---- batches one after another
 
@@ -120,6 +144,7 @@ ends-short : (form : Form) (range : Range) (epoch place before last after : ℕ)
     → EndsAt form range epoch last after image → ⊥
 ends-short Headed range epoch place before last after batch image end is here more other =
     omega (arith, Counts-one range epoch place last image end other, is.field, more)
+ends-short Tagged range epoch place before last after batch image end is here more other = end.none (pieces_for (length batch)) here.0
 
 -- batches that stand from a place on to where the journal ends are one list
 Fill-one : (form : Form) (range : Range) (epoch place before : ℕ) (xs ys : List (List ℕ)) (image : Image)
@@ -166,15 +191,19 @@ ends-same : (form : Form) (range : Range) (epoch place before : ℕ) (a b : Imag
     → ((j : ℕ) → IsInside range j → sector_at a j ≡ sector_at b j) → 0 < range.count
     → EndsAt form range epoch place before a → EndsAt form range epoch place before b
 ends-same Headed range epoch place before a b same some end = Counts-same range epoch place a b (same range.first (omega arith, omega (arith, some))) end
+ends-same Tagged range epoch place before a b same some end =
+    IsEnd-same range epoch place before a b (λ j low high. same j (omega (arith, low), high)) end
 
 -- where it ends is within its sectors
 pub EndsAt-within : (form : Form) (range : Range) (epoch place before : ℕ) (image : Image) → head form ≤ range.count
     → EndsAt form range epoch place before image → head form + place ≤ range.count
 EndsAt-within Headed range epoch place before image some (Counts.Older older none) = omega (arith, none, some)
 EndsAt-within Headed range epoch place before image some (Counts.Current current said within) = omega (arith, within)
+EndsAt-within Tagged range epoch place before image some end = omega (arith, end.within)
 
 head-some : (form : Form) (range : Range) → 0 < range.count → head form ≤ range.count
 head-some Headed range some = omega (arith, some)
+head-some Tagged range some = omega arith
 
 -- the sectors of a journal decide it
 pub Holds-same : (form : Form) (range : Range) (epoch : ℕ) (batches : List (List ℕ)) (a b : Image) → 0 < range.count
@@ -191,16 +220,46 @@ Holds-same form range epoch batches a b some same holds =
 -- where all that stands there is older, there is no batch
 pub Holds-older : (form : Form) (range : Range) (epoch : ℕ) (image : Image) → IsOlder form range epoch image → Holds form range epoch [] image
 Holds-older Headed range epoch image older = record { stand = tt; ends = Counts.Older older refl }
+Holds-older Tagged range epoch image older = record {
+  stand = tt;
+  ends = record {
+    within = omega arith;
+    none = λ count whole.
+        let first : range.first + 0 + 0 ≡ range.first + 0 = omega arith in
+        let tag = (whole.each 0 whole.some).epoch_is in
+        let lt = older 0 (omega (arith, whole.some, whole.within)) in
+        omega (arith, ap (λ (n : ℕ). epoch_in (sector_at image n)) first, tag, lt);
+    not_later = λ lt. omega (arith, older 0 lt);
+  };
+}
 
 -- then nothing there is of this epoch
 pub IsClear-older : (form : Form) (range : Range) (epoch used : ℕ) (image : Image) → IsOlder form range epoch image → IsClear form range epoch used image
 IsClear-older Headed range epoch used image older = tt
+IsClear-older Tagged range epoch used image older = λ i low high. older i high
+
+-- each sector of tagged batches is of their epoch
+tagged-epoch : (range : Range) (epoch place before : ℕ) (batches : List (List ℕ)) (image : Image) → Fill Tagged range epoch place before batches image
+    → (i : ℕ) → place ≤ i → i < place + sectors_of Tagged batches → epoch_in (sector_at image (range.first + i)) ≡ epoch
+tagged-epoch range epoch place before [] image fill i low high = absurd (omega (arith, low, high))
+tagged-epoch range epoch place before (batch ∷ batches) image fill i low high =
+    elim (cases_lt i (place + pieces_for (length batch))) [
+      | inl lt ↦
+          let at : range.first + i ≡ range.first + place + (i - place) = omega (arith, low) in
+          ap (λ (n : ℕ). epoch_in (sector_at image n)) at ∙ (fill.1.0.each (i - place) (omega (arith, lt, low))).epoch_is
+      | inr le ↦ tagged-epoch range epoch (place + pieces_for (length batch)) (before + 1) batches image fill.2 i le (omega (arith, high))
+    ]
 
 -- under a later epoch all of a journal is older
 pub IsOlder-turned : (form : Form) (range : Range) (epoch later : ℕ) (batches : List (List ℕ)) (image : Image) → epoch < later
     → Holds form range epoch batches image → IsClear form range epoch (sectors_of form batches) image → IsOlder form range later image
 IsOlder-turned Headed range epoch later batches image lt holds clear =
     elim holds.ends [ Counts.Older older none ↦ omega (arith, older, lt) | Counts.Current current said within ↦ omega (arith, current, lt) ]
+IsOlder-turned Tagged range epoch later batches image lt holds clear = λ i high.
+    elim (cases_lt i (sectors_of Tagged batches)) [
+      | inl less ↦ omega (arith, tagged-epoch range epoch 0 0 batches image holds.stand i (omega arith) (omega (arith, less)), lt)
+      | inr le ↦ omega (arith, clear i le high, lt)
+    ]
 
 -- and there is no batch
 pub Holds-turned : (form : Form) (range : Range) (epoch later : ℕ) (batches : List (List ℕ)) (image : Image) → epoch < later
@@ -223,28 +282,34 @@ pub EndsAt-next : (form : Form) (range : Range) (epoch place before : ℕ) (batc
     → IsNext form range epoch place before batch image → ⊥
 EndsAt-next Headed range epoch place before batch image (Counts.Older older none) next = omega (arith, older, next.2)
 EndsAt-next Headed range epoch place before batch image (Counts.Current current said within) next = omega (arith, said, next.3, next.0.field)
+EndsAt-next Tagged range epoch place before batch image end next = end.none (pieces_for (length batch)) next.1.0
 
 pub EndsAt-more : (form : Form) (range : Range) (epoch place before : ℕ) (image : Image) → EndsAt form range epoch place before image
     → HasMore form range epoch place before image → ⊥
 EndsAt-more Headed range epoch place before image (Counts.Older older none) more = omega (arith, older, more.0)
 EndsAt-more Headed range epoch place before image (Counts.Current current said within) more = omega (arith, said, more.1)
+EndsAt-more Tagged range epoch place before image end more = end.none more.0 more.1
 
 pub EndsAt-later : (form : Form) (range : Range) (epoch place before : ℕ) (image : Image) → EndsAt form range epoch place before image
     → HasLater form range epoch place image → ⊥
 EndsAt-later Headed range epoch place before image end later = later
+EndsAt-later Tagged range epoch place before image end later = omega (arith, end.not_later later.0, later.1)
 
 -- the next batch is a batch, stands there, and is one more
 pub IsNext-is : (form : Form) (range : Range) (epoch place before : ℕ) (batch : List ℕ) (image : Image) → IsNext form range epoch place before batch image
     → IsBatch batch
 IsNext-is Headed range epoch place before batch image next = next.0
+IsNext-is Tagged range epoch place before batch image next = next.0
 
 pub IsNext-at : (form : Form) (range : Range) (epoch place before : ℕ) (batch : List ℕ) (image : Image) → IsNext form range epoch place before batch image
     → IsAt form range epoch place before batch image
 IsNext-at Headed range epoch place before batch image next = next.1
+IsNext-at Tagged range epoch place before batch image next = next.1
 
 pub IsNext-more : (form : Form) (range : Range) (epoch place before : ℕ) (batch : List ℕ) (image : Image) → IsNext form range epoch place before batch image
     → HasMore form range epoch place before image
 IsNext-more Headed range epoch place before batch image next = (next.2, omega (arith, next.3, next.0.field))
+IsNext-more Tagged range epoch place before batch image next = (pieces_for (length batch), next.1.0)
 
 -- of the batches that fill the journal the first is the next
 pub IsNext-fill : (form : Form) (range : Range) (epoch place before : ℕ) (batch : List ℕ) (more : List (List ℕ)) (after : ℕ) (image : Image)
@@ -253,11 +318,15 @@ pub IsNext-fill : (form : Form) (range : Range) (epoch place before : ℕ) (batc
 IsNext-fill Headed range epoch place before batch more after image fill (Counts.Older older none) = absurd (omega (arith, none, fill.0.field))
 IsNext-fill Headed range epoch place before batch more after image fill (Counts.Current current said within) =
     (fill.0, fill.1, current, omega (arith, said))
+IsNext-fill Tagged range epoch place before batch more after image fill end = (fill.0, fill.1)
 
 -- where a batch stands, there is no later epoch
 pub HasLater-at : (form : Form) (range : Range) (epoch place before : ℕ) (batch : List ℕ) (image : Image) → IsAt form range epoch place before batch image
     → HasLater form range epoch place image → ⊥
 HasLater-at Headed range epoch place before batch image here later = later
+HasLater-at Tagged range epoch place before batch image here later =
+    let first : range.first + place + 0 ≡ range.first + place = omega arith in
+    omega (arith, ap (λ (n : ℕ). epoch_in (sector_at image n)) first, (here.0.each 0 here.0.some).epoch_is, later.1)
 
 -- under such a header there is no journal
 pub Holds-bad : (form : Form) (range : Range) (epoch : ℕ) (batches : List (List ℕ)) (image : Image) → HasBadHeader form range epoch image
@@ -269,30 +338,40 @@ Holds-bad Headed range epoch batches image bad holds = ends bad holds.ends
     ends (inl later) (Counts.Current current said within) = omega (arith, later, current)
     ends (inr past) (Counts.Older older none) = omega (arith, past.0, older)
     ends (inr past) (Counts.Current current said within) = omega (arith, past.1, said, within)
+Holds-bad Tagged range epoch batches image bad holds = bad
 
 -- ---- sectors that stay
 
 KeepsSectors-refl : (form : Form) (range : Range) (epoch : ℕ) (image : Image) → KeepsSectors form range epoch image image
 KeepsSectors-refl Headed range epoch image = tt
+KeepsSectors-refl Tagged range epoch image = λ i lt same. refl
 
 KeepsSectors-same : (form : Form) (range : Range) (epoch : ℕ) (a b c d : Image)
     → ((j : ℕ) → IsInside range j → sector_at a j ≡ sector_at c j) → ((j : ℕ) → IsInside range j → sector_at b j ≡ sector_at d j)
     → KeepsSectors form range epoch a b → KeepsSectors form range epoch c d
 KeepsSectors-same Headed range epoch a b c d first second keeps = tt
+KeepsSectors-same Tagged range epoch a b c d first second keeps = λ i lt is.
+    let inside : IsInside range (range.first + i) = (omega arith, omega (arith, lt)) in
+    sym (second (range.first + i) inside) ∙ keeps i lt (ap epoch_in (first (range.first + i) inside) ∙ is) ∙ first (range.first + i) inside
 
 -- no sector is of a later epoch
 KeepsSectors-older : (form : Form) (range : Range) (epoch : ℕ) (a b : Image) → IsOlder form range epoch a → KeepsSectors form range epoch a b
 KeepsSectors-older Headed range epoch a b older = tt
+KeepsSectors-older Tagged range epoch a b older = λ i lt is. absurd (omega (arith, older i lt, is))
 
 IsOlder-same : (form : Form) (range : Range) (epoch : ℕ) (a b : Image) → 0 < range.count
     → ((j : ℕ) → IsInside range j → sector_at a j ≡ sector_at b j)
     → IsOlder form range epoch a → IsOlder form range epoch b
 IsOlder-same Headed range epoch a b some same older =
     subst (λ (s : List ℕ). epoch_in s < epoch) (same range.first (omega arith, omega (arith, some))) older
+IsOlder-same Tagged range epoch a b some same older = λ i lt.
+    subst (λ (s : List ℕ). epoch_in s < epoch) (same (range.first + i) (omega arith, omega (arith, lt))) (older i lt)
 
 IsClear-same : (form : Form) (range : Range) (epoch used : ℕ) (a b : Image) → ((j : ℕ) → IsInside range j → sector_at a j ≡ sector_at b j)
     → IsClear form range epoch used a → IsClear form range epoch used b
 IsClear-same Headed range epoch used a b same clear = tt
+IsClear-same Tagged range epoch used a b same clear = λ i low high.
+    subst (λ (s : List ℕ). epoch_in s < epoch) (same (range.first + i) (omega arith, omega (arith, high))) (clear i low high)
 
 -- ---- a journal value and a disk
 
@@ -470,6 +549,7 @@ Comes-moment medium Headed range epoch batches batch old new (inr (between, same
     EachImageSince-join (medium old) (medium between) (medium new) P
     (EachImageSince-weaken (medium old) (medium between) _ P same (λ image holds. inl holds))
     (EachImageSince-weaken (medium between) (medium new) _ P more (λ image both. both.1))
+Comes-moment medium Tagged range epoch batches batch old new both = both.0
 
 pub ComesInOrder-moment : {D : Type 0} (medium : D → Medium) (journal : Journal) (batches : List (List ℕ)) (batch : List ℕ) (old new : D)
     → ComesInOrder medium journal batches batch old new

@@ -1,3 +1,7 @@
 -- Lemmas on sectors of images, and on what a journal's images hold.
 pub mod CallerLemmas
+mod Cleared
 mod Headers
+mod Mixed
+mod TagPieces
+mod Tags

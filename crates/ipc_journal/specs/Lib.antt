@@ -5,4 +5,5 @@ pub mod Journal
 pub mod Matches
 pub mod Meanwhile
 pub mod Reader
+pub mod Tagged
 pub mod View

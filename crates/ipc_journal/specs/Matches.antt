@@ -1,16 +1,21 @@
 -- A journal value matches a disk: they have the same batches.
-use Rattle.std.specs.Prelude.{◌≡◌, ◌⊎◌, ℕ, List, [], ◌∷◌, ◌++◌, length}
+use Rattle.std.specs.Prelude.{◌≡◌, ◌⊎◌, ℕ, ◌+◌, ◌<◌, List, [], ◌∷◌, ◌++◌, length}
 use Rattle.ipc_disk.specs.declared.range.Range.{Range}
 use Rattle.ipc_disk.specs.Medium.{Image, Medium, IsHonest}
+use Rattle.ipc_disk.specs.Standing.{sector_at}
 use Rattle.ipc_journal.specs.declared.form.Form.{Form}
-use Rattle.ipc_journal.specs.declared.form.Form.TheVariants.{Headed}
+use Rattle.ipc_journal.specs.declared.form.Form.TheVariants.{Headed, Tagged}
 use Rattle.ipc_journal.specs.declared.journal.Journal.{Journal}
+use Rattle.ipc_journal.specs.Batch.{epoch_in}
 use Rattle.ipc_journal.specs.Journal.{sectors_of, Holds, IsClear}
 use Rattle.ipc_journal.specs.View.{form_of, range_of, epoch_of, used_of, count_of}
 
 -- each tagged sector of this epoch is in the later image as it is in the earlier one
 abbrev pub KeepsSectors : Form → Range → ℕ → Image → Image → Type 0
 KeepsSectors Headed range epoch earlier later = Unit {0}
+KeepsSectors Tagged range epoch earlier later =
+    (i : ℕ) → i < range.count → epoch_in (sector_at earlier (range.first + i)) ≡ epoch
+    → sector_at later (range.first + i) ≡ sector_at earlier (range.first + i)
 
 -- The disk is honest, and each image that a crash now may leave holds these batches, in the same sectors, and after
 -- them nothing of this epoch; so does what is read.

@@ -1,15 +1,16 @@
 -- What is there for one who reads a journal while batches are appended to it. With a header, the sectors of a batch
 -- stand before the header counts it; so what it counts when it is read is there for one who goes on to read the body.
+-- Tagged sectors of this epoch stay as they are.
 use Rattle.std.specs.Prelude.{◌≡◌, ◌⊎◌, ℕ, ◌+◌, ◌<◌, List, [], ◌∷◌, ◌++◌}
 use Rattle.ipc_disk.specs.declared.range.Range.{Range}
 use Rattle.ipc_disk.specs.Medium.{Image, Medium}
 use Rattle.ipc_disk.specs.Since.{EachImageSince}
 use Rattle.ipc_disk.specs.Standing.{sector_at}
 use Rattle.ipc_journal.specs.declared.form.Form.{Form}
-use Rattle.ipc_journal.specs.declared.form.Form.TheVariants.{Headed}
+use Rattle.ipc_journal.specs.declared.form.Form.TheVariants.{Headed, Tagged}
 use Rattle.ipc_journal.specs.declared.journal.Journal.{Journal}
 use Rattle.ipc_journal.specs.Journal.{Holds, Stand}
-use Rattle.ipc_journal.specs.Matches.{HoldsOneMoreOrNot}
+use Rattle.ipc_journal.specs.Matches.{HoldsOneMoreOrNot, KeepsSectors}
 use Rattle.ipc_journal.specs.View.{form_of, epoch_of, range_of}
 
 -- at this epoch the later image has the batches of the earlier one, and may have more after them
@@ -27,7 +28,8 @@ pub record IsReadFrom (range : Range) (epoch : ℕ) (first read : Image) : Type 
       × (sector_at read i ≡ sector_at later i)
 
 -- A batch comes to a journal with a header: up to some moment each image has the batches of before, and from then on
--- the sectors of this one stand too, and it is one more of them or not. Or that moment never came.
+-- the sectors of this one stand too, and it is one more of them or not. Or that moment never came. To a tagged journal
+-- it comes at once: each image has it or not, and keeps the sectors of before.
 abbrev pub Comes : {D : Type 0} → (D → Medium) → Form → Range → ℕ → List (List ℕ) → List ℕ → D → D → Type 0
 Comes {D} medium Headed range epoch batches batch old new =
     EachImageSince (medium old) (medium new) (Holds Headed range epoch batches)
@@ -36,6 +38,10 @@ Comes {D} medium Headed range epoch batches batch old new =
     × EachImageSince (medium between) (medium new)
     (λ image. Stand Headed range epoch (batches ++ batch ∷ []) image
     × HoldsOneMoreOrNot Headed range epoch batches batch image))
+Comes {D} medium Tagged range epoch batches batch old new =
+    EachImageSince (medium old) (medium new) (HoldsOneMoreOrNot Tagged range epoch batches batch)
+    × ((earlier : Image) → (medium old).images_now earlier
+    → EachImageSince (medium old) (medium new) (KeepsSectors Tagged range epoch earlier))
 
 -- so it comes to a journal
 abbrev pub ComesInOrder : {D : Type 0} → (D → Medium) → Journal → List (List ℕ) → List ℕ → D → D → Type 0

@@ -2,7 +2,7 @@
 use Rattle.std.specs.Prelude.{ℕ, ◌+◌, ◌≤◌}
 use Rattle.ipc_disk.specs.declared.range.Range.{Range}
 use Rattle.ipc_journal.specs.declared.form.Form.{Form}
-use Rattle.ipc_journal.specs.declared.form.Form.TheVariants.{Headed}
+use Rattle.ipc_journal.specs.declared.form.Form.TheVariants.{Headed, Tagged}
 use Rattle.ipc_journal.specs.declared.journal.Journal.{Journal}
 use Rattle.ipc_journal.specs.Journal.{head, sectors_in}
 
@@ -34,6 +34,8 @@ Fits journal len =
 -- the writes and the syncs of an append of so many bytes
 abbrev pub append_writes : Form → ℕ → ℕ
 append_writes Headed len = sectors_in Headed len + 1
+append_writes Tagged len = sectors_in Tagged len
 
 abbrev pub append_syncs : Form → ℕ
 append_syncs Headed = 2
+append_syncs Tagged = 1

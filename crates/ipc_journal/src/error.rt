@@ -15,7 +15,7 @@ pub enum JournalError {
     /// What stands on the disk is no journal that this value can stand for.
     #[error("the journal is damaged at sector {sector}")]
     Damaged {
-        /// The sector in which the fault is seen: the header's, or the first of a batch.
+        /// The sector in which the fault is seen: the header's, the first of a batch, or the one after the batches.
         sector: u32,
     },
 }

@@ -1,6 +1,6 @@
 //! A journal with a header: its header, its next batch, and an append.
 
-ghost use Rattle.std.specs.Prelude.{◌≡◌, ◌+◌, ◌<◌, ◌≤◌, ◌++◌, ◌∷◌, [], List, ℕ, length, take};
+ghost use Rattle.std.specs.Prelude.{◌≡◌, ◌+◌, ◌<◌, ◌≤◌, ◌++◌, ◌∷◌, [], List, ℕ, length, take, drop};
 ghost use Rattle.std.specs.Prelude.{Ok, None, Some, OnOk, IfOk, IsErrOf};
 ghost use Rattle.ipc_disk.specs.Calls.{CountsCalls, IsSameDisk, OnlyReads};
 ghost use Rattle.ipc_disk.specs.Counts.{with_calls};
@@ -82,6 +82,9 @@ pub(crate) fn read_next<D: SectorDisk>(
         × StandsAt (range.first + 1 + used) (take len into.new) (D.medium disk.old).contents) }
     ensures least { IfOk result (λ found. (len : ℕ) → found ≡ Some len → 4 ≤ len) }
     ensures fits { IfOk result (λ found. (len : ℕ) → found ≡ Some len → len ≤ length into.old) }
+    ensures beyond { IfOk result (λ found. (len : ℕ) → found ≡ Some len → drop len into.new ≡ drop len into.old) }
+    ensures unread { result ≡ Ok None → into.new ≡ into.old }
+    ensures untouched { (sector : ℕ) → IsErrOf result (JournalError.Damaged sector) → into.new ≡ into.old }
     ensures inside { IfOk result (λ found. (len : ℕ) → found ≡ Some len → used + sectors_for len ≤ end) }
     ensures more { (sector : ℕ) → IsErrOf result (JournalError.Damaged sector) → used < end }
     ensures damaged { (sector : ℕ) → IsErrOf result (JournalError.Damaged sector)

@@ -1,14 +1,14 @@
 //! The journal: its value, and the calls on it.
 
-ghost use Rattle.std.specs.Prelude.{◌≡◌, ◌↔◌, ◌+◌, ◌<◌, ◌≤◌, ℕ};
+ghost use Rattle.std.specs.Prelude.{◌≡◌, ◌↔◌, ◌+◌, ◌-◌, ◌<◌, ◌≤◌, ℕ};
 ghost use Rattle.std.specs.Prelude.{◌++◌, [], ◌∷◌, List, length};
 ghost use Rattle.std.specs.Prelude.{slice_set, Ok, OnOk, OnErr, IsTrue};
 ghost use Rattle.ipc_disk.specs.Range.{IsWithin, IsOutside};
 ghost use Rattle.ipc_journal.specs.Journal.{head, most_sectors};
 
 use crate::form::Form;
-use crate::headed;
 use crate::headed::header_sector;
+use crate::{headed, tagged};
 use ipc_disk::{DiskFault, Range, SectorDisk};
 
 /// What is known of a journal on a disk: its form, its sectors, its epoch, how many sectors its batches take, and how
@@ -27,7 +27,7 @@ pub struct Journal {
 
 impl Journal {
     ghost use Rattle.ipc_disk.specs.Calls.{IsSameDisk, CountsCalls, CountsFault};
-    ghost use Rattle.ipc_disk.specs.Counts.{with_calls};
+    ghost use Rattle.ipc_disk.specs.Counts.{counted, with_calls};
     ghost use Rattle.ipc_disk.specs.Medium.{Image, IsHonest, IsDurable, SetOrNot};
     ghost use Rattle.ipc_disk.specs.Since.{EachImageSince, LeavesAlone};
     ghost use Rattle.ipc_journal.specs.Batch.{IsBatch};
@@ -188,6 +188,54 @@ impl Journal {
     {
         match self.form {
             Form::Headed => headed::append(disk, self.range, self.epoch, self.used, batch),
+            Form::Tagged => tagged::append(
+                disk,
+                self.range,
+                self.epoch,
+                self.used,
+                self.batches,
+                batch,
+            ),
+        }
+    }
+
+    /// Clears what stands after the batches, so that no sector there is of this epoch: of tagged sectors, each of this
+    /// epoch or a later one gets zeros, in rising order, and if there was one, a sync follows. With a header it makes
+    /// no call. After an `Err` some of them may have zeros: the batches are as they were.
+    pub fn clear_tail<D: SectorDisk>(&self, disk: &mut D) -> Result<(), DiskFault>
+        requires within { IsWithin (range_of self.now) (D.size disk.old) }
+        requires later { 0 < epoch_of self.now }
+        // Nothing after the batches is of this epoch, on a disk on which a crash leaves what is read.
+        ensures cleared { OnOk result ((batches : List (List ℕ)) → IsHonest (D.medium disk.old)
+            → IsDurable (D.medium disk.old) → used_of self.now ≡ sectors_of (form_of self.now) batches
+            → count_of self.now ≡ length batches
+            → Holds (form_of self.now) (range_of self.now) (epoch_of self.now) batches (D.medium disk.old).contents
+            → JournalMatches self.now batches (D.medium disk.new)) }
+        ensures durable { OnOk result (IsHonest (D.medium disk.old)
+            → IsDurable (D.medium disk.old) → IsDurable (D.medium disk.new)) }
+        // A crash at any moment of the call, also of one that fails.
+        ensures any_moment { (batches : List (List ℕ)) → IsHonest (D.medium disk.old)
+            → used_of self.now ≡ sectors_of (form_of self.now) batches → count_of self.now ≡ length batches
+            → ((image : Image) → (D.medium disk.old).images_now image
+            → Holds (form_of self.now) (range_of self.now) (epoch_of self.now) batches image)
+            → EachImageSince (D.medium disk.old) (D.medium disk.new)
+            (Holds (form_of self.now) (range_of self.now) (epoch_of self.now) batches) }
+        ensures others { IsHonest (D.medium disk.old)
+            → LeavesAlone (IsOutside (range_of self.now)) (D.medium disk.old) (D.medium disk.new) }
+        // Failures and counts.
+        ensures none { form_of self.now ≡ Form.Headed → disk.new ≡ disk.old }
+        ensures same { IsSameDisk D.size D.medium disk.old disk.new }
+        ensures counts { CountsFault D.counts result disk.old disk.new }
+        ensures writes { OnOk result ((D.counts disk.new).writes
+            ≤ counted (D.counts disk.old).writes ((range_of self.now).count - used_of self.now)) }
+        ensures syncs { OnOk result ((D.counts disk.new).syncs ≤ counted (D.counts disk.old).syncs 1) }
+        ensures quiet { OnOk result (IsHonest (D.medium disk.old)
+            → IsClear (form_of self.now) (range_of self.now) (epoch_of self.now) (used_of self.now)
+            (D.medium disk.old).contents → D.counts disk.new ≡ D.counts disk.old) }
+    {
+        match self.form {
+            Form::Headed => Ok(()),
+            Form::Tagged => tagged::clear(disk, self.range, self.epoch, self.used, self.batches),
         }
     }
 }

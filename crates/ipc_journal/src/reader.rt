@@ -1,17 +1,18 @@
 //! The reading of a journal, from its beginning.
 
-ghost use Rattle.std.specs.Prelude.{◌≡◌, ◌⊎◌, ◌+◌, ◌-◌, ◌<◌, ◌≤◌, ◌++◌, ◌∷◌, [], List, ℕ, length, take};
+ghost use Rattle.std.specs.Prelude.{◌≡◌, ◌⊎◌, ◌+◌, ◌-◌, ◌<◌, ◌≤◌, ◌^◌, ◌++◌, ◌∷◌, [], List, ℕ, length, take, drop};
 ghost use Rattle.std.specs.Prelude.{Ok, None, Some, OnErr, IfOk, IsErrOf, slice_index};
 ghost use Rattle.ipc_disk.specs.Calls.{OnlyReads};
 ghost use Rattle.ipc_disk.specs.Medium.{IsHonest};
 ghost use Rattle.ipc_disk.specs.Range.{IsWithin};
 ghost use Rattle.ipc_journal.specs.Batch.{IsBatch};
+ghost use Rattle.ipc_journal.specs.declared.form.Form.TheVariants.{Headed, Tagged};
 ghost use Rattle.ipc_journal.specs.Journal.{head, most_sectors, sector_of, sectors_in, EndsAt, HasBadHeader};
 ghost use Rattle.ipc_journal.specs.Journal.{HasLater, HasMore, HasNone, IsAt, IsEndRead, IsNext, IsRangeFor};
 
 use crate::form::Form;
 use crate::journal::Journal;
-use crate::{JournalError, headed};
+use crate::{JournalError, headed, tagged};
 use ipc_disk::{Range, SectorDisk};
 
 /// A journal that is read from its beginning, batch by batch. Each of its sectors is read once, in rising order.
@@ -26,6 +27,8 @@ pub struct Reader {
     batches: u32,
     ghost counted: { range.count ≤ most_sectors form },
     ghost room: { head form + end ≤ range.count },
+    ghost placed: { range.first + range.count < 2 ^ 32 },
+    ghost last: { form ≡ Tagged → end ≡ range.count },
     ghost passed: { used ≤ end },
     ghost few: { batches ≤ used },
 }
@@ -35,8 +38,8 @@ impl Reader {
     ghost use Rattle.ipc_journal.specs.Reader.{EndsAfter, HasNoneAfter, HasRead, IsNextOf, IsReaderOf};
     ghost use Rattle.ipc_journal.specs.View.{form_of, range_of, epoch_of, used_of, count_of};
 
-    /// Before the first batch. A header is read: one of an earlier epoch reads as of no batch, whatever else it says;
-    /// one of a later epoch, or with more used sectors than there are, is `Damaged` at its sector.
+    /// Before the first batch. A header is read: one of an earlier epoch reads as no batch, whatever else it says; one
+    /// of a later epoch, or with more used sectors than there are, is `Damaged` at its sector.
     pub fn open<D: SectorDisk>(
         disk: &mut D,
         form: Form,
@@ -69,15 +72,15 @@ impl Reader {
 
     /// The sector in which the next batch begins, if there is one.
     pub fn sector(&self) -> u32
-        requires { (range_read self.now).first + (range_read self.now).count < 4294967296 }
         ensures { result ≡ sector_of (form_read self.now) (range_read self.now) (place_of self.now) }
     {
         self.range.first + self.form.head() + self.used
     }
 
     /// The next batch, with its length field, into the front of `into`; its length. `None` if there are no more.
-    /// `Damaged` names the first sector of a batch whose length does not fit its sectors, or `into`. After an error,
-    /// and after `None`, the reader is as it was.
+    /// `Damaged` names the first sector of a batch whose length does not fit its sectors, or `into`, or the sector
+    /// after the batches if it is of a later epoch. After an error, and after `None`, the reader is as it was. What
+    /// follows the batch in `into` is as it was, and with a header all of it after `None` and `Damaged`.
     pub fn next_batch<D: SectorDisk>(
         &mut self,
         disk: &mut D,
@@ -94,6 +97,8 @@ impl Reader {
             → IsNextOf self.old (take len into.new) (D.medium disk.old).contents) }
         ensures least { IfOk result (λ found. (len : ℕ) → found ≡ Some len → 4 ≤ len) }
         ensures fits { IfOk result (λ found. (len : ℕ) → found ≡ Some len → len ≤ length into.old) }
+        ensures beyond { IfOk result (λ found. (len : ℕ) → found ≡ Some len
+            → drop len into.new ≡ drop len into.old) }
         ensures bytes { IfOk result (λ found. (len : ℕ) → found ≡ Some len → (i : ℕ) → slice_index into.new i < 256) }
         ensures passes { IfOk result (λ found. (len : ℕ) → found ≡ Some len
             → place_of self.new ≡ place_of self.old + sectors_in (form_read self.old) len) }
@@ -108,8 +113,11 @@ impl Reader {
             → (batches : List (List ℕ)) → HasRead self.old batches (D.medium disk.old).contents
             → EndsAfter self.old (D.medium disk.old).contents }
         ensures none { result ≡ Ok None → self.new ≡ self.old }
+        ensures unread { result ≡ Ok None → form_read self.old ≡ Headed → into.new ≡ into.old }
         // When it is damaged.
         ensures kept { OnErr result (self.new ≡ self.old) }
+        ensures untouched { (sector : ℕ) → IsErrOf result (JournalError.Damaged sector)
+            → form_read self.old ≡ Headed → into.new ≡ into.old }
         ensures damaged { (sector : ℕ) → IsErrOf result (JournalError.Damaged sector)
             → IsHonest (D.medium disk.old)
             → (batches : List (List ℕ)) → HasRead self.old batches (D.medium disk.old).contents
@@ -151,6 +159,11 @@ impl Reader {
             (D.medium disk.old).contents) }
         ensures least { IfOk result (λ found. (len : ℕ) → found ≡ Some len → 4 ≤ len) }
         ensures fits { IfOk result (λ found. (len : ℕ) → found ≡ Some len → len ≤ length into.old) }
+        ensures beyond { IfOk result (λ found. (len : ℕ) → found ≡ Some len
+            → drop len into.new ≡ drop len into.old) }
+        ensures unread { result ≡ Ok None → self.now.form ≡ Headed → into.new ≡ into.old }
+        ensures untouched { (sector : ℕ) → IsErrOf result (JournalError.Damaged sector)
+            → self.now.form ≡ Headed → into.new ≡ into.old }
         ensures inside { IfOk result (λ found. (len : ℕ) → found ≡ Some len
             → self.now.used + sectors_in self.now.form len ≤ self.now.end) }
         ensures ended { result ≡ Ok None → IsHonest (D.medium disk.old)
@@ -171,6 +184,9 @@ impl Reader {
     {
         match self.form {
             Form::Headed => headed::read_next(disk, self.range, self.used, self.end, into),
+            Form::Tagged => {
+                tagged::read_next(disk, self.range, self.epoch, self.used, self.batches, into)
+            }
         }
     }
 }
@@ -187,6 +203,7 @@ fn last_place<D: SectorDisk>(
     ensures end { IfOk result (λ end. IsHonest (D.medium disk.old)
         → IsEndRead form range epoch end (D.medium disk.old).contents) }
     ensures room { IfOk result (λ end. head form + end ≤ range.count) }
+    ensures last { IfOk result (λ end. form ≡ Tagged → end ≡ range.count) }
     ensures damaged { (sector : ℕ) → IsErrOf result (JournalError.Damaged sector)
         → IsHonest (D.medium disk.old) → HasBadHeader form range epoch (D.medium disk.old).contents }
     ensures named { (sector : ℕ) → IsErrOf result (JournalError.Damaged sector)
@@ -195,5 +212,6 @@ fn last_place<D: SectorDisk>(
 {
     match form {
         Form::Headed => headed::read_header(disk, range, epoch),
+        Form::Tagged => Ok(range.count),
     }
 }

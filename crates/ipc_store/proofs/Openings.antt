@@ -13,7 +13,7 @@ use Rattle.ipc_disk.specs.declared.range.Range.{Range}
 use Rattle.ipc_journal.specs.declared.journal.Journal.{Journal}
 use Rattle.ipc_journal.specs.Journal.{head, sectors_in, sectors_of}
 use Rattle.ipc_journal.specs.declared.form.Form.{Form}
-use Rattle.ipc_journal.specs.declared.form.Form.TheVariants.{Headed}
+use Rattle.ipc_journal.specs.declared.form.Form.TheVariants.{Headed, Tagged}
 use Rattle.ipc_journal.specs.View.{form_of, range_of, used_of, Fits}
 use Rattle.ipc_state.specs.State.{State, restart}
 use Rattle.ipc_engine.specs.Engine.{Machine}
@@ -117,6 +117,7 @@ taken m before after new base disk limits moments =
 -- a restart takes one sector
 restart-sectors : (form : Form) → sectors_in form 17 ≡ 1
 restart-sectors Headed = omega arith
+restart-sectors Tagged = omega arith
 
 -- a journal in which a restart does not fit has no sector left
 pub full_journal : (journal : Journal) (records : List ℕ) → records ≡ record_bytes Restart → ¬ Fits journal (4 + length records)
