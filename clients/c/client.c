@@ -174,6 +174,8 @@ void release(struct link *link)
 {
     struct ipcd *client = link->client;
     client->answers += link->socket >= 0;
+    // Whoever takes it next is its holder a moment later; until then this thread is not.
+    link->holder = NULL;
     link->busy = 0;
     client->releases++;
     // Who wants this link has to be among those that are woken.
