@@ -1,7 +1,6 @@
 pub mod Adjustment
 pub mod Errno
 pub mod Fields
-pub mod Limits
 pub mod Numbers
 pub mod Objects
 pub mod ObjectRows

@@ -1,24 +1,16 @@
-//! What every crate of the server speaks of: error numbers, identities, flags, limits and fields of bytes.
+//! What every crate of the server speaks of: error numbers, identities, flags and fields of bytes.
 //!
 //! Where a rule stands (definition, code, proof):
 //!
 //! - An error number: `specs/Errno.antt`, `src/errno.rt`
-//! - A limit: 'A limit' in docs/CHANGING.md has its files
 //! - A field of another size or kind: `specs/Numbers.antt`, `src/field.rt`, `src/put.rt`, `src/cursor.rt`
 //! - How far an adjustment may go: `specs/Adjustment.antt`
-//! - The longest reply: `longest_body` in `specs/Limits.antt`, `longest_reply` in `src/limits.rt`
 //! - Laws of tables: `specs/Table.antt`, `proofs/CallerLemmas.antt`
 //!
 //! What the clauses say:
 //!
 //! - `Errno::number` is the number of Linux. `from_number` answers the error that has a number (`each`), and answers no
 //!   error with another number (`known`).
-//! - If `Limits::check` is Ok, each field passes by the greatest values that it was given (`ok`), and by those of any
-//!   device, if the given ones do (`passed`); if it is not, its error names the first field that fails (`first`).
-//!   `standard` and `small` are the limits of the definitions (`limits`), and pass by the greatest values of any device
-//!   (`passed`).
-//!   `longest_reply` is the length of the longest reply under limits that passed (`longest`), and is at most 65554
-//!   (`bounded`).
 //! - `Cursor` reads exactly the field at the front of its bytes and leaves the rest. If fewer bytes are there than the
 //!   field has, it answers `None` and takes nothing (`Reads`). `Put` puts exactly the field's bytes at its place. If
 //!   the buffer is too short, it answers `false` and changes nothing (`Puts`); `Put::field` puts a number in the field
@@ -37,7 +29,6 @@ mod errno;
 mod field;
 mod flags;
 mod identity;
-mod limits;
 mod objects;
 mod put;
 
@@ -46,6 +37,5 @@ pub use errno::Errno;
 pub use field::{Field, FieldBytes, Size, take_fields};
 pub use flags::{GetFlags, MsgFlags, OpenFlags, SemFlags, ShmFlags};
 pub use identity::{Cred, Id, Moment, Pid};
-pub use limits::{BadLimits, Limits, STANDARD};
 pub use objects::{Mark, ObjectMap, Objects, window_of};
 pub use put::Put;

@@ -4,18 +4,18 @@ use Rattle.std.proofs.Common.{None, is_some, arith, refl, sym, ap, ◌∙◌, su
 use Rattle.std.specs.Prelude.{◌==◌, if◌then◌else◌, nat_eq}
 use Rattle.std.specs.Cmp.{nat_eq_equiv}
 use Rattle.std.proofs.lemmas.Bool.Decides.{nat_tests}
-use Rattle.ipc_base.specs.Limits.{longest_reply}
+use Rattle.ipc_limits.specs.Limits.{longest_reply}
 use Rattle.ipc_base.specs.declared.errno.Errno.{Errno}
 use Rattle.ipc_base.specs.declared.errno.Errno.TheVariants.{EALREADY, EINTR, ENFILE, EPROTO}
 use Rattle.ipc_base.specs.declared.identity.Cred.{Cred}
 use Rattle.ipc_base.specs.declared.identity.Pid.{Pid}
-use Rattle.ipc_base.specs.declared.limits.Limits.{Limits}
+use Rattle.ipc_limits.specs.declared.limits.Limits.{Limits}
 use Rattle.ipc_base.proofs.CallerLemmas.{choice, is_some-push, rising-found}
 use Rattle.ipc_base.specs.declared.identity.Moment.{Moment}
 use Rattle.ipc_wait.specs.Waits.{waiting_call_of, calls_due, calls_left, without, is_due, is_of}
 use Rattle.ipc_wait.proofs.CallerLemmas.{waiting_call_of-without_same, waiting_call_of-without_other}
 use Rattle.ipc_wire.specs.Request.{PlainKind, PlainRequest, Hello, Interrupt as Interrupts, Sysv, Posix}
-use Rattle.ipc_wire.specs.declared.reply.Body.TheVariants.{Empty, Number}
+use Rattle.ipc_wire.specs.declared.reply.Body.TheVariants.{Empty}
 use Rattle.ipc_wire.specs.Reply.{reply_bytes}
 use Rattle.ipc_wire.proofs.CallerLemmas.{length-reply_bytes}
 use Rattle.ipc_state.specs.declared.parked.Awaited.{Awaited}
@@ -30,7 +30,8 @@ use Rattle.ipc_engine.specs.Bytes.{IsGreeted, allowed, asked_count, asks, bytes_
 use Rattle.ipc_engine.specs.Event.{PlainEvent, Connect, Call, Interrupt, Tick, Exit, Restart, PlainOutcome}
 use Rattle.ipc_engine.specs.Settling.{touched_by}
 use Rattle.ipc_engine.specs.Sound.{IsSound, HasToWait}
-use Rattle.ipc_engine.specs.Step.{Step, after, step, due, expired, waiting_on, asked, called, connect, replied_or_joined, joins, tried}
+use Rattle.ipc_engine.proofs.Soundness.{greeting-fits}
+use Rattle.ipc_engine.specs.Step.{Step, after, step, due, expired, greeting, waiting_on, asked, called, connect, replied_or_joined, joins, tried}
 use Rattle.ipc_engine.specs.Step.{interrupt, interrupted, replied, settle}
 use Rattle.ipc_engine.specs.View.{reply_of}
 use Rattle.ipc_engine.proofs.Lists.{found-all, found-passes}
@@ -202,8 +203,8 @@ module _ (limits : Limits) (weigh : PlainOutcome → ℕ) (most note : ℕ) (lig
       (λ _. let none : (pid == 0) ≡ false = grind (arith, nat_tests) in rw none (omega arith))
       (λ _. omega (
         arith,
-        one-weighs weigh limits most note light (record { pid = s.processes.next; serial = serial; errno = None; body = Number s.processes.next }) pid
-            (pid == s.processes.next) (omega arith) refl,
+        one-weighs weigh limits most note light (record { pid = s.processes.next; serial = serial; errno = None; body = greeting limits s.processes.next }) pid
+            (pid == s.processes.next) (greeting-fits limits s.processes.next) refl,
         notes-same note s (with_process s cred) pid refl,
       ))
 
@@ -250,7 +251,7 @@ module _ (limits : Limits) (weigh : PlainOutcome → ℕ) (most note : ℕ) (lig
       (λ _ is. omega arith) (λ _ is. omega arith) (sym (left-owes most d t gone pid refl)) in
       then-owes s moment pid 0 (λ u. settle limits (exit u gone)) h
       (settled-owes t (exit-sound limits d gone (due-sound limits s moment h).parts) pid (omega (arith, fewer, free)))
-  step-weighs s Restart pid h some = omega (arith, notes-less note s (restart s) pid (registrations-restarted s pid))
+  step-weighs s Restart pid h some = omega (arith, notes-less note s (restart limits s) pid (registrations-restarted limits s pid))
 
 module _ (limits : Limits) where
   -- a notification is no reply
@@ -437,7 +438,7 @@ hello-greets limits s cred serial moment =
     })
     (λ _. record {
       front = d.outcomes;
-      reply = record { pid = s.processes.next; serial = serial; errno = None; body = Number s.processes.next };
+      reply = record { pid = s.processes.next; serial = serial; errno = None; body = greeting limits s.processes.next };
       last = refl;
       process = inr (refl, is_some-push nat_eq nat_eq_equiv s.processes.entries s.processes.next (record { cred = cred; descriptors = [] }));
     })

@@ -15,7 +15,8 @@ use Rattle.ipc_engine.specs.Engine.{IsForProcess, HasRequest}
 use Rattle.ipc_engine.specs.Sound.{IsSound}
 use Rattle.ipc_engine.specs.Step.{step}
 use Rattle.ipc_engine.proofs.Soundness.{step-sound, step-fits}
-use Rattle.ipc_base.specs.declared.limits.Limits.{Limits}
+use Rattle.ipc_limits.specs.declared.limits.Limits.{Limits}
+use Rattle.ipc_limits.specs.Limits.{longest_body}
 use Rattle.ipc_state.specs.Sound.{FitsBody}
 use Rattle.ipc_engine.specs.Event.{PlainEvent, PlainOutcome}
 use Rattle.ipc_engine.specs.View.{plain_outcome}
@@ -52,6 +53,11 @@ held-still old mid new t u one two is = two ∙ (ap (λ (h : Held). with_state h
 pub buffer-spare : (limits now : Limits) (old new : Vec ℕ) (os us : List Outcome) → now ≡ limits → HasBuffer limits old os
     → max (vec_capacity old) (room_in os) ≤ vec_capacity new → HasBuffer now new us
 buffer-spare limits now old new os us same has back = subst (λ (l : Limits). HasBuffer l new us) (sym same) (omega (arith, has, back))
+
+-- the buffer is left, or stands in the reply that was added last
+pub buffer-pushed : (limits now : Limits) (spare : Vec ℕ) (room : ℕ) (us : List Outcome) → now ≡ limits → longest_body limits ≤ max (vec_capacity spare) room
+    → room ≤ room_in us → HasBuffer now spare us
+buffer-pushed limits now spare room us same has within = subst (λ (l : Limits). HasBuffer l spare us) (sym same) (omega (arith, has, within))
 
 -- a step leaves a sound state, told of what is known to be equal
 pub after-sound : (limits now : Limits) (s t : State) (e : PlainEvent) → now ≡ limits → t ≡ (step limits s e).state → IsSound limits s

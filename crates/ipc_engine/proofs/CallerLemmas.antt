@@ -4,7 +4,7 @@ use Rattle.std.specs.Prelude.{All, nat_eq}
 use Rattle.std.proofs.lemmas.List.Elements.{All-nil}
 use Rattle.ipc_base.proofs.CallerLemmas.{choice, is_some-append, value_at-without}
 use Rattle.ipc_base.specs.declared.identity.Cred.{Cred}
-use Rattle.ipc_base.specs.declared.limits.Limits.{Limits}
+use Rattle.ipc_limits.specs.declared.limits.Limits.{Limits}
 use Rattle.ipc_wire.specs.Request.{PlainRequest}
 use Rattle.ipc_engine.specs.Event.{PlainEvent, PlainOutcome, Connect, Call, Interrupt, Tick, Exit, Restart}
 use Rattle.ipc_state.specs.Sound.{FitsBody}
@@ -20,6 +20,8 @@ use Rattle.ipc_engine.proofs.Settled.{settle-kept}
 use Rattle.ipc_engine.proofs.Soundness as soundness
 use Rattle.ipc_engine.proofs.Answered as answered
 use Rattle.ipc_engine.proofs.Waiting.{asked-keeps, interrupt-keeps}
+-- the requests of calls that wait are short
+pub use Rattle.ipc_engine.proofs.WaitingRequests.{waiting-requests}
 
 -- nothing has happened yet
 pub start-sound : (limits : Limits) → IsSound limits start
@@ -68,7 +70,7 @@ pub hello-greets : (limits : Limits) (s : State) (cred : Cred) (serial moment : 
 hello-greets limits s cred serial moment sound = answered.hello-greets limits s cred serial moment
 
 -- the state that a restart leaves
-pub restart-is : (limits : Limits) (s : State) → (step limits s Restart).state ≡ restart s
+pub restart-is : (limits : Limits) (s : State) → (step limits s Restart).state ≡ restart limits s
 restart-is limits s = refl
 
 -- ---- a process stays connected, unless it exits

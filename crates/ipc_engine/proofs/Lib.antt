@@ -15,3 +15,4 @@ mod Doing
 mod Resumes
 mod Tracking
 mod Marks
+mod WaitingRequests

@@ -7,7 +7,7 @@ use Rattle.std.proofs.lemmas.Bool.Decides.{nat_tests}
 use Rattle.std.proofs.lemmas.List.Elements.{All-nil, All-cons, All-append, All-filter}
 use Rattle.ipc_base.specs.declared.identity.Moment.{Moment}
 use Rattle.ipc_base.specs.declared.identity.Pid.{Pid}
-use Rattle.ipc_base.specs.declared.limits.Limits.{Limits}
+use Rattle.ipc_limits.specs.declared.limits.Limits.{Limits}
 use Rattle.ipc_wait.specs.Waits.{waiting_call_of, without, is_of, is_due}
 use Rattle.ipc_wait.proofs.CallerLemmas.{IsIn, found-in, waiting_call_of-without_same, waiting_call_of-without_other}
 use Rattle.sem_undo.specs.Undo.{Key, adjustment}

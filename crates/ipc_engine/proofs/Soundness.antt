@@ -2,19 +2,22 @@
 use Rattle.std.proofs.Common.{◌≡◌, ◌≢◌, ℕ, Bool, true, false, not, cond, List, [], ◌∷◌, length}
 use Rattle.std.proofs.Common.{get_or, Option, Some, None, is_some, unwrap_or}
 use Rattle.std.proofs.Common.{refl, sym, ap, subst, ◌∙◌, arith}
-use Rattle.std.specs.Prelude.{All, option_map, ◌==◌, nat_eq, ◌++◌}
+use Rattle.std.specs.Prelude.{All, option_map, ◌==◌, nat_eq, ◌++◌, if◌then◌else◌}
 use Rattle.std.specs.FinMap as fin
 use Rattle.ipc_base.specs.Table.{value_at}
 use Rattle.sem_undo.specs.Undo.{Key, Undo, adjustment}
 use Rattle.std.proofs.lemmas.Bool.Decides.{nat_tests}
 use Rattle.std.proofs.lemmas.List.Elements.{All-nil, All-cons, All-append, All-filter, All-map, All-push}
-use Rattle.ipc_base.specs.declared.limits.Limits.{Limits}
+use Rattle.ipc_limits.specs.declared.limits.Limits.{Limits}
+use Rattle.ipc_limits.specs.Limits.{has_rules_of_three}
 use Rattle.ipc_base.specs.declared.identity.Cred.{Cred}
 use Rattle.ipc_base.proofs.CallerLemmas.{choice, other-push, rising-found, value_at-without}
 use Rattle.ipc_wait.specs.Waits.{waiting_call_of, without, is_of, is_due}
 use Rattle.ipc_wire.specs.Request.{PlainKind, PlainRequest, Hello, Interrupt as Interrupts, Sysv, Posix}
 use Rattle.ipc_wire.specs.Spelling.{HasFrame}
-use Rattle.ipc_wire.specs.declared.reply.Body.TheVariants.{Empty}
+use Rattle.ipc_wire.specs.declared.reply.Body.TheVariants.{Empty, Number, Record}
+use Rattle.ipc_base.specs.Numbers.{record_bytes}
+use Rattle.ipc_base.specs.declared.field.Field.TheVariants.{U32}
 use Rattle.ipc_state.specs.declared.parked.Awaited.{Awaited}
 use Rattle.ipc_state.specs.declared.parked.Object.{Object}
 use Rattle.ipc_state.specs.declared.processes.Process.{Process}
@@ -31,7 +34,7 @@ use Rattle.ipc_engine.specs.Engine.{IsForProcess, HasRequest}
 use Rattle.ipc_engine.specs.Event.{PlainEvent, Connect, Call, Interrupt, Tick, Exit, Restart, PlainOutcome}
 use Rattle.ipc_engine.specs.Settling.{AreLinked, touched_by}
 use Rattle.ipc_engine.specs.Sound.{IsSound, HasToWait}
-use Rattle.ipc_engine.specs.Step.{Step, silent, step, due, expired, waiting_on, connect, asked, called, replied_or_joined, joins}
+use Rattle.ipc_engine.specs.Step.{Step, silent, step, due, expired, greeting, waiting_on, connect, asked, called, replied_or_joined, joins}
 use Rattle.ipc_engine.specs.Step.{interrupt, interrupted, replied, settle, can_resume, tried}
 use Rattle.ipc_engine.proofs.Lists.{none-left}
 use Rattle.ipc_engine.proofs.Settled.{settle-has, settle-done, settle-nothing, as-before, replied-fits, HasSameUndo}
@@ -271,6 +274,14 @@ module _ (limits : Limits) where
   empty-fits : FitsBody limits Empty
   empty-fits = omega arith
 
+  -- the greeting of a process has at most eight bytes
+  pub greeting-fits : (pid : ℕ) → FitsBody limits (greeting limits pid)
+  greeting-fits pid =
+      elim (has_rules_of_three limits) as (λ b. FitsBody limits (if b then Record (record_bytes (U32 pid ∷ U32 limits.version ∷ [])) else Number pid)) [
+        | true ↦ omega arith
+        | false ↦ omega arith
+      ]
+
   one-fits : (o : PlainOutcome) → FitsBody limits o.body → All (λ (p : PlainOutcome). FitsBody limits p.body) (o ∷ [])
   one-fits o fits = All-cons Fits o [] fits (All-nil Fits)
 
@@ -323,7 +334,7 @@ module _ (limits : Limits) where
   step-fits s (Connect cred serial moment) h =
       All-append Fits (due moment s).outcomes _ (due-fits s moment)
       (choice (λ (t : Step). All (λ (o : PlainOutcome). FitsBody limits o.body) t.outcomes) (has_all_processes limits (due moment s).state) _ _
-      (λ _. one-fits _ empty-fits) (λ _. one-fits _ (omega arith)))
+      (λ _. one-fits _ empty-fits) (λ _. one-fits _ (greeting-fits s.processes.next)))
   step-fits s (Call pid request moment) h =
       All-append Fits (due moment s).outcomes _ (due-fits s moment) (asked-fits (due moment s).state pid request request.kind (due-sound s moment h))
   step-fits s (Interrupt pid serial moment) h =

@@ -8,7 +8,7 @@ use Rattle.std.proofs.lemmas.Bool.Decides.{nat_tests}
 use Rattle.std.proofs.lemmas.List.Folds.{list_any_none}
 use Rattle.std.proofs.lemmas.List.Elements.{All-filter}
 use Rattle.ipc_base.specs.declared.errno.Errno.TheVariants.{EALREADY}
-use Rattle.ipc_base.specs.declared.limits.Limits.{Limits}
+use Rattle.ipc_limits.specs.declared.limits.Limits.{Limits}
 use Rattle.ipc_base.specs.Table.{value_at}
 use Rattle.ipc_base.proofs.CallerLemmas.{choice, value_at-without}
 use Rattle.ipc_wait.specs.Waits.{is_due, is_of, waiting_call_of, without}

@@ -1,8 +1,8 @@
 -- The buffer in which a call makes the body of its reply: it is spare, or stands in a reply.
 use Rattle.std.specs.Prelude.{ℕ, ◌≤◌, max, List, [], ◌∷◌, vec_capacity}
 use Rattle.std.specs.Global.{Vec}
-use Rattle.ipc_base.specs.declared.limits.Limits.{Limits}
-use Rattle.ipc_base.specs.Limits.{longest_body}
+use Rattle.ipc_limits.specs.declared.limits.Limits.{Limits}
+use Rattle.ipc_limits.specs.Limits.{longest_body}
 use Rattle.ipc_state.specs.Spare.{room_of}
 use Rattle.ipc_engine.specs.declared.event.Outcome.{Outcome}
 

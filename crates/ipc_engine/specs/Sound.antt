@@ -1,7 +1,7 @@
 -- What holds of the state after every event. Each of its parts is sound by itself. A call that waits is one of a
 -- connected process, its deadline has not come, and it has to wait: no event leaves one that could go on.
 use Rattle.std.specs.Prelude.{◌≡◌, true, false, All}
-use Rattle.ipc_base.specs.declared.limits.Limits.{Limits}
+use Rattle.ipc_limits.specs.declared.limits.Limits.{Limits}
 use Rattle.ipc_wait.specs.Waits.{is_due}
 use Rattle.ipc_state.specs.Sound.{HasSoundParts}
 use Rattle.ipc_state.specs.State.{State, is_process}

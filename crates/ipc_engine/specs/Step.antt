@@ -5,10 +5,14 @@ use Rattle.std.specs.Prelude.{ℕ, zero, suc, ◌+◌, ◌*◌, List, [], ◌∷
 use Rattle.std.specs.Prelude.{not, Option, Some, None, find, map}
 use Rattle.ipc_base.specs.declared.errno.Errno.TheVariants.{EALREADY, EINTR, ENFILE, EPROTO}
 use Rattle.ipc_base.specs.declared.identity.Cred.{Cred}
-use Rattle.ipc_base.specs.declared.limits.Limits.{Limits}
+use Rattle.ipc_base.specs.Numbers.{record_bytes}
+use Rattle.ipc_base.specs.declared.field.Field.TheVariants.{U32}
+use Rattle.ipc_limits.specs.declared.limits.Limits.{Limits}
+use Rattle.ipc_limits.specs.Limits.{has_rules_of_three}
 use Rattle.ipc_wait.specs.Waits.{waiting_call_of, is_due}
 use Rattle.ipc_wire.specs.Request.{PlainKind, PlainRequest, Hello, Interrupt as Interrupts, Sysv, Posix}
-use Rattle.ipc_wire.specs.declared.reply.Body.TheVariants.{Empty, Notification, Number}
+use Rattle.ipc_wire.specs.declared.reply.Body.TheVariants.{Empty, Notification, Number, Record}
+use Rattle.ipc_wire.specs.Reply.{PlainBody}
 use Rattle.ipc_state.specs.declared.parked.Awaited.{Awaited}
 use Rattle.ipc_state.specs.Finish.{Finish, Tried, Finishes, Waits, has_to_wait, done, refused}
 use Rattle.ipc_state.specs.State.{State, at_moment, has_all_processes, with_process, exit, restart}
@@ -109,7 +113,12 @@ joins s pid request (Some on) =
 
 -- ---- events
 
--- HELLO: a new process and its pid, or ENFILE where no process can be added
+-- what a new process is told: its pid, and on version 3 the version after it
+abbrev pub greeting : Limits → ℕ → PlainBody
+greeting limits pid =
+    if has_rules_of_three limits then Record (record_bytes (U32 pid ∷ U32 limits.version ∷ [])) else Number pid
+
+-- HELLO: a new process and its greeting, or ENFILE where no process can be added
 abbrev pub connect : Limits → Cred → ℕ → State → Step
 connect limits cred serial s =
     if has_all_processes limits s
@@ -117,7 +126,12 @@ connect limits cred serial s =
     else record {
       state = with_process s cred;
       outcomes =
-          record { pid = s.processes.next; serial = serial; errno = None; body = Number s.processes.next } ∷ [];
+          record {
+            pid = s.processes.next;
+            serial = serial;
+            errno = None;
+            body = greeting limits s.processes.next;
+          } ∷ [];
     }
 
 -- what a process is told whose call was tried: how it ends, and then others go on; or nothing yet
@@ -160,7 +174,7 @@ step limits s (Call pid request moment) = after (due moment s) (asked limits pid
 step limits s (Interrupt pid serial moment) = after (due moment s) (interrupt pid serial)
 step limits s (Tick moment) = due moment s
 step limits s (Exit pid moment) = after (due moment s) (λ t. settle limits (exit t pid))
-step limits s Restart = silent (restart s)
+step limits s Restart = silent (restart limits s)
 
 -- the most frames that one event causes: its own reply, and one to each process of which a call waited; and with each a
 -- notification

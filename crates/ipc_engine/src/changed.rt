@@ -17,8 +17,9 @@ ghost use Rattle.ipc_state.specs.Touching.{changes_by_exit, is_adjusted, is_adju
 ghost use Rattle.ipc_state.specs.Touching.{is_segment};
 ghost use Rattle.ipc_engine.specs.Changes.{HasMarked, is_marked, is_object, is_one, may_leave_changes, most_objects};
 
-use ipc_base::{Limits, Pid};
+use ipc_base::Pid;
 use ipc_keys::NameKind;
+use ipc_limits::Limits;
 use ipc_state::{
     DescriptorRow, Item, NamedEntry, Object, ObjectKind, Process, State, is_on, is_segment,
 };

@@ -26,12 +26,14 @@ ghost use Rattle.std.specs.Prelude.{
   max,
   if◌then◌else◌,
 };
-ghost use Rattle.ipc_base.specs.Limits.{ArePassed, longest_body, longest_reply};
+ghost use Rattle.ipc_limits.specs.Limits.{ArePassed, longest_body, longest_reply};
 ghost use Rattle.ipc_wire.specs.Request.{plain_kind};
 ghost use Rattle.ipc_wire.specs.View.{plain_request};
 ghost use Rattle.ipc_state.specs.Held.{left};
 ghost use Rattle.ipc_state.specs.Held.Ready.{Nothing};
 ghost use Rattle.ipc_state.specs.Sound.{FitsBody};
+ghost use Rattle.ipc_state.specs.Spare.{IsSpare, room_of};
+ghost use Rattle.ipc_wire.specs.Reply.{body_of};
 ghost use Rattle.ipc_state.specs.declared.parked.Object.{Object as PlainObject};
 ghost use Rattle.ipc_state.specs.State.{State as PlainState, has_all_processes, is_process, is_waiting, start};
 ghost use Rattle.ipc_wait.specs.Waits.{next_deadline};
@@ -40,7 +42,7 @@ ghost use Rattle.ipc_engine.specs.Bytes.{most_owed, owed};
 ghost use Rattle.ipc_engine.specs.Changes.{IsTracked, changes, is_changed, is_marked};
 ghost use Rattle.ipc_engine.specs.Engine.{hello_needs};
 ghost use Rattle.ipc_engine.specs.Reserved.{IsReserved, takes_memory};
-ghost use Rattle.ipc_engine.specs.Step.{step as step_on, connect as connect_step, due, most_replies};
+ghost use Rattle.ipc_engine.specs.Step.{step as step_on, connect as connect_step, due, greeting, most_replies};
 ghost use Rattle.ipc_engine.specs.Listing.{plain_row, rows_of};
 ghost use Rattle.ipc_engine.specs.Sound.{IsSound};
 ghost use Rattle.ipc_engine.specs.View.{plain_event, plain_outcome, step_of};
@@ -54,10 +56,11 @@ use crate::listing::{Row, list_objects};
 use crate::replies::{push, take_back};
 use crate::settling::all_have_to_wait;
 use crate::trying::reserve;
-use ipc_base::{Cred, Errno, Limits, Moment, Pid};
+use ipc_base::{Cred, Errno, Field, Moment, Pid};
 use ipc_keys::NameKind;
-use ipc_state::{Object, ObjectKind, Parked, State};
-use ipc_wire::{Body, Request};
+use ipc_limits::Limits;
+use ipc_state::{Object, ObjectKind, Parked, State, take_spare};
+use ipc_wire::{Body, Request, push_fields};
 use posix_calls::registrations;
 use std::alloc::{AllocError, Global};
 use std::marker::Model;
@@ -76,7 +79,7 @@ pub struct Engine {
 impl Model for Engine {
     ghost use Rattle.std.specs.Prelude.{◌≡◌, ◌<◌, ◌≤◌, ◌*◌, map, vec_capacity};
     ghost use Rattle.std.specs.Coded.{codes};
-    ghost use Rattle.ipc_base.specs.Limits.{ArePassed};
+    ghost use Rattle.ipc_limits.specs.Limits.{ArePassed};
     ghost use Rattle.sem_undo.specs.Undo.{undo_code};
     ghost use Rattle.ipc_state.specs.Held.Ready.{Nothing};
     ghost use Rattle.ipc_engine.specs.Buffer.{HasBuffer};
@@ -312,7 +315,7 @@ impl Engine {
             } => {
                 reserve_hello(&mut self.state)?;
                 advance(&mut self.state, &mut self.outcomes, &mut self.spare, moment);
-                let outcome = connect(&mut self.state, cred, serial);
+                let outcome = connect(&mut self.state, &mut self.spare, cred, serial);
                 push(&mut self.outcomes, outcome);
             }
             Event::Call {
@@ -416,10 +419,12 @@ fn reserve_hello(state: &mut State) -> Result<(), AllocError>
 }
 
 /// The reply to a HELLO: a new process, or ENFILE where none can be added. It takes no memory.
-fn connect(state: &mut State, cred: Cred, serial: u32) -> Outcome
-    requires { state.old.ready ≡ hello_needs state.old.limits state.old.state }
+fn connect(state: &mut State, spare: &mut Vec<u8>, cred: Cred, serial: u32) -> Outcome
+    requires ready { state.old.ready ≡ hello_needs state.old.limits state.old.state }
+    requires spare { IsSpare state.old.limits spare.old }
     ensures step { step_of state.new.state result ≡ connect_step state.old.limits cred serial state.old.state }
     ensures held { state.new ≡ left state.old state.new.state }
+    ensures buffer { longest_body state.old.limits ≤ max (vec_capacity spare.new) (room_of result.body) }
 {
     if state.has_all_processes() {
         return Outcome {
@@ -434,6 +439,20 @@ fn connect(state: &mut State, cred: Cred, serial: u32) -> Outcome
         pid,
         serial,
         errno: None,
-        body: Body::Number(pid.0),
+        body: greet(state.limits(), spare, pid),
     }
+}
+
+/// What a new process is told: its pid, and on version 3 the version after it. The latter stands in the spare buffer.
+fn greet(limits: &Limits, spare: &mut Vec<u8>, pid: Pid) -> Body<Vec<u8>>
+    requires { IsSpare limits.now spare.old }
+    ensures body { body_of (λ bytes. bytes.items) result ≡ greeting limits.now pid.0 }
+    ensures buffer { longest_body limits.now ≤ max (vec_capacity spare.new) (room_of result) }
+{
+    if !limits.has_rules_of_three() {
+        return Body::Number(pid.0);
+    }
+    let mut body = take_spare(spare);
+    push_fields(&mut body, &[Field::U32(pid.0), Field::U32(limits.version)]);
+    Body::Record(body)
 }

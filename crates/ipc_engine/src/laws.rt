@@ -8,7 +8,7 @@ ghost use Rattle.std.specs.List.Sorted.{IsPermutation, IsSortedBy, IsStableBy};
 ghost use Rattle.ipc_base.specs.Table.{keys_of, value_at};
 ghost use Rattle.ipc_base.specs.declared.errno.Errno.{Errno};
 ghost use Rattle.ipc_base.specs.declared.errno.Errno.TheVariants.{EALREADY};
-ghost use Rattle.ipc_base.specs.declared.limits.Limits.{Limits};
+ghost use Rattle.ipc_limits.specs.declared.limits.Limits.{Limits};
 ghost use Rattle.ipc_base.specs.declared.identity.Cred.{Cred};
 ghost use Rattle.ipc_wire.specs.Request.{PlainKind, PlainRequest, Interrupt as Interrupts};
 ghost use Rattle.ipc_keys.specs.declared.check.NameKind.{NameKind};
@@ -21,7 +21,8 @@ ghost use Rattle.ipc_state.specs.Kinds.{Content};
 ghost use Rattle.ipc_state.specs.Named.{NamedEntry, has_name};
 ghost use Rattle.ipc_state.specs.Numbered.{entry_of};
 ghost use Rattle.posix_mq.specs.Queue.{Queue as Mq, deregistered};
-ghost use Rattle.ipc_state.specs.State.{State, start, cred_of, is_process, is_waiting, restart, undone, with_waiting};
+ghost use Rattle.ipc_state.specs.State.{State, start, cred_of, is_process, is_waiting, next_pid_after, restart};
+ghost use Rattle.ipc_state.specs.State.{undone, with_waiting};
 ghost use Rattle.ipc_state.specs.Waiting.{PlainWaiting, awaited_by, expiry};
 ghost use Rattle.ipc_wait.specs.Waits.{calls_due, calls_left, is_due};
 ghost use Rattle.sysv_calls.specs.Concern.{change_of, concerns};
@@ -252,13 +253,14 @@ pub fn restart_adds_adjustments()
     ensures added { (limits : Limits) (s : State) → (step limits s Restart).state.semset ≡ fold undone s.semset s.undo }
 {}
 
-/// A restart leaves the queues, the identifiers of the sets and the numbers of those to come as they are. Of POSIX
+/// A restart leaves the queues, the identifiers of the sets and the numbers of those to come as they are, but for the
+/// next process, which has the number 1 on version 3 (`next_pid`). Of POSIX
 /// queues, named semaphores and segments those with a name are left, as they were but for a registration with a queue,
 /// and no other. Of the System V segments, each detached by every process that had it attached, those that are not
 /// marked are left (`shared`).
 pub fn restart_keeps_objects()
     ensures next_pid { (limits : Limits) (s : State)
-        → (step limits s Restart).state.processes.next ≡ s.processes.next }
+        → (step limits s Restart).state.processes.next ≡ next_pid_after limits s }
     ensures queues { (limits : Limits) (s : State) → (step limits s Restart).state.msg ≡ s.msg }
     ensures sets { (limits : Limits) (s : State)
         → keys_of (step limits s Restart).state.semset.entries ≡ keys_of s.semset.entries }
@@ -280,7 +282,7 @@ pub fn restart_keeps_objects()
 
 /// A restart twice is a restart once.
 pub fn restart_twice_is_once()
-    ensures state { (s : State) → restart (restart s) ≡ restart s }
+    ensures state { (limits : Limits) (s : State) → restart limits (restart limits s) ≡ restart limits s }
     ensures step { (limits : Limits) (s : State)
         → step limits (step limits s Restart).state Restart ≡ step limits s Restart }
 {}

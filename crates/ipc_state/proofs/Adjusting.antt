@@ -1,9 +1,11 @@
 -- Adjustments stay at semaphores that are there, as sets and processes come and go.
-use Rattle.std.proofs.Common.{◌≡◌, ◌≢◌, ℕ, ℤ, Bool, true, false, cond, List, [], ◌∷◌, ◌++◌, Option, Some, None, length, refl, sym, ap, subst, ◌∙◌, arith}
-use Rattle.std.specs.Prelude.{is_some, not, map, ◌&&◌, IsTrue, nat_eq, nat_lt, option_map, unwrap_or, All}
+use Rattle.std.proofs.Common.{◌≡◌, ◌≢◌, ◌≤◌, ℕ, ℤ, Bool, true, false, cond, List, [], ◌∷◌, ◌++◌, Option, Some, None, length, refl, sym, ap, subst, ◌∙◌, arith}
+use Rattle.std.specs.Prelude.{◌-◌, ◌==◌, is_some, not, map, ◌&&◌, IsTrue, nat_eq, nat_lt, option_map, unwrap_or, All}
 use Rattle.std.specs.List.{fold, list_all}
 use Rattle.std.specs.FinMap as fin
-use Rattle.std.specs.FinMap.{get-remove, get-empty, get-entries, len-entries, len-empty, find}
+use Rattle.std.specs.FinMap.{get-remove, get-empty, get-entries, len-entries, len-empty, len-remove, find}
+use Rattle.std.specs.FinMap.{same_map, entries_sorted, entries-from_sorted, get-from_sorted}
+use Rattle.std.specs.FinMap.Entries.{where_key, find-where_key, is_sorted-where_key}
 use Rattle.std.specs.Bool.{Decides}
 use Rattle.std.specs.Cmp.{tied_itself}
 use Rattle.std.specs.declared.cmp.Ordering.{Ordering}
@@ -11,6 +13,10 @@ use Rattle.std.specs.declared.cmp.Ordering.TheVariants.{Less, Equal, Greater}
 use Rattle.std.specs.Ordering.{is_eq}
 use Rattle.std.proofs.lemmas.Bool.Decides.{nat_tests}
 use Rattle.std.proofs.lemmas.List.{length-set}
+use Rattle.std.proofs.lemmas.List.Filters.{length-filter_both}
+use Rattle.ipc_limits.specs.declared.limits.Limits.{Limits}
+use Rattle.ipc_limits.specs.Limits.{adjustment_limit, exceeds}
+use Rattle.ipc_limits.proofs.CallerLemmas.{exceeds-less}
 use Rattle.std.proofs.lemmas.List.Elements.{All-nil, All-cons, All-head, All-tail}
 use Rattle.ipc_base.specs.Table.{value_at, with_value, without, keys_of, seen_as, EachValue}
 use Rattle.ipc_base.specs.declared.identity.Pid.{Pid}
@@ -23,8 +29,9 @@ use Rattle.ipc_state.specs.declared.numbered.Item.{Item}
 use Rattle.ipc_state.specs.Tables.{item_row}
 use Rattle.ipc_state.specs.Bound.{holding}
 use Rattle.ipc_state.specs.Numbered.{entry_of, with_entry, with_new, without_entry}
-use Rattle.ipc_state.specs.Sound.{has_semaphore, AreAt, AreAdjustments}
+use Rattle.ipc_state.specs.Sound.{has_semaphore, AreAt, AreAdjustments, AreFew}
 use Rattle.ipc_state.specs.State.{adjusted, undone}
+use Rattle.ipc_state.proofs.Numbering.{none-exceeds}
 
 -- ---- the semaphores that are there
 
@@ -111,8 +118,9 @@ pub each-moved : (old new : Keyed Set) → HasAll old new → (undo : List (ℕ 
 each-moved old new all [] h = tt
 each-moved old new all (p ∷ ps) h = (λ k there. all k (h.0 k there), each-moved old new all ps h.1)
 
-pub moved : (pids : List ℕ) (old new : Keyed Set) (undo : List (ℕ × Undo)) → HasAll old new → AreAdjustments pids old undo → AreAdjustments pids new undo
-moved pids old new undo all h = record { pids = h.pids; each = each-moved old new all undo h.each; kept = h.kept }
+pub moved : (limits : Limits) (pids : List ℕ) (old new : Keyed Set) (undo : List (ℕ × Undo)) → HasAll old new → AreAdjustments limits pids old undo
+    → AreAdjustments limits pids new undo
+moved limits pids old new undo all h = record { pids = h.pids; each = each-moved old new all undo h.each; kept = h.kept; few = h.few }
 
 -- what is cleared was there before, and not at what is cleared
 pub cleared-there : (set : ℕ) (num : Option ℕ) (u : Undo) (k : Key) → is_some (fin.get (cleared set num u) k) ≡ true → is_some (fin.get u k) ≡ true
@@ -145,6 +153,45 @@ pub kept-cleared : (set : ℕ) (num : Option ℕ) (undo : List (ℕ × Undo)) �
 kept-cleared set num [] h = tt
 kept-cleared set num (p ∷ ps) h = (cleared-sound set num p.1 h.0, kept-cleared set num ps h.1)
 
+-- and there are no more
+retained-is : (u : Undo) (p : Key → Bool) → fin.from_sorted {R = key_cmp} (where_key key_cmp p (fin.entries u)) ≡ fin.retain_keys u p
+retained-is u p =
+    same_map key_total key_apart _ _ (λ q.
+    get-from_sorted key_cmp (where_key key_cmp p (fin.entries u)) q (is_sorted-where_key key_cmp p (fin.entries u) (entries_sorted u))
+    ∙ find-where_key key_cmp p q (λ x e. ap p (sym (key_apart q x e))) (fin.entries u)
+    ∙ ap (λ r. cond (p q) r None) (sym (get-entries u q)) ∙ sym (retained u p q))
+
+fewer-retained : (u : Undo) (p : Key → Bool) → fin.len (fin.retain_keys u p) ≤ fin.len u
+fewer-retained u p =
+    let left : List (Key × ℤ) = where_key key_cmp p (fin.entries u) in
+    omega (
+      arith,
+      ap (λ (v : Undo). fin.len v) (retained-is u p),
+      len-entries (fin.from_sorted {R = key_cmp} left),
+      ap (λ (es : List (Key × ℤ)). length es) (entries-from_sorted key_cmp left (is_sorted-where_key key_cmp p (fin.entries u) (entries_sorted u))),
+      length-filter_both (λ (e : Key × ℤ). p e.0) (λ e. not (p e.0)) (λ e. refl) (fin.entries u),
+      len-entries u,
+    )
+
+fewer-cleared : (set : ℕ) (num : Option ℕ) (u : Undo) → fin.len (cleared set num u) ≤ fin.len u
+fewer-cleared set None u = fewer-retained u (λ k. not (k.0 == set))
+fewer-cleared set (Some num) u = by_test (fin.contains_key u (set, num)) (len-remove key_total u (set, num))
+  where
+    by_test : (b : Bool) → fin.len (fin.remove u (set, num)) ≡ cond b (fin.len u - 1) (fin.len u) → fin.len (fin.remove u (set, num)) ≤ fin.len u
+    by_test true is = omega (arith, is)
+    by_test false is = omega (arith, is)
+
+pub few-cleared : (limits : Limits) (set : ℕ) (num : Option ℕ) (undo : List (ℕ × Undo)) → EachValue (AreFew limits) undo
+    → EachValue (AreFew limits) (seen_as (cleared set num) undo)
+few-cleared limits set num [] h = tt
+few-cleared limits set num (p ∷ ps) h =
+    (exceeds-less (fin.len (cleared set num p.1)) (fin.len p.1) (adjustment_limit limits) (fewer-cleared set num p.1) h.0, few-cleared limits set num ps h.1)
+
+pub none-few : (limits : Limits) → AreFew limits fin.empty
+none-few limits =
+    let none : Undo = fin.empty in
+    exceeds-less (fin.len none) 0 (adjustment_limit limits) (omega (arith, len-empty key_cmp ℤ)) (none-exceeds (adjustment_limit limits))
+
 -- a set goes, and its adjustments with it
 pub each-dropped : (o : Keyed Set) (set : ℕ) (undo : List (ℕ × Undo)) → EachValue (AreAt o) undo
     → EachValue (AreAt (without_entry o set)) (seen_as (cleared set None) undo)
@@ -173,6 +220,10 @@ and-right false b is = cc
 
 is-istrue : (b : Bool) → b ≡ true → IsTrue b
 is-istrue b is = cc
+
+not-false : (b : Bool) → not b ≡ true → b ≡ false
+not-false true is = cc
+not-false false is = refl
 
 istrue-is : (b : Bool) → IsTrue b → b ≡ true
 istrue-is true is = refl
@@ -224,6 +275,21 @@ pub tells-each : (sets : Keyed Set) (items : List (Item Undo))
     → EachValue (AreAt sets) (map item_row items) × EachValue IsSoundUndo (map item_row items) → All (AreKept sets) items
 tells-each sets [] each = All-nil (AreKept sets)
 tells-each sets (e ∷ es) each = All-cons (AreKept sets) e es (each.0.0, each.1.0) (tells-each sets es (each.0.1, each.1.1))
+
+-- whether each process has few
+told-few : (limit : Option ℕ) (items : List (Item Undo)) → list_all (λ e. not (exceeds (fin.len e.value) limit)) items ≡ true
+    → EachValue (λ u. exceeds (fin.len u) limit ≡ false) (map item_row items)
+told-few limit [] is = tt
+told-few limit (e ∷ es) is = (not-false _ (and-left _ _ is), told-few limit es (and-right _ _ is))
+
+tells-few : (limit : Option ℕ) (items : List (Item Undo)) → EachValue (λ u. exceeds (fin.len u) limit ≡ false) (map item_row items)
+    → list_all (λ e. not (exceeds (fin.len e.value) limit)) items ≡ true
+tells-few limit [] each = refl
+tells-few limit (e ∷ es) each = and-both _ _ (ap not each.0) (tells-few limit es each.1)
+
+pub few-decides : (limit : Option ℕ) (items : List (Item Undo))
+    → Decides (list_all (λ e. not (exceeds (fin.len e.value) limit)) items) (EachValue (λ u. exceeds (fin.len u) limit ≡ false) (map item_row items))
+few-decides limit items = (λ is. told-few limit items is, λ each. tells-few limit items each)
 
 -- ---- whose they are
 

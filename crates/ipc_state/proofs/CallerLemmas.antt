@@ -20,7 +20,8 @@ use Rattle.ipc_state.specs.Tables.{HeldObjects}
 use Rattle.ipc_base.specs.declared.identity.Cred.{Cred}
 use Rattle.ipc_base.specs.declared.identity.Moment.{Moment}
 use Rattle.ipc_base.specs.declared.identity.Pid.{Pid}
-use Rattle.ipc_base.specs.declared.limits.Limits.{Limits}
+use Rattle.ipc_limits.specs.declared.limits.Limits.{Limits}
+use Rattle.ipc_limits.specs.Limits.{has_rules_of_three}
 use Rattle.ipc_wait.specs.Waits.{is_of, is_due, waiting_call_of, without}
 use Rattle.ipc_wait.proofs.CallerLemmas.{without-distinct, left-distinct, due-or-left, HaveDistinctPids-enter}
 use Rattle.posix_mq.specs.Queue.{Queue as Mq, PlainMessage as MqMessage, empty_queue, is_full as is_full_mq, next_to_receive, received, with_message}
@@ -39,7 +40,7 @@ use Rattle.ipc_state.specs.Kinds.{BoundOf, Content, EntryOf, Objects, Those, has
 use Rattle.ipc_perm.specs.declared.perm.Perm.{Perm}
 use Rattle.ipc_perm.specs.Perm.{owned_by, perm_of}
 use Rattle.ipc_state.specs.declared.processes.Process.{Process}
-use Rattle.ipc_state.specs.Numbered.{Numbered, entry_of, with_entry, with_new, is_full}
+use Rattle.ipc_state.specs.Numbered.{AreNumbered, Numbered, entry_of, with_entry, with_new, is_full}
 use Rattle.ipc_state.specs.declared.descriptors.Descriptor.{Descriptor}
 use Rattle.ipc_state.specs.Named.{NamedEntry}
 use Rattle.ipc_state.specs.Descriptors.{opened, with_flags}
@@ -47,16 +48,16 @@ use Rattle.ipc_state.specs.Attached.{detached_each}
 use Rattle.ipc_state.specs.Bound.{AreFound, holding, kept_if, number_of, permitting, unbound}
 use Rattle.ipc_state.specs.Opening.{descriptors_of, descriptor_at, is_by_descriptor, is_registered}
 use Rattle.ipc_state.specs.Opening.{is_sound_descriptor, stays}
-use Rattle.ipc_state.specs.State.{State, start, at_moment, has_all_processes, is_process, with_process, exit, restart}
+use Rattle.ipc_state.specs.State.{State, start, at_moment, has_all_processes, is_process, next_pid_after, with_process, exit, restart}
 use Rattle.ipc_state.specs.State.{is_waiting, with_waiting, without_due, without_waiting}
 use Rattle.ipc_state.specs.State.{adjusted, undone, undo_of, without_adjustments, with_undo}
 use Rattle.ipc_state.specs.State.{has_all_descriptors, with_descriptor, with_descriptor_flags, closed, objects_in, objects_of, removed, unlinked}
 use Rattle.ipc_state.specs.State.{with_entry_of, with_new_of, with_object_of, with_objects, with_objects_of}
 use Rattle.ipc_state.specs.Sound.{AreSound, IsSoundContent, IsSoundMq, IsSoundMqMessage, most_of}
-use Rattle.ipc_state.specs.Sound.{HasSoundParts, AreAt, AreAdjustments, semaphore_count}
+use Rattle.ipc_state.specs.Sound.{HasSoundParts, AreAt, AreAdjustments, AreFew, semaphore_count}
 use Rattle.ipc_state.specs.Waiting.{PlainWaiting, AreSoundWaits, IsSoundWaiting, deadline_after, deadline_of, has_deadline}
 use Rattle.ipc_state.specs.declared.parked.Awaited.TheVariants as awaited
-use Rattle.ipc_state.proofs.Numbering.{none_yet-numbered}
+use Rattle.ipc_state.proofs.Numbering.{cleared-numbered, none_yet-numbered}
 use Rattle.ipc_state.proofs.Counting.{few-waiting}
 use Rattle.ipc_state.proofs.Few.{covered, few-each, each-fewer}
 use Rattle.ipc_state.proofs.Binding as binding
@@ -69,7 +70,8 @@ pub use Rattle.ipc_state.proofs.SoundQueues.{new_queue-sound}
 pub use Rattle.ipc_state.proofs.SoundSets.{new_set-sound}
 use Rattle.ipc_state.proofs.Detaching.{AreDetached, all-detached, by-detached, each-detached, unmarked-kept}
 use Rattle.ipc_state.proofs.Adjusting.{HasAll, moved, has-new, has-with, has-adjusted, adjusted-by, exit-length, undone-keeps, all-undone-keeps}
-use Rattle.ipc_state.proofs.Adjusting.{each-moved, each-cleared, each-dropped, kept-cleared, none-at, without-same, push-same, each-pushed, seen-keys}
+use Rattle.ipc_state.proofs.Adjusting.{each-moved, each-cleared, each-dropped, few-cleared, kept-cleared, none-at, none-few}
+use Rattle.ipc_state.proofs.Adjusting.{without-same, push-same, each-pushed, seen-keys}
 pub use Rattle.ipc_state.proofs.EntryKeys.{All-seen}
 pub use Rattle.ipc_state.proofs.Ending.{HasSameProcesses, IsGood, as_before, by-finish, refused-good, same-processes, same-but-table, same-connected}
 pub use Rattle.ipc_state.proofs.Ending.{same-awaited, same-objects}
@@ -92,18 +94,19 @@ owned_by-mode perm uid gid mode = omega (arith, and_le_r mode 511)
 
 module _ (limits : Limits) where
   -- a state with another part that is sound is sound
-  set-undo : (s : State) (undo : List (ℕ × Undo)) → HasSoundParts limits s → AreAdjustments (keys_of s.processes.entries) s.semset undo
+  set-undo : (s : State) (undo : List (ℕ × Undo)) → HasSoundParts limits s → AreAdjustments limits (keys_of s.processes.entries) s.semset undo
       → HasSoundParts limits (record s { undo = undo })
   set-undo s undo h good = record { processes = h.processes; wait = h.wait; undo = good; msg = h.msg; semset = h.semset; shm = h.shm; named = h.named }
 
-  -- other adjustments of a process, at semaphores that are there, in their range and not 0
-  pub with_undo-sound : (s : State) (pid : ℕ) (undo : Undo) → HasSoundParts limits s → AreAt s.semset undo → IsSoundUndo undo
+  -- other adjustments of a process, at semaphores that are there, in their range and not 0, and few
+  pub with_undo-sound : (s : State) (pid : ℕ) (undo : Undo) → HasSoundParts limits s → AreAt s.semset undo → IsSoundUndo undo → AreFew limits undo
       → HasSoundParts limits (with_undo s pid undo)
-  with_undo-sound s pid undo h good kept =
+  with_undo-sound s pid undo h good kept few =
       set-undo s _ h (record {
         pids = keys_of-with_value nat_eq s.undo pid undo ∙ h.undo.pids;
         each = each-with (AreAt s.semset) s.undo pid undo h.undo.each good;
         kept = each-with IsSoundUndo s.undo pid undo h.undo.kept kept;
+        few = each-with (AreFew limits) s.undo pid undo h.undo.few few;
       })
 
   -- what each process's adjustments are, and none is, those of any number are
@@ -175,7 +178,7 @@ module _ (limits : Limits) where
       record {
         processes = record { numbered = none_yet-numbered limits.processes; descriptors = All-nil _ };
         wait = none-waits;
-        undo = record { pids = refl; each = tt; kept = tt };
+        undo = record { pids = refl; each = tt; kept = tt; few = tt };
         msg = none kinds.MsgQueue;
         semset = none kinds.Semset;
         shm = none kinds.Shm;
@@ -234,6 +237,7 @@ module _ (limits : Limits) where
           pids = without-same s.undo s.processes.entries pid h.undo.pids;
           each = each-moved s.semset (undone s.semset p) all _ (each-without (AreAt s.semset) s.undo pid h.undo.each);
           kept = each-without IsSoundUndo s.undo pid h.undo.kept;
+          few = each-without (AreFew limits) s.undo pid h.undo.few;
         };
         msg = left.objects kinds.MsgQueue;
         semset = left.objects kinds.Semset;
@@ -241,20 +245,24 @@ module _ (limits : Limits) where
         named = λ kind. left.objects (kinds.Named kind);
       }
 
-  pub restart-sound : (s : State) → HasSoundParts limits s → HasSoundParts limits (restart s)
+  pub restart-sound : (s : State) → HasSoundParts limits s → HasSoundParts limits (restart limits s)
   restart-sound s h =
       let good = all-undone-keeps AreSets adjusted-sound s.semset s.undo (sets-of s.processes.entries [] s.semset h.semset) in
       let gone = with-segments s h (each-detached limits s.processes.entries s.shm s.clock s.processes.entries) in
-      let left = with-sets _ _ _ (mqs.restart-held limits s.processes _ gone) good in
+      let left = with-sets _ _ _ (mqs.restart-held limits (next_pid_after limits s) s.processes _ (begun (has_rules_of_three limits)) gone) good in
       record {
         processes = left.processes;
         wait = none-waits;
-        undo = record { pids = refl; each = tt; kept = tt };
+        undo = record { pids = refl; each = tt; kept = tt; few = tt };
         msg = left.objects kinds.MsgQueue;
         semset = left.objects kinds.Semset;
         shm = left.objects kinds.Shm;
         named = λ kind. left.objects (kinds.Named kind);
       }
+    where
+      begun : (b : Bool) → AreNumbered {X = Process} limits.processes (record { next = if b then 1 else s.processes.next; entries = [] })
+      begun true = none_yet-numbered limits.processes
+      begun false = cleared-numbered limits.processes s.processes h.processes.numbered
 
   pub with_process-sound : (s : State) (cred : Cred) → has_all_processes limits s ≡ false → HasSoundParts limits s → HasSoundParts limits (with_process s cred)
   with_process-sound s cred room h =
@@ -266,6 +274,7 @@ module _ (limits : Limits) where
           pids = push-same s.undo s.processes.entries s.processes.next fin.empty (record { cred = cred; descriptors = [] }) h.undo.pids;
           each = each-pushed (AreAt s.semset) s.undo s.processes.next fin.empty h.undo.each (none-at s.semset);
           kept = each-pushed IsSoundUndo s.undo s.processes.next fin.empty h.undo.kept empty-sound;
+          few = each-pushed (AreFew limits) s.undo s.processes.next fin.empty h.undo.few (none-few limits);
         };
         msg = come.objects kinds.MsgQueue;
         semset = come.objects kinds.Semset;
@@ -274,7 +283,8 @@ module _ (limits : Limits) where
       }
 
   -- the identifiers of the sets stay, and the next one
-  pub restart-sets : (s : State) → (keys_of (restart s).semset.entries ≡ keys_of s.semset.entries) × ((restart s).semset.next ≡ s.semset.next)
+  pub restart-sets : (s : State)
+      → (keys_of (restart limits s).semset.entries ≡ keys_of s.semset.entries) × ((restart limits s).semset.next ≡ s.semset.next)
   restart-sets s =
       all-undone-keeps (λ (o : Keyed Set). (keys_of o.entries ≡ keys_of s.semset.entries) × (o.next ≡ s.semset.next))
       (λ pid o a h. adjusted-by (λ (t : Keyed Set). (keys_of t.entries ≡ keys_of s.semset.entries) × (t.next ≡ s.semset.next)) pid o a
@@ -283,7 +293,7 @@ module _ (limits : Limits) where
 
   -- of the segments, each detached by those that had it attached, a restart leaves those that are not marked
   pub restart-segments : (s : State) → HasSoundParts limits s
-      → (restart s).shm ≡ kept_if (λ (e : ℕ × EntryOf kinds.Shm). not e.1.object.is_marked) (detached_each s.clock s.shm s.processes.entries)
+      → (restart limits s).shm ≡ kept_if (λ (e : ℕ × EntryOf kinds.Shm). not e.1.object.is_marked) (detached_each s.clock s.shm s.processes.entries)
   restart-segments s h =
       unmarked-kept limits s.processes.entries (detached_each s.clock s.shm s.processes.entries)
       ((each-detached limits s.processes.entries s.shm s.clock s.processes.entries).sound h.shm)
@@ -305,18 +315,19 @@ module _ (limits : Limits) where
         pids = seen-keys (cleared set num) s.undo ∙ h.undo.pids;
         each = each-cleared s.semset set num s.undo h.undo.each;
         kept = kept-cleared set num s.undo h.undo.kept;
+        few = few-cleared limits set num s.undo h.undo.few;
       })
 
   -- ---- objects, and descriptors
 
   set-opened : (s : State) (ps : Numbered Process) (o : Objects) → HasSoundParts limits s → keys_of ps.entries ≡ keys_of s.processes.entries
-      → AreAdjustments (keys_of s.processes.entries) o.semset s.undo → mqs.AreAllHeld limits ps o
+      → AreAdjustments limits (keys_of s.processes.entries) o.semset s.undo → mqs.AreAllHeld limits ps o
       → HasSoundParts limits (with_objects (record s { processes = ps }) o)
   set-opened s ps o h same at parts =
       record {
         processes = parts.processes;
         wait = h.wait;
-        undo = record { pids = at.pids ∙ sym same; each = at.each; kept = at.kept };
+        undo = record { pids = at.pids ∙ sym same; each = at.each; kept = at.kept; few = at.few };
         msg = parts.objects kinds.MsgQueue;
         semset = parts.objects kinds.Semset;
         shm = parts.objects kinds.Shm;
@@ -326,16 +337,16 @@ module _ (limits : Limits) where
   -- adjustments are at semaphores that are there, also as other sets stand for those that were there, or come
   at-put : (s : State) (kind : ObjectKind) (n : ℕ) (e f : EntryOf kind) → entry_of (objects_of s kind) n ≡ Some e
       → MayStandFor limits s.processes.entries kind (objects_of s kind) n e f.object → HasSoundParts limits s
-      → AreAdjustments (keys_of s.processes.entries) (with_kind (objects_in s) kind (with_entry (objects_of s kind) n f)).semset s.undo
+      → AreAdjustments limits (keys_of s.processes.entries) (with_kind (objects_in s) kind (with_entry (objects_of s kind) n f)).semset s.undo
   at-put s kinds.Semset n e f is may h =
-      moved (keys_of s.processes.entries) s.semset (with_entry s.semset n f) s.undo (λ k was. has-with s.semset n e f is may k ∙ was) h.undo
+      moved limits (keys_of s.processes.entries) s.semset (with_entry s.semset n f) s.undo (λ k was. has-with s.semset n e f is may k ∙ was) h.undo
   at-put s kinds.MsgQueue n e f is may h = h.undo
   at-put s kinds.Shm n e f is may h = h.undo
   at-put s (kinds.Named kind) n e f is may h = h.undo
 
   at-new : (s : State) (kind : ObjectKind) (e : EntryOf kind) → HasSoundParts limits s
-      → AreAdjustments (keys_of s.processes.entries) (with_kind (objects_in s) kind (with_new (objects_of s kind) e)).semset s.undo
-  at-new s kinds.Semset e h = moved (keys_of s.processes.entries) s.semset (with_new s.semset e) s.undo (has-new s.semset e) h.undo
+      → AreAdjustments limits (keys_of s.processes.entries) (with_kind (objects_in s) kind (with_new (objects_of s kind) e)).semset s.undo
+  at-new s kinds.Semset e h = moved limits (keys_of s.processes.entries) s.semset (with_new s.semset e) s.undo (has-new s.semset e) h.undo
   at-new s kinds.MsgQueue e h = h.undo
   at-new s kinds.Shm e h = h.undo
   at-new s (kinds.Named kind) e h = h.undo
@@ -389,7 +400,7 @@ module _ (limits : Limits) where
   pub unlinked-sound : (s : State) (kind : ObjectKind) (n : ℕ) → may_open kind ≡ true → HasSoundParts limits s → HasSoundParts limits (unlinked s kind n)
   unlinked-sound s kind n may h =
       set-opened s s.processes _ h refl
-      (subst (λ (o : Keyed Set). AreAdjustments (keys_of s.processes.entries) o s.undo)
+      (subst (λ (o : Keyed Set). AreAdjustments limits (keys_of s.processes.entries) o s.undo)
       (sym (elsewhere.open-semset (objects_in s) kind (unbound (parted kind) (no_bound kind) (objects_of s kind) n) may)) h.undo)
       (opening.unlinked-all limits s.processes (objects_in s) (all-held s h) kind n)
 
@@ -406,6 +417,7 @@ module _ (limits : Limits) where
         pids = seen-keys (cleared id None) s.undo ∙ h.undo.pids;
         each = each-dropped s.semset id s.undo h.undo.each;
         kept = kept-cleared id None s.undo h.undo.kept;
+        few = few-cleared limits id None s.undo h.undo.few;
       })
       (opening.without-all limits s.processes (objects_in s) (all-held s h) kinds.Semset id refl)
 
@@ -461,7 +473,7 @@ module _ (limits : Limits) where
   pub mq-registered : (s : State) (n : ℕ) (e : NamedEntry Mq) → entry_of s.mq n ≡ Some e → HasSoundParts limits s
       → is_by_descriptor s.processes.entries n e.object.registration ≡ true
   mq-registered s n e is h =
-      opening.All-found (λ (d : ℕ × NamedEntry Mq). is_registered s.processes.entries d ≡ true) s.mq.entries n e (h.named names.Mq).together is
+      opening.All-found (λ (d : ℕ × NamedEntry Mq). is_registered s.processes.entries d ≡ true) s.mq.entries n e (h.named names.Mq).together.registered is
 
   -- a queue without messages, one with a message more, and one from which a message was received
   pub empty_mq-sound : (maxmsg msgsize : ℕ) → 0 < maxmsg → maxmsg ≤ limits.maxmsg → 0 < msgsize → msgsize ≤ limits.msgsize
@@ -497,14 +509,19 @@ module _ (limits : Limits) where
           }
 
 -- a restart of what a restart has left leaves it
-pub restart-twice : (s : State) → restart (restart s) ≡ restart s
-restart-twice s =
-    (λ i. record (restart s) {
+pub restart-twice : (limits : Limits) (s : State) → restart limits (restart limits s) ≡ restart limits s
+restart-twice limits s =
+    (λ i. record (restart limits s) {
+      processes = record { next = again (has_rules_of_three limits) i; entries = [] };
       shm = mqs.kept-again (stays kinds.Shm []) (detached_each s.clock s.shm s.processes.entries) i;
       mq = mqs.restarted-again s.mq i;
       psem = mqs.kept-again (stays (kinds.Named names.Psem) []) s.psem i;
       pshm = mqs.kept-again (stays (kinds.Named names.Pshm) []) s.pshm i;
     })
+  where
+    again : (b : Bool) → (if b then 1 else if b then 1 else s.processes.next) ≡ (if b then 1 else s.processes.next)
+    again true = refl
+    again false = refl
 
 -- a write leaves as many bytes as there were
 pub written-length : (x : Segment) (offset : ℕ) (bytes : List ℕ) → is_within offset (length bytes) x ≡ true

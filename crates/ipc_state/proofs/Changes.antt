@@ -8,7 +8,7 @@ use Rattle.std.specs.declared.cmp.Ordering.{Ordering}
 use Rattle.std.specs.declared.cmp.Ordering.TheVariants.{Less, Equal, Greater}
 use Rattle.std.specs.List.{fold, list_any}
 use Rattle.std.proofs.lemmas.Bool.Decides.{nat_tests}
-use Rattle.ipc_base.specs.declared.limits.Limits.{Limits}
+use Rattle.ipc_limits.specs.declared.limits.Limits.{Limits}
 use Rattle.ipc_base.specs.Table.{IsRising, keys_of, value_at}
 use Rattle.ipc_base.proofs.CallerLemmas.{at-map, keys_of-with_value, other-push, other-with, rising-found, same_key}
 use Rattle.ipc_keys.specs.declared.check.NameKind.TheVariants as names
@@ -346,7 +346,7 @@ module _ (s : State) (o : Object) where
         left-stays (closed s pid fd).processes.entries s.semset (detached_by s.clock pid s.shm (descriptor_at s.processes.entries pid fd))
         (is_by (Some pid) (Some fd)) (λ n is e at. at)
         (by-detached limits s.processes.entries s.shm s.clock pid (descriptor_at s.processes.entries pid fd)) (closed-apart pid fd apart)
-        (λ m is d found. closed-stays s pid fd m d (h.named names.Mq).together found
+        (λ m is d found. closed-stays s pid fd m d (h.named names.Mq).together.registered found
         (λ one. apart (one ∙ ap (λ (this : Object). Some this) (sym is)))) o.kind o.number refl
 
     -- ---- a process leaves, or all
@@ -427,7 +427,7 @@ module _ (s : State) (o : Object) where
         (λ n is. all-apart s.clock n pid s.shm (descriptors_of s.processes.entries pid) (own-unopened s.processes.entries pid (object_as kinds.Shm n) is))
         o.kind o.number refl
 
-    pub same_in-restart : changes_by_exit None s o ≡ false → IsSameIn o s (restart s)
+    pub same_in-restart : changes_by_exit None s o ≡ false → IsSameIn o s (restart limits s)
     same_in-restart none =
         exit-stays None none [] (fold undone s.semset s.undo) (detached_each s.clock s.shm s.processes.entries) (λ n is. all-undone-apart s.semset s.undo n is)
         (λ n gone. all-undone-keeps (λ (os : Keyed Set). entry_of os n ≡ None) (λ q os a. still-gone n q os a) s.semset s.undo gone)

@@ -4,7 +4,7 @@ use Rattle.std.proofs.Common.{◌≡◌, ◌≢◌, ℕ, Bool, true, false, cond
 use Rattle.std.specs.Prelude.{nat_eq, is_some, option_map, unwrap_or}
 use Rattle.std.specs.FinMap as fin
 use Rattle.std.proofs.lemmas.Bool.Decides.{nat_tests}
-use Rattle.ipc_base.specs.declared.limits.Limits.{Limits}
+use Rattle.ipc_limits.specs.declared.limits.Limits.{Limits}
 use Rattle.ipc_base.specs.Table.{IsRising, value_at, without}
 use Rattle.ipc_base.proofs.CallerLemmas.{at-map, at-with, other-push, other-with, rising-found, rising-gone, value_at-without}
 use Rattle.posix_mq.specs.Queue.{Queue as Mq}
@@ -240,7 +240,7 @@ module _ (limits : Limits) (s : State) (h : HasSoundParts limits s) where
             (put-holds (Same s p k) those (kinds.Named names.Mq) (without_registrations (is_by (Some pid) (Some fd)) s.mq)
             (put-holds (Same s p k) (objects_in s) kinds.Shm those.shm (λ kind m may is. refl) (λ m may is. cc))
             (same-queues p k (is_by (Some pid) (Some fd))
-            (λ m e is found. closed-stays s pid fd m e (h.named names.Mq).together found (λ one. apart (one ∙ sym is))))),
+            (λ m e is found. closed-stays s pid fd m e (h.named names.Mq).together.registered found (λ one. apart (one ∙ sym is))))),
       )
 
   -- what another process names, as one leaves that changes no such object

@@ -5,7 +5,7 @@ use Rattle.std.specs.Prelude.{Ok, Err, is_some, option_map, unwrap_or, nat_eq, i
 use Rattle.std.proofs.lemmas.Bool.Decides.{nat_tests}
 use Rattle.ipc_base.specs.declared.errno.Errno.{Errno}
 use Rattle.ipc_base.specs.declared.identity.Cred.{Cred}
-use Rattle.ipc_base.specs.declared.limits.Limits.{Limits}
+use Rattle.ipc_limits.specs.declared.limits.Limits.{Limits}
 use Rattle.ipc_base.specs.Table.{keys_of, value_at}
 use Rattle.ipc_keys.specs.declared.check.NameKind.TheVariants as names
 use Rattle.posix_mq.specs.Queue.{Queue as Mq}

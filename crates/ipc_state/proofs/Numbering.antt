@@ -1,5 +1,5 @@
 -- Numbers in order, as one comes or changes, and how it is told whether they are.
-use Rattle.std.proofs.Common.{◌≡◌, ℕ, suc, ◌+◌, ◌<◌, ◌≤◌, Bool, true, false, cond, Some, List, [], ◌∷◌, ◌++◌, length, map, take, drop}
+use Rattle.std.proofs.Common.{◌≡◌, ℕ, suc, ◌+◌, ◌<◌, ◌≤◌, Bool, true, false, cond, Option, Some, None, List, [], ◌∷◌, ◌++◌, length, map, take, drop}
 use Rattle.std.proofs.Common.{get_or, refl, sym, ap, subst, ◌∙◌, arith}
 use Rattle.std.specs.Prelude.{nat_eq, nat_lt, nat_le, ◌||◌, sum_by}
 use Rattle.std.specs.Bool.{Decides}
@@ -9,6 +9,7 @@ use Rattle.std.proofs.lemmas.Bool.Decides.{nat_tests}
 use Rattle.std.proofs.lemmas.Bool.{leb-true, le-leb}
 use Rattle.std.proofs.lemmas.List.{map-append, length-append, length-map, take_more, take-append-drop}
 use Rattle.std.proofs.lemmas.List.Sums.{sum_by-cons}
+use Rattle.ipc_limits.specs.Limits.{exceeds}
 use Rattle.ipc_base.specs.Table.{keys_of, seen_as, value_at, with_value, IsRising}
 use Rattle.ipc_base.proofs.CallerLemmas.{rising-push, rising-weaker, rising-bounds, rising-without}
 use Rattle.ipc_base.proofs.CallerLemmas.{length-without, length-with_value, keys_of-with_value, keys-map}
@@ -124,3 +125,8 @@ module _ {X : Type 0} (most : ℕ) where
         next = h.next;
         count = omega (arith, length-map o.entries (λ (e : ℕ × X). let g : ℕ × X = (e.0, f e.1) in g), h.count);
       }
+
+-- none are more than any limit allows
+pub none-exceeds : (limit : Option ℕ) → exceeds 0 limit ≡ false
+none-exceeds None = refl
+none-exceeds (Some most) = grind (arith, nat_tests)

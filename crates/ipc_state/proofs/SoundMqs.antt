@@ -9,10 +9,13 @@ use Rattle.std.proofs.lemmas.Bool.{leb-true, le-leb}
 use Rattle.std.proofs.lemmas.Bool.Decides.{nat_tests, Decides-by_and, Decides-and, Decides-int_eq, Decides-ltb}
 use Rattle.std.proofs.lemmas.List.Elements.{All-nil, All-cons, All-head, All-tail, All-filter, All-push, All-weaker}
 use Rattle.std.proofs.lemmas.List.Filters.{sum_by-filter_both}
+use Rattle.std.proofs.lemmas.List.Sums.{sum_by-cons}
 use Rattle.std.proofs.lemmas.List.Folds.{list_any-append}
 use Rattle.std.proofs.lemmas.Slice.Eq.{bytes_eq-Decides}
 use Rattle.ipc_base.specs.declared.identity.Cred.{Cred}
-use Rattle.ipc_base.specs.declared.limits.Limits.{Limits}
+use Rattle.ipc_limits.specs.declared.limits.Limits.{Limits}
+use Rattle.ipc_limits.specs.Limits.{queue_bytes_limit}
+use Rattle.ipc_limits.proofs.CallerLemmas.{exceeds-less}
 use Rattle.ipc_base.specs.Table.{value_at, without, seen_as}
 use Rattle.ipc_base.proofs.CallerLemmas.{at-map, value_at-without}
 use Rattle.ipc_perm.specs.declared.perm.Perm.{Perm}
@@ -43,11 +46,11 @@ use Rattle.ipc_state.specs.Opening.{deregistered, is_by, unless_so, without_regi
 use Rattle.ipc_state.specs.Opening.{is_there_for, is_sound_descriptor, is_by_descriptor, is_registered}
 use Rattle.ipc_state.specs.Sound.{AreSound, AreSoundDescriptors, AreSoundProcesses, AreSoundTogether, HasSoundParts, IsSoundContent, IsSoundMq}
 use Rattle.ipc_state.specs.Sound.{IsSoundMqMessage, most_of}
-use Rattle.ipc_state.specs.State.{State, objects_of}
+use Rattle.ipc_state.specs.State.{State, bytes_of_mq, mq_bytes, objects_of}
 use Rattle.ipc_state.specs.Tests.{is_sound_mq, is_sound_mq_message}
 use Rattle.ipc_state.proofs.EntryKeys.{Bounds, all_without, by_bound, each-decides, kept-at, names-same}
 use Rattle.ipc_state.proofs.Binding.{none_yet-bound, kept_if-bound}
-use Rattle.ipc_state.proofs.Numbering.{seen-numbered, with_new-numbered, without_entry-numbered, cleared-numbered}
+use Rattle.ipc_state.proofs.Numbering.{none-exceeds, seen-numbered, with_new-numbered, without_entry-numbered}
 
 -- ---- what is left of a table
 
@@ -344,6 +347,20 @@ filter-seen {X} {Y} test row (x ∷ xs) = by_test (test (row x)) (filter-seen te
     by_test true rest = ap (λ (ys : List Y). row x ∷ ys) rest
     by_test false rest = rest
 
+-- a queue without its registration counts as many bytes
+deregistered-bytes : (goes : Registration → Bool) (es : List (ℕ × NamedEntry Mq))
+    → sum_by (λ e. bytes_of_mq e.1.object.maxmsg e.1.object.msgsize) (seen_as (deregistered goes) es)
+    ≡ sum_by (λ e. bytes_of_mq e.1.object.maxmsg e.1.object.msgsize) es
+deregistered-bytes goes [] = refl
+deregistered-bytes goes (e ∷ es) =
+    let size : ℕ × NamedEntry Mq → ℕ = λ e. bytes_of_mq e.1.object.maxmsg e.1.object.msgsize in
+    omega (
+      arith,
+      sum_by-cons size (e.0, deregistered goes e.1) (seen_as (deregistered goes) es),
+      sum_by-cons size e es,
+      deregistered-bytes goes es,
+    )
+
 -- ---- objects that stay
 
 -- objects of a kind of which some may have to go: all holds, but that each stays
@@ -369,7 +386,12 @@ module _ (limits : Limits) (kind : ObjectKind) where
       by_kind kinds.MsgQueue test o h = tt
       by_kind kinds.Semset test o h = omega (arith, fewer-sum (λ (e : KeyedEntry Set). length e.object.semaphores) test o.entries, h)
       by_kind kinds.Shm test o h = omega (arith, fewer-sum (λ (e : KeyedEntry SysSegment). length e.object.memory.bytes) test o.entries, h)
-      by_kind (kinds.Named names.Mq) test o h = All-filter test (IsRegistered ps) o.entries h
+      by_kind (kinds.Named names.Mq) test o h =
+          record {
+            registered = All-filter test (IsRegistered ps) o.entries h.registered;
+            bytes = exceeds-less (mq_bytes (kept_if test o)) (mq_bytes o) (queue_bytes_limit limits)
+                (fewer-sum (λ (e : NamedEntry Mq). bytes_of_mq e.object.maxmsg e.object.msgsize) test o.entries) h.bytes;
+          }
       by_kind (kinds.Named names.Psem) test o h = tt
       by_kind (kinds.Named names.Pshm) test o h = omega (arith, fewer-sum (λ (e : NamedEntry Segment). length e.object.bytes) test o.entries, h)
 
@@ -417,7 +439,8 @@ module _ (limits : Limits) (kind : ObjectKind) where
       by_kind kinds.MsgQueue o h = h
       by_kind kinds.Semset o h = h
       by_kind kinds.Shm o h = h
-      by_kind (kinds.Named names.Mq) o h = All-weaker (IsRegistered ps) (IsRegistered qs) step o.entries h
+      by_kind (kinds.Named names.Mq) o h =
+          record { registered = All-weaker (IsRegistered ps) (IsRegistered qs) step o.entries h.registered; bytes = h.bytes }
       by_kind (kinds.Named names.Psem) o h = h
       by_kind (kinds.Named names.Pshm) o h = h
 
@@ -437,7 +460,7 @@ none-sound limits kind =
     by_kind kinds.MsgQueue = tt
     by_kind kinds.Semset = omega arith
     by_kind kinds.Shm = omega arith
-    by_kind (kinds.Named names.Mq) = All-nil _
+    by_kind (kinds.Named names.Mq) = record { registered = All-nil _; bytes = none-exceeds (queue_bytes_limit limits) }
     by_kind (kinds.Named names.Psem) = tt
     by_kind (kinds.Named names.Pshm) = omega arith
 
@@ -507,7 +530,12 @@ module _ (limits : Limits) where
         bound = deregistered-sound limits goes limits.queues o.named.mq old.held.bound;
         forms = All-seen_as (λ (e : ℕ × NamedEntry Mq). is_named_so names.Mq e ≡ true) (λ (e : ℕ × NamedEntry Mq). is_named_so names.Mq e ≡ true)
             (deregistered goes) (λ e f. f) o.named.mq.entries old.held.forms;
-        together = All-seen_as (IsRegistered ps.entries) (IsRegistered left.entries) (deregistered goes) registered o.named.mq.entries old.together;
+        together = record {
+          registered = All-seen_as (IsRegistered ps.entries) (IsRegistered left.entries) (deregistered goes) registered o.named.mq.entries
+              old.together.registered;
+          bytes = exceeds-less (mq_bytes mq) (mq_bytes o.named.mq) (queue_bytes_limit limits)
+              (omega (arith, deregistered-bytes goes o.named.mq.entries)) old.together.bytes;
+        };
       })
       (same (kinds.Named names.Psem) tt)
       (same (kinds.Named names.Pshm) (h.objects (kinds.Named names.Pshm)).together))
@@ -520,10 +548,10 @@ module _ (limits : Limits) where
       (all_without (Has limits o) ps.entries pid h.processes.descriptors) (registered-exit ps.entries pid)
 
   -- all leave
-  pub restart-held : (ps : Numbered Process) (o : Objects) → AreAllHeld limits ps o
-      → AreAllHeld limits (record { next = ps.next; entries = [] }) (left_by [] (is_by None None) o)
-  restart-held ps o h =
-      all-left ps (record { next = ps.next; entries = [] }) (is_by None None) o h (cleared-numbered limits.processes ps h.processes.numbered) (All-nil _)
+  pub restart-held : (next : ℕ) (ps : Numbered Process) (o : Objects) → AreNumbered {X = Process} limits.processes (record { next = next; entries = [] })
+      → AreAllHeld limits ps o → AreAllHeld limits (record { next = next; entries = [] }) (left_by [] (is_by None None) o)
+  restart-held next ps o numbered h =
+      all-left ps (record { next = next; entries = [] }) (is_by None None) o h numbered (All-nil _)
       (λ e _. none-registered [] e.0 e.1.object.registration)
 
   -- one comes

@@ -9,7 +9,9 @@ use Rattle.std.proofs.lemmas.Bool.Decides.{nat_tests}
 use Rattle.std.proofs.lemmas.List.Sums.{sum_by-append, sum_by-cons}
 use Rattle.std.proofs.lemmas.List.Elements.{All-nil, All-cons, All-head, All-tail, All-push}
 use Rattle.ipc_base.specs.declared.identity.Cred.{Cred}
-use Rattle.ipc_base.specs.declared.limits.Limits.{Limits}
+use Rattle.ipc_limits.specs.declared.limits.Limits.{Limits}
+use Rattle.ipc_limits.specs.Limits.{exceeds, queue_bytes_limit}
+use Rattle.ipc_limits.proofs.CallerLemmas.{exceeds-less}
 use Rattle.ipc_base.specs.Table.{keys_of, value_at, with_value, with_entry as with_row, without}
 use Rattle.ipc_base.proofs.CallerLemmas.{All-value_at, All-with_value, at-with, entry-other, is_some-append, is_some-with_value, keys_of-with_value}
 use Rattle.ipc_base.proofs.CallerLemmas.{other-with, rising-entry, rising-without, value_at-without}
@@ -39,6 +41,7 @@ use Rattle.ipc_state.specs.Numbered.{Numbered, entry_of, is_full, with_entry, wi
 use Rattle.ipc_state.specs.Opening.{descriptors_of, descriptor_at, is_by, is_by_descriptor}
 use Rattle.ipc_state.specs.Opening.{is_on, is_open, is_sound_descriptor, is_there_for, object_as, opened_as, stays, still_open, unless_so}
 use Rattle.ipc_state.specs.Opening.{deregistered, with_table}
+use Rattle.ipc_state.specs.State.{bytes_of_mq, mq_bytes}
 use Rattle.ipc_state.specs.Sound.{AreSound, AreSoundDescriptors, AreSoundTogether, IsSoundContent, most_of, segment_bytes, semaphore_count, shm_bytes}
 use Rattle.ipc_state.proofs.Binding.{entry-mode, entry-sound, unbound-bound, with_entry-bound, with_new-bound, without_entry-bound}
 use Rattle.ipc_state.proofs.Numbering.{sum-with, with_entry-numbered}
@@ -166,13 +169,16 @@ bytes x = length x.bytes
 abbrev memory : SysSegment → ℕ
 memory x = length x.memory.bytes
 
+abbrev room : Mq → ℕ
+room q = bytes_of_mq q.maxmsg q.msgsize
+
 -- An object may stand in the place of one, and a new one may come, as far as those of the kind are sound together: sets
--- have no more semaphores, and segments no more bytes, than the limits say, and whoever is registered with a queue has it open.
+-- have no more semaphores, and segments and queues no more bytes, than the limits say, and whoever is registered with a queue has it open.
 abbrev pub MayStandFor : Limits → List (ℕ × Process) → (kind : ObjectKind) → Those kind → ℕ → EntryOf kind → Content kind → Type 0
 MayStandFor limits ps kinds.MsgQueue o n e q = ⊤
 MayStandFor limits ps kinds.Semset o n e x = length x.semaphores ≡ length e.object.semaphores
 MayStandFor limits ps kinds.Shm o n e x = (memory x ≡ memory e.object) × (x.is_marked ≡ e.object.is_marked)
-MayStandFor limits ps (kinds.Named names.Mq) o n e q = is_by_descriptor ps n q.registration ≡ true
+MayStandFor limits ps (kinds.Named names.Mq) o n e q = (is_by_descriptor ps n q.registration ≡ true) × (room q ≡ room e.object)
 MayStandFor limits ps (kinds.Named names.Psem) o n e value = ⊤
 MayStandFor limits ps (kinds.Named names.Pshm) o n e x = segment_bytes o - length e.object.bytes + length x.bytes ≤ limits.segment_bytes
 
@@ -180,7 +186,7 @@ abbrev pub MayJoin : Limits → (kind : ObjectKind) → Those kind → Content k
 MayJoin limits kinds.MsgQueue o q = ⊤
 MayJoin limits kinds.Semset o x = semaphore_count o + length x.semaphores ≤ limits.semmns
 MayJoin limits kinds.Shm o x = shm_bytes o + memory x ≤ limits.shmall
-MayJoin limits (kinds.Named names.Mq) o q = q.registration ≡ None
+MayJoin limits (kinds.Named names.Mq) o q = (q.registration ≡ None) × (exceeds (mq_bytes o + room q) (queue_bytes_limit limits) ≡ false)
 MayJoin limits (kinds.Named names.Psem) o value = ⊤
 MayJoin limits (kinds.Named names.Pshm) o x = segment_bytes o + length x.bytes ≤ limits.segment_bytes
 
@@ -220,7 +226,12 @@ module _ (limits : Limits) (ps : List (ℕ × Process)) where
   together-put kinds.MsgQueue o n e f is may h = tt
   together-put kinds.Semset o n e f is may h = omega (arith, sum-with (λ (d : KeyedEntry Set). semaphores d.object) o.entries n e f is, may, h)
   together-put kinds.Shm o n e f is may h = omega (arith, sum-with (λ (d : KeyedEntry SysSegment). memory d.object) o.entries n e f is, may.0, h)
-  together-put (kinds.Named names.Mq) o n e f is may h = All-put (IsRegistered ps) o.entries n f h may
+  together-put (kinds.Named names.Mq) o n e f is may h =
+      record {
+        registered = All-put (IsRegistered ps) o.entries n f h.registered may.0;
+        bytes = exceeds-less (mq_bytes (with_entry o n f)) (mq_bytes o) (queue_bytes_limit limits)
+            (omega (arith, sum-with (λ (d : NamedEntry Mq). room d.object) o.entries n e f is, may.1)) h.bytes;
+      }
   together-put (kinds.Named names.Psem) o n e f is may h = tt
   together-put (kinds.Named names.Pshm) o n e f is may h = omega (arith, sum-with (λ (d : NamedEntry Segment). bytes d.object) o.entries n e f is, may)
 
@@ -232,7 +243,11 @@ module _ (limits : Limits) (ps : List (ℕ × Process)) where
   together-new kinds.Shm o e may h =
       omega (arith, sum_by-append (λ (d : ℕ × KeyedEntry SysSegment). memory d.1.object) o.entries ((o.next, e) ∷ []), may)
   together-new (kinds.Named names.Mq) o e may h =
-      All-push (IsRegistered ps) o.entries (o.next, e) h (ap (λ (r : Option Registration). is_by_descriptor ps o.next r) may)
+      record {
+        registered = All-push (IsRegistered ps) o.entries (o.next, e) h.registered (ap (λ (r : Option Registration). is_by_descriptor ps o.next r) may.0);
+        bytes = exceeds-less (mq_bytes (with_new o e)) (mq_bytes o + room e.object) (queue_bytes_limit limits)
+            (omega (arith, sum_by-append (λ (d : ℕ × NamedEntry Mq). room d.1.object) o.entries ((o.next, e) ∷ []))) may.1;
+      }
   together-new (kinds.Named names.Psem) o e may h = tt
   together-new (kinds.Named names.Pshm) o e may h =
       omega (arith, sum_by-append (λ (d : ℕ × NamedEntry Segment). bytes d.1.object) o.entries ((o.next, e) ∷ []), may)
@@ -242,7 +257,12 @@ module _ (limits : Limits) (ps : List (ℕ × Process)) where
   together-unbound kinds.MsgQueue o n h = tt
   together-unbound kinds.Semset o n h = omega (arith, unbound-sum (λ x. x) (pos 0) semaphores (λ x. refl) o n, h)
   together-unbound kinds.Shm o n h = omega (arith, unbound-sum marked (pos 0) memory (λ x. refl) o n, h)
-  together-unbound (kinds.Named names.Mq) o n h = unbound-all (λ x. x) [] o n (IsRegistered ps) (λ e r. r) h
+  together-unbound (kinds.Named names.Mq) o n h =
+      record {
+        registered = unbound-all (λ x. x) [] o n (IsRegistered ps) (λ e r. r) h.registered;
+        bytes = exceeds-less (mq_bytes (unbound (λ x. x) [] o n)) (mq_bytes o) (queue_bytes_limit limits)
+            (omega (arith, unbound-sum (λ x. x) [] room (λ x. refl) o n)) h.bytes;
+      }
   together-unbound (kinds.Named names.Psem) o n h = tt
   together-unbound (kinds.Named names.Pshm) o n h = omega (arith, unbound-sum (λ x. x) [] bytes (λ x. refl) o n, h)
 
@@ -251,7 +271,12 @@ module _ (limits : Limits) (ps : List (ℕ × Process)) where
   together-without kinds.MsgQueue o n h = tt
   together-without kinds.Semset o n h = omega (arith, without-sum (λ (d : KeyedEntry Set). semaphores d.object) o.entries n, h)
   together-without kinds.Shm o n h = omega (arith, without-sum (λ (d : KeyedEntry SysSegment). memory d.object) o.entries n, h)
-  together-without (kinds.Named names.Mq) o n h = all_without (IsRegistered ps) o.entries n h
+  together-without (kinds.Named names.Mq) o n h =
+      record {
+        registered = all_without (IsRegistered ps) o.entries n h.registered;
+        bytes = exceeds-less (mq_bytes (without_entry o n)) (mq_bytes o) (queue_bytes_limit limits)
+            (without-sum (λ (d : NamedEntry Mq). room d.object) o.entries n) h.bytes;
+      }
   together-without (kinds.Named names.Psem) o n h = tt
   together-without (kinds.Named names.Pshm) o n h = omega (arith, without-sum (λ (d : NamedEntry Segment). bytes d.object) o.entries n, h)
 

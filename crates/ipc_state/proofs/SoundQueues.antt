@@ -1,6 +1,6 @@
 -- Message queues stay sound as they change, and how it is told whether they are.
-use Rattle.std.proofs.Common.{◌≡◌, ℕ, suc, pos, ◌+◌, ◌<◌, ◌≤◌, false, [], length, refl, arith}
-use Rattle.std.specs.Prelude.{nat_lt, nat_le, int_lt}
+use Rattle.std.proofs.Common.{◌≡◌, ℕ, suc, pos, ◌+◌, ◌<◌, ◌≤◌, Bool, true, false, not, [], length, refl, arith}
+use Rattle.std.specs.Prelude.{nat_lt, nat_le, int_lt, ◌||◌, remove}
 use Rattle.std.specs.Bool.{Decides}
 use Rattle.std.specs.List.{list_all}
 use Rattle.std.proofs.lemmas.Bool.{leb-true, le-leb}
@@ -9,17 +9,23 @@ use Rattle.std.proofs.lemmas.List.{length-append}
 use Rattle.std.proofs.lemmas.List.Elements.{All-nil, All-push, All-append, All-take, All-drop}
 use Rattle.std.proofs.lemmas.List.Edits.{length-remove}
 use Rattle.std.proofs.lemmas.List.Sums.{sum_by-append, sum_by-remove}
-use Rattle.ipc_base.specs.declared.limits.Limits.{Limits}
-use Rattle.ipc_base.specs.Limits.{ArePassed}
-use Rattle.ipc_base.proofs.CallerLemmas.{passed-bounds}
+use Rattle.ipc_limits.specs.declared.limits.Limits.{Limits}
+use Rattle.ipc_limits.specs.Limits.{ArePassed, exceeds, message_limit}
+use Rattle.ipc_limits.proofs.CallerLemmas.{passed-bounds, exceeds-less}
 use Rattle.sysv_msg.specs.Queue.{Queue, PlainMessage, new_queue, full, byte_count, sent, taken, changed}
 use Rattle.ipc_state.specs.Sound.{IsSoundMessage, IsSoundMsgQueue, HasNumbers}
 use Rattle.ipc_state.specs.Tests.{is_sound_message, is_sound_msg_queue}
-use Rattle.ipc_state.proofs.Numbering.{neither}
+use Rattle.ipc_state.proofs.Numbering.{neither, none-exceeds}
+
+-- a test that fails
+pub not-decides : (b : Bool) → Decides (not b) (b ≡ false)
+not-decides true = (λ no. cc, λ no. cc)
+not-decides false = (λ yes. refl, λ is. refl)
 
 module _ (limits : Limits) where
   pub new_queue-sound : (moment : ℕ) → IsSoundMsgQueue limits (new_queue limits.msgmnb moment)
-  new_queue-sound moment = record { bytes = omega arith; count = omega arith; qbytes = omega arith; messages = All-nil _ }
+  new_queue-sound moment =
+      record { bytes = omega arith; count = omega arith; limit = none-exceeds (message_limit limits); qbytes = omega arith; messages = All-nil _ }
 
   -- under limits that were checked
   pub queue-numbers : (q : Queue) → ArePassed limits → IsSoundMsgQueue limits q → HasNumbers q
@@ -27,15 +33,18 @@ module _ (limits : Limits) where
       let b = passed-bounds limits passed in
       record { bytes = omega (arith, h.bytes, b.msgmnb); count = omega (arith, h.count, b.msgmnb); qbytes = omega (arith, h.qbytes, b.msgmnb) }
 
-  pub sent-sound : (q : Queue) (m : PlainMessage) (pid moment : ℕ) → full q (length m.text) ≡ false → IsSoundMessage limits m
+  pub sent-sound : (q : Queue) (m : PlainMessage) (pid moment : ℕ) → full (message_limit limits) q (length m.text) ≡ false → IsSoundMessage limits m
       → IsSoundMsgQueue limits q → IsSoundMsgQueue limits (sent q m pid moment)
   sent-sound q m pid moment fits good h =
-      let both = neither (nat_lt q.qbytes (byte_count q.messages + length m.text)) (nat_lt q.qbytes (length q.messages + 1)) fits in
+      let all = neither (nat_lt q.qbytes (byte_count q.messages + length m.text) || nat_lt q.qbytes (length q.messages + 1))
+      (exceeds (length q.messages + 1) (message_limit limits)) fits in
+      let both = neither (nat_lt q.qbytes (byte_count q.messages + length m.text)) (nat_lt q.qbytes (length q.messages + 1)) all.0 in
       let bytes : byte_count q.messages + length m.text ≤ q.qbytes = grind (arith, nat_tests) in
       let count : length q.messages + 1 ≤ q.qbytes = grind (arith, nat_tests) in
       record {
         bytes = rw sum_by-append (omega arith);
         count = rw length-append (omega arith);
+        limit = rw length-append all.1;
         qbytes = h.qbytes;
         messages = All-push (IsSoundMessage limits) q.messages m h.messages good;
       }
@@ -48,12 +57,13 @@ module _ (limits : Limits) where
       record {
         bytes = omega arith;
         count = omega arith;
+        limit = exceeds-less (length (remove q.messages at)) (length q.messages) (message_limit limits) (omega arith) h.limit;
         qbytes = h.qbytes;
         messages = All-append P _ _ (All-take P at q.messages h.messages) (All-drop P (suc at) q.messages h.messages);
       }
 
   pub changed-sound : (q : Queue) (qbytes moment : ℕ) → qbytes ≤ limits.msgmnb → IsSoundMsgQueue limits q → IsSoundMsgQueue limits (changed q qbytes moment)
-  changed-sound q qbytes moment within h = record { bytes = h.bytes; count = h.count; qbytes = within; messages = h.messages }
+  changed-sound q qbytes moment within h = record { bytes = h.bytes; count = h.count; limit = h.limit; qbytes = within; messages = h.messages }
 
   -- ---- how it is told
 
@@ -67,7 +77,9 @@ module _ (limits : Limits) where
       let messages = Decides-by_and (is_sound_message limits) (IsSoundMessage limits) (list_all (is_sound_message limits)) message-decides refl
       (λ _ _. refl) q.messages in
       let most : (n : ℕ) → Decides (nat_le n limits.msgmnb) (n ≤ limits.msgmnb) = (λ n. (leb-true n limits.msgmnb, le-leb n limits.msgmnb)) in
-      let all = Decides-and _ _ (most (byte_count q.messages)) (Decides-and _ _ (most (length q.messages)) (Decides-and _ _ (most q.qbytes) messages)) in (
-        λ yes. let h = all.0 yes in record { bytes = h.0; count = h.1.0; qbytes = h.1.1.0; messages = h.1.1.1 },
-        λ h. all.1 (h.bytes, (h.count, (h.qbytes, h.messages))),
+      let limit = not-decides (exceeds (length q.messages) (message_limit limits)) in
+      let all = Decides-and _ _ (most (byte_count q.messages)) (Decides-and _ _ (most (length q.messages)) (Decides-and _ _ limit
+      (Decides-and _ _ (most q.qbytes) messages))) in (
+        λ yes. let h = all.0 yes in record { bytes = h.0; count = h.1.0; limit = h.1.1.0; qbytes = h.1.1.1.0; messages = h.1.1.1.1 },
+        λ h. all.1 (h.bytes, (h.count, (h.limit, (h.qbytes, h.messages)))),
       )

@@ -1,7 +1,7 @@
 -- What a contract sees of the state that is held: its limits, the state itself, and the memory that is reserved, so
 -- that a change takes none.
 use Rattle.std.specs.Prelude.{ℕ, ℤ, Bool, true, false, List, replicate, Option, Some, None}
-use Rattle.ipc_base.specs.declared.limits.Limits.{Limits}
+use Rattle.ipc_limits.specs.declared.limits.Limits.{Limits}
 use Rattle.shm_segment.specs.Segment.{Segment}
 use Rattle.ipc_state.specs.State.{State}
 

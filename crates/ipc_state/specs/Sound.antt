@@ -6,8 +6,8 @@ use Rattle.std.specs.Prelude.{length, All, sum_by, IsTrue, option_map, unwrap_or
 use Rattle.std.specs.FinMap as fin
 use Rattle.ipc_base.specs.Table.{keys_of, EachValue, IsRising}
 use Rattle.sem_undo.specs.Undo.{Key, Undo, IsSoundUndo}
-use Rattle.ipc_base.specs.declared.limits.Limits.{Limits}
-use Rattle.ipc_base.specs.Limits.{longest_body}
+use Rattle.ipc_limits.specs.declared.limits.Limits.{Limits}
+use Rattle.ipc_limits.specs.Limits.{longest_body, adjustment_limit, exceeds, message_limit, queue_bytes_limit}
 use Rattle.ipc_wire.specs.Reply.{PlainBody, body_bytes}
 use Rattle.ipc_keys.specs.declared.check.NameKind.{NameKind}
 use Rattle.ipc_keys.specs.declared.check.NameKind.TheVariants as names
@@ -29,7 +29,7 @@ use Rattle.ipc_state.specs.Keyed.{Keyed}
 use Rattle.ipc_state.specs.Kinds.{Content, Objects, Those, is_bound_so, no_bound, same_bound}
 use Rattle.ipc_state.specs.Named.{Named}
 use Rattle.ipc_state.specs.Opening.{is_registered, is_sound_descriptor, stays}
-use Rattle.ipc_state.specs.State.{State, named_of, objects_in}
+use Rattle.ipc_state.specs.State.{State, mq_bytes, named_of, objects_in}
 use Rattle.ipc_state.specs.Waiting.{AreSoundWaits}
 
 -- a message has a type above 0 and at most msgmax bytes
@@ -37,10 +37,11 @@ pub record IsSoundMessage (limits : Limits) (m : PlainMessage) : Type 0 where
   pub above : IsTrue (int_lt (pos 0) m.mtype)
   pub short : length m.text ≤ limits.msgmax
 
--- a queue holds no more bytes and no more messages than msgmnb
+-- a queue holds no more bytes and no more messages than msgmnb, and no more messages than their limit
 pub record IsSoundMsgQueue (limits : Limits) (q : Queue) : Type 0 where
   pub bytes : byte_count q.messages ≤ limits.msgmnb
   pub count : length q.messages ≤ limits.msgmnb
+  pub limit : exceeds (length q.messages) (message_limit limits) ≡ false
   pub qbytes : q.qbytes ≤ limits.msgmnb
   pub messages : All (IsSoundMessage limits) q.messages
 
@@ -73,12 +74,18 @@ has_semaphore sets k =
 abbrev pub AreAt : Keyed Set → Undo → Type 0
 AreAt sets undo = (k : Key) → is_some (fin.get undo k) ≡ true → has_semaphore sets k ≡ true
 
+-- a process has no more adjustments than their limit
+abbrev pub AreFew : Limits → Undo → Type 0
+AreFew limits undo = exceeds (fin.len undo) (adjustment_limit limits) ≡ false
+
 -- each of these processes has adjustments, if only none, and nobody else has any; they are at semaphores of these sets,
--- and each is in its range and not 0
-pub record AreAdjustments (connected : List ℕ) (sets : Keyed Set) (undo : List (ℕ × Undo)) : Type 0 where
+-- each is in its range and not 0, and there are few
+pub record AreAdjustments (limits : Limits) (connected : List ℕ) (sets : Keyed Set) (undo : List (ℕ × Undo))
+    : Type 0 where
   pub pids : keys_of undo ≡ connected
   pub each : EachValue (AreAt sets) undo
   pub kept : EachValue IsSoundUndo undo
+  pub few : EachValue (AreFew limits) undo
 
 -- a message of a POSIX queue has a priority below 32768 and at most msgsize bytes
 pub record IsSoundMqMessage (msgsize : ℕ) (m : MqMessage) : Type 0 where
@@ -124,13 +131,17 @@ IsSoundContent limits (kinds.Named names.Mq) q = IsSoundMq limits q
 IsSoundContent limits (kinds.Named names.Psem) value = value ≤ sem_value_max
 IsSoundContent limits (kinds.Named names.Pshm) x = ⊤
 
--- those of a kind together: the sets have no more semaphores, and the segments no more bytes, than the limits say;
--- whoever is registered with a queue has it open
+-- whoever is registered with a queue has it open; the queues count no more bytes than their limit
+pub record AreSoundMqs (limits : Limits) (processes : List (ℕ × Process)) (o : Named Mq) : Type 0 where
+  pub registered : All (λ e. is_registered processes e ≡ true) o.entries
+  pub bytes : exceeds (mq_bytes o) (queue_bytes_limit limits) ≡ false
+
+-- those of a kind together: the sets have no more semaphores, and the segments no more bytes, than the limits say
 abbrev pub AreSoundTogether : Limits → List (ℕ × Process) → (kind : ObjectKind) → Those kind → Type 0
 AreSoundTogether limits processes kinds.MsgQueue o = ⊤
 AreSoundTogether limits processes kinds.Semset o = semaphore_count o ≤ limits.semmns
 AreSoundTogether limits processes kinds.Shm o = shm_bytes o ≤ limits.shmall
-AreSoundTogether limits processes (kinds.Named names.Mq) o = All (λ e. is_registered processes e ≡ true) o.entries
+AreSoundTogether limits processes (kinds.Named names.Mq) o = AreSoundMqs limits processes o
 AreSoundTogether limits processes (kinds.Named names.Psem) o = ⊤
 AreSoundTogether limits processes (kinds.Named names.Pshm) o = segment_bytes o ≤ limits.segment_bytes
 
@@ -155,7 +166,7 @@ pub record AreSoundProcesses (limits : Limits) (o : Objects) (processes : Number
 pub record HasSoundParts (limits : Limits) (s : State) : Type 0 where
   pub processes : AreSoundProcesses limits (objects_in s) s.processes
   pub wait : AreSoundWaits limits s.wait
-  pub undo : AreAdjustments (keys_of s.processes.entries) s.semset s.undo
+  pub undo : AreAdjustments limits (keys_of s.processes.entries) s.semset s.undo
   pub msg : AreSound limits s.processes.entries kinds.MsgQueue s.msg
   pub semset : AreSound limits s.processes.entries kinds.Semset s.semset
   pub shm : AreSound limits s.processes.entries kinds.Shm s.shm

@@ -1,11 +1,13 @@
 -- The state of the server between two events (sysvipc(7)): what it knows of processes and objects. All of it
 -- lasts; nothing in it tells how it is kept.
-use Rattle.std.specs.Prelude.{ℕ, ℤ, Bool, max, List, Option, Some, None, [], ◌∷◌, ◌++◌, option_map}
+use Rattle.std.specs.Prelude.{ℕ, ◌+◌, ◌*◌, ℤ, Bool, max, if◌then◌else◌, sum_by, List, Option, Some, None, [], ◌∷◌}
+use Rattle.std.specs.Prelude.{◌++◌, option_map}
 use Rattle.std.specs.Prelude.{false, is_some, unwrap_or, nat_eq, nat_le, length}
 use Rattle.std.specs.List.{fold, list_any}
 use Rattle.std.specs.FinMap as fin
 use Rattle.ipc_base.specs.declared.identity.Cred.{Cred}
-use Rattle.ipc_base.specs.declared.limits.Limits.{Limits}
+use Rattle.ipc_limits.specs.declared.limits.Limits.{Limits}
+use Rattle.ipc_limits.specs.Limits.{exceeds, has_rules_of_three, queue_bytes_limit}
 use Rattle.ipc_base.specs.Table.{value_at, with_value, seen_as, without as without_value}
 use Rattle.ipc_keys.specs.declared.check.NameKind.{NameKind}
 use Rattle.ipc_keys.specs.declared.check.NameKind.TheVariants as names
@@ -220,13 +222,17 @@ without_process s pid =
 abbrev pub exit : State → ℕ → State
 exit s pid = swept (deregistered_by (Some pid) None (without_process s pid))
 
+-- the number of the next process after a restart: on version 3 it is 1, and numbers are unique only until then
+abbrev pub next_pid_after : Limits → State → ℕ
+next_pid_after limits s = if has_rules_of_three limits then 1 else s.processes.next
+
 -- The server has stopped and begun anew: no call waits, nobody is registered, the adjustments of all processes are
 -- added, each detaches what it has attached, and no process is left, so that an object without a name goes, and a
--- segment that is marked. The clock, the next numbers and all else of the objects stay.
-abbrev pub restart : State → State
-restart s =
+-- segment that is marked. The clock, the next numbers of objects and all else of the objects stay.
+abbrev pub restart : Limits → State → State
+restart limits s =
     swept (deregistered_by None None (record s {
-      processes = record { next = s.processes.next; entries = [] };
+      processes = record { next = next_pid_after limits s; entries = [] };
       wait = [];
       undo = [];
       semset = fold undone s.semset s.undo;
@@ -274,6 +280,18 @@ closed s pid fd = swept (deregistered_by (Some pid) (Some fd) (let_go s pid fd))
 -- no queue can be added: there are as many as the limit says, or no number is left
 abbrev pub has_all_mqs : Limits → State → Bool
 has_all_mqs limits s = is_full limits.queues s.mq
+
+-- how many bytes a queue counts that may hold so many messages, each of at most so many bytes: 8 more for each
+abbrev pub bytes_of_mq : ℕ → ℕ → ℕ
+bytes_of_mq maxmsg msgsize = maxmsg * (8 + msgsize)
+
+-- how many all queues count, those without a name too
+abbrev pub mq_bytes : Named Mq → ℕ
+mq_bytes o = sum_by (λ e. bytes_of_mq e.1.object.maxmsg e.1.object.msgsize) o.entries
+
+-- with one more that counts so many, they would count more than their limit
+abbrev pub has_all_mq_bytes : Limits → State → ℕ → Bool
+has_all_mq_bytes limits s bytes = exceeds (mq_bytes s.mq + bytes) (queue_bytes_limit limits)
 
 -- with another queue at a number, if it is there, under the same name
 abbrev pub with_mq : State → ℕ → Mq → State

@@ -5,7 +5,7 @@ use Rattle.std.specs.Prelude.{List, length, Option, Some, None, IfSome, All}
 use Rattle.ipc_base.specs.declared.errno.Errno.{Errno}
 use Rattle.ipc_base.specs.declared.errno.Errno.TheVariants.{EAGAIN, ETIMEDOUT}
 use Rattle.ipc_base.specs.declared.identity.Moment.{Moment}
-use Rattle.ipc_base.specs.declared.limits.Limits.{Limits}
+use Rattle.ipc_limits.specs.declared.limits.Limits.{Limits}
 use Rattle.ipc_wait.specs.Waits.{HaveDistinctPids}
 use Rattle.ipc_wait.specs.declared.list.Waiting.{Waiting}
 use Rattle.ipc_wire.specs.Posix.{PlainPosix}

@@ -1,13 +1,14 @@
 //! The adjustments of the processes: what an exit adds, and what is cleared. See semop(2).
 
-ghost use Rattle.std.specs.Prelude.{◌≡◌, ◌<◌, ◌-ℤ◌, ◌↔◌, true, None, map, All, IfOk, IsTrue, OnOk, OnErr};
+ghost use Rattle.std.specs.Prelude.{◌≡◌, ◌<◌, ◌-ℤ◌, ◌↔◌, true, not, None, map, All, IfOk, IsTrue, OnOk, OnErr};
+ghost use Rattle.ipc_limits.specs.Limits.{exceeds as passes};
 ghost use Rattle.std.specs.FinMap as fin;
 ghost use Rattle.std.specs.List.{fold, list_all};
-ghost use Rattle.ipc_base.specs.Table.{keys_of, seen_as};
+ghost use Rattle.ipc_base.specs.Table.{keys_of, seen_as, EachValue};
 ghost use Rattle.sem_undo.specs.Undo.{key_of, entry_of, cleared, IsKept, IsSoundUndo};
 ghost use Rattle.sem_undo.specs.Undo.{adjustment, subtracted, is_adjustment, most_rows};
 ghost use Rattle.ipc_state.specs.Restored.{with_adjustment, with_no_adjustments};
-ghost use Rattle.ipc_state.specs.Sound.{has_semaphore, AreAt, AreAdjustments};
+ghost use Rattle.ipc_state.specs.Sound.{has_semaphore, AreAt, AreAdjustments, AreFew};
 ghost use Rattle.ipc_state.specs.State.{adjusted, undone, undo_of, with_undo, without_adjustments};
 ghost use Rattle.ipc_state.specs.Rows.{has_room, item_row};
 ghost use Rattle.ipc_state.specs.Tables.{numbered_of};
@@ -18,6 +19,7 @@ use crate::processes::Process;
 use crate::rows::Rows;
 use crate::state::State;
 use ipc_base::{Id, Pid};
+use ipc_limits::exceeds;
 use sem_undo::{SemUndo, UndoRow};
 use std::alloc::{AllocError, Global};
 use sysv_sem::SemSet;
@@ -36,6 +38,17 @@ impl State {
     {
         match self.undo.get(pid.0) {
             Some(item) => item.value.get(set, num),
+            None => 0,
+        }
+    }
+
+    /// How many adjustments a process has, none of them 0; none if no process has the number.
+    pub fn adjustment_count(&self, pid: Pid) -> u64
+        ensures count { result ≡ fin.len (undo_of self.now.state pid.0) }
+        ensures sound { IsSoundUndo (undo_of self.now.state pid.0) }
+    {
+        match self.undo.get(pid.0) {
+            Some(item) => count_of(&item.value),
             None => 0,
         }
     }
@@ -112,11 +125,20 @@ impl State {
 
     /// Whether the adjustments are sound.
     pub(crate) fn are_adjustments_sound(&self) -> bool
-        ensures { IsTrue result ↔ AreAdjustments (keys_of self.now.state.processes.entries)
+        ensures { IsTrue result ↔ AreAdjustments self.now.limits (keys_of self.now.state.processes.entries)
             self.now.state.semset self.now.state.undo }
     {
-        have_same_numbers(self.undo.items(), self.processes.items())
-            && are_at_semaphores(&self.semset, self.undo.items())
+        have_same_numbers(self.undo.items(), self.processes.items()) && self.are_adjustments_kept()
+    }
+
+    /// Whether each adjustment is at a semaphore that is there, in its range and not 0, and no process has too many.
+    fn are_adjustments_kept(&self) -> bool
+        ensures { IsTrue result ↔ (EachValue (AreAt self.now.state.semset) self.now.state.undo
+            × EachValue IsSoundUndo self.now.state.undo
+            × EachValue (AreFew self.now.limits) self.now.state.undo) }
+    {
+        are_at_semaphores(&self.semset, self.undo.items())
+            && are_few(self.undo.items(), self.limits.adjustment_limit())
     }
 }
 
@@ -210,6 +232,23 @@ fn are_at_semaphores(sets: &Keyed<SemSet>, items: &[Item<SemUndo>]) -> bool
         }
     }
     true
+}
+
+/// Whether none of these processes has more adjustments than a limit allows.
+fn are_few(items: &[Item<SemUndo>], limit: Option<u32>) -> bool
+    ensures { result ≡ list_all (λ e. not (passes (fin.len e.value) limit)) items.now }
+{
+    items
+        .iter()
+        .all(|item| !exceeds(count_of(&item.value), limit))
+}
+
+/// How many adjustments these are, none of them 0.
+fn count_of(undo: &SemUndo) -> u64
+    ensures count { result ≡ fin.len undo.now }
+    ensures sound { IsSoundUndo undo.now }
+{
+    undo.rows().len() as u64
 }
 
 /// Whether each adjustment of a process is.

@@ -26,8 +26,9 @@ use crate::processes::Process;
 use crate::rows::Rows;
 use crate::sound::SoundAlone;
 use crate::state::State;
-use ipc_base::{Limits, Pid};
+use ipc_base::Pid;
 use ipc_keys::{Name, NameKind, check_name};
+use ipc_limits::Limits;
 use ipc_perm::Perm;
 
 impl State {

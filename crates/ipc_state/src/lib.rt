@@ -61,6 +61,8 @@
 //!   `add_psem` and `add_pshm` are `with_new_mq`, `with_new_psem` and `with_new_pshm` of the name that is ready, and
 //!   `take_zeros` gives the zeros that are (`zeros`, `left`). `have_at_most_bytes` says whether all segments with a
 //!   name together have no more bytes than so many. `sweep` is `swept`. None but the four that reserve takes memory.
+//!   `has_all_mq_bytes` says whether a queue of so many bytes (`bytes_of_mq`) would be too much for all, on a version
+//!   that limits them; `adjustment_count` is how many adjustments a process has.
 //!   `mq_object_mut` lends a queue to be changed (`specs/LendsMq.antt`); `named_mqs`, `mq`, `has_all_mqs`,
 //!   `has_all_descriptors` and `has_object` show what there is. `mq_receiver_waits` says whether a call waits to
 //!   receive from a queue (`receiver_waits`).
@@ -141,6 +143,7 @@ pub use descriptors::{
 };
 pub use holding::is_on;
 pub use keys::IPC_PRIVATE;
+pub use mqs::bytes_of_mq;
 pub use numbered::{Item, LAST_NUMBER};
 pub use objects::{Entry, Keyed, KeyedEntry, Named, NamedEntry, ObjectTable};
 pub use operations::{Operations, bits_of, operation_of};

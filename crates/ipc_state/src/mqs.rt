@@ -5,7 +5,7 @@ ghost use Rattle.std.specs.Prelude.{IsTrue, OnOk, OnErr, Some, None, option_map}
 ghost use Rattle.std.specs.Borrow.{sem};
 ghost use Rattle.std.specs.List.{list_all};
 ghost use Rattle.std.specs.Option.{option_copied, option_copied_mut};
-ghost use Rattle.ipc_base.specs.Limits.{ArePassed};
+ghost use Rattle.ipc_limits.specs.Limits.{ArePassed};
 ghost use Rattle.ipc_base.specs.Table.{IsRising, keys_of, seen_as};
 ghost use Rattle.ipc_keys.specs.declared.check.NameKind.TheVariants as names;
 ghost use Rattle.ipc_state.specs.declared.parked.ObjectKind.TheVariants as kinds;
@@ -17,8 +17,9 @@ ghost use Rattle.ipc_state.specs.LendsMq.{lends_mq};
 ghost use Rattle.ipc_state.specs.Named.{HaveNames, named};
 ghost use Rattle.ipc_state.specs.Numbered.{entry_of};
 ghost use Rattle.ipc_state.specs.Restored.{with_last_mq};
-ghost use Rattle.ipc_state.specs.Sound.{AreSound, IsSoundMq};
-ghost use Rattle.ipc_state.specs.State.{deregistered_by, has_all_mqs, receives_from, receiver_waits};
+ghost use Rattle.ipc_state.specs.Sound.{AreSound, AreSoundMqs, IsSoundMq};
+ghost use Rattle.ipc_state.specs.State.{bytes_of_mq as mq_room, deregistered_by, has_all_mqs, has_all_mq_bytes};
+ghost use Rattle.ipc_state.specs.State.{receives_from, receiver_waits};
 ghost use Rattle.ipc_state.specs.State.{unlinked, with_new_mq};
 ghost use Rattle.ipc_state.specs.Rows.{has_room, item_row};
 ghost use Rattle.ipc_state.specs.Tests.{is_sound_mq, is_sound_mq_message};
@@ -26,13 +27,14 @@ ghost use Rattle.ipc_state.specs.Waiting.{parked_kind};
 
 use crate::holding::is_on;
 use crate::numbered::Item;
-use crate::objects::{Entry, Leaves, Named, NamedEntry, ObjectTable, Renew};
+use crate::objects::{Counted, Entry, Leaves, Named, NamedEntry, ObjectTable, Renew};
 use crate::parked::{Object, ObjectKind, ParkedKind, ParkedPosix};
 use crate::rows::Rows;
 use crate::sound::SoundAlone;
 use crate::state::State;
-use ipc_base::{Cred, Limits, Pid};
+use ipc_base::{Cred, Pid};
 use ipc_keys::{Name, NameKind};
+use ipc_limits::Limits;
 use ipc_perm::Perm;
 use posix_mq::{Message, Mq, Registration};
 use std::alloc::AllocError;
@@ -72,6 +74,17 @@ impl State {
         ensures { result ≡ has_all_mqs self.now.limits self.now.state }
     {
         self.mq.is_full(self.limits.queues)
+    }
+
+    /// Whether no queue can be added that counts so many bytes: with it all would count more than their limit.
+    pub fn has_all_mq_bytes(&self, bytes: u128) -> bool
+        ensures { result ≡ has_all_mq_bytes self.now.limits self.now.state bytes }
+    {
+        let Some(most) = self.limits.queue_bytes_limit() else {
+            return false;
+        };
+        let most = u128::from(most);
+        most < bytes || !self.mq.count_at_most((most - bytes) as usize)
     }
 
     /// The queue that a number has, to be changed.
@@ -173,7 +186,15 @@ impl State {
         let most = self.limits.queues;
         self.mq
             .are_held(most, &self.limits, &self.processes, NameKind::Mq)
-            && self.are_registered(self.mq.items())
+            && self.are_mqs_sound_together()
+    }
+
+    /// Whether whoever is registered with a queue has it open, and all queues count no more bytes than their limit.
+    fn are_mqs_sound_together(&self) -> bool
+        ensures { IsTrue result
+            ↔ AreSoundMqs self.now.limits self.now.state.processes.entries self.now.state.mq }
+    {
+        self.are_registered(self.mq.items()) && !self.has_all_mq_bytes(0)
     }
 
     /// Whether whoever is registered with a queue has it open.
@@ -230,6 +251,22 @@ impl Renew for Mq {
     fn make(&mut self, asked: (u32, u32)) {
         self.renew(asked.0, asked.1);
     }
+}
+
+impl Counted for Mq {
+    ghost count = { λ queue. mq_room queue.maxmsg queue.msgsize };
+
+    fn count(&self) -> u128 {
+        let attr = self.attr();
+        bytes_of_mq(attr.maxmsg, attr.msgsize)
+    }
+}
+
+/// How many bytes a queue counts that may hold so many messages, each of at most so many bytes: 8 more for each.
+pub fn bytes_of_mq(maxmsg: u32, msgsize: u32) -> u128
+    ensures { result ≡ mq_room maxmsg msgsize }
+{
+    u128::from(maxmsg) * (8 + u128::from(msgsize))
 }
 
 impl Leaves for Mq {

@@ -5,7 +5,7 @@ ghost use Rattle.std.specs.Prelude.{IsTrue, OnOk, OnErr};
 ghost use Rattle.std.specs.Borrow.{sem};
 ghost use Rattle.std.specs.List.{list_all};
 ghost use Rattle.std.specs.Option.{option_copied_mut};
-ghost use Rattle.ipc_base.specs.Limits.{ArePassed};
+ghost use Rattle.ipc_limits.specs.Limits.{ArePassed};
 ghost use Rattle.ipc_base.specs.Table.{IsRising, keys_of};
 ghost use Rattle.ipc_state.specs.declared.parked.ObjectKind.TheVariants as kinds;
 ghost use Rattle.ipc_state.specs.Held.{Ready, left};
@@ -24,7 +24,8 @@ use crate::numbered::Item;
 use crate::objects::{Keyed, KeyedEntry, Renew};
 use crate::sound::SoundAlone;
 use crate::state::State;
-use ipc_base::{Id, Limits, Moment};
+use ipc_base::{Id, Moment};
+use ipc_limits::{Limits, exceeds};
 use ipc_perm::Perm;
 use std::alloc::AllocError;
 use sysv_msg::{Message, MsgQueue};
@@ -160,6 +161,7 @@ fn is_sound_msg_queue(queue: &MsgQueue, limits: &Limits) -> bool
     let stat = queue.stat();
     stat.bytes <= u128::from(limits.msgmnb)
         && stat.qnum <= limits.msgmnb as usize
+        && !exceeds(stat.qnum as u64, limits.message_limit())
         && stat.qbytes <= limits.msgmnb
         && has_sound_messages(queue, limits)
 }

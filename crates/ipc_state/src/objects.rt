@@ -67,7 +67,7 @@ pub(crate) trait Counted {
     ghost count: { Self → ℕ };
 
     /// How many it has.
-    fn count(&self) -> usize
+    fn count(&self) -> u128
         ensures { result ≡ count self.now };
 }
 
@@ -376,7 +376,7 @@ fn are_named_with_modes<B: Bound, T>(directory: &B::Directory, items: &[Item<Ent
 fn are_few<B, T: Counted>(items: &[Item<Entry<B, T>>], most: usize) -> bool
     ensures { IsTrue result ↔ (sum_by (λ e. T.count e.value.object) items.now ≤ most) }
 {
-    let mut left = most;
+    let mut left = most as u128;
     for item in items {
         let count = item.value.object.count();
         if left < count {

@@ -1,6 +1,6 @@
 //! The connected processes.
 
-ghost use Rattle.std.specs.Prelude.{◌≡◌, true, false, map, OnOk, OnErr};
+ghost use Rattle.std.specs.Prelude.{◌≡◌, true, false, [], map, OnOk, OnErr};
 ghost use Rattle.ipc_state.specs.Held.{Ready, left};
 ghost use Rattle.ipc_state.specs.Restored.{with_last_process};
 ghost use Rattle.ipc_state.specs.State.{
@@ -10,6 +10,7 @@ ghost use Rattle.ipc_state.specs.State.{
   with_process,
   without_process,
   exit,
+  next_pid_after,
   restart,
 };
 ghost use Rattle.ipc_state.specs.Tables.{item_row};
@@ -119,18 +120,31 @@ impl State {
     }
 
     /// The server has stopped and begun anew: no process is left, no call waits, nobody is registered, the adjustments
-    /// are added, what is attached is detached, and objects without a name go, and segments that are marked. It takes
-    /// no memory.
+    /// are added, what is attached is detached, and objects without a name go, and segments that are marked. On version
+    /// 3 the next process has the number 1. It takes no memory.
     pub fn restart(&mut self)
-        ensures { self.new ≡ left self.old (restart self.old.state) }
+        ensures { self.new ≡ left self.old (restart self.old.limits self.old.state) }
     {
         self.add_all_adjustments();
         self.detach_each();
         self.undo.clear();
-        self.processes.clear();
+        self.clear_processes();
         self.wait.clear();
         self.deregister(None, None);
         self.sweep();
+    }
+
+    /// No process is left. On version 3 the next one has the number 1.
+    fn clear_processes(&mut self)
+        ensures { self.new ≡ left self.old (record self.old.state {
+          processes = record { next = next_pid_after self.old.limits self.old.state; entries = [] };
+        }) }
+    {
+        self.processes.clear();
+        if self.limits.has_rules_of_three() {
+            self.processes.set_next(1);
+        }
+        self.release();
     }
 
     /// Adds a process that was read, at the end. Refused for want of memory, all is as before.

@@ -4,7 +4,7 @@ ghost use Rattle.std.specs.Prelude.{◌≡◌, ◌≤◌, ◌↔◌, ⊤, ℕ, L
 ghost use Rattle.std.specs.Prelude.{option_map, length, IsTrue, OnOk, OnErr};
 ghost use Rattle.std.specs.Borrow.{sem};
 ghost use Rattle.std.specs.Option.{option_copied_mut};
-ghost use Rattle.ipc_base.specs.Limits.{ArePassed};
+ghost use Rattle.ipc_limits.specs.Limits.{ArePassed};
 ghost use Rattle.ipc_base.specs.Table.{IsRising, keys_of};
 ghost use Rattle.ipc_keys.specs.declared.check.NameKind.TheVariants as names;
 ghost use Rattle.ipc_state.specs.declared.parked.ObjectKind.TheVariants as kinds;
@@ -20,8 +20,9 @@ ghost use Rattle.ipc_state.specs.State.{has_all_pshms, unlinked, with_new_pshm};
 use crate::objects::{Counted, Leaves, Named, NamedEntry, Renew};
 use crate::sound::SoundAlone;
 use crate::state::State;
-use ipc_base::{Cred, Limits};
+use ipc_base::Cred;
 use ipc_keys::{Name, NameKind};
+use ipc_limits::Limits;
 use ipc_perm::Perm;
 use shm_segment::Segment;
 use std::alloc::{AllocError, Global};
@@ -147,8 +148,8 @@ impl Renew for Segment {
 impl Counted for Segment {
     ghost count = { λ segment. length segment.bytes };
 
-    fn count(&self) -> usize {
-        self.len()
+    fn count(&self) -> u128 {
+        self.len() as u128
     }
 }
 

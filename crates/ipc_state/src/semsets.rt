@@ -4,7 +4,7 @@ ghost use Rattle.std.specs.Prelude.{◌≡◌, ◌≤◌, ◌+◌, ◌↔◌, �
 ghost use Rattle.std.specs.Prelude.{map, length, All, IsTrue, OnOk, OnErr};
 ghost use Rattle.std.specs.Borrow.{sem};
 ghost use Rattle.std.specs.Option.{option_copied_mut};
-ghost use Rattle.ipc_base.specs.Limits.{ArePassed};
+ghost use Rattle.ipc_limits.specs.Limits.{ArePassed};
 ghost use Rattle.ipc_base.specs.Table.{IsRising, keys_of};
 ghost use Rattle.ipc_state.specs.declared.parked.ObjectKind.TheVariants as kinds;
 ghost use Rattle.ipc_state.specs.Held.{Ready, left};
@@ -22,7 +22,8 @@ use crate::numbered::Item;
 use crate::objects::{Counted, Keyed, KeyedEntry, Renew};
 use crate::sound::SoundAlone;
 use crate::state::State;
-use ipc_base::{Id, Limits, Moment};
+use ipc_base::{Id, Moment};
+use ipc_limits::Limits;
 use ipc_perm::Perm;
 use std::alloc::AllocError;
 use sysv_sem::SemSet;
@@ -149,8 +150,8 @@ impl Renew for SemSet {
 impl Counted for SemSet {
     ghost count = { λ set. length set.semaphores };
 
-    fn count(&self) -> usize {
-        self.stat().nsems
+    fn count(&self) -> u128 {
+        self.stat().nsems as u128
     }
 }
 

@@ -5,7 +5,7 @@ ghost use Rattle.std.specs.Prelude.{map, length, IsTrue, OnOk, OnErr};
 ghost use Rattle.std.specs.Borrow.{sem};
 ghost use Rattle.std.specs.List.{list_all};
 ghost use Rattle.std.specs.Option.{option_copied_mut};
-ghost use Rattle.ipc_base.specs.Limits.{ArePassed};
+ghost use Rattle.ipc_limits.specs.Limits.{ArePassed};
 ghost use Rattle.ipc_base.specs.Table.{IsRising, keys_of};
 ghost use Rattle.ipc_state.specs.declared.parked.ObjectKind.TheVariants as kinds;
 ghost use Rattle.ipc_state.specs.Held.{Ready, left, zero_bytes};
@@ -26,7 +26,8 @@ use crate::objects::{Counted, Keyed, KeyedEntry, Leaves, Renew};
 use crate::parked::ObjectKind;
 use crate::sound::SoundAlone;
 use crate::state::State;
-use ipc_base::{Id, Limits, Moment, Pid};
+use ipc_base::{Id, Moment, Pid};
+use ipc_limits::Limits;
 use ipc_perm::Perm;
 use shm_segment::SysSegment;
 use std::alloc::AllocError;
@@ -185,8 +186,8 @@ impl Leaves for SysSegment {
 impl Counted for SysSegment {
     ghost count = { λ segment. length segment.memory.bytes };
 
-    fn count(&self) -> usize {
-        self.bytes().len()
+    fn count(&self) -> u128 {
+        self.bytes().len() as u128
     }
 }
 

@@ -1,13 +1,13 @@
 //! Whether the objects of one kind are sound: by their numbers, keys or names, and modes, and each by itself.
 
 ghost use Rattle.std.specs.Prelude.{◌↔◌, All, IsTrue};
-ghost use Rattle.ipc_base.specs.declared.limits.Limits.{Limits};
+ghost use Rattle.ipc_limits.specs.declared.limits.Limits.{Limits};
 ghost use Rattle.ipc_state.specs.Bound.{AreBound};
 
 use crate::bound::Bound;
 use crate::numbered::Item;
 use crate::objects::{Entry, ObjectTable};
-use ipc_base::Limits;
+use ipc_limits::Limits;
 
 /// An object of which it is told whether it is sound by itself.
 pub(crate) trait SoundAlone {

@@ -1,7 +1,7 @@
 //! The state between two events: its clock, and its parts, each in a file of its own.
 
 ghost use Rattle.std.specs.Prelude.{◌≡◌, ◌↔◌, IsTrue};
-ghost use Rattle.ipc_base.specs.Limits.{ArePassed};
+ghost use Rattle.ipc_limits.specs.Limits.{ArePassed};
 ghost use Rattle.ipc_state.specs.Held.Ready.{Nothing};
 ghost use Rattle.ipc_state.specs.Restored.{with_numbers};
 ghost use Rattle.ipc_state.specs.Sound.{AreSound, HasSoundParts};
@@ -14,7 +14,8 @@ use crate::numbered::Numbered;
 use crate::objects::{Keyed, Named, ObjectTable};
 use crate::parked::{Awaited, Parked};
 use crate::processes::Process;
-use ipc_base::{Limits, Moment};
+use ipc_base::Moment;
+use ipc_limits::Limits;
 use ipc_wait::WaitList;
 use posix_mq::Mq;
 use posix_sem::NamedSem;
@@ -75,7 +76,7 @@ impl Drop for State {
 }
 
 impl Model for State {
-    ghost use Rattle.ipc_base.specs.Limits.{ArePassed};
+    ghost use Rattle.ipc_limits.specs.Limits.{ArePassed};
     ghost use Rattle.std.specs.Coded.{codes};
     ghost use Rattle.std.specs.Prelude.{◌&&◌, is_some, length, option_map};
     ghost use Rattle.sem_undo.specs.Undo.{undo_code};

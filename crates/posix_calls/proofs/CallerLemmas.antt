@@ -1,20 +1,24 @@
 -- What the crates above cite of the calls.
-use Rattle.std.proofs.Common.{◌≡◌, ◌≢◌, ℕ, ◌≤◌, ◌+◌, Bool, true, false, not, Option, Some, None, refl, ap, subst, ◌∙◌, arith}
+use Rattle.std.proofs.Common.{◌≡◌, ◌≢◌, ℕ, ◌≤◌, ◌+◌, Bool, true, false, not, List, length, Option, Some, None, refl, ap, subst, ◌∙◌, arith}
 use Rattle.std.specs.Prelude.{is_some, if◌then◌else◌}
-use Rattle.ipc_base.specs.declared.limits.Limits.{Limits}
+use Rattle.std.proofs.lemmas.Bool.{leb-true}
+use Rattle.ipc_limits.specs.declared.limits.Limits.{Limits}
 use Rattle.ipc_wire.specs.Posix.{PlainPosix}
+use Rattle.ipc_wire.specs.Posix as calls
 use Rattle.ipc_wire.specs.Request.{PlainKind, PlainRequest, Posix}
 use Rattle.ipc_state.specs.declared.parked.Awaited.{Awaited}
 use Rattle.ipc_state.specs.Finish.{Finish, IfFinishes, has_to_wait}
 use Rattle.ipc_state.specs.Held.{Held}
+use Rattle.ipc_state.specs.Sound.{HasSoundParts}
 use Rattle.ipc_state.specs.State.{State, is_waiting}
 use Rattle.ipc_state.specs.Touching.{object_of}
 use Rattle.ipc_state.specs.Waiting.{awaited_by, may_wait}
-use Rattle.ipc_state.proofs.CallerLemmas.{IsGood, by-finish, refused-good, waits-blocked}
+use Rattle.ipc_state.proofs.CallerLemmas.{IsGood, by-finish, refused-good, waits-blocked, waits-for}
 use Rattle.posix_calls.specs.Calls.{attempt, definition_of, touched}
 use Rattle.posix_calls.specs.Needs.{IsReserved, keeps_request}
 use Rattle.posix_calls.specs.Registrations.{may_make, own, registrations}
 use Rattle.posix_calls.proofs.Ending.{call-ends}
+use Rattle.posix_calls.proofs.Reaching.{sends-short}
 pub use Rattle.posix_calls.proofs.Alike.{waits-alike, waits-there}
 pub use Rattle.posix_calls.proofs.Debts.{registrations-exited, registrations-few, registrations-none, registrations-restarted}
 
@@ -43,6 +47,11 @@ pub never-waits : (limits : Limits) (s : State) (pid : ℕ) (call : PlainPosix) 
     → has_to_wait (attempt limits s pid call) ≡ false
 never-waits limits s pid call is =
     waits-blocked s (definition_of limits s pid call) ∙ (call-ends limits s pid call).runs (ap (λ (o : Option Awaited). not (is_some o)) is)
+
+-- the text of a send that waits is no longer than that of any message
+pub mq_send-short : (limits : Limits) (s : State) (pid fd deadline priority : ℕ) (text : List ℕ) → HasSoundParts limits s
+    → has_to_wait (attempt limits s pid (calls.MqSend fd deadline priority text)) ≡ true → length text ≤ limits.msgsize
+mq_send-short limits s pid fd deadline priority text h waits = leb-true _ _ (waits-for s _ _ (sends-short limits s pid fd priority text h) waits)
 
 -- ---- what is reserved
 

@@ -5,7 +5,7 @@ use Rattle.std.proofs.lemmas.Bool.Decides.{nat_tests}
 use Rattle.std.proofs.lemmas.List.Elements.{All-head, All-tail}
 use Rattle.std.proofs.lemmas.List.Sums.{sum_by-cons, sum_by-le}
 use Rattle.ipc_base.specs.Table.{value_at, with_value}
-use Rattle.ipc_base.specs.declared.limits.Limits.{Limits}
+use Rattle.ipc_limits.specs.declared.limits.Limits.{Limits}
 use Rattle.ipc_wire.specs.declared.reply.Body.TheVariants.{Empty}
 use Rattle.posix_mq.specs.Queue.{Queue as Mq, PlainMessage, deregistered as without_registration}
 use Rattle.posix_mq.specs.declared.queue.Registration.{Registration}
@@ -72,8 +72,8 @@ module _ (p : ℕ) where
   fewer-exited : (s : State) (gone : ℕ) → registrations (exit s gone) p ≤ registrations s p
   fewer-exited s gone = fewer-swept (own p) refl (without_process s gone).processes.entries (is_by (Some gone) None) s.mq.entries
 
-  fewer-restarted : (s : State) → registrations (restart s) p ≤ registrations s p
-  fewer-restarted s = fewer-swept (own p) refl [] (is_by None None) s.mq.entries
+  fewer-restarted : (limits : Limits) (s : State) → registrations (restart limits s) p ≤ registrations s p
+  fewer-restarted limits s = fewer-swept (own p) refl [] (is_by None None) s.mq.entries
 
   -- one with each queue at most
   few-registrations : (es : List (ℕ × NamedEntry Mq)) → sum_by of-entry es ≤ length es
@@ -165,11 +165,11 @@ module _ (p : ℕ) where
 pub registrations-exited : (s : State) (gone p : ℕ) → registrations (exit s gone) p ≤ registrations s p
 registrations-exited s gone p = fewer-exited p s gone
 
-pub registrations-restarted : (s : State) (p : ℕ) → registrations (restart s) p ≤ registrations s p
-registrations-restarted s p = fewer-restarted p s
+pub registrations-restarted : (limits : Limits) (s : State) (p : ℕ) → registrations (restart limits s) p ≤ registrations s p
+registrations-restarted limits s p = fewer-restarted p limits s
 
 pub registrations-few : (limits : Limits) (s : State) (p : ℕ) → HasSoundParts limits s → registrations s p ≤ limits.queues
 registrations-few limits s p h = omega (arith, few-registrations p s.mq.entries, (h.named names.Mq).held.bound.numbered.count)
 
 pub registrations-none : (limits : Limits) (s : State) (p : ℕ) → HasSoundParts limits s → is_process s p ≡ false → registrations s p ≡ 0
-registrations-none limits s p h gone = none-registered p s.processes.entries gone s.mq.entries (h.named names.Mq).together
+registrations-none limits s p h gone = none-registered p s.processes.entries gone s.mq.entries (h.named names.Mq).together.registered

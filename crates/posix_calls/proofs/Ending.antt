@@ -18,7 +18,7 @@ use Rattle.std.proofs.lemmas.Nat.{and_assoc, and_mask}
 use Rattle.std.proofs.lemmas.Nat.Bits.{and_pow}
 use Rattle.ipc_base.specs.declared.errno.Errno.TheVariants.{EBADF, EBUSY, EINVAL, EMFILE, ENOSPC}
 use Rattle.ipc_base.specs.declared.identity.Cred.{Cred}
-use Rattle.ipc_base.specs.declared.limits.Limits.{Limits}
+use Rattle.ipc_limits.specs.declared.limits.Limits.{Limits}
 use Rattle.ipc_base.specs.Numbers.{record_bytes}
 use Rattle.ipc_base.proofs.CallerLemmas.{at-push, at-with, rising-found, same_key}
 use Rattle.ipc_keys.specs.Names.{check_name}
@@ -42,7 +42,8 @@ use Rattle.ipc_state.specs.Kinds.{Content, EntryOf, Objects, Those, has_access, 
 use Rattle.ipc_state.specs.Opening.{descriptor_at, descriptors_of, is_by_descriptor, is_on, is_there_for, opened_as}
 use Rattle.ipc_state.specs.Finish.{Done, answer, answer_firing, done_firing, ◌>>=◌}
 use Rattle.ipc_state.specs.Sound.{FitsBody, HasSoundParts, IsSoundContent, IsSoundMq, IsSoundMqMessage, most_of}
-use Rattle.ipc_state.specs.State.{State, closed, cred_of, has_all_descriptors, is_waiting, unlinked, with_descriptor, with_descriptor_flags, with_mq}
+use Rattle.ipc_state.specs.State.{State, bytes_of_mq, closed, cred_of, has_all_descriptors, is_waiting, unlinked, with_descriptor, with_descriptor_flags}
+use Rattle.ipc_state.specs.State.{with_mq}
 use Rattle.ipc_state.specs.State.{with_descriptors, with_new_of}
 use Rattle.ipc_state.specs.Descriptors.{Table}
 use Rattle.ipc_state.specs.Opening.{with_table}
@@ -239,6 +240,16 @@ module _ (limits : Limits) where
     arrived-registered true q m n is = refl
     arrived-registered false q m n is = is
 
+    arrived-room : (notifies : Bool) (q : Mq) (m : PlainMessage)
+        → bytes_of_mq (arrived notifies q m).maxmsg (arrived notifies q m).msgsize ≡ bytes_of_mq q.maxmsg q.msgsize
+    arrived-room true q m = refl
+    arrived-room false q m = refl
+
+    given_up-room : (own : Bool) (q : Mq)
+        → bytes_of_mq (if own then deregistered q else q).maxmsg (if own then deregistered q else q).msgsize ≡ bytes_of_mq q.maxmsg q.msgsize
+    given_up-room true q = refl
+    given_up-room false q = refl
+
     given_up-registered : (own : Bool) (q : Mq) (n : ℕ) → is_by_descriptor s.processes.entries n q.registration ≡ true
         → is_by_descriptor s.processes.entries n (if own then deregistered q else q).registration ≡ true
     given_up-registered true q n is = refl
@@ -315,18 +326,20 @@ module _ (limits : Limits) where
 
     -- another queue in the place of one that is open
     put-ends : {never : Bool} (fd : ℕ) (f : Found) (q : Mq) (body : PlainBody) (fired : Option Registration) → IsOpen s pid fd f
+        → bytes_of_mq q.maxmsg q.msgsize ≡ bytes_of_mq f.queue.maxmsg f.queue.msgsize
         → (IsSoundMq limits f.queue → IsSoundMq limits q)
         → (is_by_descriptor s.processes.entries f.number f.queue.registration ≡ true → is_by_descriptor s.processes.entries f.number q.registration ≡ true)
         → (IsSoundMq limits f.queue → FitsBody limits body)
         → ((p : ℕ) → own p fired + own p q.registration ≤ own p f.queue.registration + may_make pid body p)
         → AtEnd never (Leaves (on_descriptor s pid fd)) (answer_firing (with_mq s f.number q) body fired)
-    put-ends fd f q body fired o good stays fits owes =
+    put-ends fd f q body fired o room good stays fits owes =
         let e = has-entry s (kinds.Named names.Mq) f.number f.queue o.there in
         let was : HasSoundParts limits s → IsSoundMq limits f.queue = queue-sound limits s f.number f.queue o.there in
         same-ends (with_mq s f.number q) body fired refl refl refl
         (λ h. let by = subst (λ (r : Mq). is_by_descriptor s.processes.entries f.number r.registration ≡ true) e.object
         (mq-registered limits s f.number e.entry e.there h) in
-        with_object-sound limits s (kinds.Named names.Mq) f.number e.entry q e.there (good (was h)) (stays by) h)
+        with_object-sound limits s (kinds.Named names.Mq) f.number e.entry q e.there (good (was h))
+        (stays by, room ∙ ap (λ (r : Mq). bytes_of_mq r.maxmsg r.msgsize) (sym e.object)) h)
         (λ h. fits (was h))
         (λ h p on apart. elsewhere-object s (kinds.Named names.Mq) f.number q p on refl (λ _ same. apart (on-object s pid fd o.descriptor _ o.at o.on ∙ same)))
         (λ h this apart. same_in-object s this (kinds.Named names.Mq) f.number q (λ same. apart (on-object s pid fd o.descriptor _ o.at o.on ∙ same)))
@@ -337,7 +350,7 @@ module _ (limits : Limits) where
         after (at-all (sends s pid fd priority text)) (λ f ok.
         let m : PlainMessage = record { priority = priority; text = text } in
         let notifies : Bool = is_to_notify s f.number f.queue in
-        put-ends fd f (arrived notifies f.queue m) Empty (firing notifies f.queue) ok.queue
+        put-ends fd f (arrived notifies f.queue m) Empty (firing notifies f.queue) ok.queue (arrived-room notifies f.queue m)
         (λ good. arrived-sound notifies f.queue m (sent_mq-sound limits f.queue m good ok.room (grind (arith, nat_tests, ok.low))
         (grind (arith, nat_tests, ok.short))))
         (arrived-registered notifies f.queue m f.number) (λ _. omega arith) (λ p. omega (arith, fewer-arrived p notifies f.queue m)))
@@ -345,7 +358,7 @@ module _ (limits : Limits) where
     mq_receive-ends : (fd size : ℕ) → AtEnd false (Leaves (on_descriptor s pid fd)) (mq_receive s pid fd size)
     mq_receive-ends fd size =
         after (at-all (receives s pid fd size)) (λ f ok.
-        put-ends fd f.0 (received f.0.queue) (message_body f.1) None ok.queue (λ good. received_mq-sound limits f.0.queue good) (λ by. by)
+        put-ends fd f.0 (received f.0.queue) (message_body f.1) None ok.queue refl (λ good. received_mq-sound limits f.0.queue good) (λ by. by)
         (λ good. let short = (message-sound f.0.queue f.1 ok.message good).short in let few = good.msgsize.1 in fits_message f.1 (omega (arith, short, few)))
         (λ p. omega arith))
       where
@@ -361,7 +374,7 @@ module _ (limits : Limits) where
           → AtEnd never (Leaves (on_descriptor s pid fd)) (registering s f (registration pid fd kind cookie))
       registering-ends fd kind cookie f o =
           after-refuse EBUSY {b = is_some f.queue.registration} (λ free.
-          put-ends fd f (registered f.queue (registration pid fd kind cookie)) Empty None o
+          put-ends fd f (registered f.queue (registration pid fd kind cookie)) Empty None o refl
           (λ good. record { maxmsg = good.maxmsg; msgsize = good.msgsize; count = good.count; messages = good.messages })
           (λ _. registers-by s pid fd f o) (λ _. omega arith)
           (λ p. omega (arith, made-one p pid fd kind cookie, none-own p f.queue.registration free)))
@@ -371,7 +384,8 @@ module _ (limits : Limits) where
           after-refuse EINVAL (λ few. after (open-ends s pid fd) (λ f o.
           let own-one : Bool = is_own pid f.queue.registration in
           by-test (kind == 0)
-          (put-ends fd f (given_up pid f.queue) Empty None o (given_up-sound own-one f.queue) (given_up-registered own-one f.queue f.number)
+          (put-ends fd f (given_up pid f.queue) Empty None o (given_up-room own-one f.queue) (given_up-sound own-one f.queue)
+          (given_up-registered own-one f.queue f.number)
           (λ _. omega arith) (λ p. omega (arith, fewer-given_up p own-one f.queue)))
           (registering-ends fd kind cookie f o)))
 
@@ -451,12 +465,12 @@ module _ (limits : Limits) where
           after-then (proper-ends names.Mq name) (λ right. after-refuse EINVAL (λ access. after-refuse EMFILE (λ few.
           after (sought-ends s.mq name flags) (λ found is.
           by-if_some {o = found} (λ n _. there-ends names.Mq cred (kept_flags flags) few (kept-mode flags access) n (asked_by flags))
-          (λ none. after (attributes-ends limits attr maxmsg msgsize) (λ given good. after-refuse ENOSPC (λ room.
+          (λ none. after (attributes-ends limits attr maxmsg msgsize) (λ given good. after-refuse ENOSPC (λ room. after-refuse ENOSPC (λ few_bytes.
           let q : Mq = empty_queue given.0 given.1 None in
           let e : NamedEntry Mq = record { bound = name; perm = perm_of cred mode; object = q } in
           new-ends names.Mq cred (kept_flags flags) few (kept-mode flags access) name mode q right (is ∙ none)
-          (ap (option_made names.Mq s.mq.next) (is ∙ none)) room good (λ _. refl)
-          (λ p. omega (arith, sum_by-append (of-entry p) s.mq.entries ((s.mq.next, e) ∷ []))))))))))
+          (ap (option_made names.Mq s.mq.next) (is ∙ none)) room good (λ _. (refl, few_bytes))
+          (λ p. omega (arith, sum_by-append (of-entry p) s.mq.entries ((s.mq.next, e) ∷ [])))))))))))
 
     -- ---- named semaphores
 

@@ -1,9 +1,10 @@
 -- What it says that a call went on.
-use Rattle.std.proofs.Common.{◌≡◌, ℕ, ℤ, pos, negsuc, ◌<◌, ◌≤◌, Bool, true, false, List, [], Option, Some, None, refl, subst, arith}
-use Rattle.std.specs.Prelude.{Ok, Err, Result, if◌then◌else◌, is_some, not, option_map, length, ◌==◌, ◌||◌, min, nat_lt}
+use Rattle.std.proofs.Common.{◌≡◌, ℕ, ℤ, pos, negsuc, ◌<◌, ◌≤◌, Bool, true, false, List, [], Option, Some, None, refl, ap, subst, arith}
+use Rattle.std.specs.Prelude.{Ok, Err, Result, if◌then◌else◌, is_some, not, option_map, length, ◌==◌, ◌||◌, min, nat_le, nat_lt}
 use Rattle.std.specs.Result.{is_ok}
+use Rattle.std.proofs.lemmas.Bool.{le-leb, ltb-false}
 use Rattle.std.proofs.lemmas.Bool.Decides.{nat_tests}
-use Rattle.ipc_base.specs.declared.limits.Limits.{Limits}
+use Rattle.ipc_limits.specs.declared.limits.Limits.{Limits}
 use Rattle.ipc_state.specs.Sound.{HasSoundParts, IsSoundMq}
 use Rattle.ipc_state.proofs.CallerLemmas.{content-sound, empty_mq-sound}
 use Rattle.ipc_state.specs.Finish.{Blocks}
@@ -104,6 +105,18 @@ pub sends : (s : State) (pid fd priority : ℕ) (text : List ℕ)
 sends s pid fd priority text =
     after-refuse EINVAL (λ low. after (opens-to writes s pid fd) (λ f o. after-refuse EMSGSIZE (λ short.
     after-stop (may-wait o.at) (waits_or_fails f.flags) (λ room. at-value f (record { queue = o; low = low; short = short; room = room })))))
+
+-- a text that one queue allows is no longer than the longest of any
+no-longer : (most msgsize bytes : ℕ) → msgsize ≤ most → nat_lt msgsize bytes ≡ false → not (nat_le bytes most) ≡ false
+no-longer most msgsize bytes few short = ap not (le-leb bytes most (omega (arith, few, ltb-false msgsize bytes short)))
+
+-- a send of a longer text is refused before it waits
+pub sends-short : (limits : Limits) (s : State) (pid fd priority : ℕ) (text : List ℕ) → HasSoundParts limits s
+    → AtEnd (not (nat_le (length text) limits.msgsize)) (IsOpen s pid fd) (sendable s pid fd priority text)
+sends-short limits s pid fd priority text h =
+    after-refuse EINVAL {b = nat_lt 32767 priority} (λ _. after (opens-to writes s pid fd) (λ f o. after-refuse EMSGSIZE (λ short.
+    after-stop (no-longer limits.msgsize f.queue.msgsize (length text) (queue-sound limits s f.number f.queue o.there h).msgsize.1 short)
+    (waits_or_fails f.flags) {b = is_full f.queue} (λ _. at-value f o))))
 
 -- what holds of a queue from which a message may be received now, and of the message
 pub record Receives (s : State) (pid fd : ℕ) (found : Found × PlainMessage) : Type 0 where

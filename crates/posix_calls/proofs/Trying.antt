@@ -2,9 +2,9 @@
 use Rattle.std.proofs.Common.{◌≡◌, ℕ, ◌<◌, List, [], ◌∷◌, length, Option, Some, None, refl, sym, ap, subst, ◌∙◌, arith}
 use Rattle.std.specs.Prelude.{Ok, Result, option_map}
 use Rattle.std.proofs.lemmas.Bool.Decides.{nat_tests}
-use Rattle.ipc_base.specs.declared.limits.Limits.{Limits}
-use Rattle.ipc_base.specs.Limits.{ArePassed}
-use Rattle.ipc_base.proofs.CallerLemmas.{passed-bounds}
+use Rattle.ipc_limits.specs.declared.limits.Limits.{Limits}
+use Rattle.ipc_limits.specs.Limits.{ArePassed}
+use Rattle.ipc_limits.proofs.CallerLemmas.{passed-bounds}
 use Rattle.ipc_wire.specs.Reply.{PlainBody}
 use Rattle.ipc_wire.specs.declared.reply.Body.TheVariants.{Empty}
 use Rattle.posix_mq.specs.Queue.{Queue as Mq, PlainMessage, most_messages, received, received_message}

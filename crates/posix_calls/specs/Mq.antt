@@ -8,7 +8,7 @@ use Rattle.ipc_base.specs.declared.errno.Errno.TheVariants.{ENOSPC}
 use Rattle.ipc_base.specs.declared.field.Field.{Field}
 use Rattle.ipc_base.specs.declared.field.Field.TheVariants.{U32}
 use Rattle.ipc_base.specs.declared.identity.Cred.{Cred}
-use Rattle.ipc_base.specs.declared.limits.Limits.{Limits}
+use Rattle.ipc_limits.specs.declared.limits.Limits.{Limits}
 use Rattle.ipc_base.specs.Numbers.{record_bytes}
 use Rattle.ipc_keys.specs.declared.check.NameKind.TheVariants as names
 use Rattle.ipc_wire.specs.declared.reply.Body.TheVariants.{Empty, MqMessage, Record}
@@ -17,7 +17,8 @@ use Rattle.posix_mq.specs.Queue.{Queue as Mq, PlainMessage, empty_queue, is_full
 use Rattle.posix_mq.specs.Queue.{received, received_message, registered, deregistered}
 use Rattle.posix_mq.specs.declared.queue.Registration.{Registration}
 use Rattle.ipc_state.specs.Opening.{opened_as}
-use Rattle.ipc_state.specs.State.{State, closed, has_all_descriptors, has_all_mqs, receiver_waits}
+use Rattle.ipc_state.specs.State.{State, bytes_of_mq, closed, has_all_descriptors, has_all_mqs, has_all_mq_bytes}
+use Rattle.ipc_state.specs.State.{receiver_waits}
 use Rattle.ipc_state.specs.Touching.{is_segment, mq_object}
 use Rattle.ipc_state.specs.State.{with_descriptor_flags, with_mq, with_new_mq}
 use Rattle.ipc_state.specs.Finish.{Halt, Fails, Blocks, Attempt, Done, answer, answer_firing, refuse, stop, if_some}
@@ -85,6 +86,7 @@ abbrev pub made_mq : Limits → State → Cred → ℕ → ℕ → ℕ → ℕ �
 made_mq limits s cred pid flags mode attr maxmsg msgsize name = do
   most ← attributes limits attr maxmsg msgsize
   refuse ENOSPC (has_all_mqs limits s)
+  refuse ENOSPC (has_all_mq_bytes limits s (bytes_of_mq most.0 most.1))
   opens (with_new_mq s name cred mode (empty_queue most.0 most.1 None)) pid (kept_flags flags)
       (opened_as names.Mq s.mq.next)
 

@@ -3,7 +3,7 @@
 
 ghost use Rattle.std.specs.Prelude.{◌≡◌, ◌+◌, ◌≤◌, ◌++◌, Some, None, true, is_some, length};
 ghost use Rattle.std.specs.Prelude.{vec_len, vec_capacity, IfOk, OnOk};
-ghost use Rattle.ipc_base.specs.Limits.{ArePassed};
+ghost use Rattle.ipc_limits.specs.Limits.{ArePassed};
 ghost use Rattle.ipc_base.specs.Numbers.{record_bytes};
 ghost use Rattle.ipc_keys.specs.declared.check.NameKind.TheVariants as names;
 ghost use Rattle.ipc_state.specs.Finish.{Finishes, ended, finish_of};

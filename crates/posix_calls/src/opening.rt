@@ -13,9 +13,10 @@ ghost use Rattle.posix_calls.specs.Mq as defined;
 ghost use Rattle.ipc_state.specs.Steps.{result_of};
 
 use crate::access::{asked_by, lookup, open_on, usable};
-use ipc_base::{Cred, Errno, Limits, OpenFlags, Pid};
+use ipc_base::{Cred, Errno, OpenFlags, Pid};
 use ipc_keys::{NameKind, check_name};
-use ipc_state::{Answer, Object, ObjectKind, State};
+use ipc_limits::Limits;
+use ipc_state::{Answer, Object, ObjectKind, State, bytes_of_mq};
 use ipc_wire::Body;
 
 /// What mq_open(3) asks of a new queue: its mode and, unless `attr` is 0, its limits.
@@ -144,6 +145,9 @@ fn make_mq(state: &mut State, cred: Cred, pid: Pid, flags: OpenFlags, wanted: Wa
 {
     let (maxmsg, msgsize) = attributes(state.limits(), wanted)?;
     if state.has_all_mqs() {
+        return Err(Errno::ENOSPC);
+    }
+    if state.has_all_mq_bytes(bytes_of_mq(maxmsg, msgsize)) {
         return Err(Errno::ENOSPC);
     }
     let number = state.add_mq(cred, wanted.mode, maxmsg, msgsize);

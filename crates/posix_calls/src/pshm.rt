@@ -5,7 +5,7 @@ ghost use Rattle.std.specs.Prelude.{◌≡◌, ◌<◌, ◌^◌, ◌+◌, ◌≤
 ghost use Rattle.std.specs.Prelude.{is_some, length, IfOk};
 ghost use Rattle.std.specs.Prelude.{vec_len, vec_capacity};
 ghost use Rattle.std.specs.Result.{is_ok};
-ghost use Rattle.ipc_base.specs.Limits.{ArePassed};
+ghost use Rattle.ipc_limits.specs.Limits.{ArePassed};
 ghost use Rattle.ipc_base.specs.Numbers.{record_bytes};
 ghost use Rattle.ipc_keys.specs.Names.{check_name as checked};
 ghost use Rattle.ipc_keys.specs.declared.check.NameKind.TheVariants as names;

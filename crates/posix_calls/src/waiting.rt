@@ -2,7 +2,7 @@
 //! it waits for has changed. None takes memory in its attempt.
 
 ghost use Rattle.std.specs.Prelude.{◌≡◌, ◌<◌, length, true, is_some, option_map, Some, OnOk};
-ghost use Rattle.ipc_base.specs.Limits.{ArePassed};
+ghost use Rattle.ipc_limits.specs.Limits.{ArePassed};
 ghost use Rattle.ipc_wire.specs.Reply.{body_of};
 ghost use Rattle.ipc_state.specs.Finish as finish;
 ghost use Rattle.ipc_state.specs.Numbered.{entry_of};

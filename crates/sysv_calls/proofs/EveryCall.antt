@@ -1,7 +1,7 @@
 -- What each System V call leaves and answers, and that those that wait on nothing never wait.
 use Rattle.std.proofs.Common.{◌≡◌, ◌∙◌, ℕ, Bool, true, false, not, None, refl, ap}
 use Rattle.std.specs.Prelude.{Option, is_some}
-use Rattle.ipc_base.specs.declared.limits.Limits.{Limits}
+use Rattle.ipc_limits.specs.declared.limits.Limits.{Limits}
 use Rattle.ipc_wire.specs.Request.{PlainSysv, Sysv}
 use Rattle.ipc_wire.specs.Request as requests
 use Rattle.ipc_state.specs.declared.parked.Awaited.{Awaited}

@@ -7,9 +7,10 @@ use Rattle.std.proofs.lemmas.List.Elements.{All-get_or}
 use Rattle.std.proofs.lemmas.Option.{unwrap_or-slice_get}
 use Rattle.ipc_base.specs.declared.errno.Errno.TheVariants.{EPERM, ENOSPC}
 use Rattle.ipc_base.specs.declared.identity.Cred.{Cred}
-use Rattle.ipc_base.specs.declared.limits.Limits.{Limits}
+use Rattle.ipc_limits.specs.declared.limits.Limits.{Limits}
 use Rattle.ipc_base.specs.Numbers.{record_bytes}
-use Rattle.ipc_base.proofs.CallerLemmas.{message-is_bounded, other-push, other-with, value_at-without}
+use Rattle.ipc_base.proofs.CallerLemmas.{other-push, other-with, value_at-without}
+use Rattle.ipc_limits.proofs.CallerLemmas.{message-is_bounded}
 use Rattle.ipc_perm.specs.declared.perm.Perm.{Perm}
 use Rattle.ipc_perm.specs.Perm.{owned_by, asked_by}
 use Rattle.ipc_wire.specs.declared.reply.Body.TheVariants.{Empty, Number, Message, Record}

@@ -1,17 +1,22 @@
 -- What is noted of a list of operations: each that can be performed can be noted, at semaphores that are there.
-use Rattle.std.proofs.Common.{◌≡◌, ◌∙◌, ℕ, zero, suc, ◌+◌, ◌<◌, ◌≤◌, ℤ, pos, negsuc, ◌-ℤ◌, Bool, true, false, cond, ◌&&◌, nat_eq}
+use Rattle.std.proofs.Common.{◌≡◌, ◌≢◌, ◌∙◌, ℕ, zero, suc, ◌+◌, ◌<◌, ◌≤◌, ℤ, pos, negsuc, ◌-ℤ◌, Bool, true, false, cond, ◌&&◌, nat_eq}
 use Rattle.std.proofs.Common.{List, [], ◌∷◌, Option, Some, None, length, take, get_or, All, refl, sym, ap, subst, arith}
-use Rattle.std.specs.Prelude.{is_some, nat_lt, option_map, unwrap_or, slice_index}
+use Rattle.std.specs.Prelude.{◌-◌, FitsSigned, if◌then◌else◌, is_some, nat_lt, option_map, unwrap_or, slice_index}
 use Rattle.std.specs.FinMap as fin
-use Rattle.std.specs.FinMap.{len-insert}
+use Rattle.std.specs.FinMap.{empty_of_len, get-empty, get-entries, find, len-insert, len-remove}
+use Rattle.std.specs.Int.{w16}
+use Rattle.std.specs.Ordering.{int_eq, is_eq}
+use Rattle.std.proofs.lemmas.Int.{ints}
+use Rattle.std.proofs.lemmas.List.{take_all}
 use Rattle.std.specs.List.{fold}
 use Rattle.std.proofs.lemmas.Bool.{eqb-true, eqb-false, lt-ltb}
 use Rattle.std.proofs.lemmas.List.Elements.{All-head, All-tail}
-use Rattle.ipc_base.specs.declared.limits.Limits.{Limits}
-use Rattle.ipc_base.specs.Limits.{ArePassed}
+use Rattle.ipc_limits.specs.declared.limits.Limits.{Limits}
+use Rattle.ipc_limits.specs.Limits.{ArePassed}
 use Rattle.ipc_base.specs.Table.{value_at}
-use Rattle.ipc_base.proofs.CallerLemmas.{at-with, each-at, own, passed-bounds, same_keys, twice}
-use Rattle.sem_undo.specs.Undo.{Key, Undo, IsSoundUndo, adjustment, most_rows, subtracted, with_adjustment}
+use Rattle.ipc_base.proofs.CallerLemmas.{at-with, each-at, own, same_keys, twice}
+use Rattle.ipc_limits.proofs.CallerLemmas.{passed-bounds}
+use Rattle.sem_undo.specs.Undo.{Key, Undo, IsKept, IsSoundUndo, adjustment, key_cmp, most_rows, subtracted, with_adjustment}
 use Rattle.sem_undo.proofs.CallerLemmas.{key_total, subtracted_each, subtracted_others, subtracted_there, with-sound}
 use Rattle.sysv_sem.specs.declared.operation.Operation.{Operation}
 use Rattle.sysv_sem.specs.declared.operation.Verdict.TheVariants.{Passes as Goes, Waits, OutOfRange}
@@ -24,7 +29,8 @@ use Rattle.ipc_state.specs.Numbered.{entry_of}
 use Rattle.ipc_state.specs.Sound.{HasSoundParts, AreAt, has_semaphore}
 use Rattle.ipc_state.specs.State.{State, is_process, undo_of, with_undo}
 use Rattle.ipc_state.proofs.CallerLemmas.{few-at}
-use Rattle.sysv_calls.specs.Relations.{CanBeNoted, CanNote, IsReady}
+use Rattle.sysv_calls.specs.Relations.{CanBeNoted, CanNote, CanPass, IsReady, noted_by, one_if_kept}
+use Rattle.sysv_sem.specs.Trial.{adjustment_of}
 use Rattle.sysv_calls.specs.Semop.{held_by, noted}
 
 -- ---- the adjustments of a process
@@ -97,16 +103,18 @@ noted-adjusted id u held o same n =
       | false ↦ same n
     ]
 
--- if a list passes, the adjustments that are noted stay in their range
-pub noted-kept : (id at : ℕ) (values : List ℕ) (held : ℕ → ℤ) (ops : List Operation) (v : List ℕ) (a : ℕ → ℤ) (u : Undo)
+-- if a list passes, the adjustments that are noted stay in their range, after so many of its operations
+pub noted-kept-to : (count id at : ℕ) (values : List ℕ) (held : ℕ → ℤ) (ops : List Operation) (v : List ℕ) (a : ℕ → ℤ) (u : Undo)
     → outcome_from at values held ops ≡ IsDone v a → ((n : ℕ) → held n ≡ adjustment u (id, n)) → IsSoundUndo u
-    → IsSoundUndo (fold (noted id) u ops)
-noted-kept id at values held [] v a u is same kept = kept
-noted-kept id at values held (o ∷ rest) v a u is same kept =
+    → IsSoundUndo (fold (noted id) u (take count ops))
+noted-kept-to zero id at values held [] v a u is same kept = kept
+noted-kept-to zero id at values held (o ∷ rest) v a u is same kept = kept
+noted-kept-to (suc count) id at values held [] v a u is same kept = kept
+noted-kept-to (suc count) id at values held (o ∷ rest) v a u is same kept =
     elim (judged (slice_index values o.num) (held o.num) o) as (λ w. judged (slice_index values o.num) (held o.num) o ≡ w
     → unless_stopped w at (outcome_from (at + 1) (performed values o) (adjusted held o) rest) ≡ IsDone v a
-    → IsSoundUndo (fold (noted id) (noted id u o) rest)) [
-      | Goes ↦ λ goes later. noted-kept id (at + 1) (performed values o) (adjusted held o) rest v a (noted id u o) later
+    → IsSoundUndo (fold (noted id) (noted id u o) (take count rest))) [
+      | Goes ↦ λ goes later. noted-kept-to count id (at + 1) (performed values o) (adjusted held o) rest v a (noted id u o) later
           (noted-adjusted id u held o same) (by_undo (has_undo o) refl goes)
       | Waits ↦ λ goes later. cc
       | OutOfRange ↦ λ goes later. cc
@@ -118,6 +126,91 @@ noted-kept id at values held (o ∷ rest) v a u is same kept =
         with-sound u (id, o.num) (adjustment u (id, o.num) -ℤ o.sem_op) (subst (λ (z : ℤ). is_adjustment (z -ℤ o.sem_op) ≡ true) (same o.num)
         (adjustment-judged (slice_index values o.num) (held o.num) o goes undo)) kept
     by_undo false undo goes = kept
+
+-- and so after all
+pub noted-kept : (id at : ℕ) (values : List ℕ) (held : ℕ → ℤ) (ops : List Operation) (v : List ℕ) (a : ℕ → ℤ) (u : Undo)
+    → outcome_from at values held ops ≡ IsDone v a → ((n : ℕ) → held n ≡ adjustment u (id, n)) → IsSoundUndo u
+    → IsSoundUndo (fold (noted id) u ops)
+noted-kept id at values held ops v a u is same kept =
+    subst (λ (l : List Operation). IsSoundUndo (fold (noted id) u l)) (take_all (length ops) ops (omega arith))
+    (noted-kept-to (length ops) id at values held ops v a u is same kept)
+
+-- ---- how many there are
+
+-- an adjustment that is there is in its range, and not 0
+found-kept : (es : List (Key × ℤ)) (k : Key) (a : ℤ) → All (λ e. IsKept e.1) es → find key_cmp k es ≡ Some a → IsKept a
+found-kept [] k a all is = cc
+found-kept (e ∷ es) k a all is =
+    by_order (is_eq (key_cmp k e.0)) is (λ later. found-kept es k a (All-tail (λ (d : Key × ℤ). IsKept d.1) e es all) later)
+  where
+    by_order : (b : Bool) → cond b (Some e.1) (find key_cmp k es) ≡ Some a → (find key_cmp k es ≡ Some a → IsKept a) → IsKept a
+    by_order true is rest = let same : e.1 ≡ a = cc in subst IsKept same (All-head (λ (d : Key × ℤ). IsKept d.1) e es all)
+    by_order false is rest = rest is
+
+zero_not : (a : ℤ) → a ≢ pos 0 → int_eq a (pos 0) ≡ false
+zero_not a ne = grind (arith, ints)
+
+module _ (u : Undo) (kept : IsSoundUndo u) where
+  pub adjustment-kept : (k : Key) (a : ℤ) → fin.get u k ≡ Some a → IsKept a
+  adjustment-kept k a is = found-kept (fin.entries u) k a kept (sym (get-entries u k) ∙ is)
+
+  pub adjustment-fits : (k : Key) → FitsSigned w16 (adjustment u k)
+  adjustment-fits k = by_value (fin.get u k) refl
+    where
+      by_value : (r : Option ℤ) → fin.get u k ≡ r → FitsSigned w16 (unwrap_or r (pos 0))
+      by_value None is = grind (arith, ints)
+      by_value (Some a) is = let range = (adjustment-kept k a is).1 in grind (arith, ints)
+
+  -- with one that is not 0 there are some
+  pub some-kept : (k : Key) → adjustment u k ≢ pos 0 → 0 < fin.len u
+  some-kept k not_none = by_count (fin.len u) refl
+    where
+      by_count : (n : ℕ) → fin.len u ≡ n → 0 < n
+      by_count zero none =
+          absurd (not_none (ap (λ (v : Undo). adjustment v k) (empty_of_len u none) ∙ ap (λ (r : Option ℤ). unwrap_or r (pos 0)) (get-empty key_cmp k)))
+      by_count (suc n) is = omega arith
+
+  -- after an operation there is one more, or one less, or as many
+  pub count-subtracted : (k : Key) (x : ℤ)
+      → fin.len (subtracted u k x) + one_if_kept (adjustment u k) ≡ fin.len u + one_if_kept (adjustment u k -ℤ x)
+  count-subtracted k x = by_zero (int_eq (adjustment u k -ℤ x) (pos 0))
+    where
+      removed : (r : Option ℤ) → fin.get u k ≡ r → fin.len (fin.remove u k) + one_if_kept (unwrap_or r (pos 0)) ≡ fin.len u + 0
+      removed None is =
+          let same = len-remove key_total u k ∙ ap (λ (o : Option ℤ). cond (is_some o) (fin.len u - 1) (fin.len u)) is in omega (arith, same)
+      removed (Some a) is =
+          let less = len-remove key_total u k ∙ ap (λ (o : Option ℤ). cond (is_some o) (fin.len u - 1) (fin.len u)) is in
+          let not_none = (adjustment-kept k a is).0 in
+          let some = some-kept k (λ none. not_none (sym (ap (λ (o : Option ℤ). unwrap_or o (pos 0)) is) ∙ none)) in
+          let one : one_if_kept a ≡ 1 = ap (λ (b : Bool). if b then 0 else 1) (zero_not a not_none) in
+          omega (arith, less, some, one)
+
+      inserted : (r : Option ℤ) (a : ℤ) → fin.get u k ≡ r → fin.len (fin.insert u k a) + one_if_kept (unwrap_or r (pos 0)) ≡ fin.len u + 1
+      inserted None a is =
+          let more = len-insert key_total u k a ∙ ap (λ (o : Option ℤ). cond (is_some o) (fin.len u) (fin.len u + 1)) is in omega (arith, more)
+      inserted (Some z) a is =
+          let same = len-insert key_total u k a ∙ ap (λ (o : Option ℤ). cond (is_some o) (fin.len u) (fin.len u + 1)) is in
+          let one : one_if_kept z ≡ 1 = ap (λ (b : Bool). if b then 0 else 1) (zero_not z (adjustment-kept k z is).0) in
+          omega (arith, same, one)
+
+      by_zero : (b : Bool) → fin.len (if b then fin.remove u k else fin.insert u k (adjustment u k -ℤ x)) + one_if_kept (adjustment u k)
+          ≡ fin.len u + (if b then 0 else 1)
+      by_zero true = removed (fin.get u k) refl
+      by_zero false = inserted (fin.get u k) (adjustment u k -ℤ x) refl
+
+-- those after so many operations of a list that passes
+pub passed-kept : (s : State) (pid id : ℕ) (ops : List Operation) → CanPass s pid id ops → (count : ℕ) → IsSoundUndo (undo_of s pid)
+    → IsSoundUndo (noted_by s pid id ops count)
+passed-kept s pid id ops passes count kept =
+    noted-kept-to count id 0 passes.values (held_by s pid id) ops passes.after passes.held (undo_of s pid) passes.done (λ n. refl) kept
+
+-- an operation that is not undone is not noted
+pub noted-undone : (id : ℕ) (u : Undo) (o : Operation) → has_undo o ≡ false → noted id u o ≡ u
+noted-undone id u o none = ap (λ (b : Bool). cond b (subtracted u (id, o.num) o.sem_op) u) none
+
+-- the adjustment at a semaphore after an operation
+pub noted-one : (id : ℕ) (u : Undo) (o : Operation) (n : ℕ) → adjustment_of n (adjustment u (id, n)) o ≡ adjustment (noted id u o) (id, n)
+noted-one id u o n = noted-adjusted id u (λ m. adjustment u (id, m)) o (λ m. refl) n
 
 module _ (sets : Keyed Set) (id : ℕ) (e : KeyedEntry Set) (found : entry_of sets id ≡ Some e) (most : (u : Undo) → AreAt sets u → fin.len u ≤ most_rows) where
   -- for one more there is room: with it all would be at semaphores that are there

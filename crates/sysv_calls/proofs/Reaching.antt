@@ -10,10 +10,10 @@ use Rattle.ipc_base.specs.declared.field.Field.{Field}
 use Rattle.ipc_base.specs.declared.field.Field.TheVariants.{U16}
 use Rattle.ipc_base.specs.Numbers.{field_bytes, record_bytes}
 use Rattle.std.proofs.lemmas.List.Quantifiers.{position-Some}
-use Rattle.ipc_base.specs.declared.limits.Limits.{Limits}
-use Rattle.ipc_base.specs.Limits.{ArePassed}
-use Rattle.ipc_base.proofs.CallerLemmas.{passed-bounds}
-use Rattle.ipc_base.specs.declared.errno.Errno.TheVariants.{EACCES, EEXIST, EFBIG, ENOENT, EINVAL, EAGAIN, ENOMSG, EPERM, E2BIG, ERANGE}
+use Rattle.ipc_limits.specs.declared.limits.Limits.{Limits}
+use Rattle.ipc_limits.specs.Limits.{ArePassed, message_limit}
+use Rattle.ipc_limits.proofs.CallerLemmas.{passed-bounds}
+use Rattle.ipc_base.specs.declared.errno.Errno.TheVariants.{EACCES, EEXIST, EFBIG, ENOENT, EINVAL, EAGAIN, ENOMSG, ENOSPC, EPERM, E2BIG, ERANGE}
 use Rattle.ipc_base.specs.declared.identity.Cred.{Cred}
 use Rattle.ipc_perm.specs.Perm.{may}
 use Rattle.sysv_msg.specs.Queue.{Queue, PlainMessage, is_allowed, pick, full}
@@ -35,7 +35,7 @@ use Rattle.sysv_calls.specs.Msg.{except, waits_or, sendable, receivable, is_too_
 use Rattle.sysv_calls.specs.Needs.{segment_place, semset_place}
 use Rattle.sysv_calls.specs.Sem.{count_of, semaphore, settable}
 use Rattle.sysv_calls.specs.Relations.{Passes}
-use Rattle.sysv_calls.specs.Semop.{decided, held_by, operable, performable, stopped_by}
+use Rattle.sysv_calls.specs.Semop.{decided, held_by, notes_too_many, operable, performable, proceeding, stopped_by}
 use Rattle.ipc_state.specs.Steps.{seen}
 
 module _ {X : Type 0} {never : Bool} where
@@ -69,7 +69,7 @@ module _ {X : Type 0} (o : Keyed X) (cred : Cred) (id : ℕ) (e : KeyedEntry X) 
 pub record Sends (limits : Limits) (s : State) (id : ℕ) (mtype : ℤ) (text : List ℕ) (e : KeyedEntry Queue) : Type 0 where
   pub message : IsSoundMessage limits (record { mtype = mtype; text = text })
   pub there : entry_of s.msg id ≡ Some e
-  pub room : full e.object (length text) ≡ false
+  pub room : full (message_limit limits) e.object (length text) ≡ false
 
 -- a send waits for a queue that is there alone
 pub sends : (limits : Limits) (s : State) (cred : Cred) (again : Bool) (id flags : ℕ) (mtype : ℤ) (text : List ℕ)
@@ -140,12 +140,20 @@ operable-ends limits s cred again id ops =
           (AllPass-from_list_all (λ o. nat_lt o.num (length e.object.semaphores)) ops (not-false _ within));
     }))))))
 
--- of a list of operations that can be performed, of its set, and of the values after it
+-- of a list of operations each of which can proceed, of its set, and of the values after it
+record Proceeds (limits : Limits) (s : State) (pid id : ℕ) (ops : List Operation) (found : KeyedEntry Set × List ℕ) : Type 0 where
+  few : length ops ≤ limits.semopm
+  there : semset_of s id ≡ Some found.0
+  within : All (λ o. o.num < length found.0.object.semaphores) ops
+  done : (after : ℕ → ℤ) × (outcome (values_of found.0.object) (held_by s pid id) ops ≡ IsDone found.1 after)
+
+-- of one that can be performed: it does not note too much either
 pub record Operates (limits : Limits) (s : State) (pid id : ℕ) (ops : List Operation) (found : KeyedEntry Set × List ℕ) : Type 0 where
   pub few : length ops ≤ limits.semopm
   pub there : semset_of s id ≡ Some found.0
   pub within : All (λ o. o.num < length found.0.object.semaphores) ops
   pub done : (after : ℕ → ℤ) × (outcome (values_of found.0.object) (held_by s pid id) ops ≡ IsDone found.1 after)
+  pub noted : notes_too_many limits s pid id ops ≡ false
 
 decided-ends : {never : Bool} (ops : List Operation) (r : Outcome) → never ≡ false
     → AtEnd never (λ (values : List ℕ). (after : ℕ → ℤ) × (r ≡ IsDone values after)) (decided ops r)
@@ -153,9 +161,9 @@ decided-ends ops (IsDone values after) may = at-value values (after, refl)
 decided-ends ops (Stops at) may = at-halt may (stopped_by (slice_get ops at))
 decided-ends ops (IsRefused e) may = at-failure e
 
-pub operates : (limits : Limits) (s : State) (cred : Cred) (pid : ℕ) (again : Bool) (id : ℕ) (ops : List Operation)
-    → AtEnd (not (is_some (semset_of s id))) (Operates limits s pid id ops) (performable limits s cred pid again id ops)
-operates limits s cred pid again id ops =
+proceeds : (limits : Limits) (s : State) (cred : Cred) (pid : ℕ) (again : Bool) (id : ℕ) (ops : List Operation)
+    → AtEnd (not (is_some (semset_of s id))) (Proceeds limits s pid id ops) (proceeding limits s cred pid again id ops)
+proceeds limits s cred pid again id ops =
     after (after {P = Met} (operable-ends limits s cred again id ops) (λ e ok. at-value _ (ok, refl))) (λ found ok.
     after (decided-ends ops found.1 (may-wait ok.0.there)) (λ values done. at-value (found.0, values) (record {
       few = ok.0.few;
@@ -167,6 +175,13 @@ operates limits s cred pid again id ops =
     -- the set, and what the operations meet there
     Met : KeyedEntry Set × Outcome → Type 0
     Met found = IsOperable limits s id ops found.0 × (found.1 ≡ outcome (values_of found.0.object) (held_by s pid id) ops)
+
+pub operates : (limits : Limits) (s : State) (cred : Cred) (pid : ℕ) (again : Bool) (id : ℕ) (ops : List Operation)
+    → AtEnd (not (is_some (semset_of s id))) (Operates limits s pid id ops) (performable limits s cred pid again id ops)
+operates limits s cred pid again id ops =
+    after (proceeds limits s cred pid again id ops) (λ found ok.
+    after-refuse ENOSPC {b = notes_too_many limits s pid id ops} (λ noted.
+    at-value found (record { few = ok.few; there = ok.there; within = ok.within; done = ok.done; noted = noted })))
 
 -- such a list has no more than a buffer has room for
 pub operates-passes : (limits : Limits) (s : State) (pid id : ℕ) (ops : List Operation) (found : KeyedEntry Set × List ℕ) → ArePassed limits

@@ -11,7 +11,7 @@ use Rattle.ipc_base.specs.declared.errno.Errno.TheVariants.{EINVAL, ENOSPC, ERAN
 use Rattle.ipc_base.specs.declared.field.Field.TheVariants.{U16}
 use Rattle.ipc_base.specs.declared.identity.Cred.{Cred}
 use Rattle.ipc_base.specs.declared.identity.Pid.{Pid}
-use Rattle.ipc_base.specs.declared.limits.Limits.{Limits}
+use Rattle.ipc_limits.specs.declared.limits.Limits.{Limits}
 use Rattle.ipc_base.specs.Numbers.{record_bytes}
 use Rattle.ipc_base.specs.Table.{seen_as, value_at}
 use Rattle.ipc_base.proofs.CallerLemmas.{at-map, other-push, other-with, value_at-without}

@@ -6,7 +6,7 @@ use Rattle.std.specs.List.{fold}
 use Rattle.std.proofs.lemmas.List.Elements.{All-weaker}
 use Rattle.ipc_base.specs.declared.identity.Cred.{Cred}
 use Rattle.ipc_base.specs.declared.identity.Pid.{Pid}
-use Rattle.ipc_base.specs.declared.limits.Limits.{Limits}
+use Rattle.ipc_limits.specs.declared.limits.Limits.{Limits}
 use Rattle.ipc_base.specs.Table.{value_at, with_value}
 use Rattle.ipc_base.proofs.CallerLemmas.{at-with, other-with}
 use Rattle.ipc_wire.specs.declared.reply.Body.TheVariants.{Number}
@@ -74,7 +74,7 @@ module _ (limits : Limits) (s : State) where
       with_undo-sound limits t pid (fold (noted id) (undo_of s pid) ops) whole (noted-all t.semset id (undo_of s pid) ops (undo_of-at limits t pid whole)
       (All-weaker (λ o. o.num < length e.object.semaphores) (λ o. has_semaphore t.semset (id, o.num) ≡ true)
       (λ o is. has-within t.semset id o.num (holding e new) there (omega (arith, is, long))) ops ok.within))
-      (noted-kept id 0 (values_of e.object) held ops found.1 ok.done.0 (undo_of s pid) ok.done.1 (λ n. refl) (undo_of-kept limits s pid h))
+      (noted-kept id 0 (values_of e.object) held ops found.1 ok.done.0 (undo_of s pid) ok.done.1 (λ n. refl) (undo_of-kept limits s pid h)) ok.noted
 
   pub semop-ends : (cred : Cred) (pid : ℕ) (again : Bool) (id : ℕ) (operations : List ℕ)
       → AtEnd false (Leaves limits s (set id)) (semop limits s cred pid again id operations)

@@ -1,7 +1,7 @@
 -- A call that has come to its end leaves those waiting that its change does not concern.
 use Rattle.std.proofs.Common.{◌≡◌, ◌≢◌, ◌∙◌, ℕ, ℤ, pos, Bool, true, false, not, nat_eq}
 use Rattle.std.proofs.Common.{List, [], ◌∷◌, length, length-append, arith, get_or, refl, sym, ap, subst}
-use Rattle.std.specs.Prelude.{All, Option, Some, None, Ok, Err, unwrap_or, option_map, cond, bit_and, bit_or, ◌==◌}
+use Rattle.std.specs.Prelude.{All, ◌||◌, ◌≤◌, nat_lt, Option, Some, None, Ok, Err, unwrap_or, option_map, cond, bit_and, bit_or, ◌==◌}
 use Rattle.std.specs.FinMap as fin
 use Rattle.std.specs.FinMap.{get-remove}
 use Rattle.std.specs.List.{fold}
@@ -13,7 +13,8 @@ use Rattle.std.proofs.lemmas.List.Elements.{All-map, All-weaker}
 use Rattle.std.proofs.lemmas.List.Sums.{sum_by-append}
 use Rattle.ipc_base.specs.declared.errno.Errno.TheVariants.{ERANGE}
 use Rattle.ipc_base.specs.declared.identity.Pid.{Pid}
-use Rattle.ipc_base.specs.declared.limits.Limits.{Limits}
+use Rattle.ipc_limits.specs.declared.limits.Limits.{Limits}
+use Rattle.ipc_limits.specs.Limits.{exceeds, message_limit}
 use Rattle.ipc_base.specs.Table.{seen_as, value_at}
 use Rattle.ipc_base.proofs.CallerLemmas.{at-map, at-with, other-with}
 use Rattle.ipc_wire.specs.Posix.{PlainPosix}
@@ -44,14 +45,14 @@ use Rattle.sysv_calls.specs.declared.concern.Change.TheVariants.{Anything, Semap
 use Rattle.sysv_calls.specs.Concern.{change_of, concerns, joined}
 use Rattle.sysv_calls.specs.Msg.{except, msgrcv, msgsnd}
 use Rattle.sysv_calls.specs.Sem.{semctl_setval, value_of}
-use Rattle.sysv_calls.specs.Semop.{held_by, noted, operated, operation_of, operations_of, performable, semop, tried_list}
+use Rattle.sysv_calls.specs.Semop.{held_by, noted, notes_too_many, operated, operation_of, operations_of, performable, proceeding, semop, tried_list}
 use Rattle.sysv_calls.proofs.Ending.{those}
 use Rattle.sysv_calls.proofs.EveryCall.{never-waits}
 use Rattle.sysv_calls.proofs.Families.{IsOther, by-waiting}
 use Rattle.sysv_calls.proofs.Lists.{IsSameAt, met_at, same-met, value-carried}
 use Rattle.sysv_calls.proofs.Reaching.{IsFound, Operates, operates, receives, semaphore-ends, sends}
 use Rattle.sysv_calls.proofs.SemopCalls.{noted-apart, put-apart}
-use Rattle.sysv_calls.proofs.Stopping.{settled, settles}
+use Rattle.sysv_calls.proofs.Stopping.{refused-blocks, settled, settles}
 use Rattle.sysv_calls.proofs.Waits.{still-receives, still-sends, waits-alike}
 use Rattle.sysv_calls.proofs.Words.{AreApart, first-apart, named-apart, other-bit, second-apart, unnamed}
 
@@ -83,8 +84,9 @@ module _ (limits : Limits) (other id timeout : ℕ) (bytes : List ℕ) where
   list-waits : (u : State) → has_to_wait (attempt limits u other true (requests.Semop id timeout bytes))
       ≡ is_blocked (met_at limits (cred_of u other) ops (held_by u other id) (semset_of u id) >>= settled ops)
   list-waits u =
-      let tests = performable limits u (cred_of u other) other true id ops in
-      waits-as-tested u tests _
+      let tests = proceeding limits u (cred_of u other) other true id ops in
+      waits-as-tested u (performable limits u (cred_of u other) other true id ops) _
+      ∙ refused-blocks (notes_too_many limits u other id ops) tests
       ∙ sym (seen-blocked (λ found. tt) tests)
       ∙ ap is_blocked (sym (settles ops (tried_list limits u (cred_of u other) other true id ops)))
 
@@ -231,11 +233,18 @@ module _ (limits : Limits) (s : State) (other : ℕ) where
 -- ---- what a send changes
 
 -- a full queue is full when one message more has come
-full-sent : (q : Queue) (m : PlainMessage) (pid moment bytes : ℕ) → full q bytes ≡ true → full (sent q m pid moment) bytes ≡ true
-full-sent q m pid moment bytes is =
+full-sent : (limit : Option ℕ) (q : Queue) (m : PlainMessage) (pid moment bytes : ℕ) → full limit q bytes ≡ true
+    → full limit (sent q m pid moment) bytes ≡ true
+full-sent limit q m pid moment bytes is =
     let more = sum_by-append (λ (o : PlainMessage). length o.text) q.messages (m ∷ []) in
     let long = length-append q.messages (m ∷ []) in
-    grind (arith, nat_tests)
+    grown limit q.qbytes _ _ _ _ (omega arith) (omega arith) is
+  where
+    -- more bytes and more messages are too many where fewer are
+    grown : (o : Option ℕ) (most less more n m : ℕ) → less ≤ more → n ≤ m
+        → (nat_lt most less || nat_lt most n || exceeds n o) ≡ true → (nat_lt most more || nat_lt most m || exceeds m o) ≡ true
+    grown None most less more n m le few is = grind (arith, nat_tests)
+    grown (Some limit) most less more n m le few is = grind (arith, nat_tests)
 
 -- ---- the law
 
@@ -336,7 +345,7 @@ module _ (limits : Limits) (s : State) (pid : ℕ) (again : Bool) where
           subst (IfFinishes P) is (by-finish P s (msgsnd limits s (cred_of s pid) pid again id flags mtype text)
           (after {P = λ d. P (done_firing d.state d.body d.fired)} (at-all (sends limits s (cred_of s pid) again id flags mtype text))
           (λ e ok. at-value _ (still-sends limits s other n fs t theirs id e (sent e.object m pid s.clock) ok.there
-          (full-sent e.object m pid s.clock (length theirs))))).holds (λ e waits. waits))
+          (full-sent (message_limit limits) e.object m pid s.clock (length theirs))))).holds (λ e waits. waits))
 
       with_receive : (n fs sz : ℕ) (t : ℤ) → is_sought t (has fs except) mtype ≡ false → StillWaits limits s other (requests.Msgrcv n fs sz t) f.state
       with_receive n fs sz t free =

@@ -2,20 +2,22 @@
 use Rattle.std.proofs.Common.{◌≡◌, ◌∙◌, ℕ, zero, suc, ◌<◌, Bool, true, false, not, ◌&&◌, List, [], ◌∷◌, None, All, length, refl, sym, ap}
 use Rattle.std.specs.Prelude.{Ok, Err, Option, if◌then◌else◌, slice_get}
 use Rattle.std.proofs.lemmas.List.Elements.{All-head, All-tail, All-weaker}
-use Rattle.ipc_base.specs.declared.errno.Errno.TheVariants.{EAGAIN}
+use Rattle.ipc_base.specs.declared.errno.Errno.TheVariants.{EAGAIN, ENOSPC}
 use Rattle.ipc_base.specs.declared.identity.Cred.{Cred}
-use Rattle.ipc_base.specs.declared.limits.Limits.{Limits}
+use Rattle.ipc_limits.specs.declared.limits.Limits.{Limits}
 use Rattle.sysv_sem.specs.declared.operation.Operation.{Operation}
 use Rattle.sysv_sem.specs.declared.operation.Trial.{Trial}
 use Rattle.sysv_sem.specs.declared.operation.Trial.TheVariants as trial
 use Rattle.sysv_sem.specs.Operation.{Outcome, Done as IsDone, Blocks as Stops, Fails as IsRefused, gives_nothing, is_patient, outcome, trial_of}
 use Rattle.sysv_sem.specs.Set.{Set, values_of}
 use Rattle.sysv_sem.proofs.CallerLemmas.{stops-inside}
+use Rattle.sysv_calls.specs.Relations.{CanPass}
 use Rattle.ipc_state.specs.Keyed.{KeyedEntry}
-use Rattle.ipc_state.specs.Finish.{Attempt, Halt, Fails, Blocks, ◌>>=◌}
+use Rattle.ipc_state.specs.Finish.{Attempt, Halt, Fails, Blocks, refuse, ◌>>◌, ◌>>=◌}
+use Rattle.ipc_state.proofs.CallerLemmas.{is_blocked}
 use Rattle.ipc_state.specs.State.{State}
 use Rattle.ipc_state.specs.Steps.{seen}
-use Rattle.sysv_calls.specs.Semop.{decided, held_by, operable, performable, stopped_by, stopping, tried_list}
+use Rattle.sysv_calls.specs.Semop.{decided, held_by, notes_too_many, operable, performable, proceeding, stopped_by, stopping, tried_list}
 
 -- ---- what the tests came to
 
@@ -25,6 +27,24 @@ Tested = Attempt (KeyedEntry Set × Outcome)
 -- what is seen of them
 abbrev pub met : Tested → Attempt Trial
 met tried = seen (λ (found : KeyedEntry Set × Outcome). trial_of found.1) tried
+
+-- a refusal after the tests of a call makes none wait that did not
+pub refused-blocks : {X : Type 0} (b : Bool) (a : Attempt X) → is_blocked (a >>= (λ x. refuse ENOSPC b >> Ok x)) ≡ is_blocked a
+refused-blocks true (Ok x) = refl
+refused-blocks false (Ok x) = refl
+refused-blocks b (Err (Fails e)) = refl
+refused-blocks b (Err Blocks) = refl
+
+-- nothing is looked at
+abbrev unseen : {X : Type 0} → X → Unit {0}
+unseen x = tt
+
+-- and it is the same if nothing is seen of them
+refused-seen : {X : Type 0} (b : Bool) (a : Attempt X)
+    → (seen (unseen {X = X}) a >>= (λ (u : Unit {0}). refuse ENOSPC b >> Ok u)) ≡ seen (unseen {X = X}) (a >>= (λ (x : X). refuse ENOSPC b >> Ok x))
+refused-seen true (Ok x) = refl
+refused-seen false (Ok x) = refl
+refused-seen b (Err h) = refl
 
 -- whether the list may be performed, by that
 abbrev pub settled : List Operation → Trial → Attempt (Unit {0})
@@ -65,16 +85,34 @@ module _ (limits : Limits) (s : State) (cred : Cred) (pid : ℕ) (again : Bool) 
       by_set (Err i) is = let same : h ≡ i = cc in ap (λ (j : Halt). Err j) (sym same)
       by_set (Ok e) is = cc
 
+  -- unless it would note too much
+  abbrev pub unless_too_many : Attempt (Unit {0}) → Attempt (Unit {0})
+  unless_too_many a = a >>= (λ u. refuse ENOSPC (notes_too_many limits s pid id ops) >> Ok u)
+
   -- so the list may be performed, or what becomes of it
   pub performable-of : (set : Set) → Operable (Ok set)
-      → settled ops (trial_of (meeting set)) ≡ seen (λ (found : KeyedEntry Set × List ℕ). tt) (performable limits s cred pid again id ops)
+      → unless_too_many (settled ops (trial_of (meeting set)))
+      ≡ seen (λ (found : KeyedEntry Set × List ℕ). tt) (performable limits s cred pid again id ops)
   performable-of set is =
-      ap (λ (a : Attempt Trial). a >>= settled ops) (sym (tried-of set is)) ∙ settles ops (tried_list limits s cred pid again id ops)
+      ap unless_too_many (ap (λ (a : Attempt Trial). a >>= settled ops) (sym (tried-of set is))
+      ∙ settles ops (tried_list limits s cred pid again id ops))
+      ∙ refused-seen (notes_too_many limits s pid id ops) (proceeding limits s cred pid again id ops)
+
+  -- of a list that is done each operation passes
+  pub passes-of : (set : Set) → trial_of (meeting set) ≡ trial.Done → CanPass s pid id ops
+  passes-of set is = by_outcome (meeting set) refl is
+    where
+      by_outcome : (r : Outcome) → meeting set ≡ r → trial_of r ≡ trial.Done → CanPass s pid id ops
+      by_outcome (IsDone values after) was is = record { values = values_of set; after = values; held = after; done = was }
+      by_outcome (Stops at) was is = cc
+      by_outcome (IsRefused errno) was is = cc
 
   pub unperformable-of : (h : Halt) → Operable (Err h)
       → (let a : Attempt (Unit {0}) = Err h in a) ≡ seen (λ (found : KeyedEntry Set × List ℕ). tt) (performable limits s cred pid again id ops)
   unperformable-of h is =
-      ap (λ (a : Attempt Trial). a >>= settled ops) (sym (untried-of h is)) ∙ settles ops (tried_list limits s cred pid again id ops)
+      ap unless_too_many (ap (λ (a : Attempt Trial). a >>= settled ops) (sym (untried-of h is))
+      ∙ settles ops (tried_list limits s cred pid again id ops))
+      ∙ refused-seen (notes_too_many limits s pid id ops) (proceeding limits s cred pid again id ops)
 
   -- the operation that stops it is one of the list
   pub stops-at : (set : Set) (at : ℕ) → trial_of (meeting set) ≡ trial.Blocks at → at < length ops

@@ -1,13 +1,13 @@
 -- What comes of a call that may wait, by what its tests answered.
 use Rattle.std.proofs.Common.{◌≡◌, ◌∙◌, ℕ, ℤ, ◌<◌, ◌≤◌, Bool, true, false, List, length, Some, sym, ap, subst, arith}
-use Rattle.std.specs.Prelude.{Ok, Result, ◌+◌, is_some, nat_lt, take}
+use Rattle.std.specs.Prelude.{Ok, Option, Result, ◌+◌, ◌||◌, is_some, nat_lt, take}
 use Rattle.std.proofs.lemmas.Bool.{ltb-false, or_parts}
 use Rattle.ipc_base.specs.declared.flags.MsgFlags.{MsgFlags}
 use Rattle.ipc_base.specs.declared.identity.Cred.{Cred}
 use Rattle.ipc_base.specs.declared.identity.Id.{Id}
-use Rattle.ipc_base.specs.declared.limits.Limits.{Limits}
-use Rattle.ipc_base.specs.Limits.{ArePassed}
-use Rattle.ipc_base.proofs.CallerLemmas.{passed-bounds}
+use Rattle.ipc_limits.specs.declared.limits.Limits.{Limits}
+use Rattle.ipc_limits.specs.Limits.{ArePassed, exceeds, message_limit}
+use Rattle.ipc_limits.proofs.CallerLemmas.{passed-bounds}
 use Rattle.ipc_wire.specs.Reply.{PlainBody}
 use Rattle.ipc_wire.specs.declared.reply.Body.TheVariants.{Empty, Message as Received}
 use Rattle.sysv_msg.specs.Queue.{Queue, byte_count, full, most_messages, sent, taken}
@@ -41,11 +41,13 @@ call-tested limits s pid again (parked.Msgrcv id flags size mtype) = tested s _ 
 call-tested limits s pid again (parked.Semop id timeout operations) = tested s _ _ _
 
 -- a queue that is not full has places
-has_places : (q : Queue) (n most : ℕ) → q.qbytes ≤ most → most ≤ most_messages → full q n ≡ false → length q.messages < most_messages
-has_places q n most few places is =
+has_places : (limit : Option ℕ) (q : Queue) (n most : ℕ) → q.qbytes ≤ most → most ≤ most_messages → full limit q n ≡ false
+    → length q.messages < most_messages
+has_places limit q n most few places is =
     let bytes : Bool = nat_lt q.qbytes (byte_count q.messages + n) in
     let count : Bool = nat_lt q.qbytes (length q.messages + 1) in
-    omega (arith, ltb-false q.qbytes (length q.messages + 1) (or_parts bytes count is).1)
+    let more : Bool = exceeds (length q.messages + 1) limit in
+    omega (arith, ltb-false q.qbytes (length q.messages + 1) (or_parts bytes count (or_parts (bytes || count) more is).0).1)
 
 -- the tests of a call answered so
 pub record IsAnswered (limits : Limits) (s : State) (pid : ℕ) (again : Bool) (call : ParkedSysv) (r : Result ℕ Stops) : Type 0 where
@@ -73,8 +75,9 @@ module _ {limits : Limits} {s : State} {pid : ℕ} {again : Bool} {call : Parked
     sends-room sound passed e there =
         let one : send.value ≡ e = cc (send.holds.there) in
         let most = (passed-bounds limits passed).msgmnb in
-        has_places e.object (length m.text.items) limits.msgmnb (content-sound limits s kinds.MsgQueue id.0 e there sound).qbytes (omega (arith, most))
-        (subst (λ (f : KeyedEntry Queue). full f.object (length m.text.items) ≡ false) one send.holds.room)
+        let qbytes = (content-sound limits s kinds.MsgQueue id.0 e there sound).qbytes in
+        has_places (message_limit limits) e.object (length m.text.items) limits.msgmnb qbytes (omega (arith, most))
+        (subst (λ (f : KeyedEntry Queue). full (message_limit limits) f.object (length m.text.items) ≡ false) one send.holds.room)
 
     pub sends-finish : (t : State) → ((e : KeyedEntry Queue) → msg_queue_of s id.0 ≡ Some e
         → t ≡ with_msg_queue s id.0 (holding e (sent e.object (record { mtype = m.mtype; text = m.text.items }) pid s.clock)))

@@ -6,7 +6,8 @@ use Rattle.std.proofs.lemmas.Bool.{eqb-false, eqb-true}
 use Rattle.std.proofs.lemmas.Option.{none-some}
 use Rattle.ipc_base.specs.declared.errno.Errno.TheVariants.{E2BIG, EACCES, EAGAIN, EINVAL, ENOMSG}
 use Rattle.ipc_base.specs.declared.identity.Cred.{Cred}
-use Rattle.ipc_base.specs.declared.limits.Limits.{Limits}
+use Rattle.ipc_limits.specs.declared.limits.Limits.{Limits}
+use Rattle.ipc_limits.specs.Limits.{message_limit}
 use Rattle.ipc_base.proofs.CallerLemmas.{at-with, other-with}
 use Rattle.ipc_perm.specs.declared.perm.Perm.{Perm}
 use Rattle.ipc_perm.specs.Perm.{may}
@@ -15,10 +16,11 @@ use Rattle.ipc_wire.specs.Request as requests
 use Rattle.sysv_msg.specs.Queue.{Queue, full, pick}
 use Rattle.sysv_sem.specs.declared.operation.Operation.{Operation}
 use Rattle.sysv_sem.specs.Operation.{outcome}
-use Rattle.sysv_sem.specs.Set.{values_of}
+use Rattle.sysv_sem.specs.Set.{Set, values_of}
 use Rattle.ipc_state.specs.declared.parked.Awaited.{Awaited}
 use Rattle.ipc_state.specs.declared.parked.Awaited.TheVariants as awaited
-use Rattle.ipc_state.specs.Finish.{Attempt, Halt, has_to_wait, refuse, stop, ◌orelse◌, ◌orstop◌, ◌>>◌, ◌>>=◌}
+use Rattle.ipc_wire.specs.declared.reply.Body.TheVariants.{Empty}
+use Rattle.ipc_state.specs.Finish.{Attempt, Done, Halt, ended, has_to_wait, refuse, stop, ◌orelse◌, ◌orstop◌, ◌>>◌, ◌>>=◌}
 use Rattle.ipc_state.specs.Bound.{holding}
 use Rattle.ipc_state.specs.Keyed.{Keyed, KeyedEntry}
 use Rattle.ipc_state.specs.Numbered.{entry_of, last_number}
@@ -30,8 +32,9 @@ use Rattle.ipc_state.proofs.CallerLemmas.{then-alike, waits-as-tested, waits-for
 use Rattle.sysv_calls.specs.Access.{accessible, gone, has, read, write}
 use Rattle.sysv_calls.specs.Calls.{attempt}
 use Rattle.sysv_calls.specs.Msg.{except, is_too_long, message_at, receivable, sendable, waits_or}
-use Rattle.sysv_calls.specs.Semop.{held_by, operable, operations_of, performable, tried_list}
+use Rattle.sysv_calls.specs.Semop.{held_by, notes_too_many, operable, operated, operations_of, performable, proceeding, tried_list}
 use Rattle.sysv_calls.proofs.Families.{by-waiting}
+use Rattle.sysv_calls.proofs.Stopping.{refused-blocks}
 use Rattle.sysv_calls.proofs.Reaching.{operates, receives, sends}
 
 -- ---- on what a call waits
@@ -46,6 +49,15 @@ accessible-alike : {X : Type 0} (o p : Keyed X) (c d : Cred) (again other : Bool
 accessible-alike o p c d again other id access who same =
     subst (λ (b : Cred). AreAlike (accessible other p b id access) (accessible again o c id access)) (sym who)
     (orelse-alike (gone other) (gone again) same (λ e _. same-alike refl))
+
+-- a list that is refused for what it would note does not wait
+list-waits : (limits : Limits) (s : State) (pid : ℕ) (again : Bool) (id : ℕ) (ops : List Operation) (ends : KeyedEntry Set × List ℕ → Done)
+    → has_to_wait (ended s (performable limits s (cred_of s pid) pid again id ops >>= (λ found. Ok (ends found))))
+    ≡ has_to_wait (ended s (proceeding limits s (cred_of s pid) pid again id ops >>= (λ found. Ok (ends found))))
+list-waits limits s pid again id ops ends =
+    waits-as-tested s (performable limits s (cred_of s pid) pid again id ops) ends
+    ∙ (refused-blocks (notes_too_many limits s pid id ops) (proceeding limits s (cred_of s pid) pid again id ops)
+    ∙ sym (waits-as-tested s (proceeding limits s (cred_of s pid) pid again id ops) ends))
 
 -- two states that have the same caller and the same object make the same call wait, whether it waited before or not
 module _ (limits : Limits) (s t : State) (pid : ℕ) (again other : Bool) where
@@ -82,9 +94,10 @@ module _ (limits : Limits) (s t : State) (pid : ℕ) (again other : Bool) where
       let held : held_by t pid id ≡ held_by s pid id = λ i num. as_before.1 pid num i in
       let met : AreAlike (tried_list limits t (cred_of t pid) pid other id ops) (tried_list limits s (cred_of s pid) pid again id ops) =
       then-alike (operable-alike id ops who as_before.0) (λ e. same-alike (λ i. Ok (e, outcome (values_of e.object) (held i) ops))) in
-      let same : AreAlike (performable limits t (cred_of t pid) pid other id ops) (performable limits s (cred_of s pid) pid again id ops) =
+      let same : AreAlike (proceeding limits t (cred_of t pid) pid other id ops) (proceeding limits s (cred_of s pid) pid again id ops) =
       then-alike met (λ found. same-alike refl) in
-      alike-waits s t _ _ same
+      let after : State → KeyedEntry Set × List ℕ → Done = λ u found. record { state = operated u pid id ops found; body = Empty; fired = None } in
+      list-waits limits t pid other id ops (after t) ∙ alike-waits s t (after s) (after t) same ∙ sym (list-waits limits s pid again id ops (after s))
 
   pub waits-alike : (call : PlainSysv) → IsAlike call
   waits-alike call = by-waiting IsAlike alike-send alike-receive alike-semop (λ call none on is. absurd (none-some on (sym none.never ∙ is))) call
@@ -185,14 +198,14 @@ module _ (limits : Limits) (s : State) (other n flags : ℕ) (mtype : ℤ) (text
   send = requests.Msgsnd n flags mtype text
 
   abbrev found-send : KeyedEntry Queue → Attempt (KeyedEntry Queue)
-  found-send e = stop (waits_or flags EAGAIN) (full e.object (length text)) >> Ok e
+  found-send e = stop (waits_or flags EAGAIN) (full (message_limit limits) e.object (length text)) >> Ok e
 
   abbrev IsSendBlocked : Option (KeyedEntry Queue) → Type 0
   IsSendBlocked o = is_blocked (refuse EINVAL (not (int_lt (pos 0) mtype)) >> (refuse EINVAL (nat_lt limits.msgmax (length text))
       >> ((o orelse gone true >>= (λ e. refuse EACCES (not (may (cred_of s other) e.perm write)) >> Ok e)) >>= found-send))) ≡ true
 
   pub still-sends : (id : ℕ) (e : KeyedEntry Queue) (q : Queue) → entry_of s.msg id ≡ Some e
-      → (full e.object (length text) ≡ true → full q (length text) ≡ true)
+      → (full (message_limit limits) e.object (length text) ≡ true → full (message_limit limits) q (length text) ≡ true)
       → has_to_wait (attempt limits s other true send) ≡ true
       → has_to_wait (attempt limits (with_msg_queue s id (holding e q)) other true send) ≡ true
   still-sends id e q there more waits = by_id (nat_eq n id) refl
@@ -213,7 +226,8 @@ module _ (limits : Limits) (s : State) (other n flags : ℕ) (mtype : ℤ) (text
           let before : IsSendBlocked (Some e) = subst IsSendBlocked (ap (entry_of s.msg) same ∙ there) (sym (waits-as-tested s (tests s) _) ∙ waits) in
           subst IsSendBlocked (sym (ap (entry_of t.msg) same ∙ at-with s.msg.entries id (holding e q) e there))
           (past (not (int_lt (pos 0) mtype)) _ _ (still-blocked write (cred_of s other) (nat_lt limits.msgmax (length text)) e (holding e q) found-send refl
-          (still-full (waits_or flags EAGAIN) (full e.object (length text)) (full q (length text)) e (holding e q) more)) before)
+          (still-full (waits_or flags EAGAIN) (full (message_limit limits) e.object (length text)) (full (message_limit limits) q (length text)) e (holding e q)
+          more)) before)
 
       by_id : (b : Bool) → nat_eq n id ≡ b → has_to_wait (attempt limits t other true send) ≡ true
       by_id true is = waits-as-tested t (tests t) _ ∙ on_same (eqb-true n id is)

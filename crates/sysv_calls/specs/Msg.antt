@@ -5,7 +5,8 @@ use Rattle.std.specs.Prelude.{slice_get, unwrap_or, if◌then◌else◌, Ok, fal
 use Rattle.ipc_base.specs.declared.errno.Errno.{Errno}
 use Rattle.ipc_base.specs.declared.errno.Errno.TheVariants.{EPERM, E2BIG, EAGAIN, EINVAL, ENOSPC, ENOMSG}
 use Rattle.ipc_base.specs.declared.identity.Cred.{Cred}
-use Rattle.ipc_base.specs.declared.limits.Limits.{Limits}
+use Rattle.ipc_limits.specs.declared.limits.Limits.{Limits}
+use Rattle.ipc_limits.specs.Limits.{message_limit}
 use Rattle.ipc_perm.specs.Perm.{perm_of, owned_by, asked_by}
 use Rattle.ipc_wire.specs.declared.reply.Body.TheVariants.{Empty, Number, Message}
 use Rattle.sysv_msg.specs.Queue.{Queue, PlainMessage, pick, full, sent, taken, changed}
@@ -61,7 +62,7 @@ sendable limits s cred again id flags mtype text = do
   refuse EINVAL (not (int_lt (pos 0) mtype))
   refuse EINVAL (nat_lt limits.msgmax (length text))
   e ← accessible again s.msg cred id write
-  stop (waits_or flags EAGAIN) (full e.object (length text))
+  stop (waits_or flags EAGAIN) (full (message_limit limits) e.object (length text))
   Ok e
 
 -- msgsnd of msgop(2)

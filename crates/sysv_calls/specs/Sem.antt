@@ -6,7 +6,7 @@ use Rattle.std.specs.List.{list_all}
 use Rattle.ipc_base.specs.declared.errno.Errno.TheVariants.{EACCES, EINVAL, ENOSPC, ERANGE}
 use Rattle.ipc_base.specs.declared.field.Field.TheVariants.{U16}
 use Rattle.ipc_base.specs.declared.identity.Cred.{Cred}
-use Rattle.ipc_base.specs.declared.limits.Limits.{Limits}
+use Rattle.ipc_limits.specs.declared.limits.Limits.{Limits}
 use Rattle.ipc_base.specs.Numbers.{record_bytes}
 use Rattle.ipc_perm.specs.Perm.{perm_of, owned_by, asked_by, may}
 use Rattle.ipc_wire.specs.Values.{numbers_in}

@@ -3,11 +3,13 @@
 -- a new one. And how many lists wait for a semaphore, which GETNCNT and GETZCNT of semctl(2) tell.
 use Rattle.std.specs.Prelude.{ℕ, ℤ, pos, Bool, true, false, not, ◌&&◌, List, map, length}
 use Rattle.std.specs.Prelude.{nat_eq, nat_lt, ◌==◌, int_lt, slice_get, if◌then◌else◌, Ok, Err, Option, Some, None}
+use Rattle.std.specs.FinMap as fin
 use Rattle.std.specs.List.{fold, filter, list_all}
 use Rattle.std.specs.Ordering.{int_eq}
-use Rattle.ipc_base.specs.declared.errno.Errno.TheVariants.{E2BIG, EACCES, EAGAIN, EFBIG, EINVAL}
+use Rattle.ipc_base.specs.declared.errno.Errno.TheVariants.{E2BIG, EACCES, EAGAIN, EFBIG, EINVAL, ENOSPC}
 use Rattle.ipc_base.specs.declared.identity.Cred.{Cred}
-use Rattle.ipc_base.specs.declared.limits.Limits.{Limits}
+use Rattle.ipc_limits.specs.declared.limits.Limits.{Limits}
+use Rattle.ipc_limits.specs.Limits.{adjustment_limit, exceeds}
 use Rattle.ipc_perm.specs.Perm.{may}
 use Rattle.ipc_wire.specs.declared.reply.Body.TheVariants.{Empty, Number}
 use Rattle.ipc_wire.specs.Request.{PlainKind, Sysv}
@@ -78,12 +80,24 @@ decided ops (IsDone values after) = Ok values
 decided ops (Stops at) = Err (stopped_by (slice_get ops at))
 decided ops (IsRefused e) = Err (Fails e)
 
--- the set, and its values after them
-abbrev pub performable : Limits → State → Cred → ℕ → Bool → ℕ → List Operation → Attempt (KeyedEntry Set × List ℕ)
-performable limits s cred pid again id ops = do
+-- the set, and its values after them, if each can proceed
+abbrev pub proceeding : Limits → State → Cred → ℕ → Bool → ℕ → List Operation → Attempt (KeyedEntry Set × List ℕ)
+proceeding limits s cred pid again id ops = do
   found ← tried_list limits s cred pid again id ops
   values ← decided ops found.1
   Ok (found.0, values)
+
+-- they would leave their process with more adjustments that are not 0 than their limit
+abbrev pub notes_too_many : Limits → State → ℕ → ℕ → List Operation → Bool
+notes_too_many limits s pid id ops =
+    exceeds (fin.len (fold (noted id) (undo_of s pid) ops)) (adjustment_limit limits)
+
+-- the set, and its values after them, if they may be performed
+abbrev pub performable : Limits → State → Cred → ℕ → Bool → ℕ → List Operation → Attempt (KeyedEntry Set × List ℕ)
+performable limits s cred pid again id ops = do
+  found ← proceeding limits s cred pid again id ops
+  refuse ENOSPC (notes_too_many limits s pid id ops)
+  Ok found
 
 -- the state after them
 abbrev pub operated : State → ℕ → ℕ → List Operation → KeyedEntry Set × List ℕ → State

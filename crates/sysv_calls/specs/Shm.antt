@@ -8,7 +8,7 @@ use Rattle.ipc_base.specs.declared.errno.Errno.{Errno}
 use Rattle.ipc_base.specs.declared.errno.Errno.TheVariants.{EBADF, EINVAL, EMFILE, ENOSPC}
 use Rattle.ipc_base.specs.declared.field.Field.{Field}
 use Rattle.ipc_base.specs.declared.identity.Cred.{Cred}
-use Rattle.ipc_base.specs.declared.limits.Limits.{Limits}
+use Rattle.ipc_limits.specs.declared.limits.Limits.{Limits}
 use Rattle.ipc_base.specs.Numbers.{record_bytes}
 use Rattle.ipc_perm.specs.Perm.{perm_of, owned_by, asked_by}
 use Rattle.ipc_wire.specs.declared.reply.Body.TheVariants.{Empty, Number, Record}

@@ -1,8 +1,8 @@
 //! The calls on message queues: msgget(2), msgop(2), msgctl(2). None takes memory in its attempt.
 
 ghost use Rattle.std.specs.Prelude.{◌≡◌, ◌+◌, ◌<◌, ◌≤◌, ◌++◌, Some, None};
-ghost use Rattle.std.specs.Prelude.{true, is_some, length, take, vec_len, vec_capacity, OnOk, OnErr};
-ghost use Rattle.ipc_base.specs.Limits.{ArePassed};
+ghost use Rattle.std.specs.Prelude.{true, not, is_some, length, take, vec_len, vec_capacity, OnOk, OnErr};
+ghost use Rattle.ipc_limits.specs.Limits.{ArePassed, message_limit};
 ghost use Rattle.ipc_base.specs.Numbers.{record_bytes};
 ghost use Rattle.ipc_state.specs.Finish.{Finishes, ended, finish_of};
 ghost use Rattle.ipc_state.specs.Held.{Ready, left};
@@ -16,7 +16,7 @@ ghost use Rattle.sysv_calls.specs.Msg as defined;
 ghost use Rattle.sysv_calls.specs.Records.{queue_fields};
 ghost use Rattle.ipc_state.specs.Steps.{attempted, plain_halt, seen};
 ghost use Rattle.ipc_state.specs.Spare.{IsSpare, KeepsBuffer};
-ghost use Rattle.sysv_msg.specs.Queue.{Queue, most_messages, plain, sent, taken};
+ghost use Rattle.sysv_msg.specs.Queue.{Queue, full, most_messages, plain, sent, taken};
 
 use crate::access::{accessible, lookup, owned, push_perm};
 use bitflags::Flags;
@@ -80,6 +80,13 @@ fn waits_or(flags: MsgFlags, e: Errno) -> Halt
     }
 }
 
+/// Whether a text of so many bytes may be sent to a queue.
+fn has_room(state: &State, queue: &MsgQueue, len: usize) -> bool
+    ensures { result ≡ not (full (message_limit state.now.limits) queue.now len) }
+{
+    queue.fits(len, state.limits().message_limit())
+}
+
 /// Whether a message may be sent now: the tests of msgsnd, as msgop(2) has it.
 pub(crate) fn ready_to_send(
     state: &State,
@@ -97,7 +104,7 @@ pub(crate) fn ready_to_send(
         return Err(Halt::Fails(Errno::EINVAL));
     }
     let entry = accessible(state.msg(), cred, again, id, Access::WRITE).map_err(Halt::Fails)?;
-    if !entry.object.fits(message.text.len()) {
+    if !has_room(state, &entry.object, message.text.len()) {
         return Err(waits_or(flags, Errno::EAGAIN));
     }
     Ok(())

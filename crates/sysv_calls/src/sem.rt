@@ -2,7 +2,7 @@
 
 ghost use Rattle.std.specs.Prelude.{◌≡◌, ◌+◌, ◌*◌, ◌^◌, ◌<◌, ◌≤◌, ◌++◌, false, None, IsOk, OnOk, OnErr};
 ghost use Rattle.std.specs.Prelude.{length, map, take, vec_len, vec_capacity};
-ghost use Rattle.ipc_base.specs.Limits.{ArePassed};
+ghost use Rattle.ipc_limits.specs.Limits.{ArePassed};
 ghost use Rattle.ipc_base.specs.Numbers.{record_bytes};
 ghost use Rattle.ipc_base.specs.declared.field.Field.TheVariants.{U16};
 ghost use Rattle.ipc_wire.specs.Values.{bytes_of, numbers_in};
@@ -18,7 +18,8 @@ ghost use Rattle.sysv_calls.specs.Sem as defined;
 ghost use Rattle.ipc_state.specs.Spare.{IsSpare, KeepsBuffer};
 
 use crate::access::{accessible, lookup, owned, push_perm};
-use ipc_base::{Cred, Errno, Field, GetFlags, Id, Limits, Pid};
+use ipc_base::{Cred, Errno, Field, GetFlags, Id, Pid};
+use ipc_limits::Limits;
 use ipc_perm::{Access, Perm, may};
 use ipc_state::{Answer, Keyed, State, take_spare};
 use ipc_wire::{Body, Values, push_fields};

@@ -1,9 +1,9 @@
 //! semop(2), and how many lists of operations wait for a semaphore. None takes memory.
 
 ghost use Rattle.std.specs.Prelude.{◌≡◌, ◌^◌, ◌<◌, ◌≤◌, ℕ, ℤ, All, List, Some, Err, IfOk, IsTrue, OnOk, length, nat_eq};
-ghost use Rattle.std.specs.Prelude.{slice_get, take, true};
+ghost use Rattle.std.specs.Prelude.{slice_get, take, true, pos, ◌+◌, ◌≢◌, FitsSigned};
 ghost use Rattle.std.specs.List.{fold, list_all};
-ghost use Rattle.ipc_base.specs.Limits.{ArePassed};
+ghost use Rattle.ipc_limits.specs.Limits.{ArePassed};
 ghost use Rattle.ipc_base.specs.Table.{value_at};
 ghost use Rattle.ipc_perm.specs.Perm.{may as may_use};
 ghost use Rattle.ipc_wire.specs.SemBufs.{bytes_of};
@@ -18,7 +18,11 @@ ghost use Rattle.ipc_state.specs.Steps.{attempted, plain_halt, seen};
 ghost use Rattle.sysv_calls.specs.Semop as defined;
 ghost use Rattle.sysv_calls.specs.Semop.{operation_of, operations_of, held_by, noted};
 ghost use Rattle.sysv_calls.specs.Seen.{shown};
-ghost use Rattle.sysv_calls.specs.Relations.{CanBeNoted, CanNote, IsReady, Passes};
+ghost use Rattle.sysv_calls.specs.Relations.{CanBeNoted, CanNote, CanPass, IsReady, Passes, noted_by, one_if_kept};
+ghost use Rattle.std.specs.FinMap as fin;
+ghost use Rattle.std.specs.Int.{w16};
+ghost use Rattle.sem_undo.specs.Undo.{adjustment, IsSoundUndo};
+ghost use Rattle.sysv_sem.specs.Trial.{adjustment_of};
 
 use crate::access::gone;
 use crate::sem::semaphore;
@@ -189,6 +193,104 @@ fn stopped_by(operation: &Operation) -> Halt
     }
 }
 
+/// The adjustment at the semaphore of this number after an operation.
+fn adjusted(operation: Operation, num: u16, adjustment: i16) -> i16
+    requires { FitsSigned w16 (adjustment_of num adjustment operation) }
+    ensures { result ≡ adjustment_of num adjustment operation }
+{
+    if operation.flags.contains(SemFlags::SEM_UNDO) && num == operation.num {
+        adjustment - operation.sem_op
+    } else {
+        adjustment
+    }
+}
+
+/// The adjustment of the process at the semaphore of this number after so many operations of its list.
+fn adjustment_after(list: &ListFor<'_>, count: usize, num: u16) -> i16
+    requires count { count ≤ length (operations_of (bytes_of list.now.operations)) }
+    requires passes { CanPass list.now.state.now.state list.now.pid.0 list.now.id.0
+        (operations_of (bytes_of list.now.operations)) }
+    requires kept { IsSoundUndo (undo_of list.now.state.now.state list.now.pid.0) }
+    ensures { result ≡ adjustment (noted_by list.now.state.now.state list.now.pid.0 list.now.id.0
+        (operations_of (bytes_of list.now.operations)) count) (list.now.id.0, num) }
+{
+    let mut adjustment = list.adjustment(num);
+    for place in 0..count {
+        adjustment = adjusted(list.at(place), num, adjustment);
+    }
+    adjustment
+}
+
+/// How many adjustments there are when one has become another; 0 is none.
+fn counted(count: u128, before: i16, after: i16) -> u128
+    requires some { before ≢ pos 0 → 0 < count }
+    requires room { count < 2 ^ 127 }
+    ensures count { result + one_if_kept before ≡ count + one_if_kept after }
+    ensures more { result ≤ count + 1 }
+{
+    match (before == 0, after == 0) {
+        (false, true) => count - 1,
+        (true, false) => count + 1,
+        (true, true) => count,
+        (false, false) => count,
+    }
+}
+
+/// How many adjustments the process has after one operation more of its list, if it had so many before it.
+fn count_after(list: &ListFor<'_>, place: usize, count: u128) -> u128
+    requires place { place < length (operations_of (bytes_of list.now.operations)) }
+    requires passes { CanPass list.now.state.now.state list.now.pid.0 list.now.id.0
+        (operations_of (bytes_of list.now.operations)) }
+    requires kept { IsSoundUndo (undo_of list.now.state.now.state list.now.pid.0) }
+    requires count { count ≡ fin.len (noted_by list.now.state.now.state list.now.pid.0 list.now.id.0
+        (operations_of (bytes_of list.now.operations)) place) }
+    requires room { (count < 2 ^ 127) × (place + 1 < 2 ^ 64) }
+    ensures count { result ≡ fin.len (noted_by list.now.state.now.state list.now.pid.0 list.now.id.0
+        (operations_of (bytes_of list.now.operations)) (place + 1)) }
+    ensures more { result ≤ count + 1 }
+{
+    let operation = list.at(place);
+    if !operation.flags.contains(SemFlags::SEM_UNDO) {
+        return count;
+    }
+    let before = adjustment_after(list, place, operation.num);
+    let after = adjustment_after(list, place + 1, operation.num);
+    counted(count, before, after)
+}
+
+/// How many adjustments that are not 0 the process has after its list.
+fn count_noted(list: &ListFor<'_>) -> u128
+    requires { CanPass list.now.state.now.state list.now.pid.0 list.now.id.0
+        (operations_of (bytes_of list.now.operations)) }
+    ensures { result ≡ fin.len (fold (noted list.now.id.0) (undo_of list.now.state.now.state list.now.pid.0)
+        (operations_of (bytes_of list.now.operations))) }
+{
+    let mut count = u128::from(list.state.adjustment_count(list.pid));
+    for place in 0..list.len() {
+        count = count_after(list, place, count);
+    }
+    count
+}
+
+/// Whether the operations of a request, each of which passes, would leave their process with more adjustments that are
+/// not 0 than their limit.
+fn notes_too_many(state: &State, pid: Pid, id: Id, operations: &Operations) -> bool
+    requires { CanPass state.now.state pid.0 id.0 (operations_of operations.now.bytes.items) }
+    ensures { result ≡ defined.notes_too_many state.now.limits state.now.state pid.0 id.0
+        (operations_of operations.now.bytes.items) }
+{
+    let list = ListFor {
+        state,
+        pid,
+        id,
+        operations: operations.lend(),
+    };
+    match state.limits().adjustment_limit() {
+        None => false,
+        Some(most) => u128::from(most) < count_noted(&list),
+    }
+}
+
 /// Whether the operations of a request may be performed now, as semop(2) has it.
 pub(crate) fn ready_to_operate(
     state: &State,
@@ -207,7 +309,13 @@ pub(crate) fn ready_to_operate(
         return Err(Halt::Blocks);
     }
     match try_on(set, state, pid, id, operations) {
-        Trial::Done => Ok(()),
+        Trial::Done => {
+            if notes_too_many(state, pid, id, operations) {
+                Err(Halt::Fails(Errno::ENOSPC))
+            } else {
+                Ok(())
+            }
+        }
         Trial::Blocks(at) => Err(stopped_by(&operation_at(&operations.lend(), at))),
         Trial::Fails(errno) => Err(Halt::Fails(errno)),
     }

@@ -2,7 +2,7 @@
 
 ghost use Rattle.std.specs.Prelude.{◌≡◌, ◌+◌, ◌^◌, ◌<◌, ◌≤◌, ◌++◌, true, false, is_some, length, None, Some};
 ghost use Rattle.std.specs.Prelude.{IfOk, IsOk, OnOk, OnErr, vec_len, vec_capacity};
-ghost use Rattle.ipc_base.specs.Limits.{ArePassed};
+ghost use Rattle.ipc_limits.specs.Limits.{ArePassed};
 ghost use Rattle.ipc_base.specs.Numbers.{record_bytes};
 ghost use Rattle.shm_segment.specs.Segment.{is_within};
 ghost use Rattle.shm_segment.specs.SysSegment.{SysSegment, written};

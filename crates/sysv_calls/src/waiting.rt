@@ -1,7 +1,7 @@
 //! Calls that may wait: each is tried when it comes, and again when what it waits for has changed.
 
 ghost use Rattle.std.specs.Prelude.{◌≡◌, true, OnOk};
-ghost use Rattle.ipc_base.specs.Limits.{ArePassed};
+ghost use Rattle.ipc_limits.specs.Limits.{ArePassed};
 ghost use Rattle.ipc_state.specs.Finish as finish;
 ghost use Rattle.ipc_state.specs.Sound.{HasSoundParts};
 ghost use Rattle.ipc_state.specs.State.{is_process};

@@ -1,11 +1,12 @@
 -- Message queues, after msgop(2). A queue is a list of messages, the oldest first. A send appends, a
 -- receive removes the message that its type picks; a queue is full for a text with which it would hold
--- more bytes, or more messages, than its qbytes.
+-- more bytes, or more messages, than its qbytes, or more messages than a queue may have at all.
 use Rattle.std.specs.Prelude.{ℕ, suc, ◌+◌, nat_lt, ℤ, pos, negsuc, zero, int_le, Option}
 use Rattle.std.specs.Prelude.{Bool, true, not, ◌&&◌, ◌||◌, if◌then◌else◌}
 use Rattle.std.specs.Prelude.{List, [], ◌∷◌, ◌++◌, length, remove, position, sum_by}
 use Rattle.std.specs.List.{list_all}
 use Rattle.std.specs.Ordering.{int_eq}
+use Rattle.ipc_limits.specs.Limits.{exceeds}
 use Rattle.sysv_msg.specs.declared.message.Message.{Message}
 use Rattle.sysv_msg.specs.declared.queue.QueueStat.{QueueStat}
 use Rattle.sysv_msg.specs.declared.queue.QueueNumbers.{QueueNumbers}
@@ -57,9 +58,12 @@ is_sought (negsuc n) except mtype = int_le mtype (pos (suc n))
 abbrev pub byte_count : List PlainMessage → ℕ
 byte_count messages = sum_by (λ m. length m.text) messages
 
--- with a further text of so many bytes, the bytes or the messages would be more than qbytes
-abbrev pub full : Queue → ℕ → Bool
-full q bytes = nat_lt q.qbytes (byte_count q.messages + bytes) || nat_lt q.qbytes (length q.messages + 1)
+-- with a further text of so many bytes, the bytes or the messages would be more than qbytes, or the messages more than
+-- any queue may have, if there is such a limit
+abbrev pub full : Option ℕ → Queue → ℕ → Bool
+full most q bytes =
+    nat_lt q.qbytes (byte_count q.messages + bytes) || nat_lt q.qbytes (length q.messages + 1)
+    || exceeds (length q.messages + 1) most
 
 -- a queue never holds more messages than this; the memory of their places is taken when the queue is made
 abbrev pub most_messages : ℕ

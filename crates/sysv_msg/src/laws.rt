@@ -1,6 +1,8 @@
 //! Laws of the definitions alone. A call of one does nothing; its contract is the law.
 
 ghost use Rattle.std.specs.Prelude.{◌≡◌, ◌<◌, ◌≤◌, ℕ, ℤ, Bool, true, false, List, length, remove, slice_index_or};
+ghost use Rattle.std.specs.Prelude.{Option};
+ghost use Rattle.ipc_limits.specs.Limits.{exceeds};
 ghost use Rattle.sysv_msg.specs.Queue.{PlainMessage, Queue, pick, is_allowed, full, byte_count, sent, taken};
 
 /// The picked message is one of the list, it is allowed, and none before it is; if none is picked, none
@@ -19,21 +21,25 @@ pub fn picked_is_first_allowed()
         → is_allowed messages type except (slice_index_or messages k d) ≡ false }
 {}
 
-/// After a send for which the queue was not full, neither its bytes nor its messages are more than qbytes.
-pub fn sent_is_within_qbytes()
-    ensures bytes { (q : Queue) (m : PlainMessage) (pid moment : ℕ)
-        → full q (length m.text) ≡ false
+/// After a send for which the queue was not full, neither its bytes nor its messages are more than qbytes, and its
+/// messages are within their limit.
+pub fn sent_is_within_bounds()
+    ensures bytes { (most : Option ℕ) (q : Queue) (m : PlainMessage) (pid moment : ℕ)
+        → full most q (length m.text) ≡ false
         → byte_count (sent q m pid moment).messages ≤ q.qbytes }
-    ensures messages { (q : Queue) (m : PlainMessage) (pid moment : ℕ)
-        → full q (length m.text) ≡ false
+    ensures messages { (most : Option ℕ) (q : Queue) (m : PlainMessage) (pid moment : ℕ)
+        → full most q (length m.text) ≡ false
         → length (sent q m pid moment).messages ≤ q.qbytes }
+    ensures limit { (most : Option ℕ) (q : Queue) (m : PlainMessage) (pid moment : ℕ)
+        → full most q (length m.text) ≡ false
+        → exceeds (length (sent q m pid moment).messages) most ≡ false }
 {}
 
 /// A text that fits still fits after a receive.
 pub fn taken_still_fits()
-    ensures { (q : Queue) (at pid moment bytes : ℕ) → at < length q.messages
-        → full q bytes ≡ false
-        → full (taken q at pid moment) bytes ≡ false }
+    ensures { (most : Option ℕ) (q : Queue) (at pid moment bytes : ℕ) → at < length q.messages
+        → full most q bytes ≡ false
+        → full most (taken q at pid moment) bytes ≡ false }
 {}
 
 /// If a receive picks nothing, it picks nothing after another receive either.

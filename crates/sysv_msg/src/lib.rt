@@ -8,7 +8,7 @@
 //!
 //! - `MsgQueue::new`, `renew`: `new_queue`
 //! - `MsgQueue::select`: `pick` (`picked`)
-//! - `MsgQueue::fits`: not `full`
+//! - `MsgQueue::fits`: not `full`, with the most messages that a queue may have, if there is such a limit
 //! - `MsgQueue::send`: `sent`, with `lspid` and `stime`
 //! - `MsgQueue::take`: `taken`, with `lrpid` and `rtime` (`message`, `queue`)
 //! - `MsgQueue::message`: the message at a position
@@ -25,7 +25,7 @@
 //! - The buffer of a kept text has room for its bytes and no more (`take` `exact`, and a fact of every `Message`).
 //! - Laws:
 //!   - a receive takes the first message that its type allows (`picked_is_first_allowed`).
-//!   - after a send neither bytes nor messages pass `qbytes` (`sent_is_within_qbytes`).
+//!   - after a send neither bytes nor messages pass `qbytes`, nor the messages their limit (`sent_is_within_bounds`).
 //!   - a text that fits still fits after a receive (`taken_still_fits`).
 //!   - where nothing can be picked, a receive leaves nothing that can (`receive_leaves_nothing_to_pick`).
 #![tactic(auto)]
@@ -36,7 +36,7 @@ mod queue;
 mod select;
 
 pub use laws::{
-    picked_is_first_allowed, receive_leaves_nothing_to_pick, sent_is_within_qbytes,
+    picked_is_first_allowed, receive_leaves_nothing_to_pick, sent_is_within_bounds,
     taken_still_fits,
 };
 pub use message::Message;

@@ -12,6 +12,7 @@ use crate::message::{Message, type_of};
 use crate::select::{first_of_least_type, first_of_type};
 use ipc_arrivals::Arrivals;
 use ipc_base::{Moment, Pid};
+use ipc_limits::exceeds;
 use std::alloc::{AllocError, Global};
 use std::marker::Model;
 
@@ -142,12 +143,14 @@ impl MsgQueue {
     }
 
     /// Whether a text of `len` bytes may be sent: with it neither the bytes nor the messages are more
-    /// than `qbytes`.
-    pub fn fits(&self, len: usize) -> bool
-        ensures { result ≡ not (full self.now len) }
+    /// than `qbytes`, and the messages no more than `most`, if there is such a limit.
+    pub fn fits(&self, len: usize, most: Option<u32>) -> bool
+        ensures { result ≡ not (full most self.now len) }
     {
         let count = self.messages.len() as u64;
-        self.bytes + len as u128 <= u128::from(self.qbytes) && count < u64::from(self.qbytes)
+        self.bytes + len as u128 <= u128::from(self.qbytes)
+            && count < u64::from(self.qbytes)
+            && !exceeds(count + 1, most)
     }
 
     /// Appends a message, and notes who sent it and when. It takes no memory.

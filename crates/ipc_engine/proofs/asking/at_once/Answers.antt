@@ -6,7 +6,7 @@ use Rattle.ipc_wire.specs.View.{plain_request}
 use Rattle.ipc_state.specs.declared.parked.Object.{Object}
 use Rattle.ipc_state.specs.Finish.{Tried, finish_of}
 use Rattle.ipc_state.specs.Held.{Held}
-use Rattle.ipc_base.specs.declared.limits.Limits.{Limits}
+use Rattle.ipc_limits.specs.declared.limits.Limits.{Limits}
 use Rattle.ipc_state.specs.State.{State}
 use Rattle.sysv_calls.specs.Concern.{change_of}
 use Rattle.sysv_calls.specs.declared.concern.Change.{Change}

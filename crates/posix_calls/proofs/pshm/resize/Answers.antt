@@ -8,7 +8,7 @@ use Rattle.ipc_state.specs.Held.{Held}
 use Rattle.ipc_state.specs.State.{State, with_pshm}
 use Rattle.posix_calls.specs.Pshm.{FoundPshm, is_past_all}
 use Rattle.std.proofs.lemmas.Bool.Decides.{nat_tests}
-use Rattle.ipc_base.proofs.CallerLemmas.{passed-bounds}
+use Rattle.ipc_limits.proofs.CallerLemmas.{passed-bounds}
 use Rattle.shm_segment.specs.Segment.{Segment, empty_segment, truncated}
 use Rattle.ipc_state.specs.Sound.{segment_bytes}
 use Rattle.posix_calls.proofs.Ending.{fewer-of, truncated-length}

@@ -2,7 +2,7 @@ use Rattle.std.proofs.Common.{◌≡◌, ◌∙◌, ℤ, false, Some, refl, sym,
 use Rattle.std.specs.Prelude.{Ok, Err}
 use Rattle.std.specs.Int.{w32, cast_signed as to_z, cast_unsigned as of_z}
 use Rattle.std.proofs.lemmas.Int.{to_z-of_z}
-use Rattle.ipc_base.proofs.CallerLemmas.{passed-bounds}
+use Rattle.ipc_limits.proofs.CallerLemmas.{passed-bounds}
 use Rattle.ipc_perm.specs.Perm.{asked_by}
 use Rattle.ipc_state.specs.Held.Ready.{Semset}
 use Rattle.ipc_state.specs.Numbered.{entry_of}

@@ -1,5 +1,5 @@
 use Rattle.std.proofs.Common.{◌≡◌, ◌∙◌, ◌≤◌, Some, None, ℕ, All, take, refl, ap, sym, subst, arith, true, rules}
-use Rattle.ipc_base.proofs.CallerLemmas.{passed-bounds}
+use Rattle.ipc_limits.proofs.CallerLemmas.{passed-bounds}
 use Rattle.ipc_wire.specs.Values.{bytes_of, numbers_in}
 use Rattle.ipc_wire.specs.declared.reply.Body.TheVariants.{Empty}
 use Rattle.sysv_sem.specs.Operation.{most_value}

@@ -1,6 +1,6 @@
 use Rattle.std.proofs.Common.{◌≡◌, ◌∙◌, ◌<◌, length, Some, refl, ap, sym, subst, arith, true, rules}
 use Rattle.std.proofs.lemmas.Option.{slice_get_within}
-use Rattle.ipc_base.proofs.CallerLemmas.{passed-bounds}
+use Rattle.ipc_limits.proofs.CallerLemmas.{passed-bounds}
 use Rattle.ipc_wire.specs.declared.reply.Body.TheVariants.{Empty}
 use Rattle.sysv_sem.specs.declared.set.Semaphore.{Semaphore}
 use Rattle.sysv_sem.specs.Set.{Set, with_value}

@@ -1,6 +1,6 @@
 use Rattle.std.proofs.Common.{◌≡◌, false, arith, rules}
 use Rattle.std.specs.Prelude.{Ok}
-use Rattle.ipc_base.proofs.CallerLemmas.{passed-bounds}
+use Rattle.ipc_limits.proofs.CallerLemmas.{passed-bounds}
 use Rattle.ipc_state.specs.declared.parked.ObjectKind.TheVariants as kinds
 use Rattle.ipc_state.proofs.CallerLemmas.{content-sound}
 use Rattle.sysv_calls.specs.Access.{read, accessible}

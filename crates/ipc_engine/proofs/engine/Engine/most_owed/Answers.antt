@@ -1,6 +1,6 @@
 use Rattle.std.proofs.Common.{ap, arith}
-use Rattle.ipc_base.specs.Limits.{longest_reply}
-use Rattle.ipc_base.specs.declared.limits.Limits.{Limits}
+use Rattle.ipc_limits.specs.Limits.{longest_reply}
+use Rattle.ipc_limits.specs.declared.limits.Limits.{Limits}
 use Rattle.ipc_engine.proofs.CallerLemmas.{owed-most}
 use Rattle.ipc_engine.proofs.engine.Engine.most_owed.Goals as goal
 

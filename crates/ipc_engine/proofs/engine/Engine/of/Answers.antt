@@ -1,6 +1,6 @@
 use Rattle.std.proofs.Common.{◌≡◌, ◌<◌, ◌≤◌, ◌*◌, vec_capacity, refl, sym, subst, ap, ◌∙◌, arith, rules}
-use Rattle.ipc_base.specs.declared.limits.Limits.{Limits}
-use Rattle.ipc_base.specs.Limits.{ArePassed, longest_body}
+use Rattle.ipc_limits.specs.declared.limits.Limits.{Limits}
+use Rattle.ipc_limits.specs.Limits.{ArePassed, longest_body}
 use Rattle.ipc_state.specs.Held.{Held}
 use Rattle.ipc_state.specs.Held.Ready.{Nothing}
 use Rattle.ipc_engine.specs.Buffer.{HasBuffer}

@@ -1,7 +1,7 @@
 use Rattle.std.proofs.Common.{◌≡◌, ◌≤◌, ℕ, Bool, true, false, arith, ap, ◌∙◌}
 use Rattle.std.specs.Prelude.{if◌then◌else◌}
-use Rattle.ipc_base.specs.Limits.{longest_reply}
-use Rattle.ipc_base.proofs.CallerLemmas.{longest_reply-bound, passed-bounds}
+use Rattle.ipc_limits.specs.Limits.{longest_reply}
+use Rattle.ipc_limits.proofs.CallerLemmas.{longest_reply-bound, passed-bounds}
 use Rattle.ipc_state.specs.State.{is_waiting}
 use Rattle.posix_calls.specs.Registrations.{registrations}
 use Rattle.posix_calls.proofs.CallerLemmas.{registrations-few}

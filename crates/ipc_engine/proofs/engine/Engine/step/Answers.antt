@@ -1,11 +1,12 @@
 use Rattle.std.proofs.Common.{◌≡◌, ◌<◌, ◌≤◌, ◌*◌, ℕ, false, ◌++◌, List, map, vec_capacity, refl, sym, subst, ap, ◌∙◌, arith, rules}
-use Rattle.std.specs.Prelude.{Some}
-use Rattle.ipc_base.specs.declared.limits.Limits.{Limits}
+use Rattle.std.specs.Prelude.{Some, max}
+use Rattle.ipc_limits.specs.declared.limits.Limits.{Limits}
 use Rattle.std.specs.Global.{Vec}
-use Rattle.ipc_base.specs.Limits.{ArePassed}
+use Rattle.ipc_limits.specs.Limits.{ArePassed, longest_body}
 use Rattle.ipc_wire.specs.View.{plain_request}
 use Rattle.ipc_state.specs.Held.{Held, Ready, left}
 use Rattle.ipc_state.specs.Held.Ready.{Nothing}
+use Rattle.ipc_state.specs.Spare.{room_of}
 use Rattle.ipc_state.specs.declared.parked.Object.{Object}
 use Rattle.ipc_state.specs.State.{State, exit, is_waiting}
 use Rattle.ipc_state.specs.Touching.{IsSameIn, changes_by_exit}
@@ -17,7 +18,7 @@ use Rattle.ipc_engine.specs.Reserved.{IsReserved}
 use Rattle.ipc_engine.specs.Sound.{IsSound}
 use Rattle.ipc_engine.specs.Step.{Step, asked, connect, due, interrupt, most_replies, settle, step}
 use Rattle.ipc_engine.specs.View.{plain_outcome}
-use Rattle.ipc_engine.proofs.Buffers.{buffer-spare, after-sound, after-fits, pushed}
+use Rattle.ipc_engine.proofs.Buffers.{buffer-pushed, buffer-spare, after-sound, after-fits, pushed}
 use Rattle.ipc_engine.proofs.Marks.{none-marked}
 use Rattle.ipc_engine.proofs.Tracking.{step-same, tracked-on}
 use Rattle.ipc_engine.proofs.engine.Engine.step.Goals.{After-advance-in-Call, After-ask, After-leave}
@@ -79,12 +80,13 @@ invariant_of-self-in-Connect c =
     let begun = c.advance.ensures.state ∙ ap (came c.in-Connect.moment.0) c.in_ok-reserve_hello-in-Connect.ensures.ok in
     let held = c.connect-outcome.ensures.held ∙ ap (λ (h : Held). left h new.state) begun in
     keeps old new new.state (vec_capacity c.push.new.outcomes)
-    (vec_capacity c.self.inside.changed.marks) c.advance.new.spare c.push.new.outcomes.items held (search rules)
+    (vec_capacity c.self.inside.changed.marks) c.connect-outcome.new.spare c.push.new.outcomes.items held (search rules)
     (after-sound old.limits new.limits old.state new.state (Connect c.in-Connect.cred c.in-Connect.serial c.in-Connect.moment.0) same (search rules)
     c.self.invariant.1 tt tt)
     c.self.invariant.2
-    (buffer-spare old.limits new.limits c.self.inside.spare c.advance.new.spare c.self.inside.outcomes.items c.push.new.outcomes.items same c.self.invariant.3
-    c.advance.ensures.buffer)
+    (buffer-pushed old.limits new.limits c.connect-outcome.new.spare (room_of c.connect-outcome.result.body) c.push.new.outcomes.items same
+    (subst (λ (h : Held). longest_body h.limits ≤ max (vec_capacity c.connect-outcome.new.spare) (room_of c.connect-outcome.result.body)) begun
+    c.connect-outcome.ensures.buffer) (omega (arith, c.push.ensures.room)))
     c.self.invariant.4 c.self.invariant.6
 
 -- the moment has come, and what was reserved is ready still

@@ -1,16 +1,12 @@
-use Rattle.std.proofs.Common.{◌≡◌, true, ℕ, List, map, sym, ap, subst, ◌∙◌, []}
-use Rattle.std.specs.Prelude.{All, Bool}
+use Rattle.std.proofs.Common.{subst, []}
 use Rattle.std.specs.Bool.{Decides}
 use Rattle.std.specs.Str.{bytes_eq}
 use Rattle.ipc_keys.specs.declared.check.NameKind.TheVariants as names
-use Rattle.posix_mq.specs.Queue.{Queue as Mq}
 use Rattle.ipc_state.specs.declared.parked.ObjectKind.TheVariants as kinds
 use Rattle.ipc_state.specs.Held.{Held}
-use Rattle.ipc_state.specs.Named.{NamedEntry, is_named_so}
-use Rattle.ipc_state.specs.Opening.{is_registered, stays}
+use Rattle.ipc_state.specs.Named.{is_named_so}
+use Rattle.ipc_state.specs.Opening.{stays}
 use Rattle.ipc_state.specs.Sound.{AreHeld, IsSoundMq}
-use Rattle.ipc_state.specs.Tables.{item_row}
-use Rattle.ipc_state.proofs.SoundMqs.{all-tests}
 use Rattle.ipc_state.proofs.state.State.are_mqs_sound.Goals.{After-are_held}
 use Rattle.ipc_state.proofs.state.State.are_mqs_sound.Goals as goal
 
@@ -24,15 +20,8 @@ told c =
 
 pub returns-then-are_held : goal.returns-then-are_held
 returns-then-are_held c =
-    let ps = c.args.self.now.state.processes.entries in
-    let items = c.items.result.now in
-    let is = c.items.ensures ∙ ap (λ (m : Held). m.state.mq.entries) c.self.view_is in
-    let IsIt : ℕ × NamedEntry Mq → Type 0 = λ e. is_registered ps e ≡ true in
-    let registered = subst (λ (es : List (ℕ × NamedEntry Mq)). Decides c.are_registered.result (All IsIt es)) is
-    (subst (λ (b : Bool). Decides b (All IsIt (map item_row items))) (sym c.are_registered.ensures)
-    (all-tests (is_registered ps) item_row items)) in
     let held = (told ((goal.at.returns-then-are_held c).After-are_held)).0 c.if-are_held.true in
-    (λ yes. record { held = held; together = registered.0 yes }, λ h. registered.1 h.together)
+    (λ yes. record { held = held; together = c.are_mqs_sound_together.ensures.0 yes }, λ h. c.are_mqs_sound_together.ensures.1 h.together)
 
 pub returns-else-are_held : goal.returns-else-are_held
 returns-else-are_held c = (λ yes. let no = c.if-are_held.false in cc, λ h. (told ((goal.at.returns-else-are_held c).After-are_held)).1 h.held)

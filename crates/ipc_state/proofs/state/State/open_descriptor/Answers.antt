@@ -1,6 +1,7 @@
 use Rattle.std.proofs.Common.{◌<◌, ◌^◌, arith, sym, subst}
 use Rattle.ipc_base.specs.Table.{keys_of, IsRising}
-use Rattle.ipc_base.proofs.CallerLemmas.{passed-bounds, rising-weaker}
+use Rattle.ipc_base.proofs.CallerLemmas.{rising-weaker}
+use Rattle.ipc_limits.proofs.CallerLemmas.{passed-bounds}
 use Rattle.ipc_state.specs.Held.{Held}
 use Rattle.ipc_state.specs.Opening.{descriptors_of}
 use Rattle.ipc_state.specs.State.{objects_in}

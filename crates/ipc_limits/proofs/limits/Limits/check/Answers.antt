@@ -1,7 +1,7 @@
 use Rattle.std.proofs.Common.{rules}
-use Rattle.ipc_base.specs.Limits.{AreWithin, greatest_limits}
-use Rattle.ipc_base.proofs.CallerLemmas.{within-greater}
-use Rattle.ipc_base.proofs.limits.Limits.check.Goals as goal
+use Rattle.ipc_limits.specs.Limits.{AreWithin, greatest_limits}
+use Rattle.ipc_limits.proofs.CallerLemmas.{within-greater}
+use Rattle.ipc_limits.proofs.limits.Limits.check.Goals as goal
 
 pub returns-in-None-clause-passed : goal.returns-in-None-clause-passed
 returns-in-None-clause-passed c = λ passed.

@@ -1,10 +1,18 @@
-//! The nineteen limits of a server.
+//! The twenty-two limits of a server, with the version of the device whose rules hold, and its journal.
 
 ghost use Rattle.std.specs.Prelude.{◌≡◌, ◌≤◌, IfErr, OnOk, position, not};
-ghost use Rattle.ipc_base.specs.Limits.{
+ghost use Rattle.ipc_limits.specs.Limits.{
   tests,
   standard_limits,
   small_limits,
+  standard_of_three,
+  small_of_three,
+  has_rules_of_three,
+  if_of_three,
+  message_limit,
+  adjustment_limit,
+  queue_bytes_limit,
+  exceeds,
   ArePassed,
   AreWithin,
   longest_reply,
@@ -13,10 +21,15 @@ ghost use Rattle.ipc_base.specs.Limits.{
 
 use thiserror::Error;
 
-/// The limits of a server, named as in the manual pages. Each is at least 1, and at most a value that the version of
-/// its device fixes.
+/// The limits of a server, named as in the manual pages, with the version and the journal of its device. Each limit is
+/// at least 1, and at most a value that this version fixes. The limits have the numbers from 0 on, `processes` being
+/// the first; the version and the journal have none, and `check` does not test them.
 #[derive(Clone, Copy, Debug, PartialEq, Eq)]
 pub struct Limits {
+    /// The version of the device, whose rules hold.
+    pub version: u32,
+    /// Sectors of the journal of the device: 257 on versions 1 and 2, and 8 to 65535 on version 3.
+    pub journal: u32,
     /// Processes at a time.
     pub processes: u32,
     /// Message queues.
@@ -55,17 +68,25 @@ pub struct Limits {
     pub shmmax: u32,
     /// Bytes of all System V segments.
     pub shmall: u32,
+    /// Messages of one System V queue. Versions 1 and 2 have no such limit, and 1 here.
+    pub msgqlen: u32,
+    /// Nonzero adjustments of one process. Versions 1 and 2 have no such limit, and 1 here.
+    pub semume: u32,
+    /// Bytes of all POSIX queues: of each, `maxmsg * (8 + msgsize)`. Versions 1 and 2 have no such limit, and 1 here.
+    pub queue_bytes: u32,
 }
 
-/// The limits fail at a field, counted from 0 in the order of `Limits`.
+/// The limits fail at a field. Fields are counted from 0 in the order of `Limits`, `processes` being the first.
 #[derive(Clone, Copy, Debug, PartialEq, Eq, Error)]
 #[error("limit {field} is out of range")]
 pub struct BadLimits {
     pub field: u32,
 }
 
-/// Those of a server that serves, as `Limits::standard` gives them.
+/// Those of a server that serves on version 2 of the device, as `Limits::standard` gives them.
 pub const STANDARD: Limits = Limits {
+    version: 2,
+    journal: 257,
     processes: 64,
     msgmni: 64,
     msgmax: 65536,
@@ -85,10 +106,22 @@ pub const STANDARD: Limits = Limits {
     shmmni: 32,
     shmmax: 1048576,
     shmall: 1048576,
+    msgqlen: 1,
+    semume: 1,
+    queue_bytes: 1,
+};
+
+/// Those of a server that serves on version 3 of the device, as `Limits::standard_of_three` gives them.
+pub const STANDARD_OF_THREE: Limits = Limits {
+    version: 3,
+    msgqlen: 4096,
+    semume: 512,
+    queue_bytes: 2624000,
+    ..STANDARD
 };
 
 impl Limits {
-    /// The limits of a server that serves.
+    /// The limits of a server that serves, on version 2.
     pub fn standard() -> Limits
         ensures limits { result ≡ standard_limits }
         ensures passed { ArePassed result }
@@ -96,12 +129,22 @@ impl Limits {
         STANDARD
     }
 
-    /// The limits of a small server, as for trials.
+    /// The limits of a server that serves, on version 3, with a journal as long as that of version 2.
+    pub fn standard_of_three() -> Limits
+        ensures limits { result ≡ standard_of_three }
+        ensures passed { ArePassed result }
+    {
+        STANDARD_OF_THREE
+    }
+
+    /// The limits of a small server on version 2, as for trials.
     pub fn small() -> Limits
         ensures limits { result ≡ small_limits }
         ensures passed { ArePassed result }
     {
         Limits {
+            version: 2,
+            journal: 257,
             processes: 4,
             msgmni: 2,
             msgmax: 64,
@@ -121,6 +164,61 @@ impl Limits {
             shmmni: 2,
             shmmax: 1024,
             shmall: 2048,
+            msgqlen: 1,
+            semume: 1,
+            queue_bytes: 1,
+        }
+    }
+
+    /// The limits of a small server on version 3, as for trials.
+    pub fn small_of_three() -> Limits
+        ensures limits { result ≡ small_of_three }
+        ensures passed { ArePassed result }
+    {
+        Limits {
+            version: 3,
+            msgqlen: 8,
+            semume: 4,
+            queue_bytes: 288,
+            ..Limits::small()
+        }
+    }
+
+    /// Whether the rules of version 3 of the device hold.
+    pub fn has_rules_of_three(&self) -> bool
+        ensures { result ≡ has_rules_of_three self.now }
+    {
+        3 <= self.version
+    }
+
+    /// The most messages of one System V queue, on a version that has this limit.
+    pub fn message_limit(&self) -> Option<u32>
+        ensures { result ≡ message_limit self.now }
+    {
+        self.if_of_three(self.msgqlen)
+    }
+
+    /// The most nonzero adjustments of one process, on a version that has this limit.
+    pub fn adjustment_limit(&self) -> Option<u32>
+        ensures { result ≡ adjustment_limit self.now }
+    {
+        self.if_of_three(self.semume)
+    }
+
+    /// The most bytes of all POSIX queues, on a version that has this limit.
+    pub fn queue_bytes_limit(&self) -> Option<u32>
+        ensures { result ≡ queue_bytes_limit self.now }
+    {
+        self.if_of_three(self.queue_bytes)
+    }
+
+    fn if_of_three(&self, most: u32) -> Option<u32>
+        ensures { result ≡ if_of_three self.now most }
+    {
+        if self.has_rules_of_three() {
+            Some(most)
+        } else {
+            None
         }
     }
 
@@ -151,6 +249,9 @@ impl Limits {
             is_within(self.shmmni, most.shmmni),
             is_within(self.shmmax, most.shmmax) && self.shmmax <= self.shmall,
             is_within(self.shmall, most.shmall),
+            is_within(self.msgqlen, most.msgqlen),
+            is_within(self.semume, most.semume),
+            is_within(self.queue_bytes, most.queue_bytes),
         ];
         match first_failing(&passes) {
             None => Ok(()),
@@ -172,6 +273,16 @@ impl Limits {
             .max(4 + self.msgsize)
             .max(self.call_bytes);
         10 + body
+    }
+}
+
+/// Whether a count is more than a limit allows. If there is no limit, none is.
+pub fn exceeds(count: u64, limit: Option<u32>) -> bool
+    ensures { result ≡ exceeds count limit }
+{
+    match limit {
+        None => false,
+        Some(most) => u64::from(most) < count,
     }
 }
 
