@@ -4,7 +4,7 @@ use Rattle.std.specs.Prelude.{not, position, None}
 use Rattle.std.specs.List.{position_or_len}
 use Rattle.std.proofs.lemmas.Bool.{leb-true, ltb-false}
 use Rattle.std.proofs.lemmas.List.Sums.{fails_before_first}
-use Rattle.ipc_base.specs.declared.limits.Limits.{Limits}
+use Rattle.ipc_limits.specs.declared.limits.Limits.{Limits}
 use Rattle.ipc_image.specs.Greater.{at_least, AreAtLeast}
 
 no_place : (b : Bool) (n : ℕ) → cond b (Some n) None ≡ None → b ≡ false
@@ -16,7 +16,7 @@ holds true is = refl
 holds false is = cc
 
 -- each of some tests passes, if there is no first one that fails
-each : (bs : List Bool) → position not bs ≡ None → (j : ℕ) → j < length bs → get_or bs j false ≡ true
+pub each : (bs : List Bool) → position not bs ≡ None → (j : ℕ) → j < length bs → get_or bs j false ≡ true
 each bs none j within =
     let late : length bs ≤ position_or_len not bs = ltb-false _ _ (no_place _ _ none) in
     holds _ (fails_before_first not bs j false (omega arith))
@@ -41,6 +41,9 @@ pub record EachAtLeast (new old : Limits) : Type 0 where
   pub shmmni : old.shmmni ≤ new.shmmni
   pub shmmax : old.shmmax ≤ new.shmmax
   pub shmall : old.shmall ≤ new.shmall
+  pub msgqlen : old.msgqlen ≤ new.msgqlen
+  pub semume : old.semume ≤ new.semume
+  pub queue_bytes : old.queue_bytes ≤ new.queue_bytes
 
 pub each-at-least : (new old : Limits) → AreAtLeast new old → EachAtLeast new old
 each-at-least new old all =
@@ -65,4 +68,7 @@ each-at-least new old all =
       shmmni = leb-true _ _ (tests 16 (omega arith));
       shmmax = leb-true _ _ (tests 17 (omega arith));
       shmall = leb-true _ _ (tests 18 (omega arith));
+      msgqlen = leb-true _ _ (tests 19 (omega arith));
+      semume = leb-true _ _ (tests 20 (omega arith));
+      queue_bytes = leb-true _ _ (tests 21 (omega arith));
     }

@@ -3,13 +3,14 @@ use Rattle.std.proofs.Common.{◌≡◌, ◌≤◌, ◌<◌, ◌+◌, ◌*◌, �
 use Rattle.std.specs.Prelude.{All, sum_by}
 use Rattle.std.proofs.lemmas.List.{append-nil, length-append, length-map}
 use Rattle.std.proofs.lemmas.List.Elements.{All-append, All-cons, All-head, All-map, All-nil, All-tail, All-weaker}
-use Rattle.std.proofs.lemmas.List.Sums.{sum_by-append, sum_by-cons}
+use Rattle.std.proofs.lemmas.List.Sums.{sum_by-cons}
 use Rattle.std.proofs.lemmas.Nat.{mul-le}
-use Rattle.ipc_base.specs.declared.limits.Limits.{Limits}
-use Rattle.ipc_base.specs.Limits.{ArePassed}
+use Rattle.ipc_limits.specs.declared.limits.Limits.{Limits}
+use Rattle.ipc_limits.specs.Limits.{ArePassed}
 use Rattle.ipc_base.specs.Objects.{PlainObjects}
 use Rattle.ipc_base.specs.Table.{keys_of, IsRising}
-use Rattle.ipc_base.proofs.CallerLemmas.{passed-bounds, rising-lower}
+use Rattle.ipc_base.proofs.CallerLemmas.{rising-lower}
+use Rattle.ipc_limits.proofs.CallerLemmas.{passed-bounds}
 use Rattle.ipc_keys.specs.declared.check.NameKind.{NameKind}
 use Rattle.ipc_keys.specs.declared.check.NameKind.TheVariants as names
 use Rattle.ipc_keys.specs.Names.{most_bytes}
@@ -29,7 +30,7 @@ use Rattle.ipc_image.specs.Saved.{mq_bytes, mq_object, psem_bytes, psem_object, 
 use Rattle.ipc_image.specs.Saved.{LaterObjects, later_in, later_objects}
 use Rattle.ipc_image.specs.SavedParts.{IsSmallNamed}
 use Rattle.ipc_image.specs.Sizes.{sectors}
-use Rattle.ipc_image.proofs.KindSizes.{kind-sectors, objects-rise}
+use Rattle.ipc_image.proofs.KindSizes.{objects-rise}
 use Rattle.ipc_image.proofs.MqObjects.{formed-parts, mq-long, mq-short, name-short}
 use Rattle.ipc_image.proofs.LaterObjects.{from_psems, from_pshms}
 
@@ -54,7 +55,8 @@ later-counted o =
 -- ---- how long
 
 -- what holds of what is sound and has such a name holds of each object of a kind
-each-held : (limits : Limits) (kind : NameKind) (processes : List (ℕ × Process)) (o : Those (kinds.Named kind)) (P : ℕ × EntryOf (kinds.Named kind) → Type 0)
+pub each-held : (limits : Limits) (kind : NameKind) (processes : List (ℕ × Process)) (o : Those (kinds.Named kind))
+    (P : ℕ × EntryOf (kinds.Named kind) → Type 0)
     → ((e : ℕ × EntryOf (kinds.Named kind)) → IsSoundContent limits (kinds.Named kind) e.1.object → is_named_so kind e ≡ true → P e)
     → AreSound limits processes (kinds.Named kind) o → All P o.entries
 each-held limits kind processes o P from sound = both o.entries sound.held.bound.each sound.held.forms
@@ -85,16 +87,16 @@ segment-long e = omega (arith, length-append e.bound e.object.bytes)
 pub shm-long : (e : KeyedEntry SysSegment) → length (shm_bytes e) ≡ 64 + length e.object.memory.bytes
 shm-long e = omega arith
 
-abbrev of : ℕ × List ℕ → ℕ
+abbrev pub of : ℕ × List ℕ → ℕ
 of o = sectors (length o.1)
 
 -- its name is no longer than this
-abbrev HasName : {X : Type 0} → ℕ → ℕ × NamedEntry X → Type 0
+abbrev pub HasName : {X : Type 0} → ℕ → ℕ × NamedEntry X → Type 0
 HasName most e = length e.1.bound ≤ most
 
 -- segments of either kind, of which each has so many bytes, and an object with no more than 279 beside them
 module _ {X : Type 0} (size : ℕ × X → ℕ) (object : ℕ × X → ℕ × List ℕ) where
-  abbrev IsAround : ℕ × X → Type 0
+  abbrev pub IsAround : ℕ × X → Type 0
   IsAround e = length (object e).1 ≤ 279 + size e
 
   -- one has no more bytes than this
@@ -102,7 +104,7 @@ module _ {X : Type 0} (size : ℕ × X → ℕ) (object : ℕ × X → ℕ × Li
   IsWithin most e = size e ≤ most
 
   -- the sectors of segments: two for each that are not full of its bytes
-  segment-sectors : (es : List (ℕ × X)) → All IsAround es → 512 * sum_by of (map object es) ≤ sum_by size es + 790 * length es
+  pub segment-sectors : (es : List (ℕ × X)) → All IsAround es → 512 * sum_by of (map object es) ≤ sum_by size es + 790 * length es
   segment-sectors [] short = omega arith
   segment-sectors (e ∷ es) short =
       omega (
@@ -132,13 +134,13 @@ module _ {X : Type 0} (size : ℕ × X → ℕ) (object : ℕ × X → ℕ × Li
           (both ds (All-tail (IsWithin most) d ds within) (All-tail IsAround d ds around))
 
 -- how many bytes each has
-abbrev pshm_size : ℕ × NamedEntry Segment → ℕ
+abbrev pub pshm_size : ℕ × NamedEntry Segment → ℕ
 pshm_size e = length e.1.object.bytes
 
-abbrev shm_size : ℕ × KeyedEntry SysSegment → ℕ
+abbrev pub shm_size : ℕ × KeyedEntry SysSegment → ℕ
 shm_size e = length e.1.object.memory.bytes
 
-shms-around : (es : List (ℕ × KeyedEntry SysSegment)) → All (IsAround shm_size shm_object) es
+pub shms-around : (es : List (ℕ × KeyedEntry SysSegment)) → All (IsAround shm_size shm_object) es
 shms-around [] = All-nil _
 shms-around (e ∷ es) = All-cons (IsAround shm_size shm_object) e es (omega (arith, shm-long e.1)) (shms-around es)
 
@@ -159,12 +161,6 @@ later-have P o mqs sems segments shms =
 abbrev pub most_mq : Limits → ℕ
 most_mq limits = 299 + limits.maxmsg * (8 + limits.msgsize)
 
--- the most sectors that all of them take
-abbrev pub later_most : Limits → ℕ
-later_most limits =
-    limits.queues * sectors (most_mq limits) + limits.named_semaphores * sectors 271 + (2 * limits.segments + sectors limits.segment_bytes)
-    + (2 * limits.shmmni + sectors limits.shmall)
-
 -- what holds of the bytes of each
 pub record AreBytes (objects : PlainObjects) : Type 0 where
   pub some : All (λ o. 0 < length o.1) objects
@@ -176,10 +172,10 @@ module _ (limits : Limits) (s : State) where
 
   module _ (sound : IsSound limits s) where
     -- the numbers of those of a kind
-    numbered : (kind : NameKind) → AreNumbered (most_of limits (kinds.Named kind)) (named_of s kind)
+    pub numbered : (kind : NameKind) → AreNumbered (most_of limits (kinds.Named kind)) (named_of s kind)
     numbered kind = (sound.parts.named kind).held.bound.numbered
 
-    shms-numbered : AreNumbered limits.shmmni s.shm
+    pub shms-numbered : AreNumbered limits.shmmni s.shm
     shms-numbered = sound.parts.shm.held.bound.numbered
 
     pub later-few : later_count o ≤ limits.queues + limits.named_semaphores + limits.segments + limits.shmmni
@@ -208,17 +204,17 @@ module _ (limits : Limits) (s : State) where
         objects-rise (3 * 2 ^ 32) mq_bytes 1 o.mq.next (2 ^ 64) o.mq.entries (from_psems o) (numbered names.Mq).numbers
         (rising-lower (3 * 2 ^ 32 + o.mq.next) (4 * 2 ^ 32 + 1) (keys_of (from_psems o)) (2 ^ 64) (omega (arith, (numbered names.Mq).next)) sems)
 
-    names-short : (kind : NameKind) → All (HasName (most_bytes kind)) (named_of s kind).entries
+    pub names-short : (kind : NameKind) → All (HasName (most_bytes kind)) (named_of s kind).entries
     names-short kind =
         All-weaker (λ (e : ℕ × EntryOf (kinds.Named kind)). is_named_so kind e ≡ true) (HasName (most_bytes kind))
         (λ e formed. name-short kind e formed) (named_of s kind).entries (sound.parts.named kind).held.forms
 
-    mqs-short : All (λ e. length (mq_bytes e.1) ≤ most_mq limits) o.mq.entries
+    pub mqs-short : All (λ e. length (mq_bytes e.1) ≤ most_mq limits) o.mq.entries
     mqs-short =
         each-held limits names.Mq s.processes.entries s.mq (λ e. length (mq_bytes e.1) ≤ most_mq limits)
         (λ e good formed. mq-short limits e.0 e.1 good formed) (sound.parts.named names.Mq)
 
-    segments-around : All (IsAround pshm_size pshm_object) o.pshm.entries
+    pub segments-around : All (IsAround pshm_size pshm_object) o.pshm.entries
     segments-around =
         All-weaker (HasName 255) (IsAround pshm_size pshm_object) (λ e less. omega (arith, less, segment-long e.1)) o.pshm.entries
         (names-short names.Pshm)
@@ -245,28 +241,6 @@ module _ (limits : Limits) (s : State) where
               (All-map Few-bytes shm_object o.shm.entries
               (segments-few shm_size shm_object o.shm.entries limits.shmall b.shmall sound.parts.shm.together (shms-around o.shm.entries)));
         }
-
-    -- and fit into these sectors
-    pub later-sectors : sum_by of (later_objects o) ≤ later_most limits
-    later-sectors =
-        let mqs = kind-sectors (3 * 2 ^ 32) limits.queues (most_mq limits) mq_bytes o.mq.entries mqs-short (numbered names.Mq).count in
-        let short : All (λ e. length (psem_bytes e.1) ≤ 271) o.psem.entries =
-        All-weaker (HasName 251) (λ e. length (psem_bytes e.1) ≤ 271) (λ e less. omega (arith, less, psem-long e.1)) o.psem.entries (names-short names.Psem) in
-        let sems = kind-sectors (4 * 2 ^ 32) limits.named_semaphores 271 psem_bytes o.psem.entries short (numbered names.Psem).count in
-        omega (
-          arith,
-          mqs,
-          sems,
-          segment-sectors pshm_size pshm_object o.pshm.entries segments-around,
-          (sound.parts.named names.Pshm).together,
-          (numbered names.Pshm).count,
-          segment-sectors shm_size shm_object o.shm.entries (shms-around o.shm.entries),
-          sound.parts.shm.together,
-          shms-numbered.count,
-          sum_by-append of (map mq_object o.mq.entries) (from_psems o),
-          sum_by-append of (map psem_object o.psem.entries) (from_pshms o),
-          sum_by-append of (map pshm_object o.pshm.entries) (map shm_object o.shm.entries),
-        )
 
     -- the sizes of those of a kind
     pub named-small : (kind : NameKind) (IsSmallObject : Content (kinds.Named kind) → Type 0)

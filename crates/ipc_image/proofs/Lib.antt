@@ -3,6 +3,7 @@ mod Formats
 mod AtLeast
 mod Bounds
 mod Numbers
+mod Slices
 mod Reading
 mod RestoredParts
 mod Attaching
@@ -22,4 +23,6 @@ mod LaterObjects
 mod LaterSizes
 mod AdjustmentLists
 mod WaitingCalls
+mod WaitingSizes
+mod Fits
 mod Unchanged

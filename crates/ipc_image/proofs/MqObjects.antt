@@ -12,10 +12,11 @@ use Rattle.std.proofs.lemmas.Nat.{mul-le}
 use Rattle.ipc_base.specs.declared.errno.Errno.{Errno}
 use Rattle.ipc_base.specs.declared.errno.Errno.TheVariants.{ENAMETOOLONG}
 use Rattle.ipc_base.specs.declared.field.Size.TheVariants.{Four}
-use Rattle.ipc_base.specs.declared.limits.Limits.{Limits}
-use Rattle.ipc_base.specs.Limits.{ArePassed}
+use Rattle.ipc_limits.specs.declared.limits.Limits.{Limits}
+use Rattle.ipc_limits.specs.Limits.{ArePassed}
 use Rattle.ipc_base.specs.Numbers.{fields_bytes, FitFields}
-use Rattle.ipc_base.proofs.CallerLemmas.{fields_one, numbers_are, passed-bounds}
+use Rattle.ipc_base.proofs.CallerLemmas.{fields_one, numbers_are}
+use Rattle.ipc_limits.proofs.CallerLemmas.{passed-bounds}
 use Rattle.ipc_keys.specs.declared.check.NameKind.{NameKind}
 use Rattle.ipc_keys.specs.declared.check.NameKind.TheVariants as names
 use Rattle.ipc_keys.specs.Names.{check_name, fault, is_none, most_bytes, unless}
@@ -70,8 +71,9 @@ name-short {X} kind e formed = by_name e.1.bound (formed-parts kind e formed).0
         by_length false is = grind (arith, nat_tests)
 
 module _ (limits : Limits) (n : ℕ) (e : NamedEntry Mq) (sound : IsSoundMq limits e.object) (formed : is_named_so names.Mq (n, e) ≡ true) where
-  pub mq-short : length (mq_bytes e) ≤ 299 + limits.maxmsg * (8 + limits.msgsize)
-  mq-short =
+  -- by what it may hold, and by what any may
+  pub mq-own : length (mq_bytes e) ≤ 299 + e.object.maxmsg * (8 + e.object.msgsize)
+  mq-own =
       let q : Mq = e.object in
       let each : All (λ m. length (mq_message_bytes m) ≤ 8 + q.msgsize) q.messages =
       All-weaker (IsSoundMqMessage q.msgsize) (λ m. length (mq_message_bytes m) ≤ 8 + q.msgsize) (λ m good. omega (arith, good.short)) q.messages
@@ -81,8 +83,15 @@ module _ (limits : Limits) (n : ℕ) (e : NamedEntry Mq) (sound : IsSoundMq limi
         mq-long e,
         name-short names.Mq (n, e) formed,
         length-most mq_message_bytes (8 + q.msgsize) q.messages each,
-        mul-le (length q.messages) (8 + q.msgsize) limits.maxmsg (8 + limits.msgsize) (omega (arith, sound.count, sound.maxmsg.1))
-            (omega (arith, sound.msgsize.1)),
+        mul-le (length q.messages) (8 + q.msgsize) q.maxmsg (8 + q.msgsize) sound.count (omega arith),
+      )
+
+  pub mq-short : length (mq_bytes e) ≤ 299 + limits.maxmsg * (8 + limits.msgsize)
+  mq-short =
+      omega (
+        arith,
+        mq-own,
+        mul-le e.object.maxmsg (8 + e.object.msgsize) limits.maxmsg (8 + limits.msgsize) sound.maxmsg.1 (omega (arith, sound.msgsize.1)),
       )
 
 pub mq-small : (limits : Limits) → ArePassed limits → (q : Mq) → IsSoundMq limits q → IsSmallMq q

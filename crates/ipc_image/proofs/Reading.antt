@@ -1,44 +1,60 @@
 -- What a sector that is a superblock holds, and what makes one of it.
-use Rattle.std.proofs.Common.{◌≡◌, ℕ, zero, suc, ◌+◌, ◌*◌, ◌≤◌, ◌<◌, ◌^◌, Bool, true, false, eqb, List, [], ◌∷◌, ◌++◌, take, drop, get_or}
+use Rattle.std.proofs.Common.{◌≡◌, ℕ, zero, suc, ◌+◌, ◌*◌, ◌-◌, ◌≤◌, ◌<◌, ◌^◌, Bool, true, false, eqb, leb, ◌&&◌, cond}
+use Rattle.std.proofs.Common.{List, [], ◌∷◌, ◌++◌, length, take, drop, get_or}
 use Rattle.std.proofs.Common.{inl, inr, refl, sym, ap, ◌∙◌, arith}
-use Rattle.std.specs.Prelude.{All, Option, Result, Ok, Err, Some, None, IfErr, OnOk, if◌then◌else◌, not, position, replicate}
-use Rattle.std.proofs.lemmas.List.Elements.{All-nil}
-use Rattle.std.specs.Cmp.Lexicographic.{pointwise}
-use Rattle.std.specs.Result.{is_err}
-use Rattle.std.specs.List.{starts_with}
-use Rattle.std.proofs.lemmas.Bool.Decides.{Decides-eqb}
+use Rattle.std.specs.Prelude.{All, Option, Some, None, not, position, replicate, nat_le}
+use Rattle.std.specs.List.{starts_with, position_or_len}
+use Rattle.std.proofs.lemmas.Bool.{cases_lt, lt-ltb, ltb-false, ltb-true, leb-true, le-leb, le-ltb, eqb-true, eq-eqb}
+use Rattle.std.proofs.lemmas.Bool.Decides.{Decides-eqb, eqb_tells}
 use Rattle.std.proofs.lemmas.Slice.Eq.{slice_eq-Decides}
 use Rattle.std.specs.Int.{w32, from_be_bytes, to_be_bytes}
-use Rattle.std.proofs.lemmas.List.{take_at, take-take, drop-take, take-append-drop}
+use Rattle.std.proofs.Math.Seq.{drop-append-add}
+use Rattle.std.proofs.lemmas.List.{take_at, take-take, drop-take, get_or-drop, get_or-take, length-append}
+use Rattle.std.proofs.lemmas.List.Elements.{All-append, All-cons, All-nil}
+use Rattle.std.proofs.lemmas.List.Folds.{position_or_len_push}
+use Rattle.std.proofs.lemmas.List.Sums.{fails_before_first, position_or_len_is}
+use Rattle.std.proofs.lemmas.Option.{none-some, same_Some}
 use Rattle.std.proofs.lemmas.Nat.{from_be_bytes-to_be_bytes_4}
-use Rattle.ipc_base.specs.declared.limits.Limits.{Limits}
-use Rattle.ipc_base.specs.declared.limits.BadLimits.{BadLimits}
-use Rattle.ipc_base.specs.declared.field.Size.{Size}
 use Rattle.ipc_base.specs.declared.field.Size.TheVariants.{Four}
-use Rattle.ipc_base.specs.Limits.{ArePassed, AreWithin, greatest_limits, tests}
-use Rattle.ipc_base.specs.Numbers.{fields_bytes, FitFields}
-use Rattle.ipc_base.proofs.CallerLemmas.{passed-bounds, within-greater, fields_one}
+use Rattle.ipc_base.specs.Numbers.{FitFields}
+use Rattle.ipc_limits.specs.declared.limits.Limits.{Limits}
+use Rattle.ipc_limits.specs.Limits.{ArePassed, AreWithin, greatest_limits, is_within, tests}
+use Rattle.ipc_limits.proofs.CallerLemmas.{passed-bounds, within-greater}
 use Rattle.ipc_image.specs.declared.format.Format.{Format}
-use Rattle.ipc_image.specs.Format.{IsFormat, format, format_one, has_shms}
-use Rattle.ipc_image.specs.Sizes.{need_of}
-use Rattle.ipc_image.specs.Superblock.{magic, limit_fields, limit_sizes, superblock_fields, named_length, named_bytes, superblock_bytes}
-use Rattle.ipc_image.specs.Superblock.{IsFormatted, version_in, sectors_in, AreOf, IsSuperblock, IsSuperblockIn}
-use Rattle.ipc_image.proofs.Formats.{by-form}
+use Rattle.ipc_image.specs.Format.{IsFormat, IsOpened, format, format_one}
+use Rattle.ipc_image.specs.Sizes.{area_in, first_fault, most_area, need_in}
+use Rattle.ipc_image.specs.Superblock.{magic, limit_fields, superblock_fields, named_length, named_bytes, superblock_bytes}
+use Rattle.ipc_image.specs.Superblock.{IsFormatted, number_in, version_in, sectors_in, journal_in, limit_in, features_in, is_of, named_form}
+use Rattle.ipc_image.specs.Superblock.{AreOf, IsSuperblockIn}
+use Rattle.ipc_image.specs.Relations.Superblocks.{limits_in}
+use Rattle.ipc_image.proofs.AtLeast.{each}
+use Rattle.ipc_image.proofs.Formats.{by-form, one-form, opened-is}
 use Rattle.ipc_image.proofs.Numbers.{spelled}
 
 -- each limit has its four bytes
-pub limits_fit : (form : Format) → IsFormat form → (l : Limits) → ArePassed l → FitFields (limit_sizes form) (take form.limits (limit_fields l))
-limits_fit form known l passed =
-    let b = passed-bounds l passed in
-    by-form (λ f. FitFields (limit_sizes f) (take f.limits (limit_fields l))) (search arith) (search arith) form known
+limits-fit : (l : Limits) → ArePassed l → FitFields (replicate 22 Four) (limit_fields l)
+limits-fit l passed = let b = passed-bounds l passed in search arith
 
 -- each of some numbers has them
-pub each_fits : (k : ℕ) (ns : List ℕ) → FitFields (replicate k Four) ns → (i : ℕ) → get_or ns i 0 < 2 ^ 32
+each_fits : (k : ℕ) (ns : List ℕ) → FitFields (replicate k Four) ns → (i : ℕ) → get_or ns i 0 < 2 ^ 32
 each_fits zero [] fit i = omega arith
 each_fits zero (n ∷ ns) fit i = absurd fit
 each_fits (suc k) [] fit i = absurd fit
 each_fits (suc k) (n ∷ ns) fit zero = fit.0
 each_fits (suc k) (n ∷ ns) fit (suc i) = each_fits k ns fit.1 i
+
+-- one of them stands after those before it
+spelled-at : (ns : List ℕ) (k : ℕ) → k < length ns → take 4 (drop (4 * k) (spelled ns)) ≡ to_be_bytes w32 (get_or ns k 0)
+spelled-at [] k within = absurd (omega arith)
+spelled-at (n ∷ ns) zero within = take_at (to_be_bytes w32 n) (spelled ns) 4 refl
+spelled-at (n ∷ ns) (suc k) within =
+    let next : 4 * suc k ≡ 4 + 4 * k = omega arith in
+    ap (λ (m : ℕ). take 4 (drop m (spelled (n ∷ ns)))) next
+    ∙ ap (take 4) (drop-append-add (to_be_bytes w32 n) (spelled ns) (4 * k)) ∙ spelled-at ns k (omega arith)
+
+both-true : (a b : Bool) → (a && b) ≡ true → (a ≡ true) × (b ≡ true)
+both-true true b h = (refl, h)
+both-true false b h = cc
 
 -- a sector that begins as a superblock does
 pub formatted : (sector : List ℕ) (starts : Bool) → starts ≡ starts_with eqb sector magic → starts ≡ true → IsFormatted sector
@@ -49,185 +65,264 @@ not_formatted sector starts tested other formatted =
     let begun : starts ≡ true = (slice_eq-Decides Decides-eqb magic (take 8 sector) starts tested).1 (sym formatted) in
     cc
 
-module _ (form : Format) (known : IsFormat form) (sectors : ℕ) (limits : Limits) (sector : List ℕ) (is : IsSuperblockIn form sectors limits sector) where
+module _ (form : Format) (known : IsFormat form) (sectors : ℕ) (limits : Limits) (sector : List ℕ)
+    (is : IsSuperblockIn form sectors limits sector) where
+  abbrev fields : List ℕ
+  fields = superblock_fields form sectors limits
+
   -- how a superblock begins
   pub begins : IsFormatted sector
   unfolding named_bytes
   begins = sym (take-take 8 (named_length form) sector (omega arith)) ∙ ap (take 8) is.named
 
-  -- the bytes with a meaning after so many of them
-  after : (n rest : ℕ) → n + rest ≡ named_length form → take rest (drop n sector) ≡ drop n (named_bytes form sectors limits)
-  after n rest all = sym (drop-take n rest sector) ∙ ap (λ (k : ℕ). drop n (take k sector)) all ∙ ap (drop n) is.named
+  count : length fields ≡ 7 + form.limits
+  count = by-form (λ f. length (superblock_fields f sectors limits) ≡ 7 + f.limits) refl refl (λ j its. refl) form known
 
-  pub numbers_of : take (28 + 4 * form.limits) (drop 8 sector) ≡ spelled (superblock_fields form sectors limits)
+  -- it has these numbers
+  has_number : (k : ℕ) → k < 7 + form.limits → get_or fields k 0 < 2 ^ 32 → number_in k sector ≡ get_or fields k 0
   unfolding named_bytes
-  numbers_of = after 8 (28 + 4 * form.limits) (omega arith)
+  has_number k within below =
+      let at : ℕ = 8 + 4 * k in
+      let rest : ℕ = named_length form - at in
+      let all : at + rest ≡ named_length form = omega (arith, within) in
+      let after : take rest (drop at sector) ≡ drop at (named_bytes form sectors limits) =
+      sym (drop-take at rest sector) ∙ ap (λ (n : ℕ). drop at (take n sector)) all ∙ ap (drop at) is.named in
+      let own : take 4 (drop at sector) ≡ to_be_bytes w32 (get_or fields k 0) =
+      sym (take-take 4 rest (drop at sector) (omega (arith, within))) ∙ ap (take 4) after
+      ∙ ap (take 4) (drop-append-add magic (spelled fields) (4 * k)) ∙ spelled-at fields k (omega (arith, within, count)) in
+      ap (from_be_bytes w32) own ∙ from_be_bytes-to_be_bytes_4 (get_or fields k 0) below
 
-  -- it has that version
   pub has_version : version_in sector ≡ form.version
-  has_version =
-      let front : take 4 (drop 8 sector) ≡ to_be_bytes w32 form.version =
-      sym (take-take 4 (28 + 4 * form.limits) (drop 8 sector) (omega arith)) ∙ ap (take 4) numbers_of
-      ∙ take_at (to_be_bytes w32 form.version) (spelled (drop 1 (superblock_fields form sectors limits))) 4 refl in
-      let few : form.version < 2 ^ 32 = by-form (λ f. f.version < 2 ^ 32) (omega arith) (omega arith) form known in
-      ap (from_be_bytes w32) front ∙ from_be_bytes-to_be_bytes_4 form.version few
-
-  -- and names those sectors
-  sectors_stand : take (24 + 4 * form.limits) (drop 12 sector) ≡ spelled (drop 1 (superblock_fields form sectors limits))
-  unfolding named_bytes
-  sectors_stand = after 12 (24 + 4 * form.limits) (omega arith)
+  has_version = has_number 0 (omega arith) (by-form (λ f. f.version < 2 ^ 32) (omega arith) (omega arith) (λ j its. omega arith) form known)
 
   pub has_sectors : sectors < 2 ^ 32 → sectors_in sector ≡ sectors
-  has_sectors below =
-      let front : take 4 (drop 12 sector) ≡ to_be_bytes w32 sectors =
-      sym (take-take 4 (24 + 4 * form.limits) (drop 12 sector) (omega arith)) ∙ ap (take 4) sectors_stand
-      ∙ take_at (to_be_bytes w32 sectors) (spelled (drop 2 (superblock_fields form sectors limits))) 4 refl in
-      ap (from_be_bytes w32) front ∙ from_be_bytes-to_be_bytes_4 sectors below
+  has_sectors below = has_number 1 (omega arith) below
 
-  -- the limits stand after the other numbers
-  abbrev pub after_limits : List ℕ
-  after_limits = drop (4 * form.limits) (take 476 (drop 36 sector))
+  pub has_journal : journal_in sector ≡ form.journal
+  has_journal = has_number 3 (omega arith) (by-form (λ f. f.journal < 2 ^ 32) (omega arith) (omega arith) (λ j its. omega (arith, its)) form known)
 
-  limits_spelled : drop 36 (named_bytes form sectors limits) ≡ fields_bytes (limit_sizes form) (take form.limits (limit_fields limits))
-  unfolding named_bytes
-  limits_spelled =
-      by-form (λ f. drop 36 (named_bytes f sectors limits) ≡ fields_bytes (limit_sizes f) (take f.limits (limit_fields limits))) refl refl form known
+  -- it is of its form
+  pub is-of : is_of form sector ≡ true
+  is-of = rw (eq-eqb (version_in sector) form.version has_version) (eq-eqb (features_in form sector) 0 is.features)
 
-  pub limits_stand : take 476 (drop 36 sector) ≡ fields_bytes (limit_sizes form) (take form.limits (limit_fields limits)) ++ after_limits
-  limits_stand =
-      let all : List ℕ = take 476 (drop 36 sector) in
-      let few : 4 * form.limits ≤ 476 = by-form (λ f. 4 * f.limits ≤ 476) (omega arith) (omega arith) form known in
-      sym (take-append-drop (4 * form.limits) all)
-      ∙ ap (λ (l : List ℕ). l ++ after_limits) (take-take (4 * form.limits) 476 (drop 36 sector) few ∙ after 36 (4 * form.limits) refl ∙ limits_spelled)
+  limit-is : (k : ℕ) → k < 22 → limit_in form k sector ≡ get_or (limit_fields limits) k 0
+  limit-is k within =
+      let below : get_or (limit_fields limits) k 0 < 2 ^ 32 = each_fits 22 (limit_fields limits) (limits-fit limits is.of.passed) k in
+      elim (cases_lt k form.limits) [
+        | inl lt ↦
+            let own : get_or fields (7 + k) 0 ≡ get_or (limit_fields limits) k 0 =
+            sym (get_or-drop 7 fields k 0) ∙ get_or-take form.limits (limit_fields limits) k 0 lt in
+            rw (lt-ltb k form.limits lt) (has_number (7 + k) (omega (arith, lt)) (omega (arith, own, below)) ∙ own)
+        | inr le ↦
+            let one = is.of.others (k - form.limits) 0 (omega (arith, le, within, rest)) in
+            let back : form.limits + (k - form.limits) ≡ k = omega (arith, le) in
+            rw (le-ltb k form.limits le)
+            (sym one ∙ get_or-drop form.limits (limit_fields limits) (k - form.limits) 0 ∙ ap (λ (n : ℕ). get_or (limit_fields limits) n 0) back)
+      ]
+    where
+      rest : length (drop form.limits (limit_fields limits)) ≡ 22 - form.limits
+      rest = by-form (λ f. length (drop f.limits (limit_fields limits)) ≡ 22 - f.limits) refl refl (λ j its. refl) form known
+
+  -- and names these limits
+  pub has_limits : limits_in form sector ≡ limits
+  has_limits =
+      λ i. record {
+        version = sym is.of.version i;
+        journal = sym is.of.journal i;
+        processes = limit-is 0 (omega arith) i;
+        msgmni = limit-is 1 (omega arith) i;
+        msgmax = limit-is 2 (omega arith) i;
+        msgmnb = limit-is 3 (omega arith) i;
+        semmni = limit-is 4 (omega arith) i;
+        semmsl = limit-is 5 (omega arith) i;
+        semmns = limit-is 6 (omega arith) i;
+        semopm = limit-is 7 (omega arith) i;
+        queues = limit-is 8 (omega arith) i;
+        maxmsg = limit-is 9 (omega arith) i;
+        msgsize = limit-is 10 (omega arith) i;
+        named_semaphores = limit-is 11 (omega arith) i;
+        segments = limit-is 12 (omega arith) i;
+        segment_bytes = limit-is 13 (omega arith) i;
+        call_bytes = limit-is 14 (omega arith) i;
+        descriptors = limit-is 15 (omega arith) i;
+        shmmni = limit-is 16 (omega arith) i;
+        shmmax = limit-is 17 (omega arith) i;
+        shmall = limit-is 18 (omega arith) i;
+        msgqlen = limit-is 19 (omega arith) i;
+        semume = limit-is 20 (omega arith) i;
+        queue_bytes = limit-is 21 (omega arith) i;
+      }
+
+-- a sector of a version names no features that it has not
+pub no-features : (form : Format) (sector : List ℕ) → is_of form sector ≡ true → features_in form sector ≡ 0
+no-features form sector of =
+    eqb-true (features_in form sector) 0 (both-true (eqb (version_in sector) form.version) (eqb (features_in form sector) 0) of).1
 
 -- limits within the greatest values of a version passed the check of any
 pub within_passed : (form : Format) → IsFormat form → (limits : Limits) → AreWithin form.most limits → ArePassed limits
 within_passed form known limits =
-    within-greater form.most greatest_limits limits (by-form (λ f. ArePassed f.most) refl refl form known)
+    within-greater form.most greatest_limits limits (by-form (λ f. ArePassed f.most) refl refl (λ j its. refl) form known)
 
--- those of the last version have all limits
-pub last_of : (limits : Limits) → AreWithin format.most limits → AreOf format limits
-last_of limits within = record { passed = within_passed format (inr refl) limits within; within = within; others = All-nil _ }
+-- of the limits that a version lacks none but 1 is within them
+one-within : (value : ℕ) → is_within value 1 ≡ true → value ≡ 1
+one-within value h =
+    let both = both-true (leb 1 value) (leb value 1) h in
+    omega (arith, leb-true 1 value both.0, leb-true value 1 both.1)
 
--- what was written is a superblock
-pub written : (sectors : ℕ) (limits : Limits) → AreOf format limits → need_of limits ≤ sectors
-    → IsSuperblock sectors limits (superblock_bytes sectors limits)
-unfolding named_bytes
-written sectors limits of room = record { named = refl; of = of; room = room }
+three-ones : (a b c : ℕ) → a ≡ 1 → b ≡ 1 → c ≡ 1 → All (λ n. n ≡ 1) (a ∷ b ∷ c ∷ [])
+three-ones a b c p q r = let One : ℕ → Type 0 = λ n. n ≡ 1 in All-cons One a (b ∷ c ∷ []) p (All-cons One b (c ∷ []) q (All-cons One c [] r (All-nil One)))
 
--- the limits among the numbers, and those of System V segments
-abbrev pub limits_in : List ℕ → List ℕ → Limits
-limits_in ns shm =
+others-one : (form : Format) → IsFormat form → (limits : Limits) → AreWithin form.most limits → All (λ n. n ≡ 1) (drop form.limits (limit_fields limits))
+others-one form known limits =
+    let One : ℕ → Type 0 = λ n. n ≡ 1 in
+    let last : (most : Limits) → most.msgqlen ≡ 1 → most.semume ≡ 1 → most.queue_bytes ≡ 1 → AreWithin most limits → All One (drop 19 (limit_fields limits)) =
+    λ most p q r within. let all = each (tests most limits) within in
+    three-ones limits.msgqlen limits.semume limits.queue_bytes
+    (one-within limits.msgqlen (ap (is_within limits.msgqlen) (sym p) ∙ all 19 (omega arith)))
+    (one-within limits.semume (ap (is_within limits.semume) (sym q) ∙ all 20 (omega arith)))
+    (one-within limits.queue_bytes (ap (is_within limits.queue_bytes) (sym r) ∙ all 21 (omega arith))) in
+    by-form (λ f. AreWithin f.most limits → All One (drop f.limits (limit_fields limits)))
+    (λ within. let all = each (tests format_one.most limits) within in
+    All-append One (limits.shmmni ∷ limits.shmmax ∷ limits.shmall ∷ []) (drop 19 (limit_fields limits))
+    (three-ones limits.shmmni limits.shmmax limits.shmall (one-within limits.shmmni (all 16 (omega arith)))
+    (one-within limits.shmmax (both-true (is_within limits.shmmax 1) (leb limits.shmmax limits.shmall) (all 17 (omega arith))).0)
+    (one-within limits.shmall (all 18 (omega arith)))) (last format_one.most refl refl refl within))
+    (λ within. last format.most refl refl refl within)
+    (λ j its within. All-nil One) form known
+
+-- those of a form are its limits
+pub are-of : (form : Format) → IsFormat form → (limits : Limits) → limits.version ≡ form.version → limits.journal ≡ form.journal
+    → AreWithin form.most limits → area_in form limits ≤ most_area → AreOf form limits
+are-of form known limits version journal within area =
     record {
-      processes = get_or ns 0 0;
-      msgmni = get_or ns 1 0;
-      msgmax = get_or ns 2 0;
-      msgmnb = get_or ns 3 0;
-      semmni = get_or ns 4 0;
-      semmsl = get_or ns 5 0;
-      semmns = get_or ns 6 0;
-      semopm = get_or ns 7 0;
-      queues = get_or ns 8 0;
-      maxmsg = get_or ns 9 0;
-      msgsize = get_or ns 10 0;
-      named_semaphores = get_or ns 11 0;
-      segments = get_or ns 12 0;
-      segment_bytes = get_or ns 13 0;
-      call_bytes = get_or ns 14 0;
-      descriptors = get_or ns 15 0;
-      shmmni = get_or shm 0 0;
-      shmmax = get_or shm 1 0;
-      shmall = get_or shm 2 0;
+      passed = within_passed form known limits within;
+      version = version;
+      journal = journal;
+      within = within;
+      area = area;
+      others = others-one form known limits within;
     }
 
--- those of System V segments, if the version has none
-pub ones : (l : Limits) → All (λ n. n ≡ 1) (drop 16 (limit_fields l)) → drop 16 (limit_fields l) ≡ replicate 3 1
-ones l each = λ i. each 0 0 (omega arith) i ∷ each 1 0 (omega arith) i ∷ each 2 0 (omega arith) i ∷ []
+-- what was written begins with the bytes that are compared
+pub written-front : (form : Format) → IsFormat form → (sectors : ℕ) (limits : Limits)
+    → take (named_length form) (superblock_bytes form sectors limits) ≡ named_bytes form sectors limits
+unfolding named_bytes
+written-front form known sectors limits =
+    by-form (λ f. take (named_length f) (superblock_bytes f sectors limits) ≡ named_bytes f sectors limits) refl refl (λ j its. refl) form known
 
--- limits of a version are known by the numbers that it has
-limits_known : (form : Format) → IsFormat form → (l m : Limits) → AreOf form l → AreOf form m
-    → take form.limits (limit_fields l) ≡ take form.limits (limit_fields m) → l ≡ m
-limits_known form known l m =
-    by-form (λ f. AreOf f l → AreOf f m → take f.limits (limit_fields l) ≡ take f.limits (limit_fields m) → l ≡ m)
-    (λ of also same. λ i. limits_in (same i) ((ones l of.others ∙ sym (ones m also.others)) i))
-    (λ of also same. λ i. limits_in (same i) (drop 16 (same i))) form known
+-- what was written is a superblock
+pub written : (form : Format) → IsFormat form → (sectors : ℕ) (limits : Limits) → AreOf form limits → need_in form limits ≤ sectors
+    → IsSuperblockIn form sectors limits (superblock_bytes form sectors limits)
+unfolding named_bytes
+written form known sectors limits of room =
+    record {
+      named = written-front form known sectors limits;
+      features = by-form (λ f. features_in f (superblock_bytes f sectors limits) ≡ 0) refl refl (λ j its. refl) form known;
+      of = of;
+      room = room;
+    }
 
 -- the numbers of one sector are those of one device with one set of limits
-pub one_superblock : (form : Format) → IsFormat form → (sectors others : ℕ) (limits more : Limits) (sector : List ℕ) → sectors < 2 ^ 32
-    → others < 2 ^ 32 → IsSuperblockIn form sectors limits sector → IsSuperblockIn form others more sector → (sectors ≡ others) × (limits ≡ more)
-one_superblock form known sectors others limits more sector fits other-fits is other-is =
-    let sizes : List Size = replicate 7 Four ++ limit_sizes form in
-    let version : form.version < 2 ^ 32 = by-form (λ f. f.version < 2 ^ 32) (omega arith) (omega arith) form known in
-    let root : form.root < 2 ^ 32 = by-form (λ f. f.root < 2 ^ 32) (omega arith) (omega arith) form known in
-    let fit : (n : ℕ) (l : Limits) → n < 2 ^ 32 → ArePassed l → FitFields sizes (superblock_fields form n l) =
-    λ n l below passed. (version, (below, (omega arith, (omega arith, (omega arith, (omega arith, (root, limits_fit form known l passed))))))) in
-    let bytes : (n : ℕ) (l : Limits) → spelled (superblock_fields form n l) ≡ fields_bytes sizes (superblock_fields form n l) =
-    λ n l. by-form (λ f. spelled (superblock_fields f n l) ≡ fields_bytes (replicate 7 Four ++ limit_sizes f) (superblock_fields f n l)) refl refl form known in
-    let same = (fields_one sizes (superblock_fields form sectors limits) (superblock_fields form others more) [] []
-    (fit sectors limits fits is.of.passed) (fit others more other-fits other-is.of.passed)
-    (ap (λ (l : List ℕ). l ++ []) (sym (bytes sectors limits) ∙ sym (numbers_of form known sectors limits sector is)
-    ∙ numbers_of form known others more sector other-is ∙ bytes others more))).0 in (
-      ap (λ (ns : List ℕ). get_or ns 1 0) same,
-      limits_known form known limits more is.of other-is.of (ap (drop 7) same),
-    )
+pub one_superblock : (form : Format) → IsFormat form → (sectors others : ℕ) (limits more : Limits) (sector : List ℕ) → sectors < 2 ^ 32 → others < 2 ^ 32
+    → IsSuperblockIn form sectors limits sector → IsSuperblockIn form others more sector → (sectors ≡ others) × (limits ≡ more)
+one_superblock form known sectors others limits more sector fits other-fits is other-is = (
+  sym (has_sectors form known sectors limits sector is fits) ∙ has_sectors form known others more sector other-is other-fits,
+  sym (has_limits form known sectors limits sector is) ∙ has_limits form known others more sector other-is,
+)
 
--- the bytes after those of the limits that every version has
-abbrev pub shms_bytes : Format → Limits → List ℕ → List ℕ
-shms_bytes form l rest = if has_shms form then fields_bytes (replicate 3 Four) (drop 16 (limit_fields l)) ++ rest else rest
+-- and those of one form
+pub one_form : (form other : Format) → IsFormat form → IsFormat other → (sectors others : ℕ) (limits more : Limits) (sector : List ℕ)
+    → IsSuperblockIn form sectors limits sector → IsSuperblockIn other others more sector → form ≡ other
+one_form form other known also sectors others limits more sector is other-is =
+    one-form form known other also
+    (sym (has_version form known sectors limits sector is) ∙ has_version other also others more sector other-is)
+    (sym (has_journal form known sectors limits sector is) ∙ has_journal other also others more sector other-is)
 
--- what a reader finds of the limits that every version has, and of those of System V segments
-module _ (form : Format) (known : IsFormat form) (limits : Limits) (of : AreOf form limits) (rest : List ℕ) where
-  pub first_fit : FitFields (replicate 16 Four) (take 16 (limit_fields limits))
-  first_fit = limits_fit format_one (inl refl) limits of.passed
-
-  pub limits_cut : fields_bytes (limit_sizes form) (take form.limits (limit_fields limits)) ++ rest
-      ≡ fields_bytes (replicate 16 Four) (take 16 (limit_fields limits)) ++ shms_bytes form limits rest
-  limits_cut =
-      by-form (λ f. fields_bytes (limit_sizes f) (take f.limits (limit_fields limits)) ++ rest
-      ≡ fields_bytes (replicate 16 Four) (take 16 (limit_fields limits)) ++ shms_bytes f limits rest) refl refl form known
-
-  pub limits_found : (found left : List ℕ) (shm : Option (List ℕ)) → FitFields (replicate 16 Four) found
-      → fields_bytes (limit_sizes form) (take form.limits (limit_fields limits)) ++ rest ≡ fields_bytes (replicate 16 Four) found ++ left
-      → (has_shms form ≡ true → (numbers more : List ℕ) → FitFields (replicate 3 Four) numbers
-      → left ≡ fields_bytes (replicate 3 Four) numbers ++ more → shm ≡ Some numbers)
-      → (has_shms form ≡ false → shm ≡ Some (replicate 3 1)) → (found ≡ take 16 (limit_fields limits)) × (shm ≡ Some (drop 16 (limit_fields limits)))
-  limits_found found left shm has are if-read if-none =
-      let fs : List ℕ = limit_fields limits in
-      let b = passed-bounds limits of.passed in
-      let fit : FitFields (replicate 3 Four) (drop 16 fs) = search arith in
-      let both = fields_one (replicate 16 Four) found (take 16 fs) left (shms_bytes form limits rest) has first_fit (sym are ∙ limits_cut) in
-      let all : shm ≡ Some (drop 16 fs) =
-      by-form (λ f. AreOf f limits → left ≡ shms_bytes f limits rest
-      → (has_shms f ≡ true → (numbers more : List ℕ) → FitFields (replicate 3 Four) numbers
-      → left ≡ fields_bytes (replicate 3 Four) numbers ++ more → shm ≡ Some numbers)
-      → (has_shms f ≡ false → shm ≡ Some (replicate 3 1)) → shm ≡ Some (drop 16 fs))
-      (λ own is read none. none refl ∙ ap (λ (l : List ℕ). Some l) (sym (ones limits own.others)))
-      (λ own is read none. read refl (drop 16 fs) rest fit is) form known of both.1 if-read if-none in
-      (both.0, all)
+-- that of a device that is opened is the one that it names
+pub names : (form : Format) → IsOpened form → (sectors : ℕ) (limits : Limits) (sector : List ℕ) → IsSuperblockIn form sectors limits sector
+    → named_form sector ≡ form
+unfolding named_form
+names form opened sectors limits sector is =
+    opened-is form opened (version_in sector) (journal_in sector) (has_version form (inr opened) sectors limits sector is)
+    (has_journal form (inr opened) sectors limits sector is)
 
 -- ---- what tests say
 
--- lists that a test found different
-pub differ : (xs ys : List ℕ) (other : Bool) → other ≡ not (pointwise eqb xs ys) → other ≡ true → xs ≡ ys → ⊥
-differ xs ys other tested is same =
-    let equal : pointwise eqb xs ys ≡ true = (slice_eq-Decides Decides-eqb xs ys (pointwise eqb xs ys) refl).1 same in
-    cc
+-- where one test more is made after some, the first that fails is the same if one fails before it
+some-place : (b : Bool) (n field : ℕ) → cond b (Some n) None ≡ Some field → (b ≡ true) × (n ≡ field)
+some-place true n field is = (refl, same_Some n field is)
+some-place false n field is = cc
 
--- lists that a test found equal
-pub agree : (xs ys : List ℕ) (other : Bool) → other ≡ not (pointwise eqb xs ys) → other ≡ false → xs ≡ ys
-agree xs ys other tested is = (slice_eq-Decides Decides-eqb xs ys (pointwise eqb xs ys) refl).0 (by_test (pointwise eqb xs ys) (sym tested ∙ is))
+pub first_before : (ts : List Bool) (b : Bool) (field : ℕ) → position not ts ≡ Some field → position not (ts ++ b ∷ []) ≡ Some field
+first_before ts b field is =
+    let both = some-place _ _ field is in
+    let lt : position_or_len not ts < length ts = ltb-true _ _ both.0 in
+    let other : eqb (position_or_len not ts) (length ts) ≡ false = not-equal _ _ lt in
+    let same : position_or_len not (ts ++ b ∷ []) ≡ position_or_len not ts = position_or_len_push not ts b ∙ rw (other) refl in
+    rw (same, lt-ltb (position_or_len not ts) (length (ts ++ b ∷ [])) (omega (arith, lt, length-append ts (b ∷ [])))) (ap Some both.1)
   where
-    by_test : (b : Bool) → not b ≡ false → b ≡ true
-    by_test true e = refl
-    by_test false e = cc
+    not-equal : (m n : ℕ) → m < n → eqb m n ≡ false
+    not-equal m n lt =
+        elim (eqb_tells m n) [
+          | inl equal ↦ absurd (omega (arith, lt, equal.1))
+          | inr different ↦ different.0
+        ]
 
--- limits that the check refused are not within the greatest values, and the others are limits of the version
-pub refused : {T : Type 0} (most limits : Limits) (checked : Result T BadLimits)
-    → IfErr checked (λ fault. position not (tests most limits) ≡ Some fault.field) → is_err checked ≡ true → AreWithin most limits → ⊥
-refused most limits (Ok x) first is within = cc
-refused most limits (Err fault) first is within = let both : Some fault.field ≡ None = sym first ∙ within in cc
+-- if none does, it is the last one
+all-before : (ts : List Bool) (b : Bool) → position not ts ≡ None → position_or_len not (ts ++ b ∷ []) ≡ length ts + cond (not b) 0 1
+all-before ts b none =
+    let late : length ts ≤ position_or_len not ts = ltb-false _ _ (no-place _ _ none) in
+    let all : position_or_len not ts ≡ length ts =
+    position_or_len_is not ts (length ts) false (omega arith) (λ k lt. fails_before_first not ts k false (omega (arith, lt, late)))
+    (λ lt. absurd (omega (arith, lt))) in
+    position_or_len_push not ts b ∙ rw (eq-eqb (position_or_len not ts) (length ts) all) refl
+  where
+    no-place : (c : Bool) (n : ℕ) → cond c (Some n) None ≡ None → c ≡ false
+    no-place true n e = cc
+    no-place false n e = refl
 
-pub accepted : {T : Type 0} (form : Format) → IsFormat form → (limits : Limits) (checked : Result T BadLimits)
-    → OnOk checked (AreWithin form.most limits) → is_err checked ≡ false → All (λ n. n ≡ 1) (drop form.limits (limit_fields limits)) → AreOf form limits
-accepted form known limits (Ok x) within is others = record { passed = within_passed form known limits within; within = within; others = others }
-accepted form known limits (Err fault) within is others = cc
+pub last-fails : (ts : List Bool) → position not ts ≡ None → position not (ts ++ false ∷ []) ≡ Some (length ts)
+last-fails ts none =
+    let at : position_or_len not (ts ++ false ∷ []) ≡ length ts = all-before ts false none ∙ (omega arith) in
+    rw (at, lt-ltb (length ts) (length (ts ++ false ∷ [])) (omega (arith, length-append ts (false ∷ [])))) refl
+
+none-fails : (ts : List Bool) → position not ts ≡ None → position not (ts ++ true ∷ []) ≡ None
+none-fails ts none =
+    let at : position_or_len not (ts ++ true ∷ []) ≡ length ts + 1 = all-before ts true none in
+    rw (at, le-ltb (length ts + 1) (length (ts ++ true ∷ [])) (omega (arith, length-append ts (true ∷ [])))) refl
+
+-- an area that is too large fails the last test
+pub area-fails : (form : Format) (limits : Limits) → AreWithin form.most limits → most_area < area_in form limits → first_fault form limits ≡ Some 22
+area-fails form limits within above = rw (not-le (area_in form limits) most_area above) (last-fails (tests form.most limits) within)
+  where
+    not-le : (a b : ℕ) → b < a → nat_le a b ≡ false
+    not-le a b lt = by (leb a b) refl
+      where
+        by : (c : Bool) → leb a b ≡ c → leb a b ≡ false
+        by true is = absurd (omega (arith, lt, leb-true a b is))
+        by false is = is
+
+-- limits that pass the tests of the fields and of the area pass all
+pub all-pass : (form : Format) (limits : Limits) → AreWithin form.most limits → area_in form limits ≤ most_area → first_fault form limits ≡ None
+all-pass form limits within area = rw (le-leb (area_in form limits) most_area area) (none-fails (tests form.most limits) within)
+
+-- so do limits of a version
+pub of-passes : (form : Format) (limits : Limits) → AreOf form limits → first_fault form limits ≡ None
+of-passes form limits of = all-pass form limits of.within of.area
+
+-- where the area of limits that pass the tests of the fields is not too large, the first test that fails is one of a field
+pub first-is-of-fields : (form : Format) (limits : Limits) (field : ℕ) → (AreWithin form.most limits → area_in form limits ≤ most_area)
+    → first_fault form limits ≡ Some field → position not (tests form.most limits) ≡ Some field
+first-is-of-fields form limits field small is = by (position not (tests form.most limits)) refl
+  where
+    own : List Bool
+    own = tests form.most limits
+
+    last : Bool
+    last = nat_le (area_in form limits) most_area
+
+    by : (o : Option ℕ) → position not own ≡ o → position not own ≡ Some field
+    by None none =
+        let passes : last ≡ true = le-leb (area_in form limits) most_area (small none) in
+        absurd (none-some field (sym (ap (λ (b : Bool). position not (own ++ b ∷ [])) passes ∙ none-fails own none) ∙ is))
+    by (Some first) found = found ∙ sym (first_before own last first found) ∙ is

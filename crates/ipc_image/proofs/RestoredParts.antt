@@ -10,7 +10,7 @@ use Rattle.ipc_base.proofs.CallerLemmas.{fields_one}
 use Rattle.ipc_image.specs.declared.format.Format.{Format}
 use Rattle.ipc_image.specs.Format.{IsFormat}
 use Rattle.ipc_image.specs.Relations.Restored.{next_shm_bytes}
-use Rattle.ipc_image.specs.Saved.{clock_sizes, clock_numbers, clock_bytes, HasKindsOf}
+use Rattle.ipc_image.specs.Saved.{clock_sizes, clock_numbers, clock_bytes, count_bytes, HasKindsOf}
 use Rattle.ipc_image.proofs.Formats.{by-form}
 
 -- a state with its clock and its next numbers alone
@@ -53,20 +53,24 @@ all-fit s fit below = (fit.0, (fit.1.0, (fit.1.1.0, (fit.1.1.1.0, (fit.1.1.1.1.0
 module _ (form : Format) (known : IsFormat form) where
   -- the object is they, and the next number of System V segments
   pub clock-parts : (s : State) → clock_bytes form s ≡ fields_bytes first_sizes (first_numbers s) ++ next_shm_bytes form s.shm.next
-  clock-parts s = by-form (λ f. clock_bytes f s ≡ fields_bytes first_sizes (first_numbers s) ++ next_shm_bytes f s.shm.next) refl refl form known
+  clock-parts s =
+      by-form (λ f. clock_bytes f s ≡ fields_bytes first_sizes (first_numbers s) ++ next_shm_bytes f s.shm.next) refl refl (λ j its. refl) form known
 
   -- which is as long for each
   pub shm-length : (n m : ℕ) → length (next_shm_bytes form n) ≡ length (next_shm_bytes form m)
-  shm-length n m = by-form (λ f. length (next_shm_bytes f n) ≡ length (next_shm_bytes f m)) refl refl form known
+  shm-length n m = by-form (λ f. length (next_shm_bytes f n) ≡ length (next_shm_bytes f m)) refl refl (λ j its. refl) form known
 
   shm_one : (s t : State) → s.shm.next < 2 ^ 32 → t.shm.next < 2 ^ 32 → HasKindsOf form s → HasKindsOf form t
       → next_shm_bytes form s.shm.next ≡ next_shm_bytes form t.shm.next → s.shm.next ≡ t.shm.next
   shm_one s t few less =
       let next : Keyed SysSegment → ℕ = λ k. k.next in
       by-form (λ f. HasKindsOf f s → HasKindsOf f t → next_shm_bytes f s.shm.next ≡ next_shm_bytes f t.shm.next → s.shm.next ≡ t.shm.next)
-      (λ has also same. ap next (has refl ∙ sym (also refl)))
-      (λ has also same. ap (λ (ns : List ℕ). get_or ns 0 0) (fields_one (Four ∷ []) (s.shm.next ∷ []) (t.shm.next ∷ []) [] [] (few, tt) (less, tt)
-      (ap (λ (l : List ℕ). l ++ []) same)).0) form known
+      (λ has also same. ap next (has refl ∙ sym (also refl))) (λ has also same. from same) (λ j its has also same. from same) form known
+    where
+      from : count_bytes s.shm.next ≡ count_bytes t.shm.next → s.shm.next ≡ t.shm.next
+      from same =
+          ap (λ (ns : List ℕ). get_or ns 0 0) (fields_one (Four ∷ []) (s.shm.next ∷ []) (t.shm.next ∷ []) [] [] (few, tt) (less, tt)
+          (ap (λ (l : List ℕ). l ++ []) same)).0
 
   -- states with the same clock's object have the same clock and next numbers
   pub clock_one : (s t : State) → FitFields clock_sizes (clock_numbers s) → FitFields clock_sizes (clock_numbers t) → HasKindsOf form s

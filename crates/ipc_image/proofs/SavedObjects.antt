@@ -1,19 +1,22 @@
--- The state as objects: how many bytes each has, that they are objects, and that they fit where they are kept.
-use Rattle.std.proofs.Common.{◌≡◌, ℕ, zero, suc, ◌+◌, ◌*◌, ◌^◌, ◌<◌, ◌≤◌, ◌-◌, List, [], ◌∷◌, ◌++◌, length, map, Some, refl, sym, ap, subst, ◌∙◌, arith}
-use Rattle.std.specs.Prelude.{All, option_map}
+-- The state as objects: how many bytes each has, and that they are objects.
+use Rattle.std.proofs.Common.{◌≡◌, ℕ, zero, suc, ◌+◌, ◌*◌, ◌^◌, ◌<◌, ◌≤◌, ◌-◌, Bool, true, false, List, [], ◌∷◌, ◌++◌, length, map, Some}
+use Rattle.std.proofs.Common.{refl, sym, ap, subst, ◌∙◌, arith}
+use Rattle.std.specs.Prelude.{All, option_map, if◌then◌else◌}
+use Rattle.std.specs.FinMap as fin
 use Rattle.std.proofs.lemmas.List.{length-map, length-append, map-id}
 use Rattle.std.proofs.lemmas.List.Concat.{flat_map-cons}
 use Rattle.std.proofs.lemmas.List.Elements.{All-append, All-cons, All-map, All-nil, All-weaker}
-use Rattle.std.proofs.lemmas.List.Sums.{sum_by-append, sum_by-cons, sum_by_from}
+use Rattle.std.proofs.lemmas.List.Sums.{sum_by-cons}
 use Rattle.std.proofs.lemmas.Nat.{mul-le}
-use Rattle.std.proofs.Math.Nat.{mul_assoc}
+use Rattle.std.proofs.Math.Nat.{mul-suc}
 use Rattle.std.specs.List.{flat_map, slice_get}
 use Rattle.ipc_state.specs.declared.processes.Process.{Process}
-use Rattle.ipc_base.specs.declared.limits.Limits.{Limits}
-use Rattle.ipc_base.specs.Limits.{ArePassed}
-use Rattle.ipc_base.specs.Objects.{PlainObjects, AreObjects, object_sectors, table_bytes, Fit}
-use Rattle.ipc_base.specs.Table.{keys_of, IsRising}
-use Rattle.ipc_base.proofs.CallerLemmas.{passed-bounds, rising-lower}
+use Rattle.ipc_limits.specs.declared.limits.Limits.{Limits}
+use Rattle.ipc_limits.specs.Limits.{ArePassed}
+use Rattle.ipc_base.specs.Objects.{PlainObjects, AreObjects}
+use Rattle.ipc_base.specs.Table.{EachValue, keys_of, IsRising}
+use Rattle.ipc_base.proofs.CallerLemmas.{rising-lower}
+use Rattle.ipc_limits.proofs.CallerLemmas.{passed-bounds}
 use Rattle.sysv_msg.specs.Queue.{Queue, PlainMessage, byte_count, stat_of as queue_stat}
 use Rattle.sysv_msg.specs.declared.queue.QueueStat.{QueueStat}
 use Rattle.ipc_state.specs.declared.numbered.Item.{Item}
@@ -34,24 +37,25 @@ use Rattle.ipc_state.specs.State.{State, objects_in, named_of, start}
 use Rattle.ipc_state.specs.Waiting.{PlainWaiting}
 use Rattle.ipc_state.specs.Tables.{item_row}
 use Rattle.ipc_base.specs.Numbers.{fields_bytes}
-use Rattle.ipc_image.specs.Format.{format, format_one}
+use Rattle.ipc_image.specs.declared.format.Format.{Format}
+use Rattle.ipc_image.specs.Format.{IsOpened, format, format_three}
 use Rattle.ipc_image.specs.Saved.{counted_bytes, queue_sizes, queue_numbers, set_sizes, set_numbers}
-use Rattle.ipc_image.specs.Saved.{clock_sizes, clock_numbers, count_bytes, process_bytes, processes_bytes, message_bytes}
+use Rattle.ipc_image.specs.Saved.{clock_bytes, clock_sizes, clock_numbers, count_bytes, process_bytes, processes_bytes, message_bytes}
 use Rattle.ipc_image.specs.Saved.{waiting_bytes, waits_bytes, Adjustment, adjustment_bytes, adjustments_in, adjustments_bytes}
 use Rattle.sem_undo.specs.Undo.{Undo}
 use Rattle.ipc_image.specs.Saved.{queue_bytes, queue_object, semaphore_bytes, set_bytes, set_object, LaterObjects, later_in, later_objects}
-use Rattle.ipc_image.specs.Saved.{saved, saved_in, HasAllPlaces}
+use Rattle.ipc_image.specs.Saved.{saved_in, HasAllPlaces}
 use Rattle.ipc_image.specs.Saved.{descriptor_bytes}
 use Rattle.ipc_state.specs.declared.state.Numbers.{Numbers}
 use Rattle.ipc_image.specs.SavedParts.{IsMarkAfter, IsFound, IsSmallNamed, Stands, seen_later, seen_state}
 use Rattle.ipc_image.proofs.Marks.{each-at, length-each, length-most}
-use Rattle.ipc_image.proofs.KindSizes.{kind-sectors, objects-rise}
-use Rattle.ipc_image.proofs.LaterSizes.{later-are, later-counted, later-few, later-rise, later-sectors, named-small, later_count, later_most}
+use Rattle.ipc_image.proofs.KindSizes.{objects-rise}
+use Rattle.ipc_image.proofs.LaterSizes.{later-are, later-counted, later-few, later-rise, named-small, later_count}
 use Rattle.ipc_image.proofs.WaitingCalls.{length-waits}
+use Rattle.ipc_image.proofs.Formats.{by-opened}
 use Rattle.ipc_image.proofs.Attaching.{rising-distinct}
 use Rattle.ipc_image.proofs.AdjustmentLists.{few-in}
 use Rattle.ipc_base.specs.declared.objects.Mark.{Mark}
-use Rattle.ipc_image.specs.Sizes.{sectors, process_sectors, area_of}
 
 -- ---- how many bytes each has
 
@@ -69,19 +73,46 @@ adjustments-long undo =
     let xs : List Adjustment = adjustments_in undo in
     omega (arith, length-append (count_bytes (length xs)) (flat_map adjustment_bytes xs), length-each adjustment_bytes 12 (λ x. refl) xs)
 
-pub length-messages : (messages : List PlainMessage) → length (flat_map message_bytes messages) ≡ 12 * length messages + byte_count messages
-length-messages [] = refl
-length-messages (m ∷ messages) =
-    ap length (flat_map-cons message_bytes m messages) ∙ length-append (message_bytes m) (flat_map message_bytes messages)
-    ∙ omega (arith, length-messages messages, sum_by-cons (λ (n : PlainMessage). length n.text) m messages)
+-- the bytes of a message before its text
+abbrev before : Bool → ℕ
+before marks = if marks then 36 else 12
 
-pub queue-long : (e : KeyedEntry Queue) → length (queue_bytes e) ≡ 64 + (12 * length e.object.messages + byte_count e.object.messages)
-queue-long e = omega (arith, length-messages e.object.messages)
+message-long : (marks : Bool) (m : PlainMessage) → length (message_bytes marks m) ≡ before marks + length m.text
+message-long true m = omega arith
+message-long false m = omega arith
+
+more : (marks : Bool) (m : PlainMessage) (messages : List PlainMessage)
+    → length (flat_map (message_bytes marks) messages) ≡ before marks * length messages + byte_count messages
+    → length (flat_map (message_bytes marks) (m ∷ messages)) ≡ before marks * length (m ∷ messages) + byte_count (m ∷ messages)
+more marks m messages rest =
+    ap length (flat_map-cons (message_bytes marks) m messages) ∙ length-append (message_bytes marks m) (flat_map (message_bytes marks) messages)
+    ∙ omega (
+      arith,
+      rest,
+      message-long marks m,
+      mul-suc (before marks) (length messages),
+      sum_by-cons (λ (n : PlainMessage). length n.text) m messages,
+    )
+
+pub length-messages : (marks : Bool) (messages : List PlainMessage)
+    → length (flat_map (message_bytes marks) messages) ≡ before marks * length messages + byte_count messages
+length-messages true [] = refl
+length-messages true (m ∷ messages) = more true m messages (length-messages true messages)
+length-messages false [] = refl
+length-messages false (m ∷ messages) = more false m messages (length-messages false messages)
+
+pub queue-long : (marks : Bool) (e : KeyedEntry Queue)
+    → length (queue_bytes marks e) ≡ (if marks then 72 else 64) + (before marks * length e.object.messages + byte_count e.object.messages)
+queue-long true e = omega (arith, length-messages true e.object.messages)
+queue-long false e = omega (arith, length-messages false e.object.messages)
 
 -- how many its numbers and its parts have, by what it tells of itself
 pub queue_counts : (q : Queue) (s : QueueStat) → s ≡ queue_stat q
-    → length (fields_bytes queue_sizes (queue_numbers q) ++ counted_bytes message_bytes q.messages) ≡ 40 + (12 * s.qnum + s.bytes)
-queue_counts q s is = omega (arith, length-messages q.messages, ap (λ (t : QueueStat). t.qnum) is, ap (λ (t : QueueStat). t.bytes) is)
+    → length (fields_bytes queue_sizes (queue_numbers q) ++ counted_bytes (message_bytes false) q.messages) ≡ 40 + (12 * s.qnum + s.bytes)
+queue_counts q s is = omega (arith, length-messages false q.messages, ap (λ (t : QueueStat). t.qnum) is, ap (λ (t : QueueStat). t.bytes) is)
+
+pub marked_counts : (e : KeyedEntry Queue) (s : QueueStat) → s ≡ queue_stat e.object → length (queue_bytes true e) ≡ 72 + (36 * s.qnum + s.bytes)
+marked_counts e s is = omega (arith, queue-long true e, ap (λ (t : QueueStat). t.qnum) is, ap (λ (t : QueueStat). t.bytes) is)
 
 pub set_counts : (x : Set) (s : SemStat) → s ≡ set_stat x
     → length (fields_bytes set_sizes (set_numbers x) ++ counted_bytes semaphore_bytes x.semaphores) ≡ 20 + 6 * s.nsems
@@ -90,42 +121,49 @@ set_counts x s is = omega (arith, length-each semaphore_bytes 6 (λ y. refl) x.s
 pub set-long : (e : KeyedEntry Set) → length (set_bytes e) ≡ 44 + 6 * length e.object.semaphores
 set-long e = omega (arith, length-each semaphore_bytes 6 (λ x. refl) e.object.semaphores)
 
+-- the clock's object has all numbers in each form that is opened
+pub clock-whole : (form : Format) → IsOpened form → (s : State) → clock_bytes form s ≡ fields_bytes clock_sizes (clock_numbers s)
+clock-whole form opened s = by-opened (λ f. clock_bytes f s ≡ fields_bytes clock_sizes (clock_numbers s)) refl (λ j its. refl) form opened
+
+pub clock-length : (form : Format) → IsOpened form → (s : State) → length (clock_bytes form s) ≡ 36
+clock-length form opened s = by-opened (λ f. length (clock_bytes f s) ≡ 36) refl (λ j its. refl) form opened
+
 -- ---- which object is which
 
 -- the things that have objects of their own
-abbrev pub things : State → PlainObjects
-things s = map queue_object s.msg.entries ++ (map set_object s.semset.entries ++ later_objects (later_in s))
+abbrev pub things : Bool → State → PlainObjects
+things marks s = map (queue_object marks) s.msg.entries ++ (map set_object s.semset.entries ++ later_objects (later_in s))
 
-module _ (s : State) where
-  pub saved-count : length (saved s) ≡ 4 + (length s.msg.entries + (length s.semset.entries + later_count (later_in s)))
+module _ (form : Format) (s : State) where
+  pub saved-count : length (saved_in form s) ≡ 4 + (length s.msg.entries + (length s.semset.entries + later_count (later_in s)))
   unfolding saved_in
   saved-count =
       omega (
         arith,
-        length-append (map queue_object s.msg.entries) (map set_object s.semset.entries ++ later_objects (later_in s)),
+        length-append (map (queue_object form.marks) s.msg.entries) (map set_object s.semset.entries ++ later_objects (later_in s)),
         length-append (map set_object s.semset.entries) (later_objects (later_in s)),
-        length-map s.msg.entries queue_object,
+        length-map s.msg.entries (queue_object form.marks),
         length-map s.semset.entries set_object,
         later-counted (later_in s),
       )
 
-  pub saved-clock : slice_get (saved s) 0 ≡ Some (0, fields_bytes clock_sizes (clock_numbers s))
+  pub saved-clock : slice_get (saved_in form s) 0 ≡ Some (0, clock_bytes form s)
   unfolding saved_in
   saved-clock = refl
 
-  pub saved-processes : slice_get (saved s) 1 ≡ Some (1, processes_bytes s.processes.entries)
+  pub saved-processes : slice_get (saved_in form s) 1 ≡ Some (1, processes_bytes s.processes.entries)
   unfolding saved_in
   saved-processes = refl
 
-  pub saved-waits : slice_get (saved s) 2 ≡ Some (2, waits_bytes s.wait)
+  pub saved-waits : slice_get (saved_in form s) 2 ≡ Some (2, waits_bytes s.wait)
   unfolding saved_in
   saved-waits = refl
 
-  pub saved-adjustments : slice_get (saved s) 3 ≡ Some (3, adjustments_bytes s.undo)
+  pub saved-adjustments : slice_get (saved_in form s) 3 ≡ Some (3, adjustments_bytes s.undo)
   unfolding saved_in
   saved-adjustments = refl
 
-  pub saved-number : (i : ℕ) → i < 4 → option_map (λ o. o.0) (slice_get (saved s) i) ≡ Some i
+  pub saved-number : (i : ℕ) → i < 4 → option_map (λ o. o.0) (slice_get (saved_in form s) i) ≡ Some i
   unfolding saved_in
   saved-number zero few = refl
   saved-number (suc zero) few = refl
@@ -134,32 +172,32 @@ module _ (s : State) where
   saved-number (suc (suc (suc (suc i)))) few = absurd (omega arith)
 
   -- an object after the four
-  pub found-thing : AreObjects (saved s) → (i : ℕ) → 4 ≤ i → (o : ℕ × List ℕ) (IsOfIt : Mark → Type 0) (Fits : Type 0) → Fits
-      → Stands (things s) (IsMarkAfter s) (i - 4) o IsOfIt → IsFound s i o IsOfIt Fits
+  pub found-thing : AreObjects (saved_in form s) → (i : ℕ) → 4 ≤ i → (o : ℕ × List ℕ) (IsOfIt : Mark → Type 0) (Fits : Type 0) → Fits
+      → Stands (things form.marks s) (IsMarkAfter form s) (i - 4) o IsOfIt → IsFound form s i o IsOfIt Fits
   unfolding saved_in
   found-thing are i four o IsOfIt Fits fits stands =
       let deep : i ≡ suc (suc (suc (suc (i - 4)))) = omega (arith, four) in
-      let found = ap (slice_get (saved s)) deep ∙ stands.object in
-      let short = each-at (λ (p : ℕ × List ℕ). length p.1 < 2 ^ 64) (saved s) i o are.lengths found in
+      let found = ap (slice_get (saved_in form s)) deep ∙ stands.object in
+      let short = each-at (λ (p : ℕ × List ℕ). length p.1 < 2 ^ 64) (saved_in form s) i o are.lengths found in
       record { stands = stands; object = found; short = short; fits = fits }
 
   -- what holds of the four, and of each thing that has an object of its own, holds of all
-  each-saved : (P : ℕ × List ℕ → Type 0) → P (0, fields_bytes clock_sizes (clock_numbers s)) → P (1, processes_bytes s.processes.entries)
-      → P (2, waits_bytes s.wait) → P (3, adjustments_bytes s.undo) → All (λ e. P (queue_object e)) s.msg.entries
-      → All (λ e. P (set_object e)) s.semset.entries → All P (later_objects (later_in s)) → All P (saved s)
+  each-saved : (P : ℕ × List ℕ → Type 0) → P (0, clock_bytes form s) → P (1, processes_bytes s.processes.entries)
+      → P (2, waits_bytes s.wait) → P (3, adjustments_bytes s.undo) → All (λ e. P (queue_object form.marks e)) s.msg.entries
+      → All (λ e. P (set_object e)) s.semset.entries → All P (later_objects (later_in s)) → All P (saved_in form s)
   unfolding saved_in
   each-saved P clock processes waiting adjustments queues sets later =
-      let two : List (ℕ × List ℕ) = (2, waits_bytes s.wait) ∷ (3, adjustments_bytes s.undo) ∷ things s in
+      let two : List (ℕ × List ℕ) = (2, waits_bytes s.wait) ∷ (3, adjustments_bytes s.undo) ∷ things form.marks s in
       All-cons P _ ((1, processes_bytes s.processes.entries) ∷ two) clock
       (All-cons P _ two processes
-      (All-cons P _ ((3, adjustments_bytes s.undo) ∷ things s) waiting
-      (All-cons P _ (things s) adjustments
-      (All-append P (map queue_object s.msg.entries) (map set_object s.semset.entries ++ later_objects (later_in s))
-      (All-map P queue_object s.msg.entries queues)
+      (All-cons P _ ((3, adjustments_bytes s.undo) ∷ things form.marks s) waiting
+      (All-cons P _ (things form.marks s) adjustments
+      (All-append P (map (queue_object form.marks) s.msg.entries) (map set_object s.semset.entries ++ later_objects (later_in s))
+      (All-map P (queue_object form.marks) s.msg.entries queues)
       (All-append P (map set_object s.semset.entries) (later_objects (later_in s)) (All-map P set_object s.semset.entries sets) later)))))
 
 -- the state that tables are, and how many objects it has
-module _ (n : Numbers) (ps : List (Item Process)) (ws : List PlainWaiting) (us : List (Item Undo)) (qs : List (Item (KeyedEntry Queue)))
+module _ (form : Format) (n : Numbers) (ps : List (Item Process)) (ws : List PlainWaiting) (us : List (Item Undo)) (qs : List (Item (KeyedEntry Queue)))
     (xs : List (Item (KeyedEntry Set))) (o : LaterObjects) where
   pub seen-is : (s : State) → n.clock.0 ≡ s.clock → n.next_pid ≡ s.processes.next → n.next_msg_queue ≡ s.msg.next → n.next_semset ≡ s.semset.next
       → map item_row ps ≡ s.processes.entries → ws ≡ s.wait → map item_row us ≡ s.undo → map item_row qs ≡ s.msg.entries
@@ -178,32 +216,33 @@ module _ (n : Numbers) (ps : List (Item Process)) (ws : List PlainWaiting) (us :
         shm = (later i).shm;
       }
 
-  pub seen_count : length (saved (seen_state n ps ws us qs xs o)) ≡ 4 + (length qs + (length xs + later_count o))
-  seen_count = omega (arith, saved-count (seen_state n ps ws us qs xs o), length-map qs item_row, length-map xs item_row)
+  pub seen_count : length (saved_in form (seen_state n ps ws us qs xs o)) ≡ 4 + (length qs + (length xs + later_count o))
+  seen_count = omega (arith, saved-count form (seen_state n ps ws us qs xs o), length-map qs item_row, length-map xs item_row)
 
   -- the bytes of the processes can be counted
-  pub processes-counted : AreObjects (saved (seen_state n ps ws us qs xs o)) → 4 + length (flat_map process_bytes (map item_row ps)) < 2 ^ 64
+  pub processes-counted : AreObjects (saved_in form (seen_state n ps ws us qs xs o)) → 4 + length (flat_map process_bytes (map item_row ps)) < 2 ^ 64
   processes-counted are =
       let s : State = seen_state n ps ws us qs xs o in
-      let short = each-at (λ (p : ℕ × List ℕ). length p.1 < 2 ^ 64) (saved s) 1 _ are.lengths (saved-processes s) in
+      let short = each-at (λ (p : ℕ × List ℕ). length p.1 < 2 ^ 64) (saved_in form s) 1 _ are.lengths (saved-processes form s) in
       omega (arith, short, processes-long s.processes.entries)
 
   -- the bytes of the waiting calls can be counted
-  pub waits-counted : AreObjects (saved (seen_state n ps ws us qs xs o)) → 4 + length (flat_map waiting_bytes (map (λ w. w) ws)) < 2 ^ 64
+  pub waits-counted : AreObjects (saved_in form (seen_state n ps ws us qs xs o)) → 4 + length (flat_map waiting_bytes (map (λ w. w) ws)) < 2 ^ 64
   waits-counted are =
       let s : State = seen_state n ps ws us qs xs o in
-      let short = each-at (λ (p : ℕ × List ℕ). length p.1 < 2 ^ 64) (saved s) 2 _ are.lengths (saved-waits s) in
+      let short = each-at (λ (p : ℕ × List ℕ). length p.1 < 2 ^ 64) (saved_in form s) 2 _ are.lengths (saved-waits form s) in
       omega (arith, short, waits-long ws, ap (λ (l : List PlainWaiting). length (flat_map waiting_bytes l)) (map-id ws))
 
 -- how many objects the state of these tables has
-pub tables_count : (n : Numbers) (ps : List (Item Process)) (ws : List PlainWaiting) (us : List (Item Undo)) (qs : List (Item (KeyedEntry Queue)))
-    (xs : List (Item (KeyedEntry Set))) (ms : List (Item (NamedEntry Mq))) (ss : List (Item (NamedEntry ℕ))) (gs : List (Item (NamedEntry Segment)))
-    (hs : List (Item (KeyedEntry SysSegment))) → length (saved (seen_state n ps ws us qs xs (seen_later n ms ss gs hs)))
+pub tables_count : (form : Format) (n : Numbers) (ps : List (Item Process)) (ws : List PlainWaiting) (us : List (Item Undo))
+    (qs : List (Item (KeyedEntry Queue))) (xs : List (Item (KeyedEntry Set))) (ms : List (Item (NamedEntry Mq))) (ss : List (Item (NamedEntry ℕ)))
+    (gs : List (Item (NamedEntry Segment))) (hs : List (Item (KeyedEntry SysSegment)))
+    → length (saved_in form (seen_state n ps ws us qs xs (seen_later n ms ss gs hs)))
     ≡ 4 + (length qs + (length xs + (length ms + (length ss + (length gs + length hs)))))
-tables_count n ps ws us qs xs ms ss gs hs =
+tables_count form n ps ws us qs xs ms ss gs hs =
     omega (
       arith,
-      seen_count n ps ws us qs xs (seen_later n ms ss gs hs),
+      seen_count form n ps ws us qs xs (seen_later n ms ss gs hs),
       length-map ms item_row,
       length-map ss item_row,
       length-map gs item_row,
@@ -268,7 +307,7 @@ module _ (limits : Limits) (s : State) (passed : ArePassed limits) (sound : IsSo
   pub shms-small : (rows : List (Item (KeyedEntry SysSegment))) → map item_row rows ≡ s.shm.entries → All (λ e. e.value.perm.mode < 512) rows
   shms-small rows are = rows-have (λ e. e.perm.mode < 512) rows s.shm.entries are sound.parts.shm.held.bound.modes
 
-  processes-short : length (processes_bytes s.processes.entries) ≤ 4 + limits.processes * (16 + 16 * limits.descriptors)
+  pub processes-short : length (processes_bytes s.processes.entries) ≤ 4 + limits.processes * (16 + 16 * limits.descriptors)
   processes-short =
       let most : ℕ = 16 + 16 * limits.descriptors in
       let each : All (λ p. length (process_bytes p) ≤ most) s.processes.entries =
@@ -281,137 +320,103 @@ module _ (limits : Limits) (s : State) (passed : ArePassed limits) (sound : IsSo
         mul-le (length s.processes.entries) most limits.processes most sound.parts.processes.numbered.count (omega arith),
       )
 
-  queues-short : All (λ e. length (queue_bytes e.1) ≤ 64 + 13 * limits.msgmnb) s.msg.entries
-  queues-short =
-      All-weaker (λ (e : ℕ × KeyedEntry Queue). IsSoundMsgQueue limits e.1.object) (λ e. length (queue_bytes e.1) ≤ 64 + 13 * limits.msgmnb)
-      (λ e good. omega (arith, queue-long e.1, good.count, good.bytes)) s.msg.entries sound.parts.msg.held.bound.each
-
-  sets-short : All (λ e. length (set_bytes e.1) ≤ 44 + 6 * limits.semmsl) s.semset.entries
+  pub sets-short : All (λ e. length (set_bytes e.1) ≤ 44 + 6 * limits.semmsl) s.semset.entries
   sets-short =
       All-weaker (λ (e : ℕ × KeyedEntry Set). IsSoundSemset limits e.1.object) (λ e. length (set_bytes e.1) ≤ 44 + 6 * limits.semmsl)
       (λ e good. omega (arith, set-long e.1, good.few)) s.semset.entries sound.parts.semset.held.bound.each
 
-  waits-short : length (waits_bytes s.wait) ≤ 4 + limits.processes * (16 + format.request)
-  waits-short = omega (arith, waits-long s.wait, length-waits s.wait sound.parts.wait.each, sound.parts.wait.few)
-
-  -- each process has no more adjustments than there may be semaphores
-  undo-few : length (adjustments_in s.undo) ≤ limits.processes * limits.semmns
-  undo-few =
+  -- the processes have adjustments, each with few
+  pub adjustments-few : (most : ℕ) → EachValue (λ (undo : Undo). fin.len undo ≤ most) s.undo → length (adjustments_in s.undo) ≤ limits.processes * most
+  adjustments-few most few =
       let connected = length-map s.processes.entries (λ e. e.0) in
-      let few : length s.undo ≤ limits.processes =
+      let own : length s.undo ≤ limits.processes =
       omega (arith, length-map s.undo (λ e. e.0), ap length sound.parts.undo.pids, connected, sound.parts.processes.numbered.count) in
-      omega (
-        arith,
-        few-in limits.semmns s.undo (few-adjustments limits s sound.parts),
-        mul-le (length s.undo) limits.semmns limits.processes limits.semmns few (omega arith),
-      )
+      omega (arith, few-in most s.undo few, mul-le (length s.undo) most limits.processes most own (omega arith))
 
   pub undo-counted : length (adjustments_in s.undo) < 2 ^ 32
   undo-counted =
       let b = passed-bounds limits passed in
-      omega (arith, undo-few, mul-le limits.processes limits.semmns 4096 512 b.processes.1 b.semmns)
-
-  numbers-rise : IsRising 0 (keys_of (saved s)) (2 ^ 64)
-  unfolding saved_in
-  numbers-rise =
-      let later : PlainObjects = later_objects (later_in s) in
-      let third : IsRising (3 * 2 ^ 32 + 1) (keys_of later) (2 ^ 64) = later-rise limits s sound in
-      let sets : PlainObjects = map set_object s.semset.entries ++ later in
-      let second : IsRising (2 * 2 ^ 32 + 1) (keys_of sets) (2 ^ 64) =
-      objects-rise (2 * 2 ^ 32) set_bytes 1 s.semset.next (2 ^ 64) s.semset.entries later sound.parts.semset.held.bound.numbered.numbers
-      (rising-lower (2 * 2 ^ 32 + s.semset.next) (3 * 2 ^ 32 + 1) (keys_of later) (2 ^ 64)
-      (omega (arith, sound.parts.semset.held.bound.numbered.next)) third) in
-      let all = objects-rise (2 ^ 32) queue_bytes 1 s.msg.next (2 ^ 64) s.msg.entries sets sound.parts.msg.held.bound.numbered.numbers
-      (rising-lower (2 ^ 32 + s.msg.next) (2 * 2 ^ 32 + 1) (keys_of sets) (2 ^ 64) (omega (arith, sound.parts.msg.held.bound.numbered.next)) second) in
-      (omega arith, (omega arith, (omega arith, (omega arith, rising-lower 4 (2 ^ 32 + 1) (keys_of (things s)) (2 ^ 64) (omega arith) all))))
-
-  pub saved-are : AreObjects (saved s)
-  saved-are =
-      let b = passed-bounds limits passed in
-      let Some-bytes : ℕ × List ℕ → Type 0 = λ o. 0 < length o.1 in
-      let Few-bytes : ℕ × List ℕ → Type 0 = λ o. length o.1 < 2 ^ 64 in
-      let IsShort : ℕ × KeyedEntry Set → Type 0 = λ e. length (set_bytes e.1) ≤ 44 + 6 * limits.semmsl in
-      let later = later-are limits s sound passed in
-      let processes : limits.processes * (16 + 16 * limits.descriptors) ≤ 4096 * 528 =
-      mul-le limits.processes (16 + 16 * limits.descriptors) 4096 528 b.processes.1 (omega (arith, b.descriptors)) in
-      record {
-        numbers = numbers-rise;
-        some = each-saved s Some-bytes (omega arith) (omega (arith, processes-long s.processes.entries)) (omega (arith, waits-long s.wait))
-            (omega (arith, adjustments-long s.undo))
-            (All-weaker (λ (e : ℕ × KeyedEntry Queue). length (queue_bytes e.1) ≤ 64 + 13 * limits.msgmnb) (λ e. Some-bytes (queue_object e))
-            (λ e short. omega (arith, queue-long e.1)) s.msg.entries queues-short)
-            (All-weaker IsShort (λ e. Some-bytes (set_object e)) (λ e short. omega (arith, set-long e.1)) s.semset.entries sets-short) later.some;
-        lengths = each-saved s Few-bytes (omega arith)
-            (omega (arith, processes-short, processes))
-            (omega (arith, waits-short, b.processes.1)) (omega (arith, adjustments-long s.undo, undo-counted))
-            (All-weaker (λ (e : ℕ × KeyedEntry Queue). length (queue_bytes e.1) ≤ 64 + 13 * limits.msgmnb) (λ e. Few-bytes (queue_object e))
-            (λ e short. omega (arith, short, b.msgmnb.1)) s.msg.entries queues-short)
-            (All-weaker IsShort (λ e. Few-bytes (set_object e)) (λ e short. omega (arith, short, b.semmsl)) s.semset.entries sets-short) later.few;
-        count = omega (
-          arith,
-          saved-count s,
-          sound.parts.msg.held.bound.numbered.count,
-          b.msgmni,
-          sound.parts.semset.held.bound.numbered.count,
-          b.semmni,
-          later-few limits s sound,
-          b.queues,
-          b.named_semaphores,
-          b.segments,
-          b.shmmni,
-        );
-      }
-
-  -- ---- they fit
-
-  object-sectors : object_sectors (saved s)
-      ≤ process_sectors format limits + limits.msgmni * sectors (64 + 13 * limits.msgmnb) + limits.semmni * sectors (44 + 6 * limits.semmsl)
-      + later_most limits
-  unfolding saved_in
-  object-sectors =
-      let of : ℕ × List ℕ → ℕ = λ o. sectors (length o.1) in
-      let queues = kind-sectors (2 ^ 32) limits.msgmni (64 + 13 * limits.msgmnb) queue_bytes s.msg.entries queues-short
-      sound.parts.msg.held.bound.numbered.count in
-      let sets = kind-sectors (2 * 2 ^ 32) limits.semmni (44 + 6 * limits.semmsl) set_bytes s.semset.entries sets-short
-      sound.parts.semset.held.bound.numbered.count in
-      let first : ℕ = sectors 36 + sectors (length (processes_bytes s.processes.entries)) + sectors (length (waits_bytes s.wait))
-      + sectors (length (adjustments_bytes s.undo)) in
-      let undo : 12 * length (adjustments_in s.undo) ≤ 12 * limits.processes * limits.semmns =
-      omega (arith, undo-few, mul_assoc 12 limits.processes limits.semmns) in
       omega (
         arith,
-        sum_by_from of first (things s),
-        sum_by-append of (map queue_object s.msg.entries) (map set_object s.semset.entries ++ later_objects (later_in s)),
-        sum_by-append of (map set_object s.semset.entries) (later_objects (later_in s)),
-        later-sectors limits s sound,
-        processes-short,
-        waits-short,
-        adjustments-long s.undo,
-        undo,
+        adjustments-few limits.semmns (few-adjustments limits s sound.parts),
+        mul-le limits.processes limits.semmns 4096 512 (omega (arith, b.processes)) (omega (arith, b.semmns)),
       )
 
-  pub saved-fit : Fit (area_of limits) (saved s)
-  saved-fit =
-      omega (
-        arith,
-        object-sectors,
-        saved-count s,
-        sound.parts.msg.held.bound.numbered.count,
-        sound.parts.semset.held.bound.numbered.count,
-        later-few limits s sound,
-      )
+  module _ (form : Format) (opened : IsOpened form) where
+    clock-long : length (clock_bytes form s) ≡ 36
+    clock-long = clock-length form opened s
 
--- in a form without a next number of System V segments they take as many sectors, and so does their table
-pub saved-one-less : (s : State) → object_sectors (saved_in format_one s) ≡ object_sectors (saved s)
-unfolding saved_in
-saved-one-less s = refl
+    clock-some : 0 < length (clock_bytes form s)
+    clock-some = omega (arith, clock-long)
 
-pub table-one-less : (s : State) → table_bytes (saved_in format_one s) ≡ table_bytes (saved s)
-unfolding saved_in
-table-one-less s = refl
+    clock-few : length (clock_bytes form s) < 2 ^ 64
+    clock-few = omega (arith, clock-long)
 
-pub old-saved-fit : (limits : Limits) (s : State) → ArePassed limits → IsSound limits s → Fit (area_of limits) (saved_in format_one s)
-old-saved-fit limits s passed sound = omega (arith, saved-fit limits s passed sound, saved-one-less s, table-one-less s)
+    queue-some : (e : KeyedEntry Queue) → 0 < length (queue_bytes form.marks e)
+    queue-some e =
+        by-opened (λ f. 0 < length (queue_bytes f.marks e)) (omega (arith, queue-long false e)) (λ j its. omega (arith, queue-long true e)) form opened
+
+    queue-few : (e : KeyedEntry Queue) → IsSoundMsgQueue limits e.object → length (queue_bytes form.marks e) < 2 ^ 64
+    queue-few e good =
+        let b = passed-bounds limits passed in
+        by-opened (λ f. length (queue_bytes f.marks e) < 2 ^ 64) (omega (arith, queue-long false e, good.count, good.bytes, b.msgmnb))
+        (λ j its. omega (arith, queue-long true e, good.count, good.bytes, b.msgmnb)) form opened
+
+    waits-few : length (waits_bytes s.wait) < 2 ^ 64
+    waits-few =
+        let b = passed-bounds limits passed in
+        omega (arith, waits-long s.wait, length-waits s.wait sound.parts.wait.each, sound.parts.wait.few, b.processes)
+
+    numbers-rise : IsRising 0 (keys_of (saved_in form s)) (2 ^ 64)
+    unfolding saved_in
+    numbers-rise =
+        let later : PlainObjects = later_objects (later_in s) in
+        let third : IsRising (3 * 2 ^ 32 + 1) (keys_of later) (2 ^ 64) = later-rise limits s sound in
+        let sets : PlainObjects = map set_object s.semset.entries ++ later in
+        let second : IsRising (2 * 2 ^ 32 + 1) (keys_of sets) (2 ^ 64) =
+        objects-rise (2 * 2 ^ 32) set_bytes 1 s.semset.next (2 ^ 64) s.semset.entries later sound.parts.semset.held.bound.numbered.numbers
+        (rising-lower (2 * 2 ^ 32 + s.semset.next) (3 * 2 ^ 32 + 1) (keys_of later) (2 ^ 64)
+        (omega (arith, sound.parts.semset.held.bound.numbered.next)) third) in
+        let all = objects-rise (2 ^ 32) (queue_bytes form.marks) 1 s.msg.next (2 ^ 64) s.msg.entries sets sound.parts.msg.held.bound.numbered.numbers
+        (rising-lower (2 ^ 32 + s.msg.next) (2 * 2 ^ 32 + 1) (keys_of sets) (2 ^ 64) (omega (arith, sound.parts.msg.held.bound.numbered.next)) second) in
+        (omega arith, (omega arith, (omega arith, (omega arith, rising-lower 4 (2 ^ 32 + 1) (keys_of (things form.marks s)) (2 ^ 64) (omega arith) all))))
+
+    pub saved-are : AreObjects (saved_in form s)
+    saved-are =
+        let b = passed-bounds limits passed in
+        let Some-bytes : ℕ × List ℕ → Type 0 = λ o. 0 < length o.1 in
+        let Few-bytes : ℕ × List ℕ → Type 0 = λ o. length o.1 < 2 ^ 64 in
+        let IsShort : ℕ × KeyedEntry Set → Type 0 = λ e. length (set_bytes e.1) ≤ 44 + 6 * limits.semmsl in
+        let later = later-are limits s sound passed in
+        let processes : limits.processes * (16 + 16 * limits.descriptors) ≤ 4096 * 16400 =
+        mul-le limits.processes (16 + 16 * limits.descriptors) 4096 16400 (omega (arith, b.processes)) (omega (arith, b.descriptors)) in
+        record {
+          numbers = numbers-rise;
+          some = each-saved form s Some-bytes clock-some (omega (arith, processes-long s.processes.entries)) (omega (arith, waits-long s.wait))
+              (omega (arith, adjustments-long s.undo))
+              (All-weaker (λ (e : ℕ × KeyedEntry Queue). IsSoundMsgQueue limits e.1.object) (λ e. Some-bytes (queue_object form.marks e))
+              (λ e good. queue-some e.1) s.msg.entries sound.parts.msg.held.bound.each)
+              (All-weaker IsShort (λ e. Some-bytes (set_object e)) (λ e short. omega (arith, set-long e.1)) s.semset.entries sets-short) later.some;
+          lengths = each-saved form s Few-bytes clock-few
+              (omega (arith, processes-short, processes))
+              waits-few (omega (arith, adjustments-long s.undo, undo-counted))
+              (All-weaker (λ (e : ℕ × KeyedEntry Queue). IsSoundMsgQueue limits e.1.object) (λ e. Few-bytes (queue_object form.marks e))
+              (λ e good. queue-few e.1 good) s.msg.entries sound.parts.msg.held.bound.each)
+              (All-weaker IsShort (λ e. Few-bytes (set_object e)) (λ e short. omega (arith, short, b.semmsl)) s.semset.entries sets-short) later.few;
+          count = omega (
+            arith,
+            saved-count form s,
+            sound.parts.msg.held.bound.numbered.count,
+            b.msgmni,
+            sound.parts.semset.held.bound.numbered.count,
+            b.semmni,
+            later-few limits s sound,
+            b.queues,
+            b.named_semaphores,
+            b.segments,
+            b.shmmni,
+          );
+        }
 
 -- ---- the state to which nothing has happened
 
@@ -432,12 +437,16 @@ start-places = record {
   later = record { mqs = All-nil _; psems = All-nil _; segments = All-nil _; shms = All-nil _ };
 }
 
-pub start-are : AreObjects (saved start)
+pub start-are : (form : Format) → IsOpened form → AreObjects (saved_in form start)
 unfolding saved_in
-start-are =
-    record {
-      numbers = (omega arith, (omega arith, (omega arith, (omega arith, omega arith))));
-      some = each-saved start (λ o. 0 < length o.1) (omega arith) (omega arith) (omega arith) (omega arith) (All-nil _) (All-nil _) (All-nil _);
-      lengths = each-saved start (λ o. length o.1 < 2 ^ 64) (omega arith) (omega arith) (omega arith) (omega arith) (All-nil _) (All-nil _) (All-nil _);
-      count = omega arith;
-    }
+start-are form opened = by-opened (λ f. AreObjects (saved_in f start)) (are format refl) (λ journal its. are (format_three journal) refl) form opened
+  where
+    are : (f : Format) → length (clock_bytes f start) ≡ 36 → AreObjects (saved_in f start)
+    are f long =
+        record {
+          numbers = (omega arith, (omega arith, (omega arith, (omega arith, omega arith))));
+          some = each-saved f start (λ o. 0 < length o.1) (omega (arith, long)) (omega arith) (omega arith) (omega arith) (All-nil _) (All-nil _) (All-nil _);
+          lengths = each-saved f start (λ o. length o.1 < 2 ^ 64) (omega (arith, long)) (omega arith) (omega arith) (omega arith) (All-nil _) (All-nil _)
+              (All-nil _);
+          count = omega arith;
+        }

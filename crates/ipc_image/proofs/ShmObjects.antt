@@ -11,7 +11,7 @@ use Rattle.shm_segment.specs.SysSegment.{SysSegment, stat_of}
 use Rattle.shm_segment.specs.declared.sys_segment.ShmStat.{ShmStat}
 use Rattle.ipc_state.specs.Keyed.{KeyedEntry}
 use Rattle.ipc_image.specs.Saved.{mode_with, shm_sizes, shm_numbers, shm_bytes, FitsShm}
-use Rattle.ipc_image.specs.SavedParts.{shm_perm, shm_stat, shm_from}
+use Rattle.ipc_image.specs.SavedParts.{shm_perm, shm_stat}
 
 -- a number that tells of a mode and the mark
 mode_told : (n : ℕ) → n < 1024 → mode_with (n % 512) (nat_le 512 n) ≡ n

@@ -5,7 +5,7 @@ use Rattle.std.specs.Prelude.{All, if◌then◌else◌, nat_eq, option_map, unwr
 use Rattle.std.specs.List.{slice_get}
 use Rattle.std.proofs.lemmas.Bool.Decides.{nat_tests}
 use Rattle.std.proofs.lemmas.Option.{same_Some}
-use Rattle.ipc_base.specs.declared.limits.Limits.{Limits}
+use Rattle.ipc_limits.specs.declared.limits.Limits.{Limits}
 use Rattle.ipc_base.specs.Objects.{PlainObjects, OthersAreThere}
 use Rattle.ipc_base.specs.Table.{keys_of, value_at, IsRising}
 use Rattle.ipc_keys.specs.declared.check.NameKind.TheVariants as names
@@ -20,7 +20,7 @@ use Rattle.ipc_image.specs.Changed.{differs_in}
 use Rattle.ipc_image.specs.Kind.{object_in, FitsIn}
 use Rattle.ipc_image.specs.Saved.{mq_bytes, mq_object, later_objects, psem_bytes, psem_object, pshm_object, queue_bytes, queue_object, saved, saved_in}
 use Rattle.ipc_image.specs.Saved.{FitsMq, FitsPsem, FitsQueue, FitsSegment, FitsSet, FitsShm, later_in}
-use Rattle.ipc_image.specs.Saved.{segment_bytes, set_bytes, set_object, shm_bytes, shm_object, StandForState}
+use Rattle.ipc_image.specs.Saved.{segment_bytes, set_bytes, set_object, shm_bytes, shm_object, StandForStateIn}
 use Rattle.ipc_image.proofs.LaterObjects.{from_pshms}
 use Rattle.ipc_image.proofs.Marks.{each-at}
 use Rattle.ipc_image.proofs.SavedObjects.{things}
@@ -137,11 +137,11 @@ always marks n bytes o few is kept =
 
 -- ---- the state
 
-module _ (limits : Limits) (marks : List Object) (before after : State) (tracked : IsTracked marks before after)
-    (stand : StandForState limits after (saved after)) (o : ℕ × List ℕ) (kept : is_changed marks (o.0 / 2 ^ 32) (o.0 % 2 ^ 32) ≡ false) where
-  queues-there : Among (map queue_object after.msg.entries) o → Among (map queue_object before.msg.entries) o
+module _ (own : Format) (limits : Limits) (marks : List Object) (before after : State) (tracked : IsTracked marks before after)
+    (stand : StandForStateIn own limits after (saved_in own after)) (o : ℕ × List ℕ) (kept : is_changed marks (o.0 / 2 ^ 32) (o.0 % 2 ^ 32) ≡ false) where
+  queues-there : Among (map (queue_object own.marks) after.msg.entries) o → Among (map (queue_object own.marks) before.msg.entries) o
   queues-there =
-      kind-there marks 1 queue_bytes FitsQueue before.msg.entries after.msg.entries after.msg.next
+      kind-there marks 1 (queue_bytes own.marks) FitsQueue before.msg.entries after.msg.entries after.msg.next
       (λ n x off. tracked (object_as kinds.MsgQueue n) off x) stand.sound.parts.msg.held.bound.numbered.numbers stand.places.queues o kept
 
   sets-there : Among (map set_object after.semset.entries) o → Among (map set_object before.semset.entries) o
@@ -195,12 +195,12 @@ module _ (limits : Limits) (marks : List Object) (before after : State) (tracked
             ])
       ]
 
-  things-there : Among (things after) o → Among (things before) o
+  things-there : Among (things own.marks after) o → Among (things own.marks before) o
   things-there at =
-      let qs : PlainObjects = map queue_object before.msg.entries in
+      let qs : PlainObjects = map (queue_object own.marks) before.msg.entries in
       let ss : PlainObjects = map set_object before.semset.entries in
       let ns : PlainObjects = later_objects (later_in before) in
-      elim (among-either o (map queue_object after.msg.entries) (map set_object after.semset.entries ++ later_objects (later_in after)) at) [
+      elim (among-either o (map (queue_object own.marks) after.msg.entries) (map set_object after.semset.entries ++ later_objects (later_in after)) at) [
         | inl queue ↦ among-left o qs (ss ++ ns) (queues-there queue)
         | inr rest ↦ among-right o qs (ss ++ ns)
             (elim (among-either o (map set_object after.semset.entries) (later_objects (later_in after)) rest) [
@@ -209,26 +209,25 @@ module _ (limits : Limits) (marks : List Object) (before after : State) (tracked
             ])
       ]
 
-  saved-there : (form : Format) (i : ℕ) → slice_get (saved after) i ≡ Some o → Among (saved_in form before) o
+  saved-there : (form : Format) → own.marks ≡ form.marks → (i : ℕ) → slice_get (saved_in own after) i ≡ Some o → Among (saved_in form before) o
   unfolding saved_in
-  saved-there form zero at = absurd (always marks 0 _ o (omega arith) at kept)
-  saved-there form (suc zero) at = absurd (always marks 1 _ o (omega arith) at kept)
-  saved-there form (suc (suc zero)) at = absurd (always marks 2 _ o (omega arith) at kept)
-  saved-there form (suc (suc (suc zero))) at = absurd (always marks 3 _ o (omega arith) at kept)
-  saved-there form (suc (suc (suc (suc i)))) at = let there = things-there (i, at) in (suc (suc (suc (suc there.0))), there.1)
+  saved-there form alike zero at = absurd (always marks 0 _ o (omega arith) at kept)
+  saved-there form alike (suc zero) at = absurd (always marks 1 _ o (omega arith) at kept)
+  saved-there form alike (suc (suc zero)) at = absurd (always marks 2 _ o (omega arith) at kept)
+  saved-there form alike (suc (suc (suc zero))) at = absurd (always marks 3 _ o (omega arith) at kept)
+  saved-there form alike (suc (suc (suc (suc i)))) at =
+      let there = subst (λ (b : Bool). Among (things b before) o) alike (things-there (i, at)) in
+      (suc (suc (suc (suc there.0))), there.1)
 
--- each object that does not count as changed is among those that were saved in a form
-saved-others : (form : Format) (limits : Limits) (marks : List Object) (before after : State) → IsTracked marks before after
-    → StandForState limits after (saved after) → OthersAreThere (differs_in marks (saved after)) (saved after) (saved_in form before)
-saved-others form limits marks before after tracked stand i o at off =
+-- each object that does not count as changed is among those that were saved in a form with the same marks
+pub others-there : (own form : Format) → own.marks ≡ form.marks → (limits : Limits) (marks : List Object) (before after : State)
+    → IsTracked marks before after → StandForStateIn own limits after (saved_in own after)
+    → OthersAreThere (differs_in marks (saved_in own after)) (saved_in own after) (saved_in form before)
+others-there own form alike limits marks before after tracked stand i o at off =
     let kept : is_changed marks (o.0 / 2 ^ 32) (o.0 % 2 ^ 32) ≡ false =
     sym (ap (λ (r : Option (ℕ × List ℕ)). unwrap_or (option_map (λ p. is_changed marks (p.0 / 2 ^ 32) (p.0 % 2 ^ 32)) r) false) at) ∙ off in
-    saved-there limits marks before after tracked stand o kept form i at
-
-pub others-there : (limits : Limits) (marks : List Object) (before after : State) → IsTracked marks before after
-    → StandForState limits after (saved after) → OthersAreThere (differs_in marks (saved after)) (saved after) (saved before)
-others-there = saved-others format
+    saved-there own limits marks before after tracked stand o kept form alike i at
 
 pub old-others-there : (limits : Limits) (marks : List Object) (before after : State) → IsTracked marks before after
-    → StandForState limits after (saved after) → OthersAreThere (differs_in marks (saved after)) (saved after) (saved_in format_one before)
-old-others-there = saved-others format_one
+    → StandForStateIn format limits after (saved after) → OthersAreThere (differs_in marks (saved after)) (saved after) (saved_in format_one before)
+old-others-there = others-there format format_one refl

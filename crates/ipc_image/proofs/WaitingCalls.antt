@@ -87,7 +87,7 @@ waits_one = counted_one waiting_bytes FitsWaiting (plain_one waiting_shape waiti
 -- ---- how many bytes
 
 -- a call has at most 16, and a request
-waiting-long : (w : PlainWaiting) → HasFrame w.call → length (waiting_bytes w) ≤ 16 + format.request
+pub waiting-long : (w : PlainWaiting) → HasFrame w.call → length (waiting_bytes w) ≤ 16 + format.request
 waiting-long w has = omega (arith, has.short)
 
 pub length-waits : (ws : List PlainWaiting) → All IsSoundWaiting ws → length (flat_map waiting_bytes ws) ≤ (16 + format.request) * length ws

@@ -1,8 +1,8 @@
 -- A state is known by its objects, and what was read of objects makes one.
-use Rattle.std.proofs.Common.{◌≡◌, ℕ, ◌*◌, ◌<◌, ◌^◌, List, ◌∷◌, ◌++◌, length, map, drop, Option, Some, refl, sym, ap, subst, ◌∙◌, arith}
+use Rattle.std.proofs.Common.{◌≡◌, ℕ, ◌*◌, ◌<◌, ◌^◌, Bool, true, false, List, ◌∷◌, ◌++◌, length, map, drop, Option, Some, refl, sym, ap, subst, ◌∙◌, arith}
 use Rattle.std.specs.Prelude.{All, slice_get, unwrap_or, nat_eq}
 use Rattle.std.specs.List.{IsDistinct}
-use Rattle.ipc_base.specs.declared.limits.Limits.{Limits}
+use Rattle.ipc_limits.specs.declared.limits.Limits.{Limits}
 use Rattle.ipc_base.specs.Objects.{PlainObjects}
 use Rattle.ipc_base.specs.Table.{keys_of}
 use Rattle.sem_undo.specs.Undo.{Undo}
@@ -29,6 +29,7 @@ use Rattle.ipc_image.specs.SavedParts.{queue_from, set_from, with_more, with_mor
 use Rattle.ipc_image.specs.Relations.Trees.{process_one, message_one, semaphore_one, adjustment_one}
 use Rattle.ipc_image.proofs.Attaching.{undo_one}
 use Rattle.ipc_image.specs.Relations.Entries.{entry_one}
+use Rattle.ipc_image.specs.Relations.Marked.{queue_one as marked_one}
 use Rattle.ipc_image.specs.Relations.Shapes.{plain_one, counted_one}
 use Rattle.ipc_image.proofs.LaterObjects.{LaterLists, listed, later_one, of-later-kinds}
 use Rattle.ipc_image.proofs.ReadKinds.{object_at, objects_one, later-both}
@@ -42,7 +43,7 @@ pub record HasParts (form : Format) (s : State) (objects : PlainObjects) : Type 
   pub processes : slice_get objects 1 ≡ Some (1, processes_bytes s.processes.entries)
   pub calls : slice_get objects 2 ≡ Some (2, waits_bytes s.wait)
   pub adjustments : slice_get objects 3 ≡ Some (3, adjustments_bytes s.undo)
-  pub things : drop 4 objects ≡ things s
+  pub things : drop 4 objects ≡ things form.marks s
 
 pub parts_of : (form : Format) (s : State) (objects : PlainObjects) → objects ≡ saved_in form s → HasParts form s objects
 unfolding saved_in
@@ -128,7 +129,7 @@ pub all_restored : (form : Format) (objects : PlainObjects) (n : Numbers) (ps : 
     → slice_get objects 3 ≡ Some (3, adjustments) → AreAdjustmentsRead ps us adjustments → IsClockOf form n clock
     → length ps < 2 ^ 32 → All FitsProcess ps → processes ≡ processes_bytes ps
     → length ws < 2 ^ 32 → All FitsWaiting ws → HaveDistinctPids ws → calls ≡ waits_bytes ws → All (FitsIn FitsQueue) es → All (FitsIn FitsSet) fs
-    → FitLater o → drop 4 objects ≡ map queue_object es ++ (map set_object fs ++ later_objects o) → s ≡ state_of n ps ws us es fs o
+    → FitLater o → drop 4 objects ≡ map (queue_object form.marks) es ++ (map set_object fs ++ later_objects o) → s ≡ state_of n ps ws us es fs o
     → (IsDistinct nat_eq (keys_of s.undo) → HasAllPlaces s) × (objects ≡ saved_in form s)
 all_restored form objects n ps ws us es fs o s clock processes calls adjustments at0 at1 at2 at3 adjusted of few fit read less fits distinct heard places
     holds later others is =
@@ -178,10 +179,11 @@ with_parts u ps ws us es fs o =
     }
 
 -- two queues with the same bytes, and two semaphore sets
-queue_one : (e f : KeyedEntry Queue) → FitsQueue e → FitsQueue f → queue_bytes e ≡ queue_bytes f → e ≡ f
-queue_one =
-    entry_one queue_sizes queue_numbers message_bytes FitsMessage messages_of
-    (plain_one message_shape message_tree FitsMessage (λ m fit. fit.1) message_one)
+queue_one : (marks : Bool) (e f : KeyedEntry Queue) → FitsQueue e → FitsQueue f → queue_bytes marks e ≡ queue_bytes marks f → e ≡ f
+queue_one true = marked_one
+queue_one false =
+    entry_one queue_sizes queue_numbers (message_bytes false) FitsMessage messages_of
+    (plain_one (message_shape false) (message_tree false) FitsMessage (λ m fit. fit.1) message_one)
     queue_from (λ q. refl)
 
 set_one : (e f : KeyedEntry Set) → FitsSet e → FitsSet f → set_bytes e ≡ set_bytes f → e ≡ f
@@ -218,7 +220,7 @@ saved_once form known s t at also has kinds same =
     at.adjustment_count also.adjustment_count at.adjustments also.adjustments (same_object objects 3 _ _ mine.adjustments its.adjustments) in
     let undo = undo_one s.undo t.undo at.distinct
     (at.undo_pids ∙ ap (λ (l : List (ℕ × Process)). keys_of l) processes ∙ sym also.undo_pids) adjustments in
-    let queues = objects_one (2 ^ 32) queue_bytes FitsQueue queue_one s.msg.entries t.msg.entries (sets_and_later s)
+    let queues = objects_one (2 ^ 32) (queue_bytes form.marks) FitsQueue (queue_one form.marks) s.msg.entries t.msg.entries (sets_and_later s)
     (sets_and_later t) at.queues also.queues (after-queues s) (after-queues t) (sym mine.things ∙ its.things) in
     let sets = objects_one (2 * 2 ^ 32) set_bytes FitsSet set_one s.semset.entries t.semset.entries (later_objects (later_in s))
     (later_objects (later_in t)) at.sets also.sets (after-sets s) (after-sets t) queues.1 in

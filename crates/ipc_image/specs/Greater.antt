@@ -1,6 +1,6 @@
 -- Whether limits are at least as great as others, field by field.
 use Rattle.std.specs.Prelude.{◌≡◌, Bool, not, List, map, zip, nat_le, position, None}
-use Rattle.ipc_base.specs.declared.limits.Limits.{Limits}
+use Rattle.ipc_limits.specs.declared.limits.Limits.{Limits}
 use Rattle.ipc_image.specs.Superblock.{limit_fields}
 
 -- whether each field is, in the order of the fields

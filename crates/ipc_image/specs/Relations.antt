@@ -7,3 +7,5 @@ pub mod Named
 pub mod Shms
 pub mod Mqs
 pub mod Adjustments
+pub mod Superblocks
+pub mod Marked

@@ -1,6 +1,6 @@
 -- The state as objects, each of them some bytes under a number: what a checkpoint keeps. There are four that every
--- state has, and one for each message queue, semaphore set, POSIX queue, named semaphore, segment and System V segment.
--- Of a call that waits the object on which it waits is not kept: its request says it.
+-- state has, and one for each message queue, semaphore set, POSIX queue, named semaphore, segment and System V
+-- segment. Of a call that waits the object on which it waits is not kept: its request says it.
 use Rattle.std.specs.Prelude.{◌≡◌, ◌+◌, ◌*◌, ◌-◌, ◌<◌, ◌≤◌, ◌^◌, ℕ, ℤ, List, [], ◌∷◌, ◌++◌}
 use Rattle.std.specs.Prelude.{length, map, take, slice_index, All, FitsSigned, Option, Some, None, IfSome, nat_eq}
 use Rattle.std.specs.Prelude.{Bool, if◌then◌else◌, true, false, ⊤}
@@ -8,7 +8,7 @@ use Rattle.std.specs.FinMap as fin
 use Rattle.std.specs.Int.{w16, w32, w64, cast_unsigned}
 use Rattle.std.specs.List.{flat_map, IsDistinct}
 use Rattle.ipc_base.specs.declared.identity.Moment.{Moment}
-use Rattle.ipc_base.specs.declared.limits.Limits.{Limits}
+use Rattle.ipc_limits.specs.declared.limits.Limits.{Limits}
 use Rattle.ipc_base.specs.Objects.{PlainObjects}
 use Rattle.ipc_base.specs.Table.{keys_of}
 use Rattle.ipc_wait.specs.Waits.{HaveDistinctPids}
@@ -179,32 +179,47 @@ queue_sizes = Eight ∷ Eight ∷ Eight ∷ Four ∷ Four ∷ Four ∷ []
 abbrev pub queue_numbers : Queue → List ℕ
 queue_numbers q = q.stime ∷ q.rtime ∷ q.ctime ∷ q.lspid ∷ q.lrpid ∷ q.qbytes ∷ []
 
--- a message: its type, how long its text is, and the text
-abbrev pub message_sizes : List Size
-message_sizes = Eight ∷ Four ∷ []
+-- A message: its type, how long its text is, and the text. With marks it has before the length how often it was taken,
+-- and by which token, by whom and when it was, each 0 as long as nobody has it; none is taken yet.
+abbrev pub message_sizes : Bool → List Size
+message_sizes marks = if marks then Eight ∷ Four ∷ Eight ∷ Four ∷ Eight ∷ Four ∷ [] else Eight ∷ Four ∷ []
 
-abbrev pub message_numbers : PlainMessage → List ℕ
-message_numbers m = cast_unsigned w64 m.mtype ∷ length m.text ∷ []
+abbrev pub message_numbers : Bool → PlainMessage → List ℕ
+message_numbers marks m =
+    if marks
+    then cast_unsigned w64 m.mtype ∷ 0 ∷ 0 ∷ 0 ∷ 0 ∷ length m.text ∷ []
+    else cast_unsigned w64 m.mtype ∷ length m.text ∷ []
 
-abbrev pub message_shape : Shape
-message_shape = Texts message_sizes (λ ns. slice_index ns 1)
+abbrev pub message_shape : Bool → Shape
+message_shape marks = Texts (message_sizes marks) (λ ns. slice_index ns (if marks then 5 else 1))
 
-abbrev pub message_tree : PlainMessage → Tree message_shape
-message_tree m = (message_numbers m, m.text)
+abbrev pub message_tree : (marks : Bool) → PlainMessage → Tree (message_shape marks)
+message_tree marks m = (message_numbers marks m, m.text)
 
-abbrev pub message_bytes : PlainMessage → List ℕ
-message_bytes = bytes_in message_shape message_tree
+abbrev pub message_bytes : Bool → PlainMessage → List ℕ
+message_bytes marks = bytes_in (message_shape marks) (message_tree marks)
 
 -- its messages, the oldest first
 abbrev pub messages_of : Queue → List PlainMessage
 messages_of q = q.messages
 
-abbrev pub queue_bytes : KeyedEntry Queue → List ℕ
-queue_bytes = entry_bytes queue_sizes queue_numbers message_bytes messages_of
+-- with marks, the token that a queue gives next: as none was given yet, the first one
+abbrev pub token_bytes : Bool → List ℕ
+token_bytes marks = if marks then fields_bytes (Eight ∷ []) (1 ∷ []) else []
+
+-- how many messages, and with marks the next token, and each message
+abbrev pub messages_bytes : Bool → List PlainMessage → List ℕ
+messages_bytes marks messages =
+    count_bytes (length messages) ++ (token_bytes marks ++ flat_map (message_bytes marks) messages)
+
+abbrev pub queue_bytes : Bool → KeyedEntry Queue → List ℕ
+queue_bytes marks e =
+    fields_bytes head_sizes (head_numbers e.bound e.perm)
+    ++ (fields_bytes queue_sizes (queue_numbers e.object) ++ messages_bytes marks (messages_of e.object))
 
 -- its object
-abbrev pub queue_object : ℕ × KeyedEntry Queue → ℕ × List ℕ
-queue_object = object_in (2 ^ 32) queue_bytes
+abbrev pub queue_object : Bool → ℕ × KeyedEntry Queue → ℕ × List ℕ
+queue_object marks = object_in (2 ^ 32) (queue_bytes marks)
 
 -- ---- semaphore sets
 
@@ -391,7 +406,7 @@ unfoldable pub saved_in : Format → State → PlainObjects
 saved_in form s =
     (0, clock_bytes form s) ∷ (1, processes_bytes s.processes.entries)
     ∷ (2, waits_bytes s.wait) ∷ (3, adjustments_bytes s.undo)
-    ∷ map queue_object s.msg.entries ++ (map set_object s.semset.entries ++ later_objects (later_in s))
+    ∷ map (queue_object form.marks) s.msg.entries ++ (map set_object s.semset.entries ++ later_objects (later_in s))
 
 abbrev pub saved : State → PlainObjects
 saved = saved_in format
@@ -420,7 +435,7 @@ pub record FitsWaiting (w : PlainWaiting) : Type 0 where
   pub deadline : IfSome w.deadline (λ deadline. deadline.0 < 2 ^ 64 - 1)
 
 abbrev pub FitsMessage : PlainMessage → Type 0
-FitsMessage m = FitsSigned w64 m.mtype × IsTree message_shape (message_tree m)
+FitsMessage m = FitsSigned w64 m.mtype × IsTree (message_shape false) (message_tree false m)
 
 abbrev pub FitsSemaphore : Semaphore → Type 0
 FitsSemaphore x = (x.value ≤ most_value) × IsTree semaphore_shape (semaphore_numbers x)

@@ -1,12 +1,12 @@
 -- What is known of numbers once they are read, marks, and what a tree is of.
 use Rattle.std.specs.Prelude.{◌≡◌, ℕ, zero, suc, ◌-◌, ◌<◌, ◌≤◌, ◌^◌, ◌↔◌, List, [], ◌∷◌, ◌++◌, length}
 use Rattle.std.specs.Prelude.{ℤ, take, drop, Option, Some, None, slice_get, slice_index, map, unwrap_or}
-use Rattle.std.specs.Prelude.{nat_eq, nat_le, ◌==◌, ◌%◌, if◌then◌else◌, true, All}
+use Rattle.std.specs.Prelude.{Bool, nat_eq, nat_le, ◌==◌, ◌%◌, if◌then◌else◌, true, All}
 use Rattle.std.specs.List.{flat_map, fold}
 use Rattle.std.specs.FinMap as fin
 use Rattle.std.specs.Int.{w16, w32, w64, cast_signed}
 use Rattle.ipc_base.specs.declared.identity.Moment.{Moment}
-use Rattle.ipc_base.specs.declared.limits.Limits.{Limits}
+use Rattle.ipc_limits.specs.declared.limits.Limits.{Limits}
 use Rattle.ipc_base.specs.declared.objects.Mark.{Mark}
 use Rattle.ipc_base.specs.Objects.{PlainObjects}
 use Rattle.ipc_base.specs.Table.{value_at, with_value}
@@ -43,9 +43,10 @@ use Rattle.ipc_state.specs.Tables.{item_row}
 use Rattle.ipc_state.specs.Waiting.{PlainWaiting, awaited_by}
 use Rattle.ipc_image.specs.declared.state_objects.OwnObject.{OwnObject}
 use Rattle.ipc_image.specs.declared.state_objects.OwnObject.TheVariants as thing
+use Rattle.ipc_image.specs.declared.format.Format.{Format}
 use Rattle.ipc_image.specs.Kind.{FitsIn}
 use Rattle.ipc_image.specs.Saved.{Adjustment, process_bytes, waiting_bytes, message_bytes, queue_object, FitsQueue}
-use Rattle.ipc_image.specs.Saved.{semaphore_bytes, set_object, FitsSet, mq_message_bytes, mq_object, FitsMq, saved}
+use Rattle.ipc_image.specs.Saved.{semaphore_bytes, set_object, FitsSet, mq_message_bytes, mq_object, FitsMq, saved_in}
 use Rattle.ipc_image.specs.Saved.{psem_object, FitsPsem, pshm_object, FitsSegment, shm_object, FitsShm, later_in}
 
 -- ---- what was added
@@ -116,8 +117,8 @@ MarkAt IsMark next (x ∷ xs) zero m = IsMark x m
 MarkAt IsMark next (x ∷ xs) (suc at) m = MarkAt IsMark next xs at m
 
 -- of the messages of a queue, of a set's semaphores, or of the messages of a POSIX queue
-abbrev pub IsMarkOfQueue : ℕ × KeyedEntry Queue → Mark → Type 0
-IsMarkOfQueue e m = IsMarkIn message_bytes e.1.object.messages m
+abbrev pub IsMarkOfQueue : Bool → ℕ × KeyedEntry Queue → Mark → Type 0
+IsMarkOfQueue marks e m = IsMarkIn (message_bytes marks) e.1.object.messages m
 
 abbrev pub IsMarkOfSet : ℕ × KeyedEntry Set → Mark → Type 0
 IsMarkOfSet e m = IsMarkIn semaphore_bytes e.1.object.semaphores m
@@ -137,15 +138,15 @@ IsMarkOfLater o =
     (MarkAt IsAnyMark (MarkAt IsAnyMark (λ at m. Unit {0}) o.shm.entries) o.pshm.entries) o.psem.entries) o.mq.entries
 
 -- of the one at a place after the four objects that every state has
-abbrev pub IsMarkAfter : State → ℕ → Mark → Type 0
-IsMarkAfter s =
-    MarkAt IsMarkOfQueue (MarkAt IsMarkOfSet (IsMarkOfLater (later_in s)) s.semset.entries) s.msg.entries
+abbrev pub IsMarkAfter : Format → State → ℕ → Mark → Type 0
+IsMarkAfter form s =
+    MarkAt (IsMarkOfQueue form.marks) (MarkAt IsMarkOfSet (IsMarkOfLater (later_in s)) s.semset.entries) s.msg.entries
 
 -- it is a mark of the i-th object; those of objects without a list are never looked at
-pub record IsMarkOf (s : State) (i : ℕ) (m : Mark) : Type 0 where
+pub record IsMarkOf (form : Format) (s : State) (i : ℕ) (m : Mark) : Type 0 where
   pub processes : i ≡ 1 → IsMarkIn process_bytes s.processes.entries m
   pub waits : i ≡ 2 → IsMarkIn waiting_bytes s.wait m
-  pub things : 4 ≤ i → IsMarkAfter s (i - 4) m
+  pub things : 4 ≤ i → IsMarkAfter form s (i - 4) m
 
 -- this object stands at a place, and the marks there are of it
 pub record Stands (objects : PlainObjects) (IsMark : ℕ → Mark → Type 0) (at : ℕ) (o : ℕ × List ℕ)
@@ -154,13 +155,13 @@ pub record Stands (objects : PlainObjects) (IsMark : ℕ → Mark → Type 0) (a
   pub marks : (m : Mark) → IsMark at m ↔ IsOfIt m
 
 -- the object of what has one
-abbrev pub object_of : OwnObject → ℕ × List ℕ
-object_of (thing.MsgQueue q) = queue_object (item_row q.now)
-object_of (thing.Semset e) = set_object (item_row e.now)
-object_of (thing.Mq e) = mq_object (item_row e.now)
-object_of (thing.Psem e) = psem_object (item_row e.now)
-object_of (thing.Pshm e) = pshm_object (item_row e.now)
-object_of (thing.Shm e) = shm_object (item_row e.now)
+abbrev pub object_of : Bool → OwnObject → ℕ × List ℕ
+object_of marks (thing.MsgQueue q) = queue_object marks (item_row q.now)
+object_of marks (thing.Semset e) = set_object (item_row e.now)
+object_of marks (thing.Mq e) = mq_object (item_row e.now)
+object_of marks (thing.Psem e) = psem_object (item_row e.now)
+object_of marks (thing.Pshm e) = pshm_object (item_row e.now)
+object_of marks (thing.Shm e) = shm_object (item_row e.now)
 
 -- each of its numbers has its place
 abbrev pub FitsOwnObject : OwnObject → Type 0
@@ -172,18 +173,19 @@ FitsOwnObject (thing.Pshm e) = FitsIn FitsSegment (item_row e.now)
 FitsOwnObject (thing.Shm e) = FitsIn FitsShm (item_row e.now)
 
 -- the mark is of its parts
-abbrev pub IsMarkOfOwnObject : OwnObject → Mark → Type 0
-IsMarkOfOwnObject (thing.MsgQueue q) m = IsMarkOfQueue (item_row q.now) m
-IsMarkOfOwnObject (thing.Semset e) m = IsMarkOfSet (item_row e.now) m
-IsMarkOfOwnObject (thing.Mq e) m = IsMarkOfMq (item_row e.now) m
-IsMarkOfOwnObject (thing.Psem e) m = Unit {0}
-IsMarkOfOwnObject (thing.Pshm e) m = Unit {0}
-IsMarkOfOwnObject (thing.Shm e) m = Unit {0}
+abbrev pub IsMarkOfOwnObject : Bool → OwnObject → Mark → Type 0
+IsMarkOfOwnObject marks (thing.MsgQueue q) m = IsMarkOfQueue marks (item_row q.now) m
+IsMarkOfOwnObject marks (thing.Semset e) m = IsMarkOfSet (item_row e.now) m
+IsMarkOfOwnObject marks (thing.Mq e) m = IsMarkOfMq (item_row e.now) m
+IsMarkOfOwnObject marks (thing.Psem e) m = Unit {0}
+IsMarkOfOwnObject marks (thing.Pshm e) m = Unit {0}
+IsMarkOfOwnObject marks (thing.Shm e) m = Unit {0}
 
 -- this is the i-th object, and of what it is each number has its place
-pub record IsFound (s : State) (i : ℕ) (o : ℕ × List ℕ) (IsOfIt : Mark → Type 0) (Fits : Type 0) : Type 0 where
-  pub stands : Stands (drop 4 (saved s)) (IsMarkAfter s) (i - 4) o IsOfIt
-  pub object : slice_get (saved s) i ≡ Some o
+pub record IsFound (form : Format) (s : State) (i : ℕ) (o : ℕ × List ℕ) (IsOfIt : Mark → Type 0) (Fits : Type 0)
+    : Type 0 where
+  pub stands : Stands (drop 4 (saved_in form s)) (IsMarkAfter form s) (i - 4) o IsOfIt
+  pub object : slice_get (saved_in form s) i ≡ Some o
   pub short : length o.1 < 2 ^ 64
   pub fits : Fits
 

@@ -70,7 +70,8 @@ impl<T: Kind> Stored for KeyedEntry<T> {
     }
 }
 
-fn put_head<T>(window: &mut Window, entry: &KeyedEntry<T>)
+/// Its key and who may use it pass the window.
+pub(crate) fn put_head<T>(window: &mut Window, entry: &KeyedEntry<T>)
     ensures { window.new ≡ passed (fields_bytes head_sizes (head_numbers entry.now.bound entry.now.perm)) window.old }
 {
     let perm = entry.perm;
@@ -87,8 +88,8 @@ fn put_head<T>(window: &mut Window, entry: &KeyedEntry<T>)
     );
 }
 
-// An entry with its key and who may use it, and no object yet; and the bytes after them.
-fn take_head(bytes: &[u8]) -> Option<(KeyedEntry<()>, &[u8])>
+/// An entry with its key and who may use it, and no object yet; and the bytes after them.
+pub(crate) fn take_head(bytes: &[u8]) -> Option<(KeyedEntry<()>, &[u8])>
     ensures some { IfSome result (λ found. FitsSigned w32 found.0.bound
         × FitFields head_sizes (head_numbers found.0.bound found.0.perm)
         × (bytes.now ≡ fields_bytes head_sizes (head_numbers found.0.bound found.0.perm) ++ found.1.now)) }

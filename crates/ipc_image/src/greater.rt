@@ -3,7 +3,7 @@
 ghost use Rattle.std.specs.Prelude.{◌≡◌, not, position};
 ghost use Rattle.ipc_image.specs.Greater.{at_least};
 
-use ipc_base::Limits;
+use ipc_limits::Limits;
 
 /// The first field, counted from 0 in the order of `Limits`, in which the new limits are below the old ones.
 pub fn first_below(new: &Limits, old: &Limits) -> Option<u32>
@@ -29,6 +29,9 @@ pub fn first_below(new: &Limits, old: &Limits) -> Option<u32>
         old.shmmni <= new.shmmni,
         old.shmmax <= new.shmmax,
         old.shmall <= new.shmall,
+        old.msgqlen <= new.msgqlen,
+        old.semume <= new.semume,
+        old.queue_bytes <= new.queue_bytes,
     ];
     let field = first_failing(&are_at_least)?;
     Some(field as u32)

@@ -3,7 +3,7 @@
 ghost use Rattle.std.specs.Prelude.{◌≡◌, ◌≢◌, ◌<◌, ◌^◌, ◌++◌, ◌∷◌, [], ℕ, List, All, length, Err, IfOk, OnOk};
 ghost use Rattle.std.specs.List.{flat_map};
 ghost use Rattle.ipc_base.specs.declared.field.Size.{Size};
-ghost use Rattle.ipc_base.specs.declared.limits.Limits.{Limits};
+ghost use Rattle.ipc_limits.specs.declared.limits.Limits.{Limits};
 ghost use Rattle.ipc_base.specs.Numbers.{fields_bytes, FitFields};
 ghost use Rattle.ipc_engine.specs.declared.fault.StateFault.{StateFault};
 ghost use Rattle.ipc_state.specs.Keyed.{KeyedEntry as PlainEntry};

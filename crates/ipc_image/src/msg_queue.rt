@@ -1,6 +1,6 @@
-//! A message queue's object: its numbers, and its messages.
+//! A message queue's object on a device without marks: its numbers, and its messages.
 
-ghost use Rattle.std.specs.Prelude.{◌≡◌, ◌≢◌, ◌++◌, Err, IfOk, OnOk, ◌∷◌, ◌<◌, ◌*◌, ◌^◌, [], ℕ, List, All};
+ghost use Rattle.std.specs.Prelude.{◌≡◌, ◌≢◌, ◌++◌, Err, IfOk, OnOk, ◌∷◌, ◌<◌, ◌*◌, ◌^◌, [], ℕ, List, All, false};
 ghost use Rattle.std.proofs.Common.{sym, refl};
 ghost use Rattle.ipc_base.proofs.CallerLemmas.{numbers_are};
 ghost use Rattle.ipc_base.specs.Numbers.{fields_bytes, FitFields};
@@ -33,9 +33,9 @@ impl Saved for Message {
 
     ghost plain = { plain };
 
-    ghost shape = { message_shape };
+    ghost shape = { message_shape false };
 
-    ghost tree = { message_tree };
+    ghost tree = { message_tree false };
 
     ghost Fits = { FitsMessage };
 
@@ -82,7 +82,7 @@ impl Saved for Message {
 impl Listed for MsgQueue {
     ghost Plain = { PlainMessage };
 
-    ghost bytes = { message_bytes };
+    ghost bytes = { message_bytes false };
 
     ghost Fits = { FitsMessage };
 
@@ -108,7 +108,7 @@ impl Kind for MsgQueue {
 
     ghost Part = { PlainMessage };
 
-    ghost part_bytes = { message_bytes };
+    ghost part_bytes = { message_bytes false };
 
     ghost FitsPart = { FitsMessage };
 
@@ -120,7 +120,7 @@ impl Kind for MsgQueue {
 
     ghost whole = { λ q. refl };
 
-    ghost part_one = { plain_one message_shape message_tree FitsMessage (λ m fit. fit.1) message_one };
+    ghost part_one = { plain_one (message_shape false) (message_tree false) FitsMessage (λ m fit. fit.1) message_one };
 
     ghost IsSmall = { HasNumbers };
 

@@ -1,7 +1,7 @@
 //! A process in the object of processes, with its descriptors.
 
 ghost use Rattle.std.specs.Prelude.{◌≡◌, ◌≢◌, ◌<◌, ℕ, refl, IfSome, IfNone};
-ghost use Rattle.ipc_base.specs.declared.limits.Limits.{Limits};
+ghost use Rattle.ipc_limits.specs.declared.limits.Limits.{Limits};
 ghost use Rattle.ipc_state.specs.declared.descriptors.Descriptor.{Descriptor as PlainDescriptor};
 ghost use Rattle.ipc_state.specs.declared.parked.ObjectKind.{ObjectKind as PlainKind};
 ghost use Rattle.ipc_state.specs.declared.processes.Process.{Process as PlainProcess};

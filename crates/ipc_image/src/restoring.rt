@@ -1,27 +1,31 @@
 //! The machine whose state some objects are.
 
-ghost use Rattle.std.specs.Prelude.{◌≡◌, ◌≢◌, [], ℕ, List, Err, IfOk, OnOk, Some, IfSome};
+ghost use Rattle.std.specs.Prelude.{◌≡◌, ◌≢◌, ◌++◌, ◌^◌, [], ℕ, List, Err, IfOk, OnOk, Some, IfSome};
 ghost use Rattle.std.specs.Prelude.{IfNone, All, drop, false, map, slice_get, nat_eq};
 ghost use Rattle.std.specs.List.{IsDistinct};
-ghost use Rattle.ipc_base.specs.Limits.{ArePassed};
+ghost use Rattle.ipc_limits.specs.Limits.{ArePassed};
 ghost use Rattle.ipc_base.specs.Table.{keys_of};
 ghost use Rattle.ipc_state.specs.State.{State as PlainState, start};
 ghost use Rattle.ipc_state.specs.Keyed.{KeyedEntry as AnyEntry};
 ghost use Rattle.shm_segment.specs.SysSegment.{SysSegment as AnySegment};
 ghost use Rattle.ipc_image.specs.Format.{IsFormat, has_shms};
-ghost use Rattle.ipc_image.specs.Kind.{FitsIn};
-ghost use Rattle.ipc_image.specs.Saved.{LaterObjects, later_objects, saved_in, shm_object};
-ghost use Rattle.ipc_image.specs.Saved.{FitLater, FitsShm, HasAllPlaces, HasKindsOf, StandForStateIn};
-ghost use Rattle.ipc_image.specs.SavedParts.{with_more, with_more_later, put_shms};
+ghost use Rattle.ipc_image.specs.Kind.{FitsIn, IsOther};
+ghost use Rattle.ipc_base.specs.Objects.{PlainObjects};
+ghost use Rattle.sysv_msg.specs.Queue.{Queue as AnyQueue};
+ghost use Rattle.ipc_image.specs.Saved.{LaterObjects, later_objects, queue_object, saved_in, shm_object};
+ghost use Rattle.ipc_image.specs.Saved.{FitLater, FitsQueue, FitsShm, HasAllPlaces, HasKindsOf, StandForStateIn};
+ghost use Rattle.ipc_image.specs.SavedParts.{with_more, with_more_later, put_queues, put_shms};
 
 use crate::adjustments::restore_adjustments;
 use crate::clock::read_clock;
 use crate::format::Format;
+use crate::marked_queue::MarkedQueue;
 use crate::saved::read_counted;
 use crate::stored::restore_kind;
 use crate::waiting::restore_waits;
-use ipc_base::{Limits, ObjectMap, Objects};
+use ipc_base::{ObjectMap, Objects};
 use ipc_engine::{Engine, StateFault};
+use ipc_limits::Limits;
 use ipc_state::{Item, KeyedEntry, NamedEntry, Process, State};
 use posix_mq::Mq;
 use posix_sem::NamedSem;
@@ -81,10 +85,36 @@ fn restore(
     read_counted::<Item<Process>>(state, processes)?;
     restore_waits(state, alloc, calls)?;
     restore_adjustments(state, alloc, adjustments)?;
-    let next = restore_kind::<KeyedEntry<MsgQueue>>(state, alloc, objects, ALWAYS)?;
+    let next = restore_queues(state, alloc, objects, form, ALWAYS)?;
     let next = restore_kind::<KeyedEntry<SemSet>>(state, alloc, objects, next)?;
     restore_later(state, alloc, objects, form, next)?;
     Ok(())
+}
+
+// The message queues, by the form of the device. Gives the place of the first object that is of another kind.
+fn restore_queues(
+    state: &mut State,
+    alloc: Global,
+    objects: &ObjectMap,
+    form: Format,
+    from: u32,
+) -> Result<u32, StateFault>
+    ensures ok { IfOk result (λ next. (xs : List (ℕ × AnyEntry AnyQueue)) × All (FitsIn FitsQueue) xs
+        × (drop from objects.now ≡ map (queue_object form.marks) xs ++ drop next objects.now)
+        × ((state.new.state, state.new.limits)
+        ≡ with_more (λ s. s.0.msg.entries) put_queues (state.old.state, state.old.limits) xs)) }
+    ensures whole { IfOk result (λ next. (xs : List (ℕ × AnyEntry AnyQueue)) (rest : PlainObjects)
+        → IsOther (2 ^ 32) rest → drop from objects.now ≡ map (queue_object form.marks) xs ++ rest
+        → All (FitsIn FitsQueue) xs → drop next objects.now ≡ rest) }
+    ensures damaged { result ≡ Err StateFault.Unsound → (xs : List (ℕ × AnyEntry AnyQueue)) (rest : PlainObjects)
+        → IsOther (2 ^ 32) rest → All (FitsIn FitsQueue) xs
+        → drop from objects.now ≢ map (queue_object form.marks) xs ++ rest }
+{
+    if form.marks {
+        restore_kind::<MarkedQueue>(state, alloc, objects, from)
+    } else {
+        restore_kind::<KeyedEntry<MsgQueue>>(state, alloc, objects, from)
+    }
 }
 
 // The objects of those of later kinds, kind by kind, from this place to the last.
@@ -141,9 +171,9 @@ fn none_left(objects: &ObjectMap, next: u32) -> Result<(), StateFault>
     Ok(())
 }
 
-/// The machine whose state these objects of a device of that version are, under limits that have passed their check. It
-/// has no replies, and no object has changed. `Unsound` if they stand for no sound state, or for one with objects of a
-/// kind that the version lacks.
+/// The machine whose state these objects of a device of that version are, under limits that have passed their check.
+/// It has no replies, and no object has changed. `Unsound` if they stand for no sound state, or for one with objects
+/// of a kind that the version lacks.
 pub fn engine_of(
     alloc: Global,
     objects: &ObjectMap,

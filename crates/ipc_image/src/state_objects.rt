@@ -1,18 +1,21 @@
 //! The state as objects, without any memory.
 
 ghost use Rattle.std.specs.Prelude.{◌≡◌, ◌≤◌, ◌<◌, ◌-◌, ◌^◌, length, true, Some, slice_get, option_map};
-ghost use Rattle.ipc_base.specs.declared.limits.Limits.{Limits};
-ghost use Rattle.ipc_base.specs.Limits.{ArePassed};
+ghost use Rattle.ipc_limits.specs.declared.limits.Limits.{Limits};
 ghost use Rattle.ipc_base.specs.Objects.{Fit};
 ghost use Rattle.ipc_state.specs.State.{start};
-ghost use Rattle.ipc_image.specs.Saved.{later_in, later_objects, saved, StandForState};
+ghost use Rattle.ipc_image.specs.Format.{IsOpened};
+ghost use Rattle.ipc_image.specs.Saved.{later_in, later_objects, saved_in, StandForStateIn};
+ghost use Rattle.ipc_image.specs.Superblock.{AreOf};
 ghost use Rattle.ipc_image.specs.SavedParts.{IsFound, IsMarkOf, IsMarkOfLater, IsMarkOfOwnObject, FitsOwnObject};
 ghost use Rattle.ipc_image.specs.SavedParts.{Stands, object_of};
-ghost use Rattle.ipc_image.specs.Sizes.{area_of};
+ghost use Rattle.ipc_image.specs.Sizes.{area_in};
 ghost use Rattle.ipc_image.specs.Window.{passed};
 
 use crate::adjustment_list::{adjustments_len, put_adjustments};
 use crate::clock::put_clock;
+use crate::format::Format;
+use crate::marked_queue::{put_queue, queue_len};
 use crate::restoring::ALWAYS;
 use crate::saved::{InSlice, START, list_len, put_counted};
 use crate::stored::Stored;
@@ -30,10 +33,12 @@ use std::marker::Model;
 use sysv_msg::MsgQueue;
 use sysv_sem::SemSet;
 
-/// The objects of a state: four that every state has, and one for each message queue, semaphore set, POSIX queue, named
-/// semaphore, segment and System V segment. A contract sees the state. Each object counts as changed.
+/// The objects of a state: four that every state has, and one for each message queue, semaphore set, POSIX queue,
+/// named semaphore, segment and System V segment. A contract sees the form of the device and the state. Each object
+/// counts as changed.
 #[derive(Drop)]
 pub struct StateObjects<'a> {
+    form: Format,
     numbers: Numbers,
     processes: &'a [Item<Process>],
     waits: &'a [Waiting<Awaited, Parked>],
@@ -62,35 +67,43 @@ impl<'a> Model for StateObjects<'a> {
     ghost use Rattle.ipc_base.specs.Objects.{AreObjects};
     ghost use Rattle.sem_undo.specs.Undo.{undo_code};
     ghost use Rattle.ipc_state.specs.State.{State as PlainState};
-    ghost use Rattle.ipc_image.specs.Saved.{saved, HasAllPlaces};
+    ghost use Rattle.ipc_image.specs.declared.format.Format.{Format as PlainFormat};
+    ghost use Rattle.ipc_image.specs.Format.{IsOpened};
+    ghost use Rattle.ipc_image.specs.Saved.{saved_in, HasAllPlaces};
     ghost use Rattle.ipc_image.specs.SavedParts.{seen_later, seen_state};
 
-    ghost Value = { PlainState };
+    ghost Value = { PlainFormat × PlainState };
 
     ghost coded = { Prim.hlevel (codes, undo_code) };
 
-    ghost view = { λ o.
-        seen_state o.numbers o.processes.now o.waits.now o.undo.now o.queues.now o.sets.now
-        (seen_later o.numbers o.mqs.now o.sems.now o.segments.now o.shms.now) };
+    ghost view = { λ o. (
+      o.form,
+      seen_state o.numbers o.processes.now o.waits.now o.undo.now o.queues.now o.sets.now
+          (seen_later o.numbers o.mqs.now o.sems.now o.segments.now o.shms.now),
+    ) };
 
     ghost invariant = { λ o.
-        HasAllPlaces (seen_state o.numbers o.processes.now o.waits.now o.undo.now o.queues.now o.sets.now
+        IsOpened o.form
+        × HasAllPlaces (seen_state o.numbers o.processes.now o.waits.now o.undo.now o.queues.now o.sets.now
         (seen_later o.numbers o.mqs.now o.sems.now o.segments.now o.shms.now))
-        × AreObjects (saved
+        × AreObjects (saved_in o.form
         (seen_state o.numbers o.processes.now o.waits.now o.undo.now o.queues.now o.sets.now
         (seen_later o.numbers o.mqs.now o.sems.now o.segments.now o.shms.now))) };
 }
 
-/// The state of the machine as objects. It takes no memory. They stand for that state, and fit where
-/// objects are kept under the machine's limits.
-pub(crate) fn all_of<'a>(engine: &'a Engine) -> StateObjects<'a>
-    ensures objects { ⟦<StateObjects<'a> as Objects>⟧.objects result ≡ saved engine.now.state }
-    ensures stand { StandForState engine.now.limits engine.now.state (saved engine.now.state) }
-    ensures fit { Fit (area_of engine.now.limits) (saved engine.now.state) }
+/// The state of the machine as objects of a device of that version. It takes no memory. They stand for that state, and
+/// fit where objects are kept under the machine's limits, if the version may have these.
+pub(crate) fn all_of<'a>(engine: &'a Engine, form: Format) -> StateObjects<'a>
+    requires { IsOpened form }
+    ensures objects { ⟦<StateObjects<'a> as Objects>⟧.objects result ≡ saved_in form engine.now.state }
+    ensures stand { StandForStateIn form engine.now.limits engine.now.state (saved_in form engine.now.state) }
+    ensures fit { AreOf form engine.now.limits
+        → Fit (area_in form engine.now.limits) (saved_in form engine.now.state) }
 {
     let state = engine.state();
     read_state(state);
     StateObjects {
+        form,
         numbers: Numbers {
             clock: state.clock(),
             next_pid: state.next_pid(),
@@ -113,12 +126,15 @@ pub(crate) fn all_of<'a>(engine: &'a Engine) -> StateObjects<'a>
     }
 }
 
-/// The state to which nothing has happened, as objects. They fit under all limits. It needs no machine.
-pub fn start_objects() -> StateObjects<'static>
-    ensures objects { ⟦<StateObjects<'static> as Objects>⟧.objects result ≡ saved start }
-    ensures fit { (limits : Limits) → ArePassed limits → Fit (area_of limits) (saved start) }
+/// The state to which nothing has happened, as objects of a device of that version. They fit under all limits that it
+/// may have. It needs no machine.
+pub fn start_objects(form: Format) -> StateObjects<'static>
+    requires { IsOpened form }
+    ensures objects { ⟦<StateObjects<'static> as Objects>⟧.objects result ≡ saved_in form start }
+    ensures fit { (limits : Limits) → AreOf form limits → Fit (area_in form limits) (saved_in form start) }
 {
     StateObjects {
+        form,
         numbers: Numbers {
             clock: Moment(0),
             next_pid: 1,
@@ -142,11 +158,11 @@ pub fn start_objects() -> StateObjects<'static>
 }
 
 impl<'a> Objects for StateObjects<'a> {
-    ghost objects = { λ s. saved s };
+    ghost objects = { λ o. saved_in o.0 o.1 };
 
-    ghost differs = { λ s i. true };
+    ghost differs = { λ o i. true };
 
-    ghost marks = { λ s i m. IsMarkOf s i m };
+    ghost marks = { λ o i m. IsMarkOf o.0 o.1 i m };
 
     #[tactic(auto, using(crate::proofs::SavedObjects::tables_count))]
     fn count(&self) -> u32 {
@@ -183,7 +199,7 @@ impl<'a> Objects for StateObjects<'a> {
             1 => 4 + list_len(&InSlice(self.processes)),
             2 => 4 + list_len(&InSlice(self.waits)),
             3 => adjustments_len(self.undo),
-            _ => own_object_len(&own_object_at(self, i)),
+            _ => own_object_len(&own_object_at(self, i), self.form.marks),
         }
     }
 
@@ -201,8 +217,9 @@ impl<'a> Objects for StateObjects<'a> {
 // What has the i-th object.
 fn own_object_at<'a, 'b>(objects: &'b StateObjects<'a>, i: u32) -> OwnObject<'a>
     requires thing { 4 ≤ i }
-    requires object { i < length (saved objects.now) }
-    ensures { IsFound objects.now i (object_of result) (IsMarkOfOwnObject result) (FitsOwnObject result) }
+    requires object { i < length (saved_in objects.now.0 objects.now.1) }
+    ensures { IsFound objects.now.0 objects.now.1 i (object_of objects.now.0.marks result)
+        (IsMarkOfOwnObject objects.now.0.marks result) (FitsOwnObject result) }
 {
     let at = (i - ALWAYS) as usize;
     if at < objects.queues.len() {
@@ -217,9 +234,9 @@ fn own_object_at<'a, 'b>(objects: &'b StateObjects<'a>, i: u32) -> OwnObject<'a>
 
 // What has an object among those of later kinds, by its place among them.
 fn later_at<'a, 'b>(objects: &'b StateObjects<'a>, at: usize) -> OwnObject<'a>
-    requires { at < length (later_objects (later_in objects.now)) }
-    ensures stands { Stands (later_objects (later_in objects.now))
-        (IsMarkOfLater (later_in objects.now)) at (object_of result) (IsMarkOfOwnObject result) }
+    requires { at < length (later_objects (later_in objects.now.1)) }
+    ensures stands { Stands (later_objects (later_in objects.now.1)) (IsMarkOfLater (later_in objects.now.1)) at
+        (object_of objects.now.0.marks result) (IsMarkOfOwnObject objects.now.0.marks result) }
     ensures fits { FitsOwnObject result }
 {
     if at < objects.mqs.len() {
@@ -237,13 +254,13 @@ fn later_at<'a, 'b>(objects: &'b StateObjects<'a>, at: usize) -> OwnObject<'a>
 }
 
 // How many bytes its object has.
-fn own_object_len(thing: &OwnObject<'_>) -> u64
+fn own_object_len(thing: &OwnObject<'_>, marks: bool) -> u64
     requires fits { FitsOwnObject thing.now }
-    requires short { length (object_of thing.now).1 < 2 ^ 64 }
-    ensures { result ≡ length (object_of thing.now).1 }
+    requires short { length (object_of marks thing.now).1 < 2 ^ 64 }
+    ensures { result ≡ length (object_of marks thing.now).1 }
 {
     match thing {
-        OwnObject::MsgQueue(queue) => queue.value.len(),
+        OwnObject::MsgQueue(queue) => queue_len(&queue.value, marks),
         OwnObject::Semset(set) => set.value.len(),
         OwnObject::Mq(mq) => mq.value.len(),
         OwnObject::Psem(sem) => sem.value.len(),
@@ -253,15 +270,15 @@ fn own_object_len(thing: &OwnObject<'_>) -> u64
 }
 
 // Its object passes the window. The mark is of its parts.
-fn put_own_object(window: &mut Window, thing: &OwnObject<'_>, mark: &mut Mark)
+fn put_own_object(window: &mut Window, thing: &OwnObject<'_>, marks: bool, mark: &mut Mark)
     requires fits { FitsOwnObject thing.now }
-    requires short { length (object_of thing.now).1 < 2 ^ 64 }
-    requires mark { IsMarkOfOwnObject thing.now mark.old }
-    ensures passed { window.new ≡ passed (object_of thing.now).1 window.old }
-    ensures mark { IsMarkOfOwnObject thing.now mark.new }
+    requires short { length (object_of marks thing.now).1 < 2 ^ 64 }
+    requires mark { IsMarkOfOwnObject marks thing.now mark.old }
+    ensures passed { window.new ≡ passed (object_of marks thing.now).1 window.old }
+    ensures mark { IsMarkOfOwnObject marks thing.now mark.new }
 {
     match thing {
-        OwnObject::MsgQueue(queue) => queue.value.put(window, mark),
+        OwnObject::MsgQueue(queue) => put_queue(window, &queue.value, marks, mark),
         OwnObject::Semset(set) => set.value.put(window, mark),
         OwnObject::Mq(mq) => mq.value.put(window, mark),
         OwnObject::Psem(sem) => sem.value.put(window, mark),
@@ -272,17 +289,17 @@ fn put_own_object(window: &mut Window, thing: &OwnObject<'_>, mark: &mut Mark)
 
 // The i-th object passes the window.
 fn put_object(window: &mut Window, objects: &StateObjects<'_>, i: u32, mark: &mut Mark)
-    requires object { i < length (saved objects.now) }
-    requires mark { IsMarkOf objects.now i mark.old }
-    ensures passed { option_map (λ o. passed o.1 window.old) (slice_get (saved objects.now) i)
+    requires object { i < length (saved_in objects.now.0 objects.now.1) }
+    requires mark { IsMarkOf objects.now.0 objects.now.1 i mark.old }
+    ensures passed { option_map (λ o. passed o.1 window.old) (slice_get (saved_in objects.now.0 objects.now.1) i)
         ≡ Some window.new }
-    ensures mark { IsMarkOf objects.now i mark.new }
+    ensures mark { IsMarkOf objects.now.0 objects.now.1 i mark.new }
 {
     match i {
         0 => put_clock(window, objects.numbers),
         1 => put_counted(window, &InSlice(objects.processes), mark),
         2 => put_counted(window, &InSlice(objects.waits), mark),
         3 => put_adjustments(window, objects.undo),
-        _ => put_own_object(window, &own_object_at(objects, i), mark),
+        _ => put_own_object(window, &own_object_at(objects, i), objects.form.marks, mark),
     }
 }

@@ -2,7 +2,7 @@
 
 ghost use Rattle.std.specs.Prelude.{◌≡◌, ◌≢◌, ◌<◌, ◌+◌, ◌^◌, ◌++◌, ◌∷◌, [], ℕ, List, All};
 ghost use Rattle.std.specs.Prelude.{length, map, drop, Err, IfOk, OnOk, IfSome, IfNone};
-ghost use Rattle.ipc_base.specs.declared.limits.Limits.{Limits};
+ghost use Rattle.ipc_limits.specs.declared.limits.Limits.{Limits};
 ghost use Rattle.ipc_base.specs.declared.objects.Mark.{Mark as PlainMark};
 ghost use Rattle.ipc_base.specs.Objects.{PlainObjects};
 ghost use Rattle.ipc_engine.specs.declared.fault.StateFault.{StateFault};

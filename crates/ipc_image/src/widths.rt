@@ -4,7 +4,7 @@
 //! frames.
 
 ghost use Rattle.std.specs.Prelude.{◌<◌, ◌^◌, All, ⊤, length};
-ghost use Rattle.ipc_base.specs.Limits.{ArePassed};
+ghost use Rattle.ipc_limits.specs.Limits.{ArePassed};
 ghost use Rattle.ipc_base.specs.Numbers.{FitFields};
 ghost use Rattle.sem_undo.specs.Undo.{IsKept};
 ghost use Rattle.ipc_state.specs.Descriptors.{descriptor_row};

@@ -557,6 +557,28 @@ pub ComesInOrder-moment : {D : Type 0} (medium : D → Medium) (journal : Journa
 ComesInOrder-moment medium journal batches batch old new =
     Comes-moment medium (form_of journal) (range_of journal) (epoch_of journal) batches batch old new
 
+-- no batch comes while calls leave the journal's sectors alone
+Comes-alone : {D : Type 0} (medium : D → Medium) (form : Form) (range : Range) (epoch : ℕ) (batches : List (List ℕ)) (batch : List ℕ) (old new : D)
+    (places : ℕ → Type 0) → ((i : ℕ) → IsInside range i → places i) → LeavesAlone places (medium old) (medium new)
+    → EachImageSince (medium old) (medium new) (Holds form range epoch batches)
+    → ((a b : Image) → (medium old).images_now a → (medium old).images_now b → KeepsSectors form range epoch a b)
+    → Comes medium form range epoch batches batch old new
+Comes-alone medium Headed range epoch batches batch old new places inside run same alike = inl same
+Comes-alone medium Tagged range epoch batches batch old new places inside run same alike = (
+  EachImageSince-weaken (medium old) (medium new) _ _ same (λ image holds. inl holds),
+  λ earlier now. EachImageSince-weaken (medium old) (medium new) _ (KeepsSectors Tagged range epoch earlier) run.images
+      (λ image from i lt is.
+      sym (sector_at-same places from.0 image (range.first + i) from.2 (inside (range.first + i) (omega arith, omega (arith, lt))))
+      ∙ alike earlier from.0 now from.1 i lt is),
+)
+
+pub ComesInOrder-alone : {D : Type 0} (medium : D → Medium) (places : ℕ → Type 0) (journal : Journal) (batches : List (List ℕ)) (batch : List ℕ) (old new : D)
+    → 0 < (range_of journal).count → ((i : ℕ) → IsInside (range_of journal) i → places i) → LeavesAlone places (medium old) (medium new)
+    → JournalMatches journal batches (medium old) → ComesInOrder medium journal batches batch old new
+ComesInOrder-alone medium places journal batches batch old new some inside run at =
+    Comes-alone medium (form_of journal) (range_of journal) (epoch_of journal) batches batch old new places inside run
+    (EachImageSince-alone places journal batches (medium old) (medium new) some inside run at) at.kept.alike
+
 -- and it keeps the batches of before
 pub KeepsBatches-append : (journal : Journal) (batches : List (List ℕ)) (batch : List ℕ) (old : Medium) → JournalMatches journal batches old
     → (earlier later : Image) → old.images_now earlier

@@ -36,6 +36,11 @@ abbrev pub append_writes : Form → ℕ → ℕ
 append_writes Headed len = sectors_in Headed len + 1
 append_writes Tagged len = sectors_in Tagged len
 
+-- the writes of a new journal
+abbrev pub create_writes : Form → Range → ℕ
+create_writes Headed range = 1
+create_writes Tagged range = range.count
+
 abbrev pub append_syncs : Form → ℕ
 append_syncs Headed = 2
 append_syncs Tagged = 1

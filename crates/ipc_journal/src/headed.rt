@@ -22,7 +22,7 @@ use ipc_disk::{
 };
 
 /// The bytes of a header: epoch, used sectors, and zeros.
-pub(crate) fn header_sector(epoch: u64, used: u32) -> [u8; 512]
+fn header_sector(epoch: u64, used: u32) -> [u8; 512]
     ensures epoch { epoch_in result ≡ epoch }
     ensures used { used_in result ≡ used }
     ensures bytes { result ≡ header_bytes epoch used }
@@ -31,6 +31,24 @@ pub(crate) fn header_sector(epoch: u64, used: u32) -> [u8; 512]
     BigEndian::write_u64(&mut sector, epoch);
     BigEndian::write_u32(&mut sector[8..], used);
     sector
+}
+
+/// Writes the header of an empty journal of this epoch. It does not sync.
+pub(crate) fn put_header<D: SectorDisk>(
+    disk: &mut D,
+    range: Range,
+    epoch: u64,
+) -> Result<(), DiskFault>
+    requires some { 0 < range.count }
+    requires within { IsWithin range (D.size disk.old) }
+    ensures empty { OnOk result (IsHonest (D.medium disk.old)
+        → Holds Headed range epoch [] (D.medium disk.new).contents) }
+    ensures others { IsHonest (D.medium disk.old)
+        → LeavesAlone (IsOutside range) (D.medium disk.old) (D.medium disk.new) }
+    ensures same { IsSameDisk D.size D.medium disk.old disk.new }
+    ensures counts { CountsCalls D.counts result (with_calls 1 0) disk.old disk.new }
+{
+    disk.write(range.first, &header_sector(epoch, 0))
 }
 
 /// How many sectors the header counts. One of an earlier epoch counts none, whatever else it says.

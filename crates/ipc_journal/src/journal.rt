@@ -2,12 +2,11 @@
 
 ghost use Rattle.std.specs.Prelude.{◌≡◌, ◌↔◌, ◌+◌, ◌-◌, ◌<◌, ◌≤◌, ℕ};
 ghost use Rattle.std.specs.Prelude.{◌++◌, [], ◌∷◌, List, length};
-ghost use Rattle.std.specs.Prelude.{slice_set, Ok, OnOk, OnErr, IsTrue};
+ghost use Rattle.std.specs.Prelude.{Ok, OnOk, OnErr, IsTrue};
 ghost use Rattle.ipc_disk.specs.Range.{IsWithin, IsOutside};
 ghost use Rattle.ipc_journal.specs.Journal.{head, most_sectors};
 
 use crate::form::Form;
-use crate::headed::header_sector;
 use crate::{headed, tagged};
 use ipc_disk::{DiskFault, Range, SectorDisk};
 
@@ -28,39 +27,41 @@ pub struct Journal {
 impl Journal {
     ghost use Rattle.ipc_disk.specs.Calls.{IsSameDisk, CountsCalls, CountsFault};
     ghost use Rattle.ipc_disk.specs.Counts.{counted, with_calls};
-    ghost use Rattle.ipc_disk.specs.Medium.{Image, IsHonest, IsDurable, SetOrNot};
+    ghost use Rattle.ipc_disk.specs.Medium.{Image, IsHonest, IsDurable};
     ghost use Rattle.ipc_disk.specs.Since.{EachImageSince, LeavesAlone};
     ghost use Rattle.ipc_journal.specs.Batch.{IsBatch};
-    ghost use Rattle.ipc_journal.specs.Headed.{header_bytes};
-    ghost use Rattle.ipc_journal.specs.Journal.{sectors_in, sectors_of, Holds, IsClear, IsOlder, IsWritten};
+    ghost use Rattle.ipc_journal.specs.Journal.{sectors_in, sectors_of, Holds, IsClear, IsOlder, IsRangeFor, IsWritten};
     ghost use Rattle.ipc_journal.specs.View.{form_of, range_of, epoch_of, used_of, count_of, Fits};
-    ghost use Rattle.ipc_journal.specs.View.{append_writes, append_syncs};
+    ghost use Rattle.ipc_journal.specs.View.{append_writes, append_syncs, create_writes};
     ghost use Rattle.ipc_journal.specs.Matches.{IsKept, JournalMatches};
     ghost use Rattle.ipc_journal.specs.Meanwhile.{Comes, ComesInOrder};
 
-    /// Writes the header of an empty journal of this epoch. It does not sync.
-    pub fn put_header<D: SectorDisk>(
+    /// Makes of a range an empty journal of this epoch: a header that counts no batch, or zeros in each sector. It does
+    /// not sync.
+    pub fn create<D: SectorDisk>(
         disk: &mut D,
+        form: Form,
         range: Range,
         epoch: u64,
     ) -> Result<(), DiskFault>
-        requires header { 0 < range.count }
+        requires counted { IsRangeFor form range }
+        requires later { 0 < epoch }
         requires within { IsWithin range (D.size disk.old) }
-        // The disk reads as before but for the header.
-        ensures header { OnOk result (IsHonest (D.medium disk.old)
-            → (D.medium disk.new).contents
-            ≡ slice_set (D.medium disk.old).contents range.first (header_bytes epoch 0)) }
-        // A crash at any moment of the call, also of one that fails.
-        ensures header_or_not { IsHonest (D.medium disk.old)
-            → EachImageSince (D.medium disk.old) (D.medium disk.new)
-            (SetOrNot range.first (header_bytes epoch 0) (D.medium disk.old)) }
+        // There is no batch, and nothing of this epoch.
+        ensures empty { OnOk result (IsHonest (D.medium disk.old)
+            → Holds form range epoch [] (D.medium disk.new).contents) }
+        ensures clear { OnOk result (IsHonest (D.medium disk.old)
+            → IsClear form range epoch 0 (D.medium disk.new).contents) }
         ensures others { IsHonest (D.medium disk.old)
             → LeavesAlone (IsOutside range) (D.medium disk.old) (D.medium disk.new) }
         // Failures and counts.
         ensures same { IsSameDisk D.size D.medium disk.old disk.new }
-        ensures counts { CountsCalls D.counts result (with_calls 1 0) disk.old disk.new }
+        ensures counts { CountsCalls D.counts result (with_calls (create_writes form range) 0) disk.old disk.new }
     {
-        disk.write(range.first, &header_sector(epoch, 0))
+        match form {
+            Form::Headed => headed::put_header(disk, range, epoch),
+            Form::Tagged => tagged::erase(disk, range),
+        }
     }
 
     /// A journal after so many batches.
@@ -204,9 +205,8 @@ impl Journal {
     /// no call. After an `Err` some of them may have zeros: the batches are as they were.
     pub fn clear_tail<D: SectorDisk>(&self, disk: &mut D) -> Result<(), DiskFault>
         requires within { IsWithin (range_of self.now) (D.size disk.old) }
-        requires later { 0 < epoch_of self.now }
         // Nothing after the batches is of this epoch, on a disk on which a crash leaves what is read.
-        ensures cleared { OnOk result ((batches : List (List ℕ)) → IsHonest (D.medium disk.old)
+        ensures cleared { OnOk result ((batches : List (List ℕ)) → 0 < epoch_of self.now → IsHonest (D.medium disk.old)
             → IsDurable (D.medium disk.old) → used_of self.now ≡ sectors_of (form_of self.now) batches
             → count_of self.now ≡ length batches
             → Holds (form_of self.now) (range_of self.now) (epoch_of self.now) batches (D.medium disk.old).contents
@@ -214,7 +214,7 @@ impl Journal {
         ensures durable { OnOk result (IsHonest (D.medium disk.old)
             → IsDurable (D.medium disk.old) → IsDurable (D.medium disk.new)) }
         // A crash at any moment of the call, also of one that fails.
-        ensures any_moment { (batches : List (List ℕ)) → IsHonest (D.medium disk.old)
+        ensures any_moment { (batches : List (List ℕ)) → 0 < epoch_of self.now → IsHonest (D.medium disk.old)
             → used_of self.now ≡ sectors_of (form_of self.now) batches → count_of self.now ≡ length batches
             → ((image : Image) → (D.medium disk.old).images_now image
             → Holds (form_of self.now) (range_of self.now) (epoch_of self.now) batches image)
@@ -224,6 +224,7 @@ impl Journal {
             → LeavesAlone (IsOutside (range_of self.now)) (D.medium disk.old) (D.medium disk.new) }
         // Failures and counts.
         ensures none { form_of self.now ≡ Form.Headed → disk.new ≡ disk.old }
+        ensures nothing { head (form_of self.now) + used_of self.now ≡ (range_of self.now).count → disk.new ≡ disk.old }
         ensures same { IsSameDisk D.size D.medium disk.old disk.new }
         ensures counts { CountsFault D.counts result disk.old disk.new }
         ensures writes { OnOk result ((D.counts disk.new).writes

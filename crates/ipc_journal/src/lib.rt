@@ -13,8 +13,7 @@
 //!
 //! All of it holds over every disk that meets the trait and is honest.
 //!
-//! - `put_header` writes the header of an empty journal and does not sync (`header`); each image of a crash in the call
-//!   differs from one of before in the header at most (`header_or_not`).
+//! - `create` makes an empty journal without a sync (`empty`), after whose batches nothing is of its epoch (`clear`).
 //! - `append`: at every moment of the call each image that a crash may leave holds the batches of before, with the new
 //!   one or without (`any_moment`, `ComesInOrder` of `specs/Meanwhile.antt`). With a header, the sectors of the batch
 //!   stand before the header counts it: up to some moment each image has the batches of before, and from then on the

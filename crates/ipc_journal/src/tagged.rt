@@ -284,11 +284,26 @@ pub(crate) fn append<D: SectorDisk>(
     Ok(())
 }
 
+/// Writes zeros to each sector of the range. It does not sync.
+pub(crate) fn erase<D: SectorDisk>(disk: &mut D, range: Range) -> Result<(), DiskFault>
+    requires within { IsWithin range (D.size disk.old) }
+    ensures erased { OnOk result (IsHonest (D.medium disk.old) → (i : ℕ) → i < range.count
+        → sector_at (D.medium disk.new).contents (range.first + i) ≡ replicate 512 0) }
+    ensures others { IsHonest (D.medium disk.old)
+        → LeavesAlone (IsOutside range) (D.medium disk.old) (D.medium disk.new) }
+    ensures same { IsSameDisk D.size D.medium disk.old disk.new }
+    ensures counts { CountsCalls D.counts result (with_calls range.count 0) disk.old disk.new }
+{
+    for i in 0..range.count {
+        disk.write(range.first + i, &[0; 512])?;
+    }
+    Ok(())
+}
+
 // Writes zeros to a sector if it is of this epoch or a later one, and whether it was. No sync.
 fn clear_sector<D: SectorDisk>(disk: &mut D, at: u32, epoch: u64) -> Result<bool, DiskFault>
     requires within { at < D.size disk.old }
-    requires later { 0 < epoch }
-    ensures older { OnOk result (IsHonest (D.medium disk.old)
+    ensures older { OnOk result (0 < epoch → IsHonest (D.medium disk.old)
         → epoch_in (sector_at (D.medium disk.new).contents at) < epoch) }
     ensures medium { IsHonest (D.medium disk.old)
         → Writes at (replicate 512 0) (D.medium disk.old) (D.medium disk.new) }
@@ -322,19 +337,19 @@ pub(crate) fn clear<D: SectorDisk>(
 ) -> Result<(), DiskFault>
     requires within { IsWithin range (D.size disk.old) }
     requires room { used ≤ range.count }
-    requires later { 0 < epoch }
-    ensures cleared { OnOk result ((batches : List (List ℕ)) → IsHonest (D.medium disk.old)
+    ensures cleared { OnOk result ((batches : List (List ℕ)) → 0 < epoch → IsHonest (D.medium disk.old)
         → IsDurable (D.medium disk.old) → used ≡ sectors_of Tagged batches → before ≡ length batches
         → Holds Tagged range epoch batches (D.medium disk.old).contents
         → IsKept Tagged range epoch batches (D.medium disk.new)) }
     ensures durable { OnOk result (IsHonest (D.medium disk.old)
         → IsDurable (D.medium disk.old) → IsDurable (D.medium disk.new)) }
-    ensures any_moment { (batches : List (List ℕ)) → IsHonest (D.medium disk.old)
+    ensures any_moment { (batches : List (List ℕ)) → 0 < epoch → IsHonest (D.medium disk.old)
         → used ≡ sectors_of Tagged batches → before ≡ length batches
         → ((image : Image) → (D.medium disk.old).images_now image → Holds Tagged range epoch batches image)
         → EachImageSince (D.medium disk.old) (D.medium disk.new) (Holds Tagged range epoch batches) }
     ensures others { IsHonest (D.medium disk.old)
         → LeavesAlone (IsOutside range) (D.medium disk.old) (D.medium disk.new) }
+    ensures nothing { used ≡ range.count → disk.new ≡ disk.old }
     ensures same { IsSameDisk D.size D.medium disk.old disk.new }
     ensures counts { CountsFault D.counts result disk.old disk.new }
     ensures writes { OnOk result ((D.counts disk.new).writes

@@ -3,7 +3,7 @@ use Rattle.std.proofs.Common.{◌≡◌, ℕ, ◌+◌, ◌++◌, List, [], ◌�
 use Rattle.std.proofs.lemmas.List.{length-append}
 use Rattle.std.proofs.lemmas.List.Elements.{All-nil, All-cons, All-append}
 use Rattle.std.proofs.lemmas.List.Concat.{flat_map-append}
-use Rattle.ipc_base.specs.declared.limits.Limits.{Limits}
+use Rattle.ipc_limits.specs.declared.limits.Limits.{Limits}
 use Rattle.ipc_disk.specs.Medium.{Medium}
 use Rattle.ipc_state.specs.State.{State}
 use Rattle.ipc_engine.specs.Changes.{IsTracked}

@@ -1,11 +1,11 @@
 -- What the crates above cite of a store: which events the bytes of a batch hold, which state an image stands for, what a list
 -- of calls accepts, and how many events and bytes a store still takes.
-use Rattle.std.proofs.Common.{◌≡◌, ◌+◌, ◌-◌, ◌≤◌, ◌<◌, ◌^◌, inr, ℕ, Bool, true, false, List, [], ◌∷◌, ◌++◌, length, drop, map, refl, sym, ap, subst, ◌∙◌, arith}
+use Rattle.std.proofs.Common.{◌≡◌, ◌+◌, ◌-◌, ◌≤◌, ◌<◌, ◌^◌, ℕ, Bool, true, false, List, [], ◌∷◌, ◌++◌, length, drop, map, refl, sym, ap, subst, ◌∙◌, arith}
 use Rattle.std.specs.Prelude.{if◌then◌else◌, All}
 use Rattle.std.proofs.lemmas.List.{drop_at, length-append}
 use Rattle.std.proofs.lemmas.List.Elements.{All-head, All-tail}
 use Rattle.byteorder.specs.Endian.{big_bytes}
-use Rattle.ipc_base.specs.declared.limits.Limits.{Limits}
+use Rattle.ipc_limits.specs.declared.limits.Limits.{Limits}
 use Rattle.ipc_base.specs.Objects.{PlainObjects}
 use Rattle.ipc_checkpoint.proofs.CallerLemmas.{Holds-one as Objects-one}
 use Rattle.ipc_disk.specs.Medium.{Image, Medium}
@@ -15,18 +15,20 @@ use Rattle.ipc_state.specs.State.{State}
 use Rattle.ipc_engine.specs.Event.{PlainEvent, Exit, Tick}
 use Rattle.ipc_engine.specs.Step.{run}
 use Rattle.ipc_image.specs.declared.format.Format.{Format}
-use Rattle.ipc_image.specs.Format.{format, longest_record, IsFormat}
+use Rattle.ipc_image.specs.Format.{device_form, longest_record, IsFormat}
 use Rattle.ipc_image.specs.Records.{record_bytes, HasRecord, BeginsWith}
-use Rattle.ipc_image.proofs.CallerLemmas.{one-superblock, one-record, record-read, stand-one}
+use Rattle.ipc_image.proofs.CallerLemmas.{form-known, one-superblock, one-record, record-read, stand-one}
 use Rattle.ipc_image.specs.Saved.{StandForStateIn}
+use Rattle.ipc_image.specs.Superblock.{AreOf}
 use Rattle.ipc_store.specs.Batch.{records_of, batch_bytes, exit_record, tick_record, AreBatchOf}
 use Rattle.ipc_store.specs.Histories.{Takes}
-use Rattle.ipc_store.specs.Image.{journal_form, journal_range, layout_in, named_sectors, events_of, epoch_at, IsDeviceIn, HasObjectsIn, HasBatches, HasBaseIn}
-use Rattle.ipc_store.specs.Image.{StandsFor, StandsForIn}
+use Rattle.ipc_store.specs.Image.{as_of, own_limits, form_at, journal_form, journal_range, layout_in, named_sectors, events_of, epoch_at}
+use Rattle.ipc_store.specs.Image.{IsDeviceIn, HasObjectsIn, HasBatches, HasBaseIn, HasNoStateIn, StandsFor, StandsForIn}
 use Rattle.ipc_store.specs.View.{StoreView, HasRoomFor, events_left, numbers_used}
 use Rattle.ipc_store.proofs.Batches.{record-length, record-most}
 use Rattle.ipc_store.specs.Relations.Matches.{StoreMatches}
 use Rattle.ipc_store.proofs.Committing as committing
+use Rattle.ipc_store.proofs.Devices.{device-form}
 use Rattle.ipc_store.proofs.Lives as lives
 pub use Rattle.ipc_store.proofs.Meanwhile.{read-same}
 
@@ -98,9 +100,9 @@ module _ (form : Format) (known : IsFormat form) (limits others : Limits) where
       → (limits ≡ others) × (s ≡ t)
   StandsForIn-one s t image fits is also =
       let same = HasBase-one is.epoch also.epoch is.base also.base image fits is.kept also.kept in
-      let its : HasBatches is.epoch also.batches image = subst (λ (n : ℕ). HasBatches n also.batches image) (sym same.1) also.journal in
+      let its : HasBatches form is.epoch also.batches image = subst (λ (n : ℕ). HasBatches form n also.batches image) (sym same.1) also.journal in
       let bytes : map batch_bytes is.batches ≡ map batch_bytes also.batches =
-      Holds-one journal_form journal_range is.epoch (map batch_bytes is.batches) (map batch_bytes also.batches) image is.journal its in
+      Holds-one (journal_form form) (journal_range form) is.epoch (map batch_bytes is.batches) (map batch_bytes also.batches) image is.journal its in
       let batches : is.batches ≡ also.batches = batches-one form.batch is.batches also.batches is.leads.each also.leads.each bytes in (
         same.0,
         is.leads.state ∙ ap (λ (l : Limits). (run l is.base (events_of is.batches)).state) same.0
@@ -108,9 +110,28 @@ module _ (form : Format) (known : IsFormat form) (limits others : Limits) where
             ∙ ap (λ (bs : List (List PlainEvent)). (run others also.base (events_of bs)).state) batches ∙ sym also.leads.state,
       )
 
+-- limits of a form are as they are on a device of it
+pub as-of-same : (form : Format) (limits : Limits) → AreOf form limits → as_of form limits ≡ limits
+as-of-same form limits of = λ i. record limits { version = sym of.version i; journal = sym of.journal i }
+
+-- so are those of the form that they name
+pub own-limits-same : (limits : Limits) → AreOf (device_form limits) limits → own_limits limits ≡ limits
+own-limits-same limits = as-of-same (device_form limits) limits
+
+-- the image names the form of the limits
+pub stands-form : (limits : Limits) (s : State) (image : Image) → StandsFor limits s image → device_form limits ≡ form_at image
+stands-form limits s image is = device-form limits image is.kept.device
+
+-- so it is not damaged
+pub stands-none : (image : Image) (limits : Limits) (s : State) → StandsFor limits s image → HasNoStateIn (form_at image) image → ⊥
+stands-none image limits s is none = none limits s (subst (λ (f : Format). StandsForIn f limits s image) (stands-form limits s image is) is)
+
 pub StandsFor-one : (limits others : Limits) (s t : State) (image : Image) → length image < 2 ^ 32 → StandsFor limits s image → StandsFor others t image
     → (limits ≡ others) × (s ≡ t)
-StandsFor-one = StandsForIn-one format (inr refl)
+StandsFor-one limits others s t image fits is also =
+    let same = stands-form limits s image is ∙ sym (stands-form others t image also) in
+    StandsForIn-one (device_form limits) (form-known limits) limits others s t image fits is
+    (subst (λ (f : Format). StandsForIn f others t image) (sym same) also)
 
 -- each image that a crash now may leave stands for the base of a store
 pub StoreMatches-stands : {D : Type 0} (medium : Medium) (store : StoreView D) (base : State) (pending : List PlainEvent)

@@ -34,15 +34,17 @@ use Rattle.ipc_engine.specs.Event.{PlainEvent}
 use Rattle.ipc_engine.specs.Step.{run}
 use Rattle.ipc_image.specs.Records.{HasRecord}
 use Rattle.ipc_image.specs.Changed.{differs_in}
-use Rattle.ipc_image.specs.Saved.{StandForState, saved as saved_objects}
-use Rattle.ipc_image.proofs.CallerLemmas.{others-there}
+use Rattle.ipc_image.specs.declared.format.Format.{Format}
+use Rattle.ipc_image.specs.Format.{device_form}
+use Rattle.ipc_image.specs.Saved.{StandForStateIn, saved_in}
+use Rattle.ipc_image.proofs.CallerLemmas.{form-batch, others-there}
 use Rattle.ipc_store.specs.declared.fault.CommitError.{CommitError}
 use Rattle.ipc_store.specs.declared.fault.CommitError.TheVariants as commit
-use Rattle.ipc_store.specs.Batch.{most_bytes, batch_bytes, AreBatch}
+use Rattle.ipc_store.specs.Batch.{most_bytes, batch_bytes, AreBatch, AreBatchOf}
 use Rattle.ipc_store.specs.Image.{journal_range, StandsFor, LeadTo, epoch_at}
 use Rattle.ipc_store.specs.View.{StoreView, store_view}
 use Rattle.ipc_store.specs.Relations.Matches.{StoreMatches, StandsForEither}
-use Rattle.ipc_store.proofs.Devices.{IsPlace, IsPlace-since, has-batches, stands-with, device-stands, objects-outside}
+use Rattle.ipc_store.proofs.Devices.{IsPlace, IsPlace-since, device-form, has-batches, stands-with, device-stands, objects-outside}
 use Rattle.ipc_store.proofs.Devices.{journal-outside, journal-some, first-outside, first-elsewhere}
 use Rattle.ipc_store.proofs.Histories.{LeadTo-start, LeadTo-more}
 
@@ -71,7 +73,9 @@ module _ {D : Type 0} (medium : Medium) (store : StoreView D) (base : State) (pe
   pub root-epoch : epoch_at medium.contents ≡ saved_epoch store.checkpoint
   root-epoch =
       let reads = at.device.honest.reads in
-      ap (λ (l : Layout). epoch_in (sector_at medium.contents l.root)) (sym (at.device.device medium.contents reads).1)
+      ap (λ (f : Format). epoch_in (sector_at medium.contents f.root))
+      (sym (device-form store.machine.limits medium.contents (at.device.device medium.contents reads).0))
+      ∙ ap (λ (l : Layout). epoch_in (sector_at medium.contents l.root)) (sym (at.device.device medium.contents reads).1)
       ∙ (CheckpointMatches-holds store.checkpoint at.device.objects medium at.device.saved medium.contents reads).there.current
 
   -- what waits makes a batch
@@ -101,16 +105,17 @@ module _ {D : Type 0} (medium : Medium) (store : StoreView D) (base : State) (pe
   leads-more : 4 + length store.records ≤ most_bytes
       → LeadTo store.machine.limits at.device.from (at.device.batches ++ pending ∷ []) (run store.machine.limits base pending).state
   leads-more size =
-      LeadTo-more most_bytes store.machine.limits at.device.from at.device.batches pending base at.device.leads (waits-batch size) at.waits.named
+      LeadTo-more (device_form store.machine.limits).batch store.machine.limits at.device.from at.device.batches pending base at.device.leads
+      (subst (λ (n : ℕ). AreBatchOf n pending) (sym (form-batch store.machine.limits)) (waits-batch size)) at.waits.named
 
 -- what a commit that appends has counted
-pub append-counts : {D : Type 0} (counts : D → Counts) (old new : D) (writes : ℕ) (done : Result ⊤ CommitError) → done ≢ Err commit.Stopped
+pub append-counts : {D : Type 0} (counts : D → Counts) (old new : D) (writes syncs : ℕ) (done : Result ⊤ CommitError) → done ≢ Err commit.Stopped
     → (done ≡ Err commit.Device → (counts new).failures ≡ counted (counts old).failures 1)
-    → OnOk done (counts new ≡ with_calls writes 2 (counts old)) → CountsFaultIf counts (done ≡ Err commit.Device) old new
-append-counts counts old new writes done runs failure made =
+    → OnOk done (counts new ≡ with_calls writes syncs (counts old)) → CountsFaultIf counts (done ≡ Err commit.Device) old new
+append-counts counts old new writes syncs done runs failure made =
     record { failure = failure; no_failure = by_result done runs made }
   where
-    by_result : (r : Result ⊤ CommitError) → r ≢ Err commit.Stopped → OnOk r (counts new ≡ with_calls writes 2 (counts old))
+    by_result : (r : Result ⊤ CommitError) → r ≢ Err commit.Stopped → OnOk r (counts new ≡ with_calls writes syncs (counts old))
         → (r ≡ Err commit.Device) ⊎ ((counts new).failures ≡ (counts old).failures)
     by_result (Ok _) runs is = inr (ap (λ (n : Counts). n.failures) is)
     by_result (Err commit.Device) runs is = inl refl
@@ -162,12 +167,14 @@ module _ {D : Type 0} (old new : Medium) (store : StoreView D) (base : State) (p
     either image ((is-place, there), inl holds) =
         inl (stands-with store.machine.limits (saved_layout store.checkpoint) (saved_epoch store.checkpoint) image
         is-place.0 is-place.1 at.device.objects there at.device.from at.device.stand at.device.batches
-        (has-batches store.journal (saved_epoch store.checkpoint) at.device.batches image at.device.form at.device.range at.device.epoch holds)
+        (has-batches (device_form store.machine.limits) store.journal (saved_epoch store.checkpoint) at.device.batches image
+        at.device.form at.device.range at.device.epoch holds)
         base at.device.leads)
     either image ((is-place, there), inr holds) =
         inr (stands-with store.machine.limits (saved_layout store.checkpoint) (saved_epoch store.checkpoint) image
         is-place.0 is-place.1 at.device.objects there at.device.from at.device.stand (at.device.batches ++ pending ∷ [])
-        (has-batches store.journal (saved_epoch store.checkpoint) (at.device.batches ++ pending ∷ []) image at.device.form at.device.range
+        (has-batches (device_form store.machine.limits) store.journal (saved_epoch store.checkpoint) (at.device.batches ++ pending ∷ []) image
+        at.device.form at.device.range
         at.device.epoch
         (subst (λ (bs : List (List ℕ)). Holds (form_of store.journal) (range_of store.journal) (epoch_of store.journal) bs image) more holds))
         (run store.machine.limits base pending).state (leads-more old store base pending at size))
@@ -216,21 +223,24 @@ module _ {D : Type 0} (old new : Medium) (store : StoreView D) (base : State) (p
   -- ---- the state is saved
 
   -- what was saved are the objects of the state then
-  pub was-saved : (those : PlainObjects) → CheckpointMatches store.checkpoint those old → those ≡ saved_objects at.device.from
+  pub was-saved : (those : PlainObjects) → CheckpointMatches store.checkpoint those old
+      → those ≡ saved_in (device_form store.machine.limits) at.device.from
   was-saved those there = sym there.map ∙ at.device.saved.map ∙ at.device.stand.are
 
   -- each object that does not count as changed is among them
-  pub unchanged : StandForState store.machine.limits store.machine.state (saved_objects store.machine.state)
+  pub unchanged : (form : Format) → form ≡ device_form store.machine.limits
+      → StandForStateIn form store.machine.limits store.machine.state (saved_in form store.machine.state)
       → (those : PlainObjects) → CheckpointMatches store.checkpoint those old
-      → OthersAreThere (differs_in store.machine.changed (saved_objects store.machine.state)) (saved_objects store.machine.state) those
-  unchanged stand those there =
-      subst
-      (λ (o : PlainObjects). OthersAreThere (differs_in store.machine.changed (saved_objects store.machine.state)) (saved_objects store.machine.state) o)
-      (sym (was-saved those there))
-      (others-there store.machine.limits store.machine.changed at.device.from store.machine.state at.tracked stand)
+      → OthersAreThere (differs_in store.machine.changed (saved_in form store.machine.state)) (saved_in form store.machine.state) those
+  unchanged form is stand those there =
+      let objects : PlainObjects = saved_in form store.machine.state in
+      let same : those ≡ saved_in form at.device.from =
+      was-saved those there ∙ ap (λ (f : Format). saved_in f at.device.from) (sym is) in
+      subst (λ (o : PlainObjects). OthersAreThere (differs_in store.machine.changed objects) objects o) (sym same)
+      (others-there form form refl store.machine.limits store.machine.changed at.device.from store.machine.state at.tracked stand)
 
   module _ (epoch : ℕ) (later : saved_epoch store.checkpoint < epoch) (next : PlainObjects)
-      (stand : StandForState store.machine.limits store.machine.state next)
+      (stand : StandForStateIn (device_form store.machine.limits) store.machine.limits store.machine.state next)
       (alone : LeavesAlone (IsElsewhere (saved_layout store.checkpoint)) old new) where
     spots : EachImageSince old new (IsPlace store.machine.limits store.checkpoint)
     spots =
@@ -259,7 +269,7 @@ module _ {D : Type 0} (old new : Medium) (store : StoreView D) (base : State) (p
     no-batch : LeadTo store.machine.limits store.machine.state [] (run store.machine.limits base pending).state
     no-batch =
         subst (λ (s : State). LeadTo store.machine.limits store.machine.state [] s) at.waits.state
-        (LeadTo-start most_bytes store.machine.limits store.machine.state)
+        (LeadTo-start (device_form store.machine.limits).batch store.machine.limits store.machine.state)
 
     -- the old objects or the new
     turned-or-not : (image : Image)
@@ -269,12 +279,13 @@ module _ {D : Type 0} (old new : Medium) (store : StoreView D) (base : State) (p
     turned-or-not image ((is-place, holds), inl there) =
         inl (stands-with store.machine.limits (saved_layout store.checkpoint) (saved_epoch store.checkpoint) image
         is-place.0 is-place.1 at.device.objects there at.device.from at.device.stand at.device.batches
-        (has-batches store.journal (saved_epoch store.checkpoint) at.device.batches image at.device.form at.device.range at.device.epoch holds.0)
+        (has-batches (device_form store.machine.limits) store.journal (saved_epoch store.checkpoint) at.device.batches image
+        at.device.form at.device.range at.device.epoch holds.0)
         base at.device.leads)
     turned-or-not image ((is-place, holds), inr there) =
         inr (stands-with store.machine.limits (saved_layout store.checkpoint) epoch image
         is-place.0 is-place.1 next there store.machine.state stand []
-        (subst (λ (f : Form). Holds f journal_range epoch [] image) at.device.form
+        (subst (λ (f : Form). Holds f (journal_range (device_form store.machine.limits)) epoch [] image) at.device.form
         (subst (λ (r : Range). Holds (form_of store.journal) r epoch [] image) at.device.range
         (Holds-older (form_of store.journal) (range_of store.journal) epoch image holds.1)))
         (run store.machine.limits base pending).state no-batch)

@@ -1,10 +1,13 @@
--- A sound state in which no call waits is sound under limits none of which is less; and a restart leaves no call waiting.
-use Rattle.std.proofs.Common.{◌≡◌, ◌+◌, ◌*◌, ◌≤◌, ℕ, List, [], refl, subst, sym, arith}
-use Rattle.std.specs.Prelude.{All}
+-- A sound state in which no call waits is sound under limits of version 2 none of which is less; and a restart leaves no
+-- call waiting.
+use Rattle.std.proofs.Common.{◌≡◌, ◌+◌, ◌*◌, ◌≤◌, ℕ, List, [], ◌∷◌, refl, ap, subst, sym, arith}
+use Rattle.std.specs.FinMap as fin
+use Rattle.std.specs.Prelude.{All, None, Some, nat_le, if◌then◌else◌, length}
 use Rattle.std.proofs.lemmas.List.Elements.{All-nil, All-weaker}
 use Rattle.std.proofs.lemmas.Nat.{mul-le}
-use Rattle.ipc_base.specs.declared.limits.Limits.{Limits}
-use Rattle.ipc_base.specs.Table.{keys_of}
+use Rattle.ipc_limits.specs.declared.limits.Limits.{Limits}
+use Rattle.ipc_limits.specs.Limits.{exceeds, if_of_three}
+use Rattle.ipc_base.specs.Table.{keys_of, EachValue}
 use Rattle.ipc_base.proofs.CallerLemmas.{rising-weaker}
 use Rattle.ipc_keys.specs.declared.check.NameKind.TheVariants as names
 use Rattle.posix_mq.specs.Queue.{Queue as Mq}
@@ -15,9 +18,10 @@ use Rattle.ipc_state.specs.declared.processes.Process.{Process}
 use Rattle.ipc_state.specs.Bound.{AreBound}
 use Rattle.ipc_state.specs.Kinds.{Content, Objects, Those, no_bound, same_bound}
 use Rattle.ipc_state.specs.Numbered.{Numbered, AreNumbered}
-use Rattle.ipc_state.specs.Sound.{AreSound, AreSoundDescriptors, AreSoundProcesses, AreSoundTogether, HasSoundParts, IsSoundContent}
+use Rattle.sem_undo.specs.Undo.{Undo}
+use Rattle.ipc_state.specs.Sound.{AreFew, AreSound, AreSoundDescriptors, AreSoundProcesses, AreSoundTogether, HasSoundParts, IsSoundContent}
 use Rattle.ipc_state.specs.Sound.{IsSoundMessage, IsSoundMq, IsSoundMsgQueue, most_of}
-use Rattle.ipc_state.specs.State.{State, objects_in, restart}
+use Rattle.ipc_state.specs.State.{State, mq_bytes, objects_in, restart}
 use Rattle.ipc_state.specs.Waiting.{PlainWaiting, IsSoundWaiting}
 use Rattle.ipc_engine.specs.Sound.{HasToWait, IsSound}
 use Rattle.ipc_image.proofs.CallerLemmas.{EachAtLeast}
@@ -25,10 +29,14 @@ use Rattle.ipc_image.specs.Format.{format}
 use Rattle.ipc_image.specs.Sizes.{sectors, process_sectors, object_sectors, area_of}
 
 -- a restart leaves no call waiting
-pub restart-waits : (s : State) → (restart s).wait ≡ []
-restart-waits s = refl
+pub restart-waits : (limits : Limits) (s : State) → (restart limits s).wait ≡ []
+restart-waits limits s = refl
 
-module _ (l m : Limits) (le : EachAtLeast m l) where
+-- version 2 has no limit of version 3
+no-limit : (m : Limits) (most : ℕ) → m.version ≡ 2 → if_of_three m most ≡ None
+no-limit m most two = ap (λ (v : ℕ). if nat_le 3 v then Some most else None) two
+
+module _ (l m : Limits) (le : EachAtLeast m l) (two : m.version ≡ 2) where
   most : (kind : ObjectKind) → most_of l kind ≤ most_of m kind
   most kinds.MsgQueue = le.msgmni
   most kinds.Semset = le.semmni
@@ -46,6 +54,7 @@ module _ (l m : Limits) (le : EachAtLeast m l) where
   msg_queue q h = record {
     bytes = omega (arith, h.bytes, le.msgmnb);
     count = omega (arith, h.count, le.msgmnb);
+    limit = ap (exceeds (length q.messages)) (no-limit m m.msgqlen two);
     qbytes = omega (arith, h.qbytes, le.msgmnb);
     messages = All-weaker (IsSoundMessage l) (IsSoundMessage m) message q.messages h.messages;
   }
@@ -73,7 +82,8 @@ module _ (l m : Limits) (le : EachAtLeast m l) where
   together processes kinds.MsgQueue o h = tt
   together processes kinds.Semset o h = omega (arith, h, le.semmns)
   together processes kinds.Shm o h = omega (arith, h, le.shmall)
-  together processes (kinds.Named names.Mq) o h = h
+  together processes (kinds.Named names.Mq) o h =
+      record { registered = h.registered; bytes = ap (exceeds (mq_bytes o)) (no-limit m m.queue_bytes two) }
   together processes (kinds.Named names.Psem) o h = tt
   together processes (kinds.Named names.Pshm) o h = omega (arith, h, le.segment_bytes)
 
@@ -111,22 +121,26 @@ module _ (l m : Limits) (le : EachAtLeast m l) where
         processes.entries h.descriptors;
   }
 
+  few : (undo : List (ℕ × Undo)) → EachValue (AreFew m) undo
+  few [] = tt
+  few (e ∷ undo) = (ap (exceeds (fin.len e.1)) (no-limit m m.semume two), few undo)
+
   -- ---- the state
 
   parts : (s : State) → s.wait ≡ [] → HasSoundParts l s → HasSoundParts m s
   parts s none h = record {
     processes = process (objects_in s) s.processes h.processes;
     wait = rw none (record { pids = tt; few = omega arith; each = All-nil IsSoundWaiting });
-    undo = h.undo;
+    undo = record { pids = h.undo.pids; each = h.undo.each; kept = h.undo.kept; few = few s.undo };
     msg = objects s.processes.entries kinds.MsgQueue s.msg h.msg;
     semset = objects s.processes.entries kinds.Semset s.semset h.semset;
     shm = objects s.processes.entries kinds.Shm s.shm h.shm;
     named = λ kind. objects s.processes.entries (kinds.Named kind) _ (h.named kind);
   }
 
-pub sound-greater : (l m : Limits) (s : State) → EachAtLeast m l → s.wait ≡ [] → IsSound l s → IsSound m s
-sound-greater l m s le none h = record {
-  parts = parts l m le s none h.parts;
+pub sound-greater : (l m : Limits) (s : State) → EachAtLeast m l → m.version ≡ 2 → s.wait ≡ [] → IsSound l s → IsSound m s
+sound-greater l m s le two none h = record {
+  parts = parts l m le two s none h.parts;
   waits = subst (λ (calls : List PlainWaiting). All (HasToWait m s) calls) (sym none) (All-nil (HasToWait m s));
 }
 

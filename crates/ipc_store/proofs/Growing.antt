@@ -2,7 +2,7 @@
 use Rattle.std.proofs.Common.{◌≡◌, ℕ, ◌≤◌, List, length, replicate, sym, ap, subst, arith}
 use Rattle.std.specs.Prelude.{map}
 use Rattle.std.proofs.lemmas.List.{length-append}
-use Rattle.ipc_base.specs.declared.limits.Limits.{Limits}
+use Rattle.ipc_limits.specs.declared.limits.Limits.{Limits}
 use Rattle.ipc_disk.specs.Growth.{with_zeros}
 use Rattle.ipc_disk.specs.Medium.{Image}
 use Rattle.ipc_disk.specs.Standing.{sector_at}
@@ -16,7 +16,7 @@ use Rattle.ipc_image.specs.Format.{IsFormat}
 use Rattle.ipc_image.specs.Superblock.{sectors_in, IsSuperblockIn}
 use Rattle.ipc_store.specs.Batch.{batch_bytes}
 use Rattle.ipc_store.specs.Image.{journal_form, journal_range, objects_range, named_sectors, IsDeviceIn, StandsForIn}
-use Rattle.ipc_store.proofs.Formatting.{form-root}
+use Rattle.ipc_image.proofs.CallerLemmas.{form-placed}
 
 module _ (more : ℕ) (image : Image) where
   abbrev after : Image
@@ -45,14 +45,14 @@ module _ (more : ℕ) (image : Image) where
           kept = record {
             device = device-grown;
             objects = is.kept.objects;
-            there = subst (λ (k : ℕ). HeapHolds (objects_range k) form.root is.epoch is.kept.objects after) (sym same)
-                (Holds-grown (objects_range n) form.root is.epoch more is.kept.objects image
+            there = subst (λ (k : ℕ). HeapHolds (objects_range form k) form.root is.epoch is.kept.objects after) (sym same)
+                (Holds-grown (objects_range form n) form.root is.epoch more is.kept.objects image
                 (omega (arith, device.superblock.room, device.whole))
-                (omega (arith, device.superblock.room, device.whole, form-root form known)) is.kept.there);
+                (omega (arith, device.superblock.room, device.whole, (form-placed form known).root.1)) is.kept.there);
             stand = is.kept.stand;
           };
           batches = is.batches;
-          journal = Holds-same journal_form journal_range is.epoch (map batch_bytes is.batches) image after (omega arith)
+          journal = Holds-same (journal_form form) (journal_range form) is.epoch (map batch_bytes is.batches) image after (form-placed form known).some
               (λ j inside. sym (sector_at-grown more image j (omega (arith, inside.1, device.superblock.room, device.whole)))) is.journal;
           leads = is.leads;
         }

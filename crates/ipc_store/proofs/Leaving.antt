@@ -1,13 +1,14 @@
 -- What a stop leaves, what opens that are stopped make of it, and what an open finds.
 use Rattle.std.proofs.Common.{◌≡◌, inl, inr, ⊎_elim, ℕ, ◌<◌, ◌^◌, List, [], ◌∷◌, ◌++◌, length, refl, sym, ap, subst, ◌∙◌, append-nil}
-use Rattle.ipc_base.specs.declared.limits.Limits.{Limits}
+use Rattle.ipc_limits.specs.declared.limits.Limits.{Limits}
 use Rattle.ipc_disk.specs.Growth.{HasGrown}
 use Rattle.ipc_disk.specs.Medium.{Image, Medium, IsHonest}
 use Rattle.ipc_state.specs.State.{State, restart}
 use Rattle.ipc_state.proofs.CallerLemmas.{restart-twice}
 use Rattle.ipc_engine.specs.Event.{PlainEvent, Restart}
 use Rattle.ipc_engine.proofs.CallerLemmas.{run-parts}
-use Rattle.ipc_image.specs.Format.{format}
+use Rattle.ipc_image.specs.Format.{device_form}
+use Rattle.ipc_image.proofs.CallerLemmas.{form-known}
 use Rattle.ipc_store.specs.Histories.{History, Past, grown, past_of, reopened, state_after, Keeps, Takes, OpensOn, StandsForPrefix}
 use Rattle.ipc_store.specs.Image.{StandsFor}
 use Rattle.ipc_store.specs.Lives.{IsLeft, StoppedOpens, StandsAfter, ReopensTo, Rests, Found}
@@ -19,12 +20,13 @@ use Rattle.ipc_store.proofs.Growing.{StandsForIn-with_zeros}
 
 -- a store that was opened on an image which stands for the state after these events, or for one that a restart makes the same
 pub reopens : {D : Type 0} (medium : Medium) (store : StoreView D) (image : Image) (past : Past) (t : State)
-    → length image < 2 ^ 32 → StandsFor past.limits t image → restart t ≡ restart (state_after past) → OpensOn image medium store
+    → length image < 2 ^ 32 → StandsFor past.limits t image → restart past.limits t ≡ restart past.limits (state_after past) → OpensOn image medium store
     → Keeps medium store (reopened past)
 reopens medium store image past t fits stands same opens =
     let one = StandsFor-one store.machine.limits past.limits opens.found.0 t image fits opens.found.1 stands in
-    let after : restart opens.found.0 ≡ state_after (past_of store.machine.limits (reopened past)) =
-    ap restart one.1 ∙ same ∙ ap (λ (l : Limits). restart (state_after (record past { limits = l }))) (sym one.0)
+    let after : restart store.machine.limits opens.found.0 ≡ state_after (past_of store.machine.limits (reopened past)) =
+    ap (λ (l : Limits). restart l opens.found.0) one.0 ∙ ap (restart past.limits) one.1 ∙ same
+    ∙ ap (λ (l : Limits). restart l (state_after (record past { limits = l }))) (sym one.0)
     ∙ sym (run-parts store.machine.limits past.base past.events (Restart ∷ [])) in
     record { stands = inl (subst (λ (s : State). StoreMatches medium store s []) after opens.found.2); count = opens.confirmed }
 
@@ -59,17 +61,18 @@ rests-standing past medium is = record {
     prefix = refl;
     state = state_after past;
     stands = is.stands image now;
-    same = ap (λ (es : List PlainEvent). restart (state_after (record past { events = es }))) (sym (append-nil past.events));
+    same = ap (λ (es : List PlainEvent). restart past.limits (state_after (record past { events = es }))) (sym (append-nil past.events));
   };
 }
 
 -- an image that a restart makes the same
 reopens-either : (past : Past) (other : Limits) (others : List PlainEvent) (s : State) (was image : Image) → length was < 2 ^ 32
-    → ReopensTo past others was → StandsFor other s was → StandsForEither other s (restart s) image → ReopensTo past others image
+    → ReopensTo past others was → StandsFor other s was → StandsForEither other s (restart other s) image → ReopensTo past others image
 reopens-either past other others s was image fits opens stands either =
     let one = StandsFor-one other past.limits s opens.state was fits stands opens.stands in
-    let same : restart s ≡ restart (state_after (grown past opens.kept)) = ap restart one.1 ∙ opens.same in
-    let as_is : (t : State) → StandsFor other t image → restart t ≡ restart (state_after (grown past opens.kept)) → ReopensTo past others image =
+    let same : restart past.limits s ≡ restart past.limits (state_after (grown past opens.kept)) = ap (restart past.limits) one.1 ∙ opens.same in
+    let as_is : (t : State) → StandsFor other t image → restart past.limits t ≡ restart past.limits (state_after (grown past opens.kept))
+    → ReopensTo past others image =
     λ t is so. record {
       kept = opens.kept;
       lost = opens.lost;
@@ -78,7 +81,8 @@ reopens-either past other others s was image fits opens stands either =
       stands = subst (λ (l : Limits). StandsFor l t image) one.0 is;
       same = so;
     } in
-    ⊎_elim (λ is. as_is s is same) (λ is. as_is (restart s) is (restart-twice s ∙ same)) either
+    ⊎_elim (λ is. as_is s is same) (λ is. as_is (restart other s) is
+    (ap (λ (l : Limits). restart past.limits (restart l s)) one.0 ∙ restart-twice past.limits s ∙ same)) either
 
 -- what an open may leave
 reopens-opened : (past : Past) (others : List PlainEvent) (old : Medium) (image : Image) → length old.contents < 2 ^ 32
@@ -97,7 +101,7 @@ reopens-grown past others most old image rests is =
       lost = opens.lost;
       prefix = opens.prefix;
       state = opens.state;
-      stands = StandsForIn-with_zeros is.more format (inr refl) past.limits opens.state is.before opens.stands;
+      stands = StandsForIn-with_zeros is.more (device_form past.limits) (form-known past.limits) past.limits opens.state is.before opens.stands;
       same = opens.same;
     })
 
@@ -127,6 +131,6 @@ finds past others image medium store fits is opens =
       lost = is.lost;
       prefix = is.prefix;
       under = one.0;
-      state = opens.found.2.waits.state ∙ ap restart one.1 ∙ is.same;
+      state = opens.found.2.waits.state ∙ ap (λ (l : Limits). restart l opens.found.0) one.0 ∙ ap (restart past.limits) one.1 ∙ is.same;
       keeps = reopens medium store image (grown past is.kept) is.state fits is.stands is.same opens;
     }

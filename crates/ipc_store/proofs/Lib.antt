@@ -1,6 +1,7 @@
 mod Accepting
 mod Batches
 pub mod CallerLemmas
+pub mod Clearing
 mod Committing
 mod Devices
 mod Faults

@@ -1,7 +1,6 @@
 -- What was loaded, step by step, is the device.
-use Rattle.std.proofs.Common.{◌≡◌, inl, inr, ⊎_elim, ℕ, ◌≤◌, List, Ok, sym, ap, subst, refl, ◌∙◌, arith}
-use Rattle.std.specs.Prelude.{map}
-use Rattle.ipc_base.specs.declared.limits.Limits.{Limits}
+use Rattle.std.proofs.Common.{◌≡◌, inl, inr, ⊎_elim, ℕ, ◌≤◌, List, Ok, sym, ap, subst, ◌∙◌, arith}
+use Rattle.ipc_limits.specs.declared.limits.Limits.{Limits}
 use Rattle.ipc_base.specs.Objects.{PlainObjects}
 use Rattle.ipc_checkpoint.specs.declared.layout.Layout.{Layout}
 use Rattle.ipc_checkpoint.specs.Checkpoint.{IsLaidOut}
@@ -14,21 +13,20 @@ use Rattle.ipc_disk.proofs.CallerLemmas.{Stays-join, IsSameDisk-call, IsSameDisk
 use Rattle.ipc_disk.specs.Calls.{IsOneCall, OnlyReads}
 use Rattle.ipc_disk.specs.Counts.{Counts, counted, with_sync}
 use Rattle.ipc_journal.specs.declared.journal.Journal.{Journal}
-use Rattle.ipc_journal.specs.Matches.{JournalMatches}
 use Rattle.ipc_journal.specs.View.{form_of, range_of, epoch_of}
 use Rattle.ipc_state.specs.State.{State}
 use Rattle.ipc_engine.specs.Changes.{IsTracked}
 use Rattle.ipc_engine.specs.Engine.{Machine}
 use Rattle.ipc_engine.specs.Event.{PlainEvent}
 use Rattle.ipc_image.specs.declared.format.Format.{Format}
-use Rattle.ipc_image.specs.Format.{format}
+use Rattle.ipc_image.specs.Format.{device_form}
+use Rattle.ipc_image.proofs.CallerLemmas.{form-known}
 use Rattle.ipc_image.specs.Saved.{StandForStateIn}
-use Rattle.ipc_image.specs.Sizes.{area_of, need_of}
+use Rattle.ipc_image.specs.Sizes.{need_in}
 use Rattle.ipc_image.specs.Superblock.{AreOf}
-use Rattle.ipc_store.specs.Batch.{batch_bytes}
-use Rattle.ipc_store.specs.Image.{journal_form, journal_range, layout_of, named_sectors, IsDevice, LeadTo}
-use Rattle.ipc_store.specs.Relations.Loading.{OnlySyncs}
-use Rattle.ipc_store.specs.Relations.Matches.{AreOnDisk, DeviceMatches, MachineMatches}
+use Rattle.ipc_store.specs.Image.{journal_form, journal_range, layout_of, named_sectors, HasBatches, IsDevice, LeadTo}
+use Rattle.ipc_store.specs.Relations.Loading.{IsAfter, IsLoaded, IsLoadedUnder, OnlySyncs}
+use Rattle.ipc_store.specs.Relations.Matches.{AreOnDisk}
 use Rattle.ipc_store.proofs.Formatting.{laid-out}
 
 -- calls that only read, one after another
@@ -106,49 +104,47 @@ Kept form limits from checkpoint medium =
     (objects : PlainObjects) × StandForStateIn form limits from objects × CheckpointMatches checkpoint objects medium
 
 -- the batches that lead on from there
-abbrev pub Led : Limits → State → State → Journal → Medium → Type 0
-Led limits from to journal medium =
-    (batches : List (List PlainEvent)) × JournalMatches journal (map batch_bytes batches) medium × LeadTo limits from batches to
+abbrev pub Led : Limits → State → State → ℕ → Journal → Image → Type 0
+Led limits from to epoch journal image =
+    (batches : List (List PlainEvent)) × HasBatches (device_form limits) epoch batches image × LeadTo limits from batches to × IsAfter journal batches
 
 module _ (limits : Limits) (sectors : ℕ) (checkpoint : CheckpointView) (layout : saved_layout checkpoint ≡ layout_of limits sectors) where
-  module _ (journal : Journal) (form : form_of journal ≡ journal_form) (range : range_of journal ≡ journal_range)
+  module _ (journal : Journal) (form : form_of journal ≡ journal_form (device_form limits)) (range : range_of journal ≡ journal_range (device_form limits))
       (epoch : epoch_of journal ≡ saved_epoch checkpoint)
       (machine : Machine) (same : machine.limits ≡ limits) where
     -- the whole device
     pub loaded : (medium : Medium) (from : State) → IsHonest medium → IsDurable medium → IsDevice limits medium.contents
-        → sectors ≡ named_sectors medium.contents → Kept format limits from checkpoint medium → Led limits from machine.state journal medium
-        → IsTracked machine.changed from machine.state → MachineMatches medium machine checkpoint journal
+        → sectors ≡ named_sectors medium.contents → Kept (device_form limits) limits from checkpoint medium
+        → Led limits from machine.state (saved_epoch checkpoint) journal medium.contents
+        → IsTracked machine.changed from machine.state → IsLoaded medium machine checkpoint journal
     loaded medium from honest durable device count kept led tracked =
-        let Both : Limits → Type 0 =
-        λ l. (d : DeviceMatches medium l checkpoint journal machine.state) × IsTracked machine.changed d.from machine.state in
-        let both : Both machine.limits =
-        subst Both (sym same) (
-          record {
-            honest = honest;
-            form = form;
-            range = range;
-            epoch = epoch;
-            device = λ image now.
-                subst (λ (i : Image). IsDevice limits i × (saved_layout checkpoint ≡ layout_of limits (named_sectors i))) (sym (durable image now))
-                (device, layout ∙ ap (layout_of limits) count);
-            from = from;
-            objects = kept.0;
-            stand = kept.1;
-            saved = kept.2;
-            batches = led.0;
-            appended = led.1;
-            leads = led.2;
-          },
-          tracked,
-        ) in
-        record { device = both.0; tracked = both.1 }
+        subst (λ (l : Limits). IsLoadedUnder l medium machine checkpoint journal) (sym same) (record {
+          honest = honest;
+          durable = durable;
+          form = form;
+          range = range;
+          epoch = epoch;
+          device = device;
+          lies = layout ∙ ap (layout_of limits) count;
+          from = from;
+          objects = kept.0;
+          stand = kept.1;
+          saved = kept.2;
+          batches = led.0;
+          journal_is = led.1;
+          after = led.3;
+          leads = led.2;
+          tracked = tracked;
+        })
 
     -- and where it lies
-    pub on-disk : (last : ℕ) → sectors ≤ last → AreOf format limits → need_of limits ≤ sectors → AreOnDisk last machine.limits checkpoint journal
-    on-disk last there of room = record {
-      objects = subst (λ (l : Layout). IsLaidOut l last) (sym layout) (laid-out format (inr refl) limits sectors last of room there);
-      room = ap (λ (l : Layout). l.area) layout ∙ ap area_of (sym same);
+    pub on-disk : (last : ℕ) → sectors ≤ last → AreOf (device_form limits) limits → need_in (device_form limits) limits ≤ sectors
+        → AreOnDisk last machine.limits checkpoint journal
+    on-disk last there of room = subst (λ (l : Limits). AreOnDisk last l checkpoint journal) (sym same) (record {
+      of = of;
+      objects = subst (λ (l : Layout). IsLaidOut l last) (sym layout) (laid-out (device_form limits) (form-known limits) limits sectors last of room there);
+      room = ap (λ (l : Layout). l.area) layout;
       form = form;
       within = subst (λ (r : Range). IsWithin r last) (sym range) (omega (arith, there, room));
       epoch = epoch;
-    }
+    })

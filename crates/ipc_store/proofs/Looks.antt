@@ -1,20 +1,25 @@
 -- What a look reads, call by call, and what it tells.
-use Rattle.std.proofs.Common.{◌≡◌, ◌⊎◌, inl, inr, ⊎_elim, ℕ, Ok, Err, refl, sym, ap, ◌∙◌}
+use Rattle.std.proofs.Common.{◌≡◌, true, false, ◌⊎◌, inl, inr, ⊎_elim, ℕ, Ok, Err, refl, sym, ap, ◌∙◌}
 use Rattle.std.specs.Prelude.{Result, IfOk, IfErr}
-use Rattle.ipc_base.specs.declared.limits.Limits.{Limits}
+use Rattle.ipc_limits.specs.declared.limits.Limits.{Limits}
 use Rattle.ipc_disk.specs.Calls.{IsOneCall, OnlyReads}
 use Rattle.ipc_disk.specs.Counts.{Counts}
 use Rattle.ipc_disk.specs.Medium.{Image, Medium, Stays}
 use Rattle.ipc_disk.proofs.CallerLemmas.{IsSameDisk-then, IsSameDisk-call, OnlyReads-start}
 use Rattle.ipc_state.specs.State.{State}
 use Rattle.ipc_engine.specs.Engine.{Machine}
-use Rattle.ipc_image.specs.Format.{format}
+use Rattle.ipc_image.specs.declared.format.Format.{Format}
+use Rattle.ipc_image.specs.Format.{device_form}
+use Rattle.ipc_image.specs.Superblock.{is_of}
+use Rattle.ipc_image.proofs.CallerLemmas.{form-known}
+use Rattle.ipc_disk.specs.Standing.{sector_at}
 use Rattle.ipc_store.specs.declared.fault.OpenError.{OpenError}
 use Rattle.ipc_store.specs.declared.fault.OpenError.TheVariants as errors
-use Rattle.ipc_store.specs.Image.{StandsFor}
+use Rattle.ipc_store.specs.Image.{form_at, StandsFor}
 use Rattle.ipc_store.specs.Look.{LeavesAlone}
 use Rattle.ipc_store.specs.Refusals.{IsRefusal}
 use Rattle.ipc_store.specs.Relations.Look.{Tells}
+use Rattle.ipc_store.proofs.CallerLemmas.{stands-form, stands-none}
 use Rattle.ipc_store.proofs.Loaded.{chain}
 use Rattle.ipc_store.proofs.Opened.{device-begins}
 
@@ -68,16 +73,18 @@ pub told-refusals : {H : Type 0} (r : Result Machine OpenError) (image : Image) 
 told-refusals (Ok machine) image tells = tt
 told-refusals (Err errors.Device) image tells = λ limits s honest stands. inl refl
 told-refusals (Err errors.NotFormatted) image tells = λ limits s honest stands.
-    absurd ((device-begins format (inr refl) limits image stands.kept.device).0 (tells honest))
+    absurd ((device-begins (device_form limits) (form-known limits) limits image stands.kept.device).0 (tells honest))
 told-refusals (Err (errors.Version found)) image tells = λ limits s honest stands.
     let other = tells honest in
-    absurd (other.other (sym other.version ∙ (device-begins format (inr refl) limits image stands.kept.device).1))
+    let begins = device-begins (device_form limits) (form-known limits) limits image stands.kept.device in
+    let bad : true ≡ false = sym begins.2 ∙ ap (λ (f : Format). is_of f (sector_at image 0)) (stands-form limits s image stands) ∙ other.other in
+    cc
 told-refusals (Err (errors.Damaged sector)) image tells = λ limits s honest stands.
-    absurd ((tells honest).0.stands_for_none limits s stands)
+    absurd (stands-none image limits s stands (tells honest).0.stands_for_none)
 told-refusals (Err errors.NoMemory) image tells = λ limits s honest stands. inr refl
 
 pub told-refused : {H : Type 0} (r : Result Machine OpenError) (image : Image) → (H → Tells r image)
-    → IfErr r (λ error. H → IsRefusal format image error)
+    → IfErr r (λ error. H → IsRefusal (form_at image) image error)
 told-refused (Ok machine) image tells = tt
 told-refused (Err errors.Device) image tells = λ honest. tt
 told-refused (Err errors.NotFormatted) image tells = tells

@@ -3,50 +3,57 @@ use Rattle.std.proofs.Common.{◌≡◌, ◌⊎◌, inl, inr, ⊎_elim, ℕ, Lis
 use Rattle.std.specs.Prelude.{Contains}
 use Rattle.std.proofs.lemmas.List.Elements.{All-contains}
 use Rattle.byteorder.specs.Endian.{big_bytes}
-use Rattle.ipc_base.specs.declared.limits.Limits.{Limits}
+use Rattle.ipc_limits.specs.declared.limits.Limits.{Limits}
 use Rattle.ipc_base.specs.Objects.{PlainObjects}
 use Rattle.ipc_checkpoint.specs.declared.layout.Layout.{Layout}
 use Rattle.ipc_checkpoint.specs.Checkpoint.{IsElsewhere, epoch_in}
 use Rattle.ipc_checkpoint.specs.Matches.{CheckpointMatches}
 use Rattle.ipc_checkpoint.specs.Meanwhile.{EachLater, KeepsUsedOrTurns}
-use Rattle.ipc_checkpoint.specs.View.{epoch_of as saved_epoch, layout_of as saved_layout}
+use Rattle.ipc_checkpoint.specs.View.{CheckpointView, epoch_of as saved_epoch, layout_of as saved_layout}
 use Rattle.ipc_checkpoint.proofs.CallerLemmas.{CheckpointMatches-holds}
 use Rattle.ipc_disk.specs.declared.range.Range.{Range}
 use Rattle.ipc_disk.specs.Medium.{Image, Medium, IsHonest}
 use Rattle.ipc_disk.specs.Range.{IsInside, IsOutside}
 use Rattle.ipc_disk.specs.Since.{EachImageSince, LeavesAlone, SameAt}
 use Rattle.ipc_disk.specs.Standing.{sector_at}
-use Rattle.ipc_disk.proofs.CallerLemmas.{EachImageSince-both, EachImageSince-start, EachImageSince-weaken, sector_at-same}
+use Rattle.ipc_disk.proofs.CallerLemmas.{EachImageSince-both, EachImageSince-weaken, LeavesAlone-start, sector_at-same}
 use Rattle.ipc_heap.specs.Heap.{Allocation, HoldsIn, used}
 use Rattle.ipc_heap.specs.Meanwhile.{IsUsedIn, KeepsUsed}
 use Rattle.ipc_heap.proofs.CallerLemmas.{EachLater-start, HoldsIn-one, HoldsIn-sectors}
 use Rattle.ipc_journal.specs.Journal.{Holds}
 use Rattle.ipc_journal.specs.Matches.{HoldsOneMoreOrNot, JournalMatches}
-use Rattle.ipc_journal.specs.Meanwhile.{Comes, ComesInOrder, IsReadFrom, KeepsBatches}
+use Rattle.ipc_journal.specs.Meanwhile.{ComesInOrder, IsReadFrom, KeepsBatches}
+use Rattle.ipc_journal.specs.declared.journal.Journal.{Journal}
 use Rattle.ipc_journal.specs.View.{form_of, epoch_of, range_of}
 use Rattle.ipc_journal.specs.declared.form.Form.{Form}
-use Rattle.ipc_journal.proofs.CallerLemmas.{ComesInOrder-moment, EachImageSince-alone, Holds-read}
+use Rattle.ipc_journal.specs.declared.form.Form.TheVariants.{Headed}
+use Rattle.ipc_journal.proofs.CallerLemmas.{ComesInOrder-alone, ComesInOrder-moment, Holds-read}
 use Rattle.ipc_journal.proofs.CallerLemmas.{KeepsBatches-append, KeepsBatches-refl, KeepsBatches-same, KeepsBatches-then}
 use Rattle.ipc_state.specs.State.{State}
 use Rattle.ipc_engine.specs.Event.{PlainEvent}
-use Rattle.ipc_image.specs.Format.{format}
-use Rattle.ipc_image.specs.Superblock.{IsSuperblockIn, sectors_in}
+use Rattle.ipc_image.specs.declared.format.Format.{Format}
+use Rattle.ipc_image.specs.Format.{device_form}
+use Rattle.ipc_image.specs.Superblock.{IsSuperblockIn, sectors_in, named_form}
 use Rattle.ipc_store.specs.Batch.{batch_bytes}
-use Rattle.ipc_store.specs.Image.{HasBatches, StandsFor, epoch_at, journal_form, journal_range, layout_of, named_sectors, objects_range}
+use Rattle.ipc_store.specs.Image.{HasBatches, StandsFor, epoch_at, form_at, journal_form, journal_range, layout_of, named_sectors, objects_range}
 use Rattle.ipc_store.specs.Meanwhile.{GoesOn, HasOneRoot, IsNeeded, IsOfSameSave, IsRead, StaysReadable}
 use Rattle.ipc_store.specs.Relations.Matches.{StoreMatches}
 use Rattle.ipc_store.specs.View.{StoreView}
 use Rattle.ipc_store.proofs.Committing.{bytes-are}
-use Rattle.ipc_store.proofs.Devices.{batches-now, journal-outside, journal-same, journal-some}
+use Rattle.ipc_store.proofs.Devices.{IsPlace, IsPlace-since, batches-now, device-form, first-elsewhere, journal-outside, journal-same, journal-some, placed-at}
 
 -- where the objects of an image lie
 abbrev its_range : Image → Range
-its_range image = objects_range (named_sectors image)
+its_range image = objects_range (form_at image) (named_sectors image)
+
+-- where their root stands
+abbrev its_root : Image → ℕ
+its_root image = (form_at image).root
 
 -- nothing that is needed is in the journal
-needed-outside : (image : Image) (i : ℕ) → IsNeeded image i → IsOutside journal_range i
+needed-outside : (image : Image) (i : ℕ) → IsNeeded image i → IsOutside (journal_range (form_at image)) i
 needed-outside image i (inl first) = inl (omega (arith, first))
-needed-outside image i (inr (inl root)) = inl (omega (arith, root))
+needed-outside image i (inr (inl root)) = inl (omega (arith, root, (placed-at image).root.1))
 needed-outside image i (inr (inr u)) =
     let inside : IsInside (its_range image) i = All-contains (IsInside (its_range image)) (used u.has) i u.there.allocated.inside u.is in
     inr (omega (arith, inside.0))
@@ -56,31 +63,34 @@ needed-outside image i (inr (inr u)) =
 pub same-refl : (image : Image) → IsOfSameSave image image
 same-refl image = record {
   needed = record { count = refl; sectors = λ i here. refl };
-  journal = KeepsBatches-refl journal_form journal_range (epoch_at image) image;
+  journal = KeepsBatches-refl (journal_form (form_at image)) (journal_range (form_at image)) (epoch_at image) image;
 }
 
 module _ (a b : Image) (same : IsOfSameSave a b) where
   same-sector : (i : ℕ) → IsNeeded a i → sector_at a i ≡ sector_at b i
   same-sector i need = sector_at-same (IsNeeded a) a b i same.needed need
 
+  same-form : form_at a ≡ form_at b
+  same-form = ap named_form (same-sector 0 (inl refl))
+
   same-range : its_range a ≡ its_range b
-  same-range = ap (λ (s : List ℕ). objects_range (sectors_in s)) (same-sector 0 (inl refl))
+  same-range = ap (λ (s : List ℕ). objects_range (named_form s) (sectors_in s)) (same-sector 0 (inl refl))
 
   same-epoch : epoch_at a ≡ epoch_at b
-  same-epoch = ap epoch_in (same-sector format.root (inr (inl refl)))
+  same-epoch = ap epoch_in (same-sector (its_root a) (inr (inl refl))) ∙ ap (λ (f : Format). epoch_in (sector_at b f.root)) same-form
 
   -- the objects stand in the same sectors
-  same-holds : (epoch : ℕ) (has : Allocation) (objects : PlainObjects) → HoldsIn (its_range a) format.root epoch has objects a
-      → HoldsIn (its_range a) format.root epoch has objects b
+  same-holds : (epoch : ℕ) (has : Allocation) (objects : PlainObjects) → HoldsIn (its_range a) (its_root a) epoch has objects a
+      → HoldsIn (its_range a) (its_root a) epoch has objects b
   same-holds epoch has objects there =
-      HoldsIn-sectors a b (its_range a) format.root epoch has objects (same-sector format.root (inr (inl refl)))
+      HoldsIn-sectors a b (its_range a) (its_root a) epoch has objects (same-sector (its_root a) (inr (inl refl)))
       (λ s is. same-sector s (inr (inr (record { epoch = epoch; has = has; objects = objects; there = there; is = is })))) there
 
   same-needed : (i : ℕ) → IsNeeded a i → IsNeeded b i
   same-needed i (inl first) = inl first
-  same-needed i (inr (inl root)) = inr (inl root)
+  same-needed i (inr (inl root)) = inr (inl (root ∙ ap (λ (f : Format). f.root) same-form))
   same-needed i (inr (inr u)) =
-      inr (inr (subst (λ (r : Range). IsUsedIn r format.root b i) same-range (record {
+      inr (inr (subst (λ (s : List ℕ). IsUsedIn (objects_range (named_form s) (sectors_in s)) (named_form s).root b i) (same-sector 0 (inl refl)) (record {
         epoch = u.epoch;
         has = u.has;
         objects = u.objects;
@@ -94,21 +104,29 @@ module _ (a b : Image) (same : IsOfSameSave a b) where
       count = same.needed.count ∙ next.needed.count;
       sectors = λ i need. same.needed.sectors i need ∙ next.needed.sectors i (same-needed i need);
     };
-    journal = KeepsBatches-then journal_form journal_range (epoch_at a) a b c same.journal
-        (subst (λ (e : ℕ). KeepsBatches journal_form journal_range e b c) (sym same-epoch) next.journal);
+    journal = KeepsBatches-then (journal_form (form_at a)) (journal_range (form_at a)) (epoch_at a) a b c same.journal
+        (subst (λ (e : ℕ). KeepsBatches (journal_form (form_at a)) (journal_range (form_at a)) e b c) (sym same-epoch)
+        (subst (λ (f : Format). KeepsBatches (journal_form f) (journal_range f) (epoch_at b) b c) (sym same-form) next.journal));
   }
 
 -- it goes on from there
 pub goes-on-then : (a b c : Image) → GoesOn a b → GoesOn b c → GoesOn a c
 goes-on-then a b c (inl same) (inl next) = inl (same-then a b same c next)
-goes-on-then a b c (inl same) (inr turned) = inr (omega (arith, same-epoch a b same, turned))
-goes-on-then a b c (inr turned) (inl next) = inr (omega (arith, turned, same-epoch b c next))
-goes-on-then a b c (inr turned) (inr more) = inr (omega (arith, turned, more))
+goes-on-then a b c (inl same) (inr turned) = inr (record {
+  form = same-form a b same ∙ turned.form;
+  epoch = omega (arith, same-epoch a b same, turned.epoch);
+})
+goes-on-then a b c (inr turned) (inl next) = inr (record {
+  form = turned.form ∙ same-form b c next;
+  epoch = omega (arith, turned.epoch, same-epoch b c next);
+})
+goes-on-then a b c (inr turned) (inr more) = inr (record { form = turned.form ∙ more.form; epoch = omega (arith, turned.epoch, more.epoch) })
 
 -- under one root it is of the same save
 same-root : (a b : Image) → HasOneRoot a b → IsOfSameSave a b
 same-root a b (inl same, root) = same
-same-root a b (inr turned, root) = absurd (omega (arith, turned, ap epoch_in root))
+same-root a b (inr turned, root) =
+    absurd (omega (arith, turned.epoch, ap epoch_in root, ap (λ (f : Format). epoch_in (sector_at b f.root)) turned.form))
 
 -- ---- what is read meanwhile
 
@@ -136,62 +154,125 @@ module _ (first seen read : Image) (is : IsRead first seen read) where
       let from = is.outside i (needed-outside first i need) in
       sym (same-sector first seen seen-same i need) ∙ same-sector first from.0 (same-root first from.0 from.1) i need ∙ sym from.2
 
-  pub read-stands : (limits : Limits) (was s : State) → StandsFor limits was first → StandsFor limits s seen → StandsFor limits s read
-  read-stands limits was s began stands =
+  pub read-stands : (limits : Limits) (was s : State) → journal_form (device_form limits) ≡ Headed → StandsFor limits was first
+      → StandsFor limits s seen → StandsFor limits s read
+  read-stands limits was s headed began stands =
+      let d = device_form limits in
+      let named-first : d ≡ form_at first = device-form limits first began.kept.device in
       let there = began.kept.there in
-      let R : Range = its_range first in
-      let named : its_range seen ≡ R = sym (same-range first seen seen-same) in
-      let also : its_range seen ≡ its_range read = ap (λ (l : List ℕ). objects_range (sectors_in l)) (read-sector 0 (inl refl)) in
-      let sector = read-sector 0 (inl refl) in
+      let n : ℕ = named_sectors first in
+      let R : Range = objects_range d n in
+      let sector : sector_at seen 0 ≡ sector_at read 0 = read-sector 0 (inl refl) in
+      let from-seen : named_sectors seen ≡ n = ap sectors_in (sym (same-sector first seen seen-same 0 (inl refl))) in
+      let from-read : named_sectors read ≡ n = ap sectors_in (sym sector) ∙ from-seen in
+      let root : sector_at seen d.root ≡ sector_at read d.root = read-sector d.root (inr (inl (ap (λ (f : Format). f.root) named-first))) in
+      let used-here : (epoch : ℕ) (has : Allocation) (objects : PlainObjects) → HoldsIn R d.root epoch has objects first → (i : ℕ) → Contains (used has) i
+      → IsNeeded first i =
+      λ epoch has objects holds i is. inr (inr (subst (λ (f : Format). IsUsedIn (objects_range f n) f.root first i) named-first
+      (record { epoch = epoch; has = has; objects = objects; there = holds; is = is }))) in
       let at = stands.kept.there in
       let a : Allocation = at.allocation in
-      let holds : HoldsIn R format.root stands.epoch a stands.kept.objects seen =
-      subst (λ (r : Range). HoldsIn r format.root stands.epoch a stands.kept.objects seen) named at.there in
+      let holds : HoldsIn R d.root stands.epoch a stands.kept.objects seen =
+      subst (λ (k : ℕ). HoldsIn (objects_range d k) d.root stands.epoch a stands.kept.objects seen) from-seen at.there in
+      let began-seen : HoldsIn R d.root began.epoch there.allocation began.kept.objects seen =
+      HoldsIn-sectors first seen R d.root began.epoch there.allocation began.kept.objects
+      (same-sector first seen seen-same d.root (inr (inl (ap (λ (f : Format). f.root) named-first))))
+      (λ i is. same-sector first seen seen-same i (used-here began.epoch there.allocation began.kept.objects there.there i is)) there.there in
       let one : there.allocation ≡ a =
-      HoldsIn-one R format.root began.epoch stands.epoch there.allocation a began.kept.objects stands.kept.objects seen
-      (same-holds first seen seen-same began.epoch there.allocation began.kept.objects there.there) holds in
-      let reads : HoldsIn R format.root stands.epoch a stands.kept.objects read =
-      HoldsIn-sectors seen read R format.root stands.epoch a stands.kept.objects (read-sector format.root (inr (inl refl)))
-      (λ i here. read-sector i (inr (inr (record {
-        epoch = began.epoch;
-        has = there.allocation;
-        objects = began.kept.objects;
-        there = there.there;
-        is = subst (λ (b : Allocation). Contains (used b) i) (sym one) here;
-      })))) holds in
+      HoldsIn-one R d.root began.epoch stands.epoch there.allocation a began.kept.objects stands.kept.objects seen began-seen holds in
+      let reads : HoldsIn R d.root stands.epoch a stands.kept.objects read =
+      HoldsIn-sectors seen read R d.root stands.epoch a stands.kept.objects root
+      (λ i here. read-sector i (used-here began.epoch there.allocation began.kept.objects there.there i
+      (subst (λ (b : Allocation). Contains (used b) i) (sym one) here))) holds in
+      let journal : Holds Headed (journal_range d) stands.epoch (map batch_bytes stands.batches) seen =
+      subst (λ (f : Form). Holds f (journal_range d) stands.epoch (map batch_bytes stands.batches) seen) headed stands.journal in
+      let current : epoch_at seen ≡ stands.epoch =
+      ap (λ (f : Format). epoch_in (sector_at seen f.root)) (sym (device-form limits seen stands.kept.device)) ∙ at.there.current in
       record {
         epoch = stands.epoch;
         base = stands.base;
         kept = record {
           device = record {
-            superblock = subst (λ (l : List ℕ). IsSuperblockIn format (sectors_in l) limits l) sector stands.kept.device.superblock;
+            superblock = subst (λ (l : List ℕ). IsSuperblockIn d (sectors_in l) limits l) sector stands.kept.device.superblock;
             whole = omega (arith, stands.kept.device.whole, is.count, seen-same.needed.count, ap sectors_in sector);
           };
           objects = stands.kept.objects;
           there = record {
             allocation = a;
-            there = subst (λ (r : Range). HoldsIn r format.root stands.epoch a stands.kept.objects read) (sym named ∙ also) reads;
+            there = subst (λ (k : ℕ). HoldsIn (objects_range d k) d.root stands.epoch a stands.kept.objects read) (sym from-read) reads;
           };
           stand = stands.kept.stand;
         };
         batches = stands.batches;
-        journal = Holds-read journal_range stands.epoch (map batch_bytes stands.batches) seen read stands.journal
-            (subst (λ (e : ℕ). IsReadFrom journal_range e seen read) at.there.current is.journal);
+        journal = subst (λ (f : Form). Holds f (journal_range d) stands.epoch (map batch_bytes stands.batches) read) (sym headed)
+            (Holds-read (journal_range d) stands.epoch (map batch_bytes stands.batches) seen read journal
+            (subst (λ (e : ℕ). IsReadFrom (journal_range d) e seen read) current
+            (subst (λ (f : Format). IsReadFrom (journal_range f) (epoch_at seen) seen read) (sym named-first) is.journal)));
         leads = stands.leads;
       }
+
+-- ---- while what stands after the batches is cleared
+
+-- the batches stay, and so does all that is outside the journal
+pub kept-batches : (old new : Medium) (limits : Limits) (checkpoint : CheckpointView) (journal : Journal) (batches : List (List ℕ))
+    → ((image : Image) → old.images_now image → IsPlace limits checkpoint image)
+    → form_of journal ≡ journal_form (device_form limits) → range_of journal ≡ journal_range (device_form limits)
+    → ((image : Image) → old.images_now image → epoch_of journal ≡ epoch_at image)
+    → LeavesAlone (IsOutside (range_of journal)) old new
+    → ((image : Image) → old.images_now image → Holds (form_of journal) (range_of journal) (epoch_of journal) batches image)
+    → EachImageSince old new (Holds (form_of journal) (range_of journal) (epoch_of journal) batches) → EachLater GoesOn old new
+kept-batches old new limits checkpoint journal batches here form range epochs alone before run =
+    let Batches : Image → Type 0 = Holds (form_of journal) (range_of journal) (epoch_of journal) batches in
+    let P : Image → Type 0 = λ image. (earlier : Image) × old.images_now earlier × SameAt (IsOutside (range_of journal)) earlier image in
+    EachImageSince-weaken old new (λ image. P image × Batches image) (λ image. (earlier : Image) × old.images_now earlier × GoesOn earlier image)
+    (EachImageSince-both old new P Batches alone.images run)
+    (λ image both.
+    let from = both.0 in
+    let named = device-form limits from.0 (here from.0 from.1).0 in
+    let its-range : range_of journal ≡ journal_range (form_at from.0) = range ∙ ap journal_range named in
+    let its-form : form_of journal ≡ journal_form (form_at from.0) = form ∙ ap journal_form named in (
+      from.0,
+      from.1,
+      inl (record {
+        needed = record {
+          count = from.2.count;
+          sectors = λ i need. from.2.sectors i (subst (λ (r : Range). IsOutside r i) (sym its-range) (needed-outside from.0 i need));
+        };
+        journal = kept-at (form_of journal) (range_of journal) (epoch_of journal) (journal_form (form_at from.0)) (journal_range (form_at from.0))
+            (epoch_at from.0) batches from.0 image its-form its-range (epochs from.0 from.1) (before from.0 from.1) both.1;
+      }),
+    ))
+  where
+    kept-at : (f : Form) (r : Range) (e : ℕ) (g : Form) (s : Range) (n : ℕ) (bs : List (List ℕ)) (a b : Image) → f ≡ g → r ≡ s → e ≡ n
+        → Holds f r e bs a → Holds f r e bs b → KeepsBatches g s n a b
+    kept-at f r e g s n bs a b same-form same-range same-epoch first next =
+        subst (λ (x : Form). KeepsBatches x s n a b) same-form
+        (subst (λ (x : Range). KeepsBatches f x n a b) same-range
+        (subst (λ (x : ℕ). KeepsBatches f r x a b) same-epoch (KeepsBatches-same f r e bs a b first next)))
 
 -- ---- while a store goes on
 
 module _ {D : Type 0} (old new : Medium) (store : StoreView D) (base : State) (pending : List PlainEvent)
     (at : StoreMatches old store base pending) where
+  -- each image now names the form of the limits
+  form-now : (image : Image) → old.images_now image → device_form store.machine.limits ≡ form_at image
+  form-now image now = device-form store.machine.limits image (at.device.device image now).0
+
   -- each image now is of its save
   epoch-now : (image : Image) → old.images_now image → epoch_at image ≡ saved_epoch store.checkpoint
   epoch-now image now =
-      ap (λ (l : Layout). epoch_in (sector_at image l.root)) (sym (at.device.device image now).1)
+      ap (λ (f : Format). epoch_in (sector_at image f.root)) (sym (form-now image now))
+      ∙ ap (λ (l : Layout). epoch_in (sector_at image l.root)) (sym (at.device.device image now).1)
       ∙ (CheckpointMatches-holds store.checkpoint at.device.objects old at.device.saved image now).there.current
 
   epoch-is : (image : Image) → old.images_now image → epoch_of store.journal ≡ epoch_at image
   epoch-is image now = at.device.epoch ∙ sym (epoch-now image now)
+
+  form-is : (image : Image) → old.images_now image → form_of store.journal ≡ journal_form (form_at image)
+  form-is image now = at.device.form ∙ ap journal_form (form-now image now)
+
+  range-is : (image : Image) → old.images_now image → range_of store.journal ≡ journal_range (form_at image)
+  range-is image now = at.device.range ∙ ap journal_range (form-now image now)
 
   -- a batch is appended
   appended : (batch : List ℕ) (earlier later : Image) → old.images_now earlier → SameAt (IsOutside (range_of store.journal)) earlier later
@@ -200,10 +281,10 @@ module _ {D : Type 0} (old new : Medium) (store : StoreView D) (base : State) (p
   appended batch earlier later now same more = record {
     needed = record {
       count = same.count;
-      sectors = λ i need. same.sectors i (subst (λ (r : Range). IsOutside r i) (sym at.device.range) (needed-outside earlier i need));
+      sectors = λ i need. same.sectors i (subst (λ (r : Range). IsOutside r i) (sym (range-is earlier now)) (needed-outside earlier i need));
     };
-    journal = subst (λ (f : Form). KeepsBatches f journal_range (epoch_at earlier) earlier later) at.device.form
-        (subst (λ (r : Range). KeepsBatches (form_of store.journal) r (epoch_at earlier) earlier later) at.device.range
+    journal = subst (λ (f : Form). KeepsBatches f (journal_range (form_at earlier)) (epoch_at earlier) earlier later) (form-is earlier now)
+        (subst (λ (r : Range). KeepsBatches (form_of store.journal) r (epoch_at earlier) earlier later) (range-is earlier now)
         (subst (λ (e : ℕ). KeepsBatches (form_of store.journal) (range_of store.journal) e earlier later) (epoch-is earlier now)
         (KeepsBatches-append store.journal (map batch_bytes at.device.batches) batch old at.device.appended earlier later now more)));
   }
@@ -222,58 +303,76 @@ module _ {D : Type 0} (old new : Medium) (store : StoreView D) (base : State) (p
       (λ image both. let from = both.0 in (from.0, from.1, inl (appended batch from.0 image from.1 from.2 both.1)))
 
   -- the state is saved
-  kept-saved : (earlier later : Image) → old.images_now earlier → KeepsUsed (its_range earlier) format.root earlier later → IsOfSameSave earlier later
+  kept-saved : (earlier later : Image) → old.images_now earlier → KeepsUsed (its_range earlier) (its_root earlier) earlier later → IsOfSameSave earlier later
   kept-saved earlier later now kept =
       let R : Range = its_range earlier in
-      let places : ℕ → Type 0 = λ i. IsOutside R i ⊎ IsUsedIn R format.root earlier i in
-      let here : HasBatches (epoch_at earlier) at.device.batches earlier =
-      subst (λ (e : ℕ). HasBatches e at.device.batches earlier) (sym (epoch-now earlier now))
-      (batches-now old store.machine.limits store.checkpoint store.journal base at.device earlier now) in
+      let d = form_at earlier in
+      let places : ℕ → Type 0 = λ i. IsOutside R i ⊎ IsUsedIn R d.root earlier i in
+      let here : HasBatches d (epoch_at earlier) at.device.batches earlier =
+      subst (λ (f : Format). HasBatches f (epoch_at earlier) at.device.batches earlier) (form-now earlier now)
+      (subst (λ (e : ℕ). HasBatches (device_form store.machine.limits) e at.device.batches earlier) (sym (epoch-now earlier now))
+      (batches-now old store.machine.limits store.checkpoint store.journal base at.device earlier now)) in
       record {
         needed = record {
           count = kept.count;
           sectors = λ i need. kept.sectors i (place i need);
         };
-        journal = KeepsBatches-same journal_form journal_range (epoch_at earlier) (map batch_bytes at.device.batches) earlier later here
-            (journal-same places (epoch_at earlier) at.device.batches earlier later (λ i inside. inl (inl (omega (arith, inside.1)))) kept here);
+        journal = KeepsBatches-same (journal_form d) (journal_range d) (epoch_at earlier) (map batch_bytes at.device.batches) earlier later here
+            (journal-same d (placed-at earlier).some places (epoch_at earlier) at.device.batches earlier later
+            (λ i inside. inl (inl (omega (arith, inside.1)))) kept here);
       }
     where
-      place : (i : ℕ) → IsNeeded earlier i → IsOutside (its_range earlier) i ⊎ IsUsedIn (its_range earlier) format.root earlier i
+      place : (i : ℕ) → IsNeeded earlier i → IsOutside (its_range earlier) i ⊎ IsUsedIn (its_range earlier) (its_root earlier) earlier i
       place i (inl first) = inl (inl (omega (arith, first)))
-      place i (inr (inl root)) = inl (inl (omega (arith, root)))
+      place i (inr (inl root)) = inl (inl (omega (arith, root, (placed-at earlier).root.1)))
       place i (inr (inr u)) = inr u
 
-  goes-on-save : EachLater (KeepsUsedOrTurns (saved_layout store.checkpoint)) old new → EachLater GoesOn old new
-  goes-on-save saves =
-      EachImageSince-weaken old new
-      (λ image. (earlier : Image) × old.images_now earlier × KeepsUsedOrTurns (saved_layout store.checkpoint) earlier image)
-      (λ image. (earlier : Image) × old.images_now earlier × GoesOn earlier image) saves
-      (λ image from.
+  goes-on-save : LeavesAlone (IsElsewhere (saved_layout store.checkpoint)) old new
+      → EachLater (KeepsUsedOrTurns (saved_layout store.checkpoint)) old new → EachLater GoesOn old new
+  goes-on-save alone saves =
+      let Saves : Image → Type 0 =
+      λ image. (earlier : Image) × old.images_now earlier × KeepsUsedOrTurns (saved_layout store.checkpoint) earlier image in
+      let Spot : Image → Type 0 = IsPlace store.machine.limits store.checkpoint in
+      EachImageSince-weaken old new (λ image. Spot image × Saves image)
+      (λ image. (earlier : Image) × old.images_now earlier × GoesOn earlier image)
+      (EachImageSince-both old new Spot Saves
+      (IsPlace-since (IsElsewhere (saved_layout store.checkpoint)) store.machine.limits store.checkpoint old new
+      (first-elsewhere old store.machine.limits store.checkpoint store.journal base at.device) alone at.device.device) saves)
+      (λ image both.
+      let from = both.1 in
+      let d = device_form store.machine.limits in
+      let n = named_sectors from.0 in
       let lies = (at.device.device from.0 from.1).1 in
-      let either : KeepsUsedOrTurns (layout_of store.machine.limits (named_sectors from.0)) from.0 image =
-      subst (λ (l : Layout). KeepsUsedOrTurns l from.0 image) lies from.2 in
-      (from.0, from.1, ⊎_elim (λ kept. inl (kept-saved from.0 image from.1 kept)) (λ turned. inr turned) either))
+      let named = form-now from.0 from.1 in
+      let its = device-form store.machine.limits image both.0.0 in
+      let either : KeepsUsedOrTurns (layout_of store.machine.limits n) from.0 image =
+      subst (λ (l : Layout). KeepsUsedOrTurns l from.0 image) lies from.2 in (
+        from.0,
+        from.1,
+        ⊎_elim
+            (λ kept. inl (kept-saved from.0 image from.1 (subst (λ (f : Format). KeepsUsed (objects_range f n) f.root from.0 image) named kept)))
+            (λ turned. inr (record {
+              form = sym named ∙ its;
+              epoch = omega (
+                arith,
+                turned,
+                ap (λ (f : Format). epoch_in (sector_at from.0 f.root)) named,
+                ap (λ (f : Format). epoch_in (sector_at image f.root)) its,
+              );
+            }))
+            either,
+      ))
 
 module _ {D : Type 0} (medium : D → Medium) (store : StoreView D) where
-  -- no batch comes
-  stands-still : (new : D) (base : State) (pending : List PlainEvent) (at : StoreMatches (medium store.disk) store base pending)
-      → EachImageSince (medium store.disk) (medium new)
-      (Holds (form_of store.journal) (range_of store.journal) (epoch_of store.journal) (map batch_bytes at.device.batches))
-      → ComesInOrder medium store.journal (map batch_bytes at.device.batches) (batch_bytes pending) store.disk new
-  stands-still new base pending at same =
-      subst (λ (f : Form). Comes medium f (range_of store.journal) (epoch_of store.journal) (map batch_bytes at.device.batches) (batch_bytes pending)
-      store.disk new) (sym at.device.form)
-      (inl (subst (λ (f : Form). EachImageSince (medium store.disk) (medium new)
-      (Holds f (range_of store.journal) (epoch_of store.journal) (map batch_bytes at.device.batches))) at.device.form same))
-
   -- no call was made
   pub readable-none : ((image : Image) → (medium store.disk).images_since (medium store.disk).moment image → (medium store.disk).images_now image)
       → StaysReadable medium store store.disk
   readable-none law = record {
     goes_on = λ base pending at. EachLater-start GoesOn (medium store.disk) law (λ image. inl (same-refl image));
-    stands_first = λ base pending at. stands-still store.disk base pending at (EachImageSince-start (medium store.disk)
-        (Holds (form_of store.journal) (range_of store.journal) (epoch_of store.journal) (map batch_bytes at.device.batches)) law
-        at.device.appended.kept.images);
+    stands_first = λ base pending at. ComesInOrder-alone medium (IsInside (range_of store.journal)) store.journal (map batch_bytes at.device.batches)
+        (batch_bytes pending) store.disk store.disk
+        (journal-some (medium store.disk) store.machine.limits store.checkpoint store.journal base at.device) (λ i inside. inside)
+        (LeavesAlone-start (IsInside (range_of store.journal)) (medium store.disk) at.device.honest law) at.device.appended;
   }
 
   pub readable-append : (new : D) (batch : List ℕ) → batch ≡ big_bytes 4 (length store.records) ++ store.records
@@ -296,11 +395,10 @@ module _ {D : Type 0} (medium : D → Medium) (store : StoreView D) where
       → EachLater (KeepsUsedOrTurns (saved_layout store.checkpoint)) (medium store.disk) (medium new)) → StaysReadable medium store new
   readable-save new alone saves = record {
     goes_on = λ base pending at.
-        goes-on-save (medium store.disk) (medium new) store base pending at (saves at.device.objects at.device.saved);
-    stands_first = λ base pending at. stands-still new base pending at
-        (EachImageSince-alone (IsElsewhere (saved_layout store.checkpoint)) store.journal
-        (map batch_bytes at.device.batches) (medium store.disk) (medium new)
+        goes-on-save (medium store.disk) (medium new) store base pending at (alone at.device.honest) (saves at.device.objects at.device.saved);
+    stands_first = λ base pending at. ComesInOrder-alone medium (IsElsewhere (saved_layout store.checkpoint)) store.journal
+        (map batch_bytes at.device.batches) (batch_bytes pending) store.disk new
         (journal-some (medium store.disk) store.machine.limits store.checkpoint store.journal base at.device)
         (journal-outside (medium store.disk) store.machine.limits store.checkpoint store.journal base at.device) (alone at.device.honest)
-        at.device.appended);
+        at.device.appended;
   }

@@ -3,7 +3,7 @@ use Rattle.std.proofs.Common.{◌≡◌, ◌<◌, inl, inr, ℕ, sym, subst}
 use Rattle.std.specs.Prelude.{IfErr, Result}
 use Rattle.std.specs.Result.{IsErrAnd}
 use Rattle.std.proofs.lemmas.Result.{err_from_is_err_and}
-use Rattle.ipc_base.specs.declared.limits.Limits.{Limits}
+use Rattle.ipc_limits.specs.declared.limits.Limits.{Limits}
 use Rattle.ipc_disk.specs.Medium.{Image}
 use Rattle.ipc_image.specs.Format.{format, format_one}
 use Rattle.ipc_image.specs.Sizes.{need_of}

@@ -11,7 +11,7 @@ use Rattle.std.proofs.lemmas.Nat.{be_bytes_4}
 use Rattle.std.proofs.Math.Seq.{take-add}
 use Rattle.byteorder.specs.Endian.{big_bytes, big_number}
 use Rattle.byteorder.specs.Numbers.{big_from-take}
-use Rattle.ipc_base.specs.declared.limits.Limits.{Limits}
+use Rattle.ipc_limits.specs.declared.limits.Limits.{Limits}
 use Rattle.ipc_disk.specs.declared.range.Range.{Range}
 use Rattle.ipc_disk.specs.Medium.{Image}
 use Rattle.ipc_journal.specs.declared.form.Form.{Form}
@@ -26,6 +26,7 @@ use Rattle.ipc_engine.specs.Engine.{IsForProcess}
 use Rattle.ipc_engine.specs.Event.{PlainEvent}
 use Rattle.ipc_engine.specs.Step.{step, run}
 use Rattle.ipc_engine.proofs.CallerLemmas.{run-parts}
+use Rattle.ipc_image.specs.declared.format.Format.{Format}
 use Rattle.ipc_image.specs.Records.{record_bytes, HasRecord, BeginsWith}
 use Rattle.ipc_store.specs.Batch.{most_bytes, records_of, batch_bytes, AreBatchOf}
 use Rattle.ipc_store.specs.Image.{journal_form, journal_range, place_after, AreFor, events_of, LeadToBy}
@@ -171,38 +172,39 @@ batch_is batch events is below records =
 -- ---- the batches of a journal
 
 -- what holds of the journal that is read holds of that of the device
-pub as-journal : (P : Form → Range → ℕ → Type 0) (epoch : ℕ) (reader : Reader) → IsReaderOf journal_form journal_range epoch reader
-    → P (form_read reader) (range_read reader) (epoch_read reader) → P journal_form journal_range epoch
-as-journal P epoch reader is p =
-    subst (λ (n : ℕ). P journal_form journal_range n) is.epoch_is
-    (subst (λ (r : Range). P journal_form r (epoch_read reader)) is.range_is
+pub as-journal : (d : Format) (P : Form → Range → ℕ → Type 0) (epoch : ℕ) (reader : Reader) → IsReaderOf (journal_form d) (journal_range d) epoch reader
+    → P (form_read reader) (range_read reader) (epoch_read reader) → P (journal_form d) (journal_range d) epoch
+as-journal d P epoch reader is p =
+    subst (λ (n : ℕ). P (journal_form d) (journal_range d) n) is.epoch_is
+    (subst (λ (r : Range). P (journal_form d) r (epoch_read reader)) is.range_is
     (subst (λ (f : Form). P f (range_read reader) (epoch_read reader)) is.form_is p))
 
 -- batches that go on from a place, after so many others, to where the journal ends, and lead from the state there to another
-record GoOn (most : ℕ) (limits : Limits) (epoch : ℕ) (image : Image) (place before : ℕ) (s : State) (more : List (List PlainEvent)) (to : State)
+record GoOn (d : Format) (most : ℕ) (limits : Limits) (epoch : ℕ) (image : Image) (place before : ℕ) (s : State) (more : List (List PlainEvent)) (to : State)
     : Type 0 where
-  fill : Fill journal_form journal_range epoch place before (map batch_bytes more) image
-  ends : EndsAt journal_form journal_range epoch (place + sectors_of journal_form (map batch_bytes more)) (before + length (map batch_bytes more)) image
+  fill : Fill (journal_form d) (journal_range d) epoch place before (map batch_bytes more) image
+  ends : EndsAt (journal_form d) (journal_range d) epoch (place + sectors_of (journal_form d) (map batch_bytes more))
+      (before + length (map batch_bytes more)) image
   each : All (AreBatchOf most) more
   named : AreFor limits s (events_of more)
   state : to ≡ (run limits s (events_of more)).state
 
 -- the machine has gone through the batches that were read
-pub record Replayed (most : ℕ) (limits : Limits) (from : State) (epoch : ℕ) (image : Image) (reader : Reader) (s : State) : Type 0 where
-  pub of : IsReaderOf journal_form journal_range epoch reader
+pub record Replayed (d : Format) (most : ℕ) (limits : Limits) (from : State) (epoch : ℕ) (image : Image) (reader : Reader) (s : State) : Type 0 where
+  pub of : IsReaderOf (journal_form d) (journal_range d) epoch reader
   pub so_far : (batches : List (List PlainEvent)) × LeadToBy most limits from batches s × HasRead reader (map batch_bytes batches) image
-  ahead : (batches : List (List PlainEvent)) (to : State) → Replays most limits from epoch image batches to
-      → (more : List (List PlainEvent)) × GoOn most limits epoch image (place_of reader) (before_of reader) s more to
+  ahead : (batches : List (List PlainEvent)) (to : State) → Replays d most limits from epoch image batches to
+      → (more : List (List PlainEvent)) × GoOn d most limits epoch image (place_of reader) (before_of reader) s more to
 
-pub replayed_none : (most : ℕ) (limits : Limits) (from : State) (epoch : ℕ) (image : Image) (reader : Reader)
-    → IsReaderOf journal_form journal_range epoch reader → HasRead reader [] image → Replayed most limits from epoch image reader from
-replayed_none most limits from epoch image reader is read = record {
+pub replayed_none : (d : Format) (most : ℕ) (limits : Limits) (from : State) (epoch : ℕ) (image : Image) (reader : Reader)
+    → IsReaderOf (journal_form d) (journal_range d) epoch reader → HasRead reader [] image → Replayed d most limits from epoch image reader from
+replayed_none d most limits from epoch image reader is read = record {
   of = is;
   so_far = ([], LeadTo-start most limits from, read);
   ahead = λ batches to good. (
     batches,
-    subst (λ (n : ℕ). GoOn most limits epoch image n (before_of reader) from batches to) (sym (place_is reader read))
-        (subst (λ (n : ℕ). GoOn most limits epoch image 0 n from batches to) (sym read.count) (record {
+    subst (λ (n : ℕ). GoOn d most limits epoch image n (before_of reader) from batches to) (sym (place_is reader read))
+        (subst (λ (n : ℕ). GoOn d most limits epoch image 0 n from batches to) (sym read.count) (record {
           fill = good.holds.stand;
           ends = at_start (map batch_bytes batches) good.holds.ends;
           each = good.leads.each;
@@ -215,13 +217,13 @@ replayed_none most limits from epoch image reader is read = record {
     place_is : (r : Reader) → HasRead r [] image → place_of r ≡ 0
     place_is r was = was.used
 
-    at_start : (bs : List (List ℕ)) → EndsAt journal_form journal_range epoch (sectors_of journal_form bs) (length bs) image
-        → EndsAt journal_form journal_range epoch (0 + sectors_of journal_form bs) (0 + length bs) image
+    at_start : (bs : List (List ℕ)) → EndsAt (journal_form d) (journal_range d) epoch (sectors_of (journal_form d) bs) (length bs) image
+        → EndsAt (journal_form d) (journal_range d) epoch (0 + sectors_of (journal_form d) bs) (0 + length bs) image
     at_start bs end =
-        let place : sectors_of journal_form bs ≡ 0 + sectors_of journal_form bs = omega arith in
+        let place : sectors_of (journal_form d) bs ≡ 0 + sectors_of (journal_form d) bs = omega arith in
         let count : length bs ≡ 0 + length bs = omega arith in
-        subst (λ (n : ℕ). EndsAt journal_form journal_range epoch n (0 + length bs) image) place
-        (subst (λ (n : ℕ). EndsAt journal_form journal_range epoch (sectors_of journal_form bs) n image) count end)
+        subst (λ (n : ℕ). EndsAt (journal_form d) (journal_range d) epoch n (0 + length bs) image) place
+        (subst (λ (n : ℕ). EndsAt (journal_form d) (journal_range d) epoch (sectors_of (journal_form d) bs) n image) count end)
 
 -- the bytes of a batch say how many they are
 batch-right : (most : ℕ) → most ≤ most_bytes → (events : List PlainEvent) → AreBatchOf most events → IsBatch (batch_bytes events)
@@ -233,8 +235,8 @@ batch-short : (most : ℕ) (events : List PlainEvent) → AreBatchOf most events
 batch-short most events batch = omega (arith, batch.size, length_batch events)
 
 -- the batch that was found after what was read
-pub record Found (most epoch : ℕ) (image : Image) (place before : ℕ) (batch : List ℕ) : Type 0 where
-  pub next : IsNext journal_form journal_range epoch place before batch image
+pub record Found (d : Format) (most epoch : ℕ) (image : Image) (place before : ℕ) (batch : List ℕ) : Type 0 where
+  pub next : IsNext (journal_form d) (journal_range d) epoch place before batch image
   pub short : length batch ≤ most
   pub field : (i : ℕ) → slice_index (take 4 batch) i < 256
 
@@ -249,15 +251,23 @@ pub AreRecords-same : (a b : Limits) (s t : State) (x y : List ℕ) (events : Li
 AreRecords-same a b s t x y events limits bytes are =
     subst (λ (l : Limits). AreRecords l s y events t) limits (subst (λ (z : List ℕ). AreRecords a s z events t) bytes are)
 
+-- where a batch and others end
+ends-after : (f : Form) (r : Range) (epoch place before : ℕ) (image : Image) (m : List PlainEvent) (ms : List (List PlainEvent))
+    → EndsAt f r epoch (place + sectors_of f (map batch_bytes (m ∷ ms))) (before + length (map batch_bytes (m ∷ ms))) image
+    → EndsAt f r epoch (place + (sectors_in f (length (batch_bytes m)) + sectors_of f (map batch_bytes ms))) (before + (length (map batch_bytes ms) + 1)) image
+ends-after f r epoch place before image m ms end =
+    let one : before + length (map batch_bytes (m ∷ ms)) ≡ before + (length (map batch_bytes ms) + 1) = omega arith in
+    subst (λ (n : ℕ). EndsAt f r epoch (place + (sectors_in f (length (batch_bytes m)) + sectors_of f (map batch_bytes ms))) n image) one end
+
 -- what goes on from a place begins with the batch that is found there
-module _ (most : ℕ) (limits : Limits) (epoch : ℕ) (image : Image) (place before : ℕ) (s : State) (batch : List ℕ)
-    (found : Found most epoch image place before batch)
-    (m : List PlainEvent) (ms : List (List PlainEvent)) (to : State) (left : GoOn most limits epoch image place before s (m ∷ ms) to) where
+module _ (d : Format) (most : ℕ) (limits : Limits) (epoch : ℕ) (image : Image) (place before : ℕ) (s : State) (batch : List ℕ)
+    (found : Found d most epoch image place before batch)
+    (m : List PlainEvent) (ms : List (List PlainEvent)) (to : State) (left : GoOn d most limits epoch image place before s (m ∷ ms) to) where
   first_is : batch_bytes m ≡ batch
   first_is =
-      IsAt-one journal_form journal_range epoch place before (batch_bytes m) batch image left.fill.0
-      (IsNext-is journal_form journal_range epoch place before batch image found.next) left.fill.1
-      (IsNext-at journal_form journal_range epoch place before batch image found.next)
+      IsAt-one (journal_form d) (journal_range d) epoch place before (batch_bytes m) batch image left.fill.0
+      (IsNext-is (journal_form d) (journal_range d) epoch place before batch image found.next) left.fill.1
+      (IsNext-at (journal_form d) (journal_range d) epoch place before batch image found.next)
 
   first_records : AreRecords limits s (drop 4 batch) m (run limits s m).state
   first_records = record {
@@ -267,65 +277,67 @@ module _ (most : ℕ) (limits : Limits) (epoch : ℕ) (image : Image) (place bef
     state = refl;
   }
 
-  after_first : GoOn most limits epoch image (place + sectors_in journal_form (length batch)) (before + 1) (run limits s m).state ms to
+  after_first : GoOn d most limits epoch image (place + sectors_in (journal_form d) (length batch)) (before + 1) (run limits s m).state ms to
   after_first =
-      let taken : ℕ = sectors_in journal_form (length (batch_bytes m)) in
-      let left_of : ℕ = sectors_of journal_form (map batch_bytes ms) in
+      let taken : ℕ = sectors_in (journal_form d) (length (batch_bytes m)) in
+      let left_of : ℕ = sectors_of (journal_form d) (map batch_bytes ms) in
       let ends_at : place + (taken + left_of) ≡ place + taken + left_of = omega arith in
       let after : before + (length (map batch_bytes ms) + 1) ≡ before + 1 + length (map batch_bytes ms) = omega arith in
-      subst (λ (l : List ℕ). GoOn most limits epoch image (place + sectors_in journal_form (length l)) (before + 1) (run limits s m).state ms to)
+      subst (λ (l : List ℕ). GoOn d most limits epoch image (place + sectors_in (journal_form d) (length l)) (before + 1) (run limits s m).state ms to)
       first_is (record {
         fill = left.fill.2;
-        ends = subst (λ (n : ℕ). EndsAt journal_form journal_range epoch n (before + 1 + length (map batch_bytes ms)) image) ends_at
-            (subst (λ (n : ℕ). EndsAt journal_form journal_range epoch (place + (taken + left_of)) n image) after left.ends);
+        ends = subst (λ (n : ℕ). EndsAt (journal_form d) (journal_range d) epoch n (before + 1 + length (map batch_bytes ms)) image) ends_at
+            (subst (λ (n : ℕ). EndsAt (journal_form d) (journal_range d) epoch (place + (taken + left_of)) n image) after
+            (ends-after (journal_form d) (journal_range d) epoch place before image m ms left.ends));
         each = All-tail (AreBatchOf most) m ms left.each;
         named = AreFor-next limits s m (events_of ms) left.named;
         state = left.state ∙ run-parts limits s m (events_of ms);
       })
 
 -- where the journal goes on to its end, it ends at the place if nothing more is there
-ends-here : (most : ℕ) (limits : Limits) (epoch : ℕ) (image : Image) (place before : ℕ) (s to : State) → GoOn most limits epoch image place before s [] to
-    → EndsAt journal_form journal_range epoch place before image
-ends-here most limits epoch image place before s to left =
+ends-here : (d : Format) (most : ℕ) (limits : Limits) (epoch : ℕ) (image : Image) (place before : ℕ) (s to : State)
+    → GoOn d most limits epoch image place before s [] to
+    → EndsAt (journal_form d) (journal_range d) epoch place before image
+ends-here d most limits epoch image place before s to left =
     let no_sector : place + 0 ≡ place = omega arith in
     let none : before + 0 ≡ before = omega arith in
-    subst (λ (n : ℕ). EndsAt journal_form journal_range epoch n before image) no_sector
-    (subst (λ (n : ℕ). EndsAt journal_form journal_range epoch (place + 0) n image) none left.ends)
+    subst (λ (n : ℕ). EndsAt (journal_form d) (journal_range d) epoch n before image) no_sector
+    (subst (λ (n : ℕ). EndsAt (journal_form d) (journal_range d) epoch (place + 0) n image) none left.ends)
 
-module _ (most : ℕ) (few : most ≤ most_bytes) (limits : Limits) (from : State) (epoch : ℕ) (image : Image) (reader : Reader) (s : State)
-    (replayed : Replayed most limits from epoch image reader s) where
+module _ (d : Format) (most : ℕ) (few : most ≤ most_bytes) (limits : Limits) (from : State) (epoch : ℕ) (image : Image) (reader : Reader) (s : State)
+    (replayed : Replayed d most limits from epoch image reader s) where
   abbrev so_far : List (List PlainEvent)
   so_far = replayed.so_far.0
 
   abbrev read : HasRead reader (map batch_bytes so_far) image
   read = replayed.so_far.2
 
-  form_is : form_read reader ≡ journal_form
+  form_is : form_read reader ≡ journal_form d
   form_is = replayed.of.form_is
 
   -- they take as many sectors as were passed, and are as many
-  place_is : place_of reader ≡ place_after so_far
+  place_is : place_of reader ≡ place_after d so_far
   place_is = read.used ∙ ap (λ (f : Form). sectors_of f (map batch_bytes so_far)) form_is
 
   before_is : before_of reader ≡ length so_far
   before_is = read.count ∙ length-map so_far batch_bytes
 
-  there : HasBatchesThere epoch so_far image
+  there : HasBatchesThere d epoch so_far image
   there =
-      subst (λ (n : ℕ). Stand journal_form journal_range n (map batch_bytes so_far) image) replayed.of.epoch_is
-      (subst (λ (r : Range). Stand journal_form r (epoch_read reader) (map batch_bytes so_far) image) replayed.of.range_is
+      subst (λ (n : ℕ). Stand (journal_form d) (journal_range d) n (map batch_bytes so_far) image) replayed.of.epoch_is
+      (subst (λ (r : Range). Stand (journal_form d) r (epoch_read reader) (map batch_bytes so_far) image) replayed.of.range_is
       (subst (λ (f : Form). Stand f (range_read reader) (epoch_read reader) (map batch_bytes so_far) image) form_is read.stand))
 
   -- where the journal ends, all of it was read
-  pub replayed_all : EndsAt journal_form journal_range epoch (place_of reader) (before_of reader) image
-      → (batches : List (List PlainEvent)) × Replays most limits from epoch image batches s × HasRead reader (map batch_bytes batches) image
+  pub replayed_all : EndsAt (journal_form d) (journal_range d) epoch (place_of reader) (before_of reader) image
+      → (batches : List (List PlainEvent)) × Replays d most limits from epoch image batches s × HasRead reader (map batch_bytes batches) image
   replayed_all end = (
     so_far,
     record {
       holds = record {
         stand = there;
-        ends = subst (λ (n : ℕ). EndsAt journal_form journal_range epoch n (length (map batch_bytes so_far)) image) place_is
-            (subst (λ (n : ℕ). EndsAt journal_form journal_range epoch (place_of reader) n image) read.count end);
+        ends = subst (λ (n : ℕ). EndsAt (journal_form d) (journal_range d) epoch n (length (map batch_bytes so_far)) image) place_is
+            (subst (λ (n : ℕ). EndsAt (journal_form d) (journal_range d) epoch (place_of reader) n image) read.count end);
       };
       leads = replayed.so_far.1;
     },
@@ -333,116 +345,116 @@ module _ (most : ℕ) (few : most ≤ most_bytes) (limits : Limits) (from : Stat
   )
 
   -- what is before the place is good
-  good-before : (sector : ℕ) → sector ≡ sector_of journal_form journal_range (place_of reader)
-      → HasNoBatchAfter most limits s epoch so_far image ⊎ HasLaterAfter epoch so_far image → IsGoodUpTo most limits from epoch image sector
+  good-before : (sector : ℕ) → sector ≡ sector_of (journal_form d) (journal_range d) (place_of reader)
+      → HasNoBatchAfter d most limits s epoch so_far image ⊎ HasLaterAfter d epoch so_far image → IsGoodUpTo d most limits from epoch image sector
   good-before sector is none = record {
     batches = so_far;
     state = s;
     leads = replayed.so_far.1;
     there = there;
-    sector_is = is ∙ ap (sector_of journal_form journal_range) place_is;
+    sector_is = is ∙ ap (sector_of (journal_form d) (journal_range d)) place_is;
     none = none;
   }
 
   -- where nothing goes on, the journal ends
-  here : (to : State) → GoOn most limits epoch image (place_of reader) (before_of reader) s [] to
-      → EndsAt journal_form journal_range epoch (place_of reader) (before_of reader) image
-  here to left = ends-here most limits epoch image (place_of reader) (before_of reader) s to left
+  here : (to : State) → GoOn d most limits epoch image (place_of reader) (before_of reader) s [] to
+      → EndsAt (journal_form d) (journal_range d) epoch (place_of reader) (before_of reader) image
+  here to left = ends-here d most limits epoch image (place_of reader) (before_of reader) s to left
 
   -- what stands there is no batch, or of a later epoch
-  module _ (bad : HasLater journal_form journal_range epoch (place_of reader) image
-      ⊎ (HasMore journal_form journal_range epoch (place_of reader) (before_of reader) image
-      × HasNone journal_form journal_range epoch (place_of reader) (before_of reader) most image)) where
-    damaged-none : (batches : List (List PlainEvent)) (to : State) → Replays most limits from epoch image batches to → ⊥
+  module _ (bad : HasLater (journal_form d) (journal_range d) epoch (place_of reader) image
+      ⊎ (HasMore (journal_form d) (journal_range d) epoch (place_of reader) (before_of reader) image
+      × HasNone (journal_form d) (journal_range d) epoch (place_of reader) (before_of reader) most image)) where
+    damaged-none : (batches : List (List PlainEvent)) (to : State) → Replays d most limits from epoch image batches to → ⊥
     damaged-none batches to good = let rest = replayed.ahead batches to good in first rest.0 rest.1 bad
       where
-        first : (more : List (List PlainEvent)) → GoOn most limits epoch image (place_of reader) (before_of reader) s more to
-            → HasLater journal_form journal_range epoch (place_of reader) image
-            ⊎ (HasMore journal_form journal_range epoch (place_of reader) (before_of reader) image
-            × HasNone journal_form journal_range epoch (place_of reader) (before_of reader) most image) → ⊥
+        first : (more : List (List PlainEvent)) → GoOn d most limits epoch image (place_of reader) (before_of reader) s more to
+            → HasLater (journal_form d) (journal_range d) epoch (place_of reader) image
+            ⊎ (HasMore (journal_form d) (journal_range d) epoch (place_of reader) (before_of reader) image
+            × HasNone (journal_form d) (journal_range d) epoch (place_of reader) (before_of reader) most image) → ⊥
         first [] left (inl later) =
-            EndsAt-later journal_form journal_range epoch (place_of reader) (before_of reader) image (here to left) later
+            EndsAt-later (journal_form d) (journal_range d) epoch (place_of reader) (before_of reader) image (here to left) later
         first [] left (inr more) =
-            EndsAt-more journal_form journal_range epoch (place_of reader) (before_of reader) image (here to left) more.0
+            EndsAt-more (journal_form d) (journal_range d) epoch (place_of reader) (before_of reader) image (here to left) more.0
         first (m ∷ ms) left (inl later) =
-            HasLater-at journal_form journal_range epoch (place_of reader) (before_of reader) (batch_bytes m) image left.fill.1 later
+            HasLater-at (journal_form d) (journal_range d) epoch (place_of reader) (before_of reader) (batch_bytes m) image left.fill.1 later
         first (m ∷ ms) left (inr more) =
             more.1 (batch_bytes m) (batch-short most m (All-head (AreBatchOf most) m ms left.each))
-            (IsNext-fill journal_form journal_range epoch (place_of reader) (before_of reader) (batch_bytes m) (map batch_bytes ms)
+            (IsNext-fill (journal_form d) (journal_range d) epoch (place_of reader) (before_of reader) (batch_bytes m) (map batch_bytes ms)
             (before_of reader + length (map batch_bytes (m ∷ ms))) image left.fill left.ends)
 
-    damaged-after : HasNoBatchAfter most limits s epoch so_far image ⊎ HasLaterAfter epoch so_far image
+    damaged-after : HasNoBatchAfter d most limits s epoch so_far image ⊎ HasLaterAfter d epoch so_far image
     damaged-after = ⊎_elim
-        (λ later. inr (subst (λ (n : ℕ). HasLater journal_form journal_range epoch n image) place_is later))
+        (λ later. inr (subst (λ (n : ℕ). HasLater (journal_form d) (journal_range d) epoch n image) place_is later))
         (λ more. inl (subst (λ (n : ℕ). NoneAt n (length so_far)) place_is (subst (NoneAt (place_of reader)) before_is (more.0, none more.1))))
         bad
       where
         NoneAt : ℕ → ℕ → Type 0
-        NoneAt place before = HasMore journal_form journal_range epoch place before image
+        NoneAt place before = HasMore (journal_form d) (journal_range d) epoch place before image
             × ((events : List PlainEvent) → AreBatchOf most events → AreFor limits s events
-            → ¬ IsNext journal_form journal_range epoch place before (batch_bytes events) image)
+            → ¬ IsNext (journal_form d) (journal_range d) epoch place before (batch_bytes events) image)
 
-        none : HasNone journal_form journal_range epoch (place_of reader) (before_of reader) most image
+        none : HasNone (journal_form d) (journal_range d) epoch (place_of reader) (before_of reader) most image
             → (events : List PlainEvent) → AreBatchOf most events → AreFor limits s events
-            → ¬ IsNext journal_form journal_range epoch (place_of reader) (before_of reader) (batch_bytes events) image
+            → ¬ IsNext (journal_form d) (journal_range d) epoch (place_of reader) (before_of reader) (batch_bytes events) image
         none refuses events each named next = refuses (batch_bytes events) (batch-short most events each) next
 
-    pub replayed_damaged : (sector : ℕ) → sector ≡ sector_of journal_form journal_range (place_of reader)
-        → IsBadAt most limits from epoch image sector
+    pub replayed_damaged : (sector : ℕ) → sector ≡ sector_of (journal_form d) (journal_range d) (place_of reader)
+        → IsBadAt d most limits from epoch image sector
     replayed_damaged sector is = record { none = damaged-none; first = good-before sector is damaged-after }
 
-  module _ (batch : List ℕ) (found : Found most epoch image (place_of reader) (before_of reader) batch) where
+  module _ (batch : List ℕ) (found : Found d most epoch image (place_of reader) (before_of reader) batch) where
     -- where a batch was found, something goes on
-    something : (to : State) → GoOn most limits epoch image (place_of reader) (before_of reader) s [] to → ⊥
+    something : (to : State) → GoOn d most limits epoch image (place_of reader) (before_of reader) s [] to → ⊥
     something to left =
-        EndsAt-next journal_form journal_range epoch (place_of reader) (before_of reader) batch image (here to left) found.next
+        EndsAt-next (journal_form d) (journal_range d) epoch (place_of reader) (before_of reader) batch image (here to left) found.next
 
     -- its records are those of no events that can come there
     module _ (refuses : (events : List PlainEvent) (to : State) → AreRecords limits s (drop 4 batch) events to → ⊥) where
-      refused-none : (batches : List (List PlainEvent)) (to : State) → Replays most limits from epoch image batches to → ⊥
+      refused-none : (batches : List (List PlainEvent)) (to : State) → Replays d most limits from epoch image batches to → ⊥
       refused-none batches to good = let rest = replayed.ahead batches to good in first rest.0 rest.1
         where
-          first : (more : List (List PlainEvent)) → GoOn most limits epoch image (place_of reader) (before_of reader) s more to → ⊥
+          first : (more : List (List PlainEvent)) → GoOn d most limits epoch image (place_of reader) (before_of reader) s more to → ⊥
           first [] left = something to left
           first (m ∷ ms) left =
               refuses m (run limits s m).state
-              (first_records most limits epoch image (place_of reader) (before_of reader) s batch found m ms to left)
+              (first_records d most limits epoch image (place_of reader) (before_of reader) s batch found m ms to left)
 
       no-batch : (events : List PlainEvent) → AreBatchOf most events → AreFor limits s events
-          → ¬ IsNext journal_form journal_range epoch (place_of reader) (before_of reader) (batch_bytes events) image
+          → ¬ IsNext (journal_form d) (journal_range d) epoch (place_of reader) (before_of reader) (batch_bytes events) image
       no-batch events each named next =
           let same : batch_bytes events ≡ batch =
-          IsAt-one journal_form journal_range epoch (place_of reader) (before_of reader) (batch_bytes events) batch image
-          (IsNext-is journal_form journal_range epoch (place_of reader) (before_of reader) (batch_bytes events) image next)
-          (IsNext-is journal_form journal_range epoch (place_of reader) (before_of reader) batch image found.next)
-          (IsNext-at journal_form journal_range epoch (place_of reader) (before_of reader) (batch_bytes events) image next)
-          (IsNext-at journal_form journal_range epoch (place_of reader) (before_of reader) batch image found.next) in
+          IsAt-one (journal_form d) (journal_range d) epoch (place_of reader) (before_of reader) (batch_bytes events) batch image
+          (IsNext-is (journal_form d) (journal_range d) epoch (place_of reader) (before_of reader) (batch_bytes events) image next)
+          (IsNext-is (journal_form d) (journal_range d) epoch (place_of reader) (before_of reader) batch image found.next)
+          (IsNext-at (journal_form d) (journal_range d) epoch (place_of reader) (before_of reader) (batch_bytes events) image next)
+          (IsNext-at (journal_form d) (journal_range d) epoch (place_of reader) (before_of reader) batch image found.next) in
           refuses events (run limits s events).state
           (record { each = each.each; spelled = ap (drop 4) (sym same) ∙ records_in events; named = named; state = refl })
 
-      pub replayed_refused : (sector : ℕ) → sector ≡ sector_of journal_form journal_range (place_of reader)
-          → IsBadAt most limits from epoch image sector
+      pub replayed_refused : (sector : ℕ) → sector ≡ sector_of (journal_form d) (journal_range d) (place_of reader)
+          → IsBadAt d most limits from epoch image sector
       replayed_refused sector is = record {
         none = refused-none;
         first = good-before sector is
             (inl (subst (λ (n : ℕ). NoneAt n (length so_far)) place_is (subst (NoneAt (place_of reader)) before_is
-            (IsNext-more journal_form journal_range epoch (place_of reader) (before_of reader) batch image found.next, no-batch))));
+            (IsNext-more (journal_form d) (journal_range d) epoch (place_of reader) (before_of reader) batch image found.next, no-batch))));
       }
         where
           NoneAt : ℕ → ℕ → Type 0
-          NoneAt place before = HasMore journal_form journal_range epoch place before image
+          NoneAt place before = HasMore (journal_form d) (journal_range d) epoch place before image
               × ((events : List PlainEvent) → AreBatchOf most events → AreFor limits s events
-              → ¬ IsNext journal_form journal_range epoch place before (batch_bytes events) image)
+              → ¬ IsNext (journal_form d) (journal_range d) epoch place before (batch_bytes events) image)
 
     -- the machine goes through them
-    module _ (next : Reader) (is : IsReaderOf journal_form journal_range epoch next)
+    module _ (next : Reader) (is : IsReaderOf (journal_form d) (journal_range d) epoch next)
         (read-next : HasRead next (map batch_bytes so_far ++ batch ∷ []) image)
-        (passes : place_of next ≡ place_of reader + sectors_in journal_form (length batch)) (count : before_of next ≡ before_of reader + 1)
+        (passes : place_of next ≡ place_of reader + sectors_in (journal_form d) (length batch)) (count : before_of next ≡ before_of reader + 1)
         (events : List PlainEvent) (t : State) (are : AreRecords limits s (drop 4 batch) events t)
         (only : (es : List PlainEvent) (to : State) → AreRecords limits s (drop 4 batch) es to → t ≡ to) where
       next_leads : LeadToBy most limits from (so_far ++ events ∷ []) t
       next_leads =
-          let right = IsNext-is journal_form journal_range epoch (place_of reader) (before_of reader) batch image found.next in
+          let right = IsNext-is (journal_form d) (journal_range d) epoch (place_of reader) (before_of reader) batch image found.next in
           let batch_of : AreBatchOf most events = record {
             each = are.each;
             size = omega (arith, ap length are.spelled, length-drop 4 batch, right.field, found.short);
@@ -452,27 +464,29 @@ module _ (most : ℕ) (few : most ≤ most_bytes) (limits : Limits) (from : Stat
 
       next_read : HasRead next (map batch_bytes (so_far ++ events ∷ [])) image
       next_read =
-          let right = IsNext-is journal_form journal_range epoch (place_of reader) (before_of reader) batch image found.next in
+          let right = IsNext-is (journal_form d) (journal_range d) epoch (place_of reader) (before_of reader) batch image found.next in
           let same : map batch_bytes so_far ++ batch ∷ [] ≡ map batch_bytes (so_far ++ events ∷ []) =
           ap (λ (l : List ℕ). map batch_bytes so_far ++ l ∷ []) (batch_is batch events right found.field are.spelled)
           ∙ sym (map-append batch_bytes so_far (events ∷ [])) in
           subst (λ (bs : List (List ℕ)). HasRead next bs image) same read-next
 
-      ahead_next : (more : List (List PlainEvent)) (to : State) → GoOn most limits epoch image (place_of reader) (before_of reader) s more to
-          → (rest : List (List PlainEvent)) × GoOn most limits epoch image (place_of next) (before_of next) t rest to
+      ahead_next : (more : List (List PlainEvent)) (to : State) → GoOn d most limits epoch image (place_of reader) (before_of reader) s more to
+          → (rest : List (List PlainEvent)) × GoOn d most limits epoch image (place_of next) (before_of next) t rest to
       ahead_next [] to left = absurd (something to left)
       ahead_next (m ∷ ms) to left =
           let same : t ≡ (run limits s m).state =
-          only m (run limits s m).state (first_records most limits epoch image (place_of reader) (before_of reader) s batch found m ms to left) in (
+          only m (run limits s m).state (first_records d most limits epoch image (place_of reader) (before_of reader) s batch found m ms to left) in (
             ms,
-            subst (λ (n : ℕ). GoOn most limits epoch image n (before_of next) t ms to) (sym passes)
-                (subst (λ (n : ℕ). GoOn most limits epoch image (place_of reader + sectors_in journal_form (length batch)) n t ms to) (sym count)
-                (subst (λ (u : State). GoOn most limits epoch image (place_of reader + sectors_in journal_form (length batch)) (before_of reader + 1) u ms to)
-                (sym same) (after_first most limits epoch image (place_of reader) (before_of reader) s batch found m ms to left))),
+            subst (λ (n : ℕ). GoOn d most limits epoch image n (before_of next) t ms to) (sym passes)
+                (subst (λ (n : ℕ). GoOn d most limits epoch image (place_of reader + sectors_in (journal_form d) (length batch)) n t ms to) (sym count)
+                (subst
+                (λ (u : State).
+                GoOn d most limits epoch image (place_of reader + sectors_in (journal_form d) (length batch)) (before_of reader + 1) u ms to)
+                (sym same) (after_first d most limits epoch image (place_of reader) (before_of reader) s batch found m ms to left))),
           )
 
       -- one batch more
-      pub replayed_more : Replayed most limits from epoch image next t
+      pub replayed_more : Replayed d most limits from epoch image next t
       replayed_more = record {
         of = is;
         so_far = (so_far ++ events ∷ [], next_leads, next_read);

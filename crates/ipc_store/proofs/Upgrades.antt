@@ -1,13 +1,14 @@
 -- What upgrades leave that are stopped, and one that is not.
-use Rattle.std.proofs.Common.{◌≡◌, ◌⊎◌, inl, inr, ⊎_elim, ℕ, ◌<◌, ◌≤◌, ◌^◌, [], length, refl, sym, ap, subst, ◌∙◌, arith}
+use Rattle.std.proofs.Common.{◌≡◌, true, false, ◌⊎◌, inl, inr, ⊎_elim, ℕ, ◌<◌, ◌≤◌, ◌^◌, [], length, refl, sym, ap, subst, ◌∙◌, arith}
 use Rattle.std.specs.Prelude.{position, not as is_not}
 use Rattle.std.proofs.lemmas.Option.{none-some}
-use Rattle.ipc_base.specs.declared.limits.Limits.{Limits}
+use Rattle.ipc_limits.specs.declared.limits.Limits.{Limits}
 use Rattle.ipc_disk.specs.Growth.{HasGrown}
 use Rattle.ipc_disk.specs.Medium.{Image, Medium, IsHonest, Stays}
 use Rattle.ipc_disk.specs.Since.{EachImageSince}
 use Rattle.ipc_state.specs.State.{State, restart}
-use Rattle.ipc_image.specs.Format.{format, format_one}
+use Rattle.ipc_image.specs.Format.{device_form, format, format_one}
+use Rattle.ipc_image.proofs.CallerLemmas.{form-known, form-version}
 use Rattle.ipc_image.specs.Greater.{AreAtLeast, at_least}
 use Rattle.ipc_image.specs.Sizes.{need_of}
 use Rattle.ipc_image.specs.Superblock.{AreOf}
@@ -26,14 +27,14 @@ use Rattle.ipc_store.proofs.Opened.{device-begins}
 pub one-version : (own limits : Limits) (s t : State) (image : Image) → StandsForIn format_one own s image → StandsFor limits t image → ⊥
 one-version own limits s t image old new =
     let first = (device-begins format_one (inl refl) own image old.kept.device).1 in
-    let second = (device-begins format (inr refl) limits image new.kept.device).1 in
-    omega (arith, first, second)
+    let second = (device-begins (device_form limits) (form-known limits) limits image new.kept.device).1 in
+    omega (arith, first, second, form-version limits)
 
 -- an image that was read as one of the old version is the one that is known
 known-state : (own other limits : Limits) (s t : State) (image : Image) → length image < 2 ^ 32 → StandsForOldOrNew own limits s image
     → StandsForIn format_one other t image → (other ≡ own) × (t ≡ s)
 known-state own other limits s t image fits (inl old) read = StandsForIn-one format_one (inl refl) other own t s image fits read old
-known-state own other limits s t image fits (inr new) read = absurd (one-version other limits t (restart s) image read new)
+known-state own other limits s t image fits (inr new) read = absurd (one-version other limits t (restart limits s) image read new)
 
 module _ {D : Type 0} (medium : D → Medium) (law : (d : D) → IsHonest (medium d) → length (medium d).contents < 2 ^ 32)
     (own limits : Limits) (s : State) where
@@ -50,7 +51,8 @@ module _ {D : Type 0} (medium : D → Medium) (law : (d : D) → IsHonest (mediu
   grown-to old most image rests is =
       subst (StandsForOldOrNew own limits s) (sym is.is)
       (⊎_elim (λ stands. inl (StandsForIn-with_zeros is.more format_one (inl refl) own s is.before stands))
-      (λ stands. inr (StandsForIn-with_zeros is.more format (inr refl) limits (restart s) is.before stands)) (rests.left is.before is.now))
+      (λ stands. inr (StandsForIn-with_zeros is.more (device_form limits) (form-known limits) limits (restart limits s) is.before stands))
+      (rests.left is.before is.now))
 
   pub upgrades-rest : (left disk : D) → RestsOldOrNew own limits s (medium left) → StoppedUpgrades medium limits left disk
       → RestsOldOrNew own limits s (medium disk)
@@ -64,13 +66,13 @@ module _ {D : Type 0} (medium : D → Medium) (law : (d : D) → IsHonest (mediu
 
   -- one that is finished
   pub upgrade-stands : (disk new : D) → RestsOldOrNew own limits s (medium disk) → IsUpgraded limits (medium disk) (medium new)
-      → StandsAfter (record { limits = limits; base = restart s; events = [] }) (medium new)
+      → StandsAfter (record { limits = limits; base = restart limits s; events = [] }) (medium new)
   upgrade-stands disk new rests is =
       let old : Medium = medium disk in
       let same = known-state own is.own limits s is.state old.contents (law disk rests.honest) (rests.left old.contents rests.honest.reads) is.stood in
       record {
         honest = is.honest;
-        stands = λ image now. subst (λ (x : State). StandsFor limits (restart x) image) same.1 (is.stands image now);
+        stands = λ image now. subst (λ (x : State). StandsFor limits (restart limits x) image) same.1 (is.stands image now);
       }
 
 -- ---- an upgrade itself
@@ -93,7 +95,7 @@ module _ (limits own : Limits) (s : State) (size : ℕ) (image : Image) where
   refused-by errors.NotFormatted fits stands of greater room is =
       absurd ((device-begins format_one (inl refl) own image stands.kept.device).0 is.1)
   refused-by (errors.Version found) fits stands of greater room is =
-      absurd (is.1.other (sym is.1.version ∙ (device-begins format_one (inl refl) own image stands.kept.device).1))
+      let bad : true ≡ false = sym (device-begins format_one (inl refl) own image stands.kept.device).2 ∙ is.1.other in cc
   refused-by (errors.BadLimits bad) fits stands of greater room (inl untold) = absurd (none-some bad.field (sym of.within ∙ untold))
   refused-by (errors.BadLimits bad) fits stands of greater room (inr below) =
       let same = IsDevice-one format_one (inl refl) own below.1 image fits stands.kept.device below.2 in

@@ -1,7 +1,7 @@
 -- What an upgrade leaves: the old objects under the old root and the new ones under the new, beside each other.
-use Rattle.std.proofs.Common.{◌≡◌, inl, ℕ, ◌+◌, List, length, refl, sym, ap, subst, ◌∙◌, arith}
-use Rattle.std.specs.Prelude.{map}
-use Rattle.ipc_base.specs.declared.limits.Limits.{Limits}
+use Rattle.std.proofs.Common.{◌≡◌, inl, ℕ, ◌+◌, List, [], length, refl, sym, ap, subst, ◌∙◌, arith}
+use Rattle.std.specs.Prelude.{map, nat_le, if◌then◌else◌}
+use Rattle.ipc_limits.specs.declared.limits.Limits.{Limits}
 use Rattle.ipc_base.specs.Objects.{PlainObjects}
 use Rattle.ipc_checkpoint.specs.declared.layout.Layout.{Layout}
 use Rattle.ipc_checkpoint.specs.Checkpoint.{IsElsewhere, Holds as HoldsObjects}
@@ -13,13 +13,14 @@ use Rattle.ipc_disk.proofs.CallerLemmas.{EachImageSince-both, EachImageSince-wea
 use Rattle.ipc_heap.specs.Heap.{Holds as HeapHolds}
 use Rattle.ipc_heap.specs.Matches.{StaysSaved}
 use Rattle.ipc_journal.proofs.CallerLemmas.{Holds-turned}
-use Rattle.ipc_state.specs.State.{State}
+use Rattle.ipc_state.specs.State.{State, next_pid_after, restart}
 use Rattle.ipc_engine.specs.Event.{PlainEvent}
-use Rattle.ipc_image.specs.Format.{format_one}
+use Rattle.ipc_image.specs.declared.format.Format.{Format}
+use Rattle.ipc_image.specs.Format.{device_form, format, format_one}
 use Rattle.ipc_image.specs.Saved.{StandForState, StandForStateIn}
 use Rattle.ipc_image.specs.Superblock.{sectors_in}
 use Rattle.ipc_store.specs.Batch.{batch_bytes}
-use Rattle.ipc_store.specs.Image.{journal_form, journal_range, layout_of, objects_range, named_sectors, HasBatches, IsDeviceIn, LeadToBy, StandsForIn}
+use Rattle.ipc_store.specs.Image.{journal_form, journal_range, layout_in, objects_range, named_sectors, HasBatches, IsDeviceIn, LeadToBy, StandsForIn}
 use Rattle.ipc_store.specs.Relations.Format.{IsPrepared}
 use Rattle.ipc_store.specs.Relations.Upgrade.{HasOld}
 use Rattle.ipc_store.proofs.Devices.{IsDeviceIn-same, journal-same}
@@ -43,28 +44,28 @@ module _ (own : Limits) (epoch : ℕ) (objects : PlainObjects) (batches : List (
   superblock-elsewhere : IsElsewhere layout 0
   superblock-elsewhere = (λ is. absurd (omega (arith, is, root)), inl (omega (arith, first)))
 
-  journal-elsewhere : (i : ℕ) → IsInside journal_range i → IsElsewhere layout i
+  journal-elsewhere : (i : ℕ) → IsInside (journal_range format_one) i → IsElsewhere layout i
   journal-elsewhere i inside = (λ is. absurd (omega (arith, is, root, inside.0)), inl (omega (arith, first, inside.1)))
 
   -- a device with these batches, of so many sectors
   abbrev HasOthers : ℕ → Image → Type 0
-  HasOthers sectors image = IsDeviceIn format_one own image × HasBatches epoch batches image × (named_sectors image ≡ sectors)
+  HasOthers sectors image = IsDeviceIn format_one own image × HasBatches format_one epoch batches image × (named_sectors image ≡ sectors)
 
   others-same : (sectors : ℕ) (a b : Image) → SameAt (IsElsewhere layout) a b → HasOthers sectors a → HasOthers sectors b
   others-same sectors a b same has = (
     IsDeviceIn-same format_one (IsElsewhere layout) own a b superblock-elsewhere same has.0,
-    journal-same (IsElsewhere layout) epoch batches a b journal-elsewhere same has.1,
+    journal-same format_one (omega arith) (IsElsewhere layout) epoch batches a b journal-elsewhere same has.1,
     ap sectors_in (sym (sector_at-same (IsElsewhere layout) a b 0 same superblock-elsewhere)) ∙ has.2,
   )
 
   -- at every moment of a save under the new root the old objects are there, and the rest as it was
   pub old-stays : (old new : Medium) → IsDurable old → HasOld own epoch objects batches old.contents
-      → ((i : ℕ) → IsInside (objects_range (named_sectors old.contents)) i → IsInside layout.range i)
+      → ((i : ℕ) → IsInside (objects_range format_one (named_sectors old.contents)) i → IsInside layout.range i)
       → LeavesAlone (IsElsewhere layout) old new → StaysSaved layout.range 1 epoch objects old new
       → EachImageSince old new (HasOld own epoch objects batches)
   old-stays old new durable has within alone saved =
       let n : ℕ = named_sectors old.contents in
-      let narrow : Range = objects_range n in
+      let narrow : Range = objects_range format_one n in
       let others : EachImageSince old new (HasOthers n) =
       LeavesAlone-keeps (IsElsewhere layout) old new (HasOthers n) alone
       (λ image now. subst (HasOthers n) (sym (durable image now)) (has.device, has.journal, refl)) (others-same n) in
@@ -74,18 +75,26 @@ module _ (own : Limits) (epoch : ℕ) (objects : PlainObjects) (batches : List (
       (EachImageSince-both old new (HasOthers n) (HeapHolds narrow 1 epoch objects) others there)
       (λ image both. record {
         device = both.0.0;
-        there = subst (λ (k : ℕ). HeapHolds (objects_range k) 1 epoch objects image) (sym both.0.2) both.1;
+        there = subst (λ (k : ℕ). HeapHolds (objects_range format_one k) 1 epoch objects image) (sym both.0.2) both.1;
         journal = both.0.1;
       })
 
 -- a device of the old version that has the new objects as well is all but the superblock of one of the version of today
 pub old-prepared : (own limits : Limits) (epoch : ℕ) (objects new : PlainObjects) (batches : List (List PlainEvent)) (s : State) (image : Image)
-    → HasOld own epoch objects batches image → HoldsObjects (layout_of limits (length image)) (epoch + 1) new image
+    → device_form limits ≡ format → HasOld own epoch objects batches image → HoldsObjects (layout_in format limits (length image)) (epoch + 1) new image
     → StandForState limits s new → IsPrepared limits s image
-old-prepared own limits epoch objects new batches s image old there stand = record {
+old-prepared own limits epoch objects new batches s image is old there stand = record {
   epoch = epoch + 1;
   objects = new;
-  there = there;
-  stand = stand;
-  journal = Holds-turned journal_form journal_range epoch (epoch + 1) (map batch_bytes batches) image (omega arith) old.journal tt;
+  there = subst (λ (f : Format). HoldsObjects (layout_in f limits (length image)) (epoch + 1) new image) (sym is) there;
+  stand = subst (λ (f : Format). StandForStateIn f limits s new) (sym is) stand;
+  journal = subst (λ (f : Format). HasBatches f (epoch + 1) [] image) (sym is)
+      (Holds-turned (journal_form format_one) (journal_range format_one) epoch (epoch + 1) (map batch_bytes batches) image (omega arith) old.journal tt);
 }
+
+-- a restart is the same in both versions
+pub restart-of-two : (a b : Limits) (s : State) → a.version ≡ 1 → b.version ≡ 2 → restart a s ≡ restart b s
+restart-of-two a b s one two =
+    let next : ℕ → ℕ = λ version. if nat_le 3 version then 1 else s.processes.next in
+    let same : next_pid_after a s ≡ next_pid_after b s = ap next one ∙ sym (ap next two) in
+    λ i. record (restart a s) { processes = record { next = same i; entries = [] } }

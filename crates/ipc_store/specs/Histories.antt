@@ -4,7 +4,7 @@
 -- leaves all of the first two parts, and of the third some, from the first on. An open adds a restart
 -- to what was left.
 use Rattle.std.specs.Prelude.{◌≡◌, ◌⊎◌, List, [], ◌∷◌, ◌++◌, length}
-use Rattle.ipc_base.specs.declared.limits.Limits.{Limits}
+use Rattle.ipc_limits.specs.declared.limits.Limits.{Limits}
 use Rattle.ipc_checkpoint.specs.Meanwhile.{EachLater}
 use Rattle.ipc_disk.specs.Medium.{Image, Medium, IsHonest}
 use Rattle.ipc_disk.specs.Since.{EachImageSince}
@@ -114,5 +114,6 @@ Takes medium old events new =
 -- What an open gives on a disk that reads so: a store that goes on from the state for which the
 -- image stands, after a restart.
 pub record OpensOn {D : Type 0} (image : Image) (medium : Medium) (store : StoreView D) : Type 0 where
-  pub found : (s : State) × StandsFor store.machine.limits s image × StoreMatches medium store (restart s) []
+  pub found : (s : State) × StandsFor store.machine.limits s image
+      × StoreMatches medium store (restart store.machine.limits s) []
   pub confirmed : store.confirmed ≡ 1

@@ -42,7 +42,7 @@ pub record ReopensTo (past : Past) (others : List PlainEvent) (image : Image) : 
   pub prefix : kept ++ lost ≡ others
   pub state : State
   pub stands : StandsFor past.limits state image
-  pub same : restart state ≡ restart (state_after (grown past kept))
+  pub same : restart past.limits state ≡ restart past.limits (state_after (grown past kept))
 
 -- So does each image that a crash now may leave. They need not all have kept the same events.
 pub record Rests (past : Past) (others : List PlainEvent) (medium : Medium) : Type 0 where
@@ -57,5 +57,5 @@ pub record Found {D : Type 0} (past : Past) (others : List PlainEvent) (medium :
   pub lost : List PlainEvent
   pub prefix : kept ++ lost ≡ others
   pub under : store.machine.limits ≡ past.limits
-  pub state : store.machine.state ≡ restart (state_after (grown past kept))
+  pub state : store.machine.state ≡ restart past.limits (state_after (grown past kept))
   pub keeps : Keeps medium store (reopened (grown past kept))

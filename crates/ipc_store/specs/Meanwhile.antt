@@ -10,27 +10,33 @@ use Rattle.ipc_heap.specs.Meanwhile.{IsUsedIn}
 use Rattle.ipc_journal.specs.Meanwhile.{ComesInOrder, IsReadFrom, KeepsBatches}
 use Rattle.ipc_state.specs.State.{State}
 use Rattle.ipc_engine.specs.Event.{PlainEvent}
-use Rattle.ipc_image.specs.Format.{format}
 use Rattle.ipc_store.specs.Batch.{batch_bytes}
-use Rattle.ipc_store.specs.Image.{epoch_at, journal_form, journal_range, named_sectors, objects_range}
+use Rattle.ipc_store.specs.Image.{epoch_at, form_at, journal_form, journal_range, named_sectors, objects_range}
 use Rattle.ipc_store.specs.Relations.Matches.{StoreMatches}
 use Rattle.ipc_store.specs.View.{StoreView}
 
 -- what is saved in an image needs this sector: it is the superblock, the root, or has a part of an object or the table
 abbrev pub IsNeeded : Image → ℕ → Type 0
 IsNeeded image sector =
-    (sector ≡ 0) ⊎ (sector ≡ format.root)
-    ⊎ IsUsedIn (objects_range (named_sectors image)) format.root image sector
+    let form = form_at image in
+    (sector ≡ 0) ⊎ (sector ≡ form.root)
+    ⊎ IsUsedIn (objects_range form (named_sectors image)) form.root image sector
 
 -- The later image is of the same save: it has the same sectors wherever the earlier one needs them, and the batches of
 -- the earlier one, and may have more after them.
 pub record IsOfSameSave (earlier later : Image) : Type 0 where
   pub needed : SameAt (IsNeeded earlier) earlier later
-  pub journal : KeepsBatches journal_form journal_range (epoch_at earlier) earlier later
+  pub journal : KeepsBatches (journal_form (form_at earlier)) (journal_range (form_at earlier)) (epoch_at earlier)
+      earlier later
 
--- so it is, or it is of a later save, whose root has a later epoch
+-- The later image is of a later save: its root, in the same place, has a later epoch.
+pub record IsOfLaterSave (earlier later : Image) : Type 0 where
+  pub form : form_at earlier ≡ form_at later
+  pub epoch : epoch_at earlier < epoch_at later
+
+-- the one or the other
 abbrev pub GoesOn : Image → Image → Type 0
-GoesOn earlier later = IsOfSameSave earlier later ⊎ (epoch_at earlier < epoch_at later)
+GoesOn earlier later = IsOfSameSave earlier later ⊎ IsOfLaterSave earlier later
 
 -- Who reads the disk of a store while it makes a call finds images that go on from those of before, and if what waits
 -- joins the journal, its batch stands before a header counts it.
@@ -43,14 +49,16 @@ pub record StaysReadable {D : Type 0} (medium : D → Medium) (store : StoreView
 
 -- the later image goes on from the earlier one, and has its root
 abbrev pub HasOneRoot : Image → Image → Type 0
-HasOneRoot earlier later = GoesOn earlier later × (sector_at earlier format.root ≡ sector_at later format.root)
+HasOneRoot earlier later =
+    let root = (form_at earlier).root in
+    GoesOn earlier later × (sector_at earlier root ≡ sector_at later root)
 
 -- Sectors that were read one after another, each as some image has it that goes on from the first one under the same
 -- root: those outside the journal, the header of the journal as it was seen in one of these images, and after it the
 -- body, in images in which the batches of that one stand.
 pub record IsRead (first seen read : Image) : Type 0 where
   pub count : length read ≡ length first
-  pub outside : (i : ℕ) → IsOutside journal_range i
+  pub outside : (i : ℕ) → IsOutside (journal_range (form_at first)) i
       → (later : Image) × HasOneRoot first later × (sector_at read i ≡ sector_at later i)
   pub one_root : HasOneRoot first seen
-  pub journal : IsReadFrom journal_range (epoch_at seen) seen read
+  pub journal : IsReadFrom (journal_range (form_at first)) (epoch_at seen) seen read

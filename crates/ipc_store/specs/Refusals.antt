@@ -1,8 +1,8 @@
 -- Why a device is refused: what an error says of its image. That the disk has failed, or that memory was refused, says
 -- nothing of the image.
 use Rattle.std.specs.Prelude.{◌≡◌, ◌⊎◌, ◌<◌, ◌≤◌, ℕ, Some, position, not as is_not}
-use Rattle.ipc_base.specs.Limits.{tests}
-use Rattle.ipc_base.specs.declared.limits.Limits.{Limits}
+use Rattle.ipc_limits.specs.Limits.{tests}
+use Rattle.ipc_limits.specs.declared.limits.Limits.{Limits}
 use Rattle.ipc_disk.specs.Medium.{Image}
 use Rattle.ipc_image.specs.Format.{format, format_one}
 use Rattle.ipc_image.specs.Greater.{AreAtLeast, at_least}

@@ -1,7 +1,7 @@
 -- An upgrade: a device of the version before becomes one of the version of today, where it lies. A crash at any moment
 -- leaves the one or the other.
 use Rattle.std.specs.Prelude.{◌≡◌, ◌⊎◌, ℕ}
-use Rattle.ipc_base.specs.declared.limits.Limits.{Limits}
+use Rattle.ipc_limits.specs.declared.limits.Limits.{Limits}
 use Rattle.ipc_disk.specs.Growth.{HasGrown}
 use Rattle.ipc_disk.specs.Medium.{Image, Medium, IsHonest}
 use Rattle.ipc_disk.specs.Since.{EachImageSince}
@@ -14,7 +14,7 @@ use Rattle.ipc_store.specs.Lives.{IsLeft}
 -- the image stands for the state in the old version, under the limits that its superblock names, or, in the version of
 -- today and under those of the upgrade, for what a restart makes of it
 abbrev pub StandsForOldOrNew : Limits → Limits → State → Image → Type 0
-StandsForOldOrNew own limits s image = StandsForIn format_one own s image ⊎ StandsFor limits (restart s) image
+StandsForOldOrNew own limits s image = StandsForIn format_one own s image ⊎ StandsFor limits (restart limits s) image
 
 -- What a crash within an upgrade may leave: what it could leave before, or what stands for the state that was read.
 abbrev pub UpgradesTo : Limits → Medium → Image → Type 0
@@ -30,7 +30,7 @@ pub record IsUpgraded (limits : Limits) (old new : Medium) : Type 0 where
   pub state : State
   pub stood : StandsForIn format_one own state old.contents
   pub honest : IsHonest new
-  pub stands : (image : Image) → new.images_now image → StandsFor limits (restart state) image
+  pub stands : (image : Image) → new.images_now image → StandsFor limits (restart limits state) image
   pub whole : (image : Image) → new.images_now image → NamesAll image
 
 -- it stands for a state in the old version, and its objects are of the last epoch

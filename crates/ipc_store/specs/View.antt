@@ -1,19 +1,19 @@
 -- What a store shows.
 use Rattle.std.specs.Prelude.{◌≡◌, ◌≤◌, ◌+◌, ◌-◌, ◌^◌, ℕ}
 use Rattle.std.specs.Prelude.{Bool, true, false, if◌then◌else◌, List, [], length, Result, OnOk, OnErr}
-use Rattle.ipc_disk.specs.Counts.{Counts}
+use Rattle.ipc_disk.specs.Counts.{Counts, with_calls}
 use Rattle.ipc_engine.specs.Engine.{Machine}
 use Rattle.ipc_image.specs.Changed.{differs_in}
-use Rattle.ipc_image.specs.Saved.{saved}
+use Rattle.ipc_image.specs.Saved.{saved_in}
 use Rattle.ipc_checkpoint.specs.declared.error.LoadError.{LoadError}
 use Rattle.ipc_checkpoint.specs.declared.error.LoadError.TheVariants as load
 use Rattle.ipc_checkpoint.specs.Matches.{changed_sectors, table_sectors}
 use Rattle.ipc_checkpoint.specs.View.{CheckpointView, epoch_of}
 use Rattle.ipc_journal.specs.declared.journal.Journal.{Journal}
-use Rattle.ipc_journal.specs.View.{Fits, used_of}
+use Rattle.ipc_journal.specs.View.{append_syncs, append_writes, form_of, Fits, used_of}
 use Rattle.ipc_journal.specs.declared.error.JournalError.{JournalError}
 use Rattle.ipc_journal.specs.declared.error.JournalError.TheVariants as journal
-use Rattle.ipc_image.specs.Format.{longest_record}
+use Rattle.ipc_image.specs.Format.{device_form, longest_record}
 use Rattle.ipc_store.specs.Batch.{most_bytes}
 use Rattle.ipc_store.specs.Image.{last_epoch}
 use Rattle.ipc_store.specs.declared.fault.OpenError.{OpenError}
@@ -109,11 +109,17 @@ abbrev pub HasTurned : {D : Type 0} → StoreView D → StoreView D → Type 0
 HasTurned old new =
     (epoch_of new.checkpoint ≡ epoch_of old.checkpoint + 1) × (used_of new.journal ≡ 0) × (new.machine.changed ≡ [])
 
+-- the calls of a commit whose batch joins the journal
+abbrev pub append_calls : {D : Type 0} → StoreView D → Counts → Counts
+append_calls store =
+    let form = form_of store.journal in
+    with_calls (append_writes form (4 + length store.records)) (append_syncs form)
+
 -- how many sectors a save of the state of a machine writes: those of the objects that have changed, of the table of all
 -- objects, and the root
 abbrev pub save_sectors : Machine → ℕ
 save_sectors machine =
-    let objects = saved machine.state in
+    let objects = saved_in (device_form machine.limits) machine.state in
     changed_sectors (differs_in machine.changed objects) objects + table_sectors objects + 1
 
 -- the fault of an open that meets this fault of the objects' sectors

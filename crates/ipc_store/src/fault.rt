@@ -6,10 +6,10 @@ ghost use Rattle.ipc_store.specs.declared.fault.OpenError.TheVariants as open_er
 ghost use Rattle.ipc_store.specs.declared.fault.UpgradeError.TheVariants as upgrade_errors;
 ghost use Rattle.ipc_store.specs.View.{of_journal_error, of_load_error, of_open_error};
 
-use ipc_base::BadLimits;
 use ipc_checkpoint::LoadError;
 use ipc_disk::DiskFault;
 use ipc_journal::JournalError;
+use ipc_limits::BadLimits;
 use std::alloc::AllocError;
 use thiserror::Error;
 

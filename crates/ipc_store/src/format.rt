@@ -1,52 +1,55 @@
 //! The making of a device.
 
-ghost use Rattle.std.specs.Prelude.{◌≡◌, ◌⊎◌, ◌<◌, ◌≤◌, ◌↔◌, ℕ, Some, position, not};
+ghost use Rattle.std.specs.Prelude.{◌≡◌, ◌⊎◌, ◌<◌, ◌≤◌, ◌↔◌, ℕ, None, Some};
 ghost use Rattle.std.specs.Prelude.{slice_set, OnOk, IsErrOf};
-ghost use Rattle.ipc_base.specs.Limits.{AreWithin, tests};
 ghost use Rattle.ipc_base.specs.Objects.{Fit};
-ghost use Rattle.ipc_base.specs.declared.limits.BadLimits.{BadLimits as BadLimit};
+ghost use Rattle.ipc_limits.specs.declared.limits.BadLimits.{BadLimits as BadLimit};
 ghost use Rattle.ipc_disk.specs.Calls.{IsSameDisk, CountsFault, CountsFaultIf};
 ghost use Rattle.ipc_disk.specs.Medium.{Image, IsHonest, IsDurable, SetOrNot};
 ghost use Rattle.ipc_disk.specs.Since.{EachImageSince};
 ghost use Rattle.ipc_state.specs.State.{State, start};
-ghost use Rattle.ipc_image.specs.Format.{format, objects_first};
-ghost use Rattle.ipc_image.specs.Saved.{StandForState};
-ghost use Rattle.ipc_image.specs.Sizes.{area_of, need_of};
-ghost use Rattle.ipc_image.specs.Superblock.{AreOf, IsSuperblock};
-ghost use Rattle.ipc_store.specs.Image.{StandsFor, IsNotFormatted, NamesAll};
+ghost use Rattle.ipc_image.specs.Format.{device_form, format_three, IsJournal, IsOpened};
+ghost use Rattle.ipc_image.specs.Saved.{StandForStateIn};
+ghost use Rattle.ipc_image.specs.Sizes.{area_in, first_fault, need_in};
+ghost use Rattle.ipc_image.specs.Superblock.{AreOf, IsSuperblockIn};
+ghost use Rattle.ipc_store.specs.Image.{as_of, own_limits, StandsFor, IsNotFormatted, NamesAll};
 ghost use Rattle.ipc_store.specs.Relations.Format.{EachNow, IsErased, IsPrepared};
 
 use crate::fault::FormatError;
-use crate::places::{FIRST_EPOCH, JOURNAL_RANGE, layout_in};
+use crate::places::{FIRST_EPOCH, as_of, journal_form, journal_range, layout_in};
 use crate::store::Store;
-use ipc_base::{Limits, Objects};
+use ipc_base::Objects;
 use ipc_checkpoint::Checkpoint;
 use ipc_disk::{DiskFault, SectorDisk, write_durably};
 use ipc_image::{
-    FORMAT, SUPERBLOCK, checked_need, start_objects, superblock_is_read, write_superblock,
+    Format, SUPERBLOCK, checked_need, start_objects, superblock_is_read, write_superblock,
 };
 use ipc_journal::Journal;
+use ipc_limits::Limits;
 
 impl<D: SectorDisk> Store<D> {
-    /// Makes a device of the disk: it stands for the first state under these limits. All that stood there is lost.
-    /// Refused, in this order, for limits that `check` by `FORMAT.most` refuses, for a disk with fewer sectors than
+    /// Makes a device of the disk, of the version and with the journal that the limits name: it stands for the first
+    /// state under them. All that stood there is lost. A version that is not 3 counts as 2, and a journal that the
+    /// version may not have as the nearest that it may. Refused, in this order, for limits that the greatest values of
+    /// the version refuse, for those whose area is above 8000000 sectors (field 22), for a disk with fewer sectors than
     /// `need`, and by the disk. A crash leaves the disk as it was, or not formatted, or formatted.
     pub fn format(disk: &mut D, limits: &Limits) -> Result<(), FormatError>
         // Each image that a crash may leave from then on stands for the first state.
         ensures ok { OnOk result (IsHonest (D.medium disk.old) → (image : Image)
-            → (D.medium disk.new).images_now image → StandsFor limits.now start image) }
+            → (D.medium disk.new).images_now image → StandsFor (own_limits limits.now) start image) }
         ensures whole { OnOk result (IsHonest (D.medium disk.old) → EachNow (D.medium disk.new) NamesAll) }
         ensures durable { OnOk result (IsDurable (D.medium disk.new)) }
         // A crash at any moment of the call, also of one that fails.
         ensures any_moment { IsHonest (D.medium disk.old)
             → EachImageSince (D.medium disk.old) (D.medium disk.new)
             (λ image. (D.medium disk.old).images_now image ⊎ IsNotFormatted image
-            ⊎ StandsFor limits.now start image) }
+            ⊎ StandsFor (own_limits limits.now) start image) }
         // Refusals, in their order.
         ensures limits { (field : ℕ) → IsErrOf result (FormatError.BadLimits (record { field = field }))
-            ↔ (position not (tests format.most limits.now) ≡ Some field) }
+            ↔ (first_fault (device_form limits.now) limits.now ≡ Some field) }
         ensures small { (need : ℕ) → IsErrOf result (FormatError.TooSmall need)
-            ↔ (AreWithin format.most limits.now × (need ≡ need_of limits.now) × (D.size disk.old < need)) }
+            ↔ ((first_fault (device_form limits.now) limits.now ≡ None)
+            × (need ≡ need_in (device_form limits.now) limits.now) × (D.size disk.old < need)) }
         ensures untouched { ((field : ℕ) → IsErrOf result (FormatError.BadLimits (record { field = field }))
             → disk.new ≡ disk.old)
             × ((need : ℕ) → IsErrOf result (FormatError.TooSmall need) → disk.new ≡ disk.old) }
@@ -54,13 +57,72 @@ impl<D: SectorDisk> Store<D> {
         ensures same { IsSameDisk D.size D.medium disk.old disk.new }
         ensures counts { CountsFaultIf D.counts (IsErrOf result FormatError.Device) disk.old disk.new }
     {
-        let need = checked_need(limits)?;
-        if disk.sectors() < need {
-            return Err(FormatError::TooSmall { need });
-        }
-        make(disk, limits, &start_objects())?;
-        Ok(())
+        let form = Format::of(limits);
+        format_as(form, disk, &as_of(form, limits))
     }
+
+    /// Makes a device of version 3 of the disk, with a journal of so many sectors, whatever version and journal the
+    /// limits name. It is `format` else.
+    pub fn format_large(disk: &mut D, limits: &Limits, journal: u32) -> Result<(), FormatError>
+        requires { IsJournal journal }
+        // Each image that a crash may leave from then on stands for the first state.
+        ensures ok { OnOk result (IsHonest (D.medium disk.old) → (image : Image)
+            → (D.medium disk.new).images_now image
+            → StandsFor (as_of (format_three journal) limits.now) start image) }
+        ensures whole { OnOk result (IsHonest (D.medium disk.old) → EachNow (D.medium disk.new) NamesAll) }
+        ensures durable { OnOk result (IsDurable (D.medium disk.new)) }
+        // A crash at any moment of the call, also of one that fails.
+        ensures any_moment { IsHonest (D.medium disk.old)
+            → EachImageSince (D.medium disk.old) (D.medium disk.new)
+            (λ image. (D.medium disk.old).images_now image ⊎ IsNotFormatted image
+            ⊎ StandsFor (as_of (format_three journal) limits.now) start image) }
+        // Refusals, in their order.
+        ensures limits { (field : ℕ) → IsErrOf result (FormatError.BadLimits (record { field = field }))
+            ↔ (first_fault (format_three journal) limits.now ≡ Some field) }
+        ensures small { (need : ℕ) → IsErrOf result (FormatError.TooSmall need)
+            ↔ ((first_fault (format_three journal) limits.now ≡ None)
+            × (need ≡ need_in (format_three journal) limits.now) × (D.size disk.old < need)) }
+        ensures untouched { ((field : ℕ) → IsErrOf result (FormatError.BadLimits (record { field = field }))
+            → disk.new ≡ disk.old)
+            × ((need : ℕ) → IsErrOf result (FormatError.TooSmall need) → disk.new ≡ disk.old) }
+        // Failures and counts.
+        ensures same { IsSameDisk D.size D.medium disk.old disk.new }
+        ensures counts { CountsFaultIf D.counts (IsErrOf result FormatError.Device) disk.old disk.new }
+    {
+        let form = Format::three(journal);
+        format_as(form, disk, &as_of(form, limits))
+    }
+}
+
+// Makes a device of this form of the disk, under limits that are of it. Its first state is the one that a machine is
+// made with.
+fn format_as<D: SectorDisk>(form: Format, disk: &mut D, limits: &Limits) -> Result<(), FormatError>
+    requires opened { IsOpened form }
+    requires own { limits.now ≡ as_of form limits.now }
+    ensures ok { OnOk result (IsHonest (D.medium disk.old) → (image : Image)
+        → (D.medium disk.new).images_now image → StandsFor limits.now start image) }
+    ensures whole { OnOk result (IsHonest (D.medium disk.old) → EachNow (D.medium disk.new) NamesAll) }
+    ensures durable { OnOk result (IsDurable (D.medium disk.new)) }
+    ensures any_moment { IsHonest (D.medium disk.old)
+        → EachImageSince (D.medium disk.old) (D.medium disk.new)
+        (λ image. (D.medium disk.old).images_now image ⊎ IsNotFormatted image
+        ⊎ StandsFor limits.now start image) }
+    ensures limits { (field : ℕ) → IsErrOf result (FormatError.BadLimits (record { field = field }))
+        ↔ (first_fault form limits.now ≡ Some field) }
+    ensures small { (need : ℕ) → IsErrOf result (FormatError.TooSmall need)
+        ↔ ((first_fault form limits.now ≡ None) × (need ≡ need_in form limits.now) × (D.size disk.old < need)) }
+    ensures untouched { ((field : ℕ) → IsErrOf result (FormatError.BadLimits (record { field = field }))
+        → disk.new ≡ disk.old)
+        × ((need : ℕ) → IsErrOf result (FormatError.TooSmall need) → disk.new ≡ disk.old) }
+    ensures same { IsSameDisk D.size D.medium disk.old disk.new }
+    ensures counts { CountsFaultIf D.counts (IsErrOf result FormatError.Device) disk.old disk.new }
+{
+    let need = checked_need(form, limits)?;
+    if disk.sectors() < need {
+        return Err(FormatError::TooSmall { need });
+    }
+    make(disk, limits, &start_objects(form))?;
+    Ok(())
 }
 
 // Makes a device of a disk that is large enough: it stands for the state for which the objects do. The old superblock
@@ -71,14 +133,15 @@ pub(crate) fn make<D: SectorDisk, O: Objects>(
     limits: &Limits,
     objects: &O,
 ) -> Result<(), DiskFault>
-    requires of { AreOf format limits.now }
-    requires room { need_of limits.now ≤ D.size disk.old }
-    requires fits { Fit (area_of limits.now) (O.objects objects.now) }
-    ensures ok { OnOk result ((s : State) → StandForState limits.now s (O.objects objects.now)
+    requires of { AreOf (device_form limits.now) limits.now }
+    requires room { need_in (device_form limits.now) limits.now ≤ D.size disk.old }
+    requires fits { Fit (area_in (device_form limits.now) limits.now) (O.objects objects.now) }
+    ensures ok { OnOk result ((s : State)
+        → StandForStateIn (device_form limits.now) limits.now s (O.objects objects.now)
         → IsHonest (D.medium disk.old) → EachNow (D.medium disk.new) (StandsFor limits.now s)) }
     ensures whole { OnOk result (IsHonest (D.medium disk.old) → EachNow (D.medium disk.new) NamesAll) }
     ensures durable { OnOk result (IsDurable (D.medium disk.new)) }
-    ensures any_moment { (s : State) → StandForState limits.now s (O.objects objects.now)
+    ensures any_moment { (s : State) → StandForStateIn (device_form limits.now) limits.now s (O.objects objects.now)
         → IsHonest (D.medium disk.old)
         → EachImageSince (D.medium disk.old) (D.medium disk.new)
         (λ image. (D.medium disk.old).images_now image ⊎ IsNotFormatted image
@@ -93,7 +156,7 @@ pub(crate) fn make<D: SectorDisk, O: Objects>(
 
 // The disk is no device any more.
 fn erase<D: SectorDisk>(disk: &mut D) -> Result<(), DiskFault>
-    requires room { objects_first ≤ D.size disk.old }
+    requires room { 0 < D.size disk.old }
     ensures erased { OnOk result (IsHonest (D.medium disk.old) → EachNow (D.medium disk.new) IsErased) }
     ensures any_moment { IsHonest (D.medium disk.old)
         → EachImageSince (D.medium disk.old) (D.medium disk.new)
@@ -110,10 +173,11 @@ fn prepare<D: SectorDisk, O: Objects>(
     limits: &Limits,
     objects: &O,
 ) -> Result<(), DiskFault>
-    requires of { AreOf format limits.now }
-    requires room { need_of limits.now ≤ D.size disk.old }
-    requires fits { Fit (area_of limits.now) (O.objects objects.now) }
-    ensures prepared { OnOk result ((s : State) → StandForState limits.now s (O.objects objects.now)
+    requires of { AreOf (device_form limits.now) limits.now }
+    requires room { need_in (device_form limits.now) limits.now ≤ D.size disk.old }
+    requires fits { Fit (area_in (device_form limits.now) limits.now) (O.objects objects.now) }
+    ensures prepared { OnOk result ((s : State)
+        → StandForStateIn (device_form limits.now) limits.now s (O.objects objects.now)
         → IsHonest (D.medium disk.old) → EachNow (D.medium disk.old) IsErased
         → EachNow (D.medium disk.new) (λ image. IsErased image × IsPrepared limits.now s image)) }
     ensures any_moment { IsHonest (D.medium disk.old) → EachNow (D.medium disk.old) IsErased
@@ -121,16 +185,17 @@ fn prepare<D: SectorDisk, O: Objects>(
     ensures same { IsSameDisk D.size D.medium disk.old disk.new }
     ensures counts { CountsFault D.counts result disk.old disk.new }
 {
-    let layout = layout_in(FORMAT, limits, disk.sectors());
-    Journal::put_header(disk, JOURNAL_RANGE, FIRST_EPOCH)?;
+    let form = Format::of(limits);
+    let layout = layout_in(form, limits, disk.sectors());
+    Journal::create(disk, journal_form(form), journal_range(form), FIRST_EPOCH)?;
     Checkpoint::create(disk, layout, objects)?;
     Ok(())
 }
 
 // The disk becomes a device: its superblock is the last that is written.
 pub(crate) fn put_superblock<D: SectorDisk>(disk: &mut D, limits: &Limits) -> Result<(), DiskFault>
-    requires of { AreOf format limits.now }
-    requires room { need_of limits.now ≤ D.size disk.old }
+    requires of { AreOf (device_form limits.now) limits.now }
+    requires room { need_in (device_form limits.now) limits.now ≤ D.size disk.old }
     ensures ok { OnOk result ((s : State) → IsHonest (D.medium disk.old)
         → EachNow (D.medium disk.old) (IsPrepared limits.now s)
         → EachNow (D.medium disk.new) (StandsFor limits.now s)) }
@@ -149,13 +214,13 @@ pub(crate) fn put_superblock<D: SectorDisk>(disk: &mut D, limits: &Limits) -> Re
 
 // The superblock of a device of so many sectors.
 fn superblock_of(sectors: u32, limits: &Limits) -> [u8; 512]
-    requires of { AreOf format limits.now }
-    requires room { need_of limits.now ≤ sectors }
-    ensures { IsSuperblock sectors limits.now result }
+    requires of { AreOf (device_form limits.now) limits.now }
+    requires room { need_in (device_form limits.now) limits.now ≤ sectors }
+    ensures { IsSuperblockIn (device_form limits.now) sectors limits.now result }
 {
     superblock_is_read();
     let mut sector = [0; 512];
-    write_superblock(&mut sector, sectors, limits);
+    write_superblock(&mut sector, Format::of(limits), sectors, limits);
     sector
 }
 

@@ -1,14 +1,16 @@
 //! What follows from the definitions alone, and from what the calls on a store promise.
 
 ghost use Rattle.std.specs.Prelude.{◌≡◌, ◌<◌, ◌^◌, ◌++◌, List, [], length};
-ghost use Rattle.ipc_base.specs.declared.limits.Limits.{Limits};
+ghost use Rattle.ipc_limits.specs.declared.limits.Limits.{Limits};
 ghost use Rattle.ipc_checkpoint.specs.Meanwhile.{EachLater};
 ghost use Rattle.ipc_disk.specs.Medium.{Image, IsDurable};
 ghost use Rattle.ipc_state.specs.State.{State, restart};
 ghost use Rattle.ipc_engine.specs.Event.{PlainEvent};
 ghost use Rattle.ipc_store.specs.Batch.{batch_bytes, AreBatch};
 ghost use Rattle.ipc_store.specs.Histories.{History, Past, past_of, reopened, Keeps, Takes, OpensOn};
-ghost use Rattle.ipc_store.specs.Image.{StandsFor};
+ghost use Rattle.ipc_image.specs.Format.{device_form};
+ghost use Rattle.ipc_journal.specs.declared.form.Form.TheVariants.{Headed};
+ghost use Rattle.ipc_store.specs.Image.{journal_form, StandsFor};
 ghost use Rattle.ipc_store.specs.Lives.{IsLeft, StoppedOpens, StandsAfter, Rests, Found};
 ghost use Rattle.ipc_store.specs.Meanwhile.{GoesOn, IsRead, StaysReadable};
 ghost use Rattle.ipc_store.specs.Relations.Matches.{StoreMatches};
@@ -62,7 +64,8 @@ pub fn an_open_finds_what_stands_there<D: SectorDisk>()
 /// What is read of a device while its server goes on, objects first, then the header of the journal and then its body,
 /// stands for the state for which the device stood when that header was read.
 pub fn a_look_is_of_one_image()
-    ensures { (limits : Limits) (was s : State) (first seen read : Image) → StandsFor limits was first
+    ensures { (limits : Limits) (was s : State) (first seen read : Image)
+        → journal_form (device_form limits) ≡ Headed → StandsFor limits was first
         → StandsFor limits s seen → IsRead first seen read → StandsFor limits s read }
 {}
 
@@ -94,5 +97,5 @@ pub fn an_upgrade_keeps_the_state<D: SectorDisk>()
         → StoppedUpgrades D.medium limits left disk → RestsOldOrNew own limits s (D.medium disk) }
     ensures stands { (own limits : Limits) (s : State) (disk new : D) → RestsOldOrNew own limits s (D.medium disk)
         → IsUpgraded limits (D.medium disk) (D.medium new)
-        → StandsAfter (record { limits = limits; base = restart s; events = [] }) (D.medium new) }
+        → StandsAfter (record { limits = limits; base = restart limits s; events = [] }) (D.medium new) }
 {}

@@ -20,33 +20,37 @@
 //! What the clauses say:
 //!
 //! All that is said of crashes holds over every disk that meets the trait and is honest. What an image stands for is
-//! `StandsFor` of `specs/Image.antt`, a definition by the format alone (`StandsForIn`, of each of two versions): its
-//! objects stand for a base, and the batches of its journal, at the same epoch, lead from there to the state. A store
-//! that has not stopped, on an honest disk, always matches what stands there, and what differs from the state that was
-//! saved there counts as changed: that is its invariant, which `close` shows (`matches`).
+//! `StandsFor` of `specs/Image.antt`, a definition by the form of the device alone (`StandsForIn`, of each of three
+//! versions): its objects stand for a base, and the batches of its journal, at the same epoch, lead from there to the
+//! state. Limits name the form of a device that is opened: their version, and their journal (`device_form` of
+//! `ipc_image`). A store that has not stopped, on an honest disk, always matches what stands there, and what differs
+//! from the state that was saved there counts as changed: that is its invariant, which `close` shows (`matches`).
 //!
-//! - `Store::format` makes a device: every image that a crash may leave afterwards stands for the first state under the
-//!   limits (`ok`), and it is what is read (`durable`). During the call each image is one of before, or not formatted,
-//!   or stands for the first state (`any_moment`). It is refused for limits that `check` by `FORMAT.most` refuses
-//!   (`limits`), then for too few sectors (`small`), each exactly then and with the disk untouched (`untouched`), and
-//!   by the disk (`counts`). The superblock names all sectors of the disk (`whole`).
-//! - `Store::copy_onto` does the same with the limits and the state of a machine: every image that a crash may leave
-//!   afterwards stands for that state (`ok`, `durable`), and during the call each is one of before, or not formatted,
-//!   or stands for that state (`any_moment`). It is refused as `Store::format` is
-//!   (`limits`, `small`, `untouched`, `counts`); the limits of a device of this version are not. The superblock names
-//!   all sectors of the disk (`whole`).
+//! - `Store::format` makes a device of the version and with the journal that the limits name: every image that a crash
+//!   may leave afterwards stands for the first state under them (`ok`, `own_limits`), and it is what is read
+//!   (`durable`). During the call each image is one of before, or not formatted, or stands for the first state
+//!   (`any_moment`). It is refused for limits that fail a test of the version (`limits`), then for too few
+//!   sectors (`small`), each exactly then and with the disk untouched (`untouched`), and by the disk (`counts`). The
+//!   superblock names all sectors of the disk (`whole`). `Store::format_large` does the same for version 3 with a
+//!   journal of a given number of sectors, whatever the limits name.
+//! - `Store::copy_onto` does the same with the version, the journal, the limits and the state of a machine: every image
+//!   that a crash may leave afterwards stands for that state (`ok`, `durable`), and during the call each is one of
+//!   before, or not formatted, or stands for that state (`any_moment`). It is refused as `Store::format` is (`limits`,
+//!   `small`, `untouched`, `counts`), and for limits that name no form of a device that is opened (`own_fault`); those
+//!   of a device that was opened are not. The superblock names all sectors of the disk (`whole`).
 //! - `Store::open` gives a store that goes on from the state for which the disk stood, after a restart, with no event
 //!   waiting (`ok`) and one confirmed (`confirmed`); its epoch is at most the one after that of the disk (`numbers`).
 //!   During the call each image is one of before, or stands for that state or for that state after a restart
-//!   (`any_moment`), and whoever reads the disk meanwhile finds what was saved, as beside a commit (`meanwhile`). A
-//!   disk that stands for no state is never opened (`ok`), and nothing is written to it (`untouched`). No other refusal
-//!   but the disk's writes anything either (`unwritten`). What each error says of the disk is one relation (`refused`;
+//!   (`any_moment`), and whoever reads the disk meanwhile finds what was saved, as beside a commit (`meanwhile`). Of a
+//!   journal of tagged sectors those after the batches that name the epoch are cleared before the restart. A disk that
+//!   stands for no state is never opened (`ok`), and nothing is written to it (`untouched`). No other refusal but the
+//!   disk's writes anything either (`unwritten`). What each error says of the disk is one relation (`refused`;
 //!   `IsRefusal` of `specs/Refusals.antt`). `Damaged` names the first sector in which a damage is seen, of the objects
-//!   just that of the heap (`IsFirstDamage`). `Damaged` with sector 2 also says that an open would have to save and
-//!   that the epochs are at their end: the device stands for a state, its objects and its journal are of the last
-//!   epoch, and the journal has no room for a batch (`IsAtEnd`). `Device` says that the disk counted a failure, which
-//!   no other answer has seen (`counts`). So a disk that stands for a state is refused by the disk, for want of memory
-//!   or at the end of the epochs alone (`refusals`). With each refusal the disk is handed back.
+//!   just that of the heap (`IsFirstDamage`). `Damaged` with the root's sector also says that an open would have to
+//!   save and that the epochs are at their end: the device stands for a state, its objects and its journal are of the
+//!   last epoch, and the journal has no room for a batch (`IsAtEnd`). `Device` says that the disk counted a failure,
+//!   which no other answer has seen (`counts`). So a disk that stands for a state is refused by the disk, for want of
+//!   memory or at the end of the epochs alone (`refusals`). With each refusal the disk is handed back.
 //! - `Store::upgrade` makes a device of version 1 one of version 2, where it lies. During the call each image is one of
 //!   before, or stands in version 1, under the limits of its superblock, for the state for which the disk stood, or in
 //!   version 2, under the limits of the upgrade, for that state after a restart (`any_moment`, `UpgradesTo` of
@@ -67,16 +71,17 @@
 //!   `journal_sectors` show parts of the store.
 //! - `Store::commit` makes what waits last (`matches`; `commits`, by `IsCommitted` of `specs/View.antt`, whose fields
 //!   are named in what follows: `confirmed`). If the batch fits into the journal, it makes one write for each sector of
-//!   the batch and one more, and two syncs (`counts`), and the machine stays as it is, also in what counts as changed
-//!   (`keeps`); if not, it saves the state, and the epoch rises by one, the journal is empty and nothing counts as
-//!   changed (`turned`). On an honest disk such a save writes the sectors of the first four objects and of those that
-//!   count as changed, the sectors of the table, and one, with two syncs (`writes`). With nothing waiting nothing
-//!   changes (`nothing`). Afterwards no record waits (`records`); after an error the same number of events waits
-//!   (`still_waits`). At every moment of the call, also of one that fails, each image stands for the state before or
-//!   after the events that wait (`any_moment`, `left`). After an error the store is stopped (`stops`), and a stopped
-//!   store changes nothing more (`kept`). It is `Stopped` if it was, or if it would have to save at the last epoch,
-//!   exactly then (`stopped`), and then the disk is as it was (`unwritten`). `Device` comes only if the disk counted a
-//!   failure, and the other answers only if it did not (`faults`); it uses one number at most, an epoch (`spends`).
+//!   the batch and one sync, and with a header one more of each (`counts`), and the machine stays as it is, also in
+//!   what counts as changed (`keeps`); if not, it saves the state, and the epoch rises by one, the journal is empty and
+//!   nothing counts as changed (`turned`). On an honest disk such a save writes the sectors of the first four objects
+//!   and of those that count as changed, the sectors of the table, and one, with two syncs (`writes`). With nothing
+//!   waiting nothing changes (`nothing`). Afterwards no record waits (`records`); after an error the same number of
+//!   events waits (`still_waits`). At every moment of the call, also of one that fails, each image stands for the state
+//!   before or after the events that wait (`any_moment`, `left`). After an error the store is stopped (`stops`), and a
+//!   stopped store changes nothing more (`kept`). It is `Stopped` if it was, or if it would have to save at the last
+//!   epoch, exactly then (`stopped`), and then the disk is as it was (`unwritten`). `Device` comes only if the disk
+//!   counted a failure, and the other answers only if it did not (`faults`); it uses one number at most, an epoch
+//!   (`spends`).
 //! - `Store::save` promises the same by a save in every case, also if nothing waits: after Ok the epoch is the next
 //!   one, the journal is empty and nothing counts as changed (`turned`), and it writes as much (`writes`). Neither
 //!   takes memory: neither can answer `NoMemory`.
@@ -100,14 +105,14 @@
 //!   calls that the history of a store has keep too (`Moves` `later`): whoever reads the disk in such a call finds
 //!   images that go on from those of before, with the same superblock and root, the same sectors of objects and table,
 //!   and the batches that there were, or more after them; or else the root is of a later epoch. And the sectors of a
-//!   batch stand before a header counts it (`StaysReadable` of `specs/Meanwhile.antt`). The law: sectors that were read
-//!   one after another, each as some image has it that goes on from the first one under the same root, the header of
-//!   the journal before its body, stand for the state for which the device stood when that header was read
-//!   (`a_look_is_of_one_image`). Each image of a call goes on from what was read before it, if all of that was synced,
-//!   and what goes on over some calls, and then over others, has gone on over all of them (`a_store_goes_on`). No
-//!   clause says that a look reads in this order, nor that between two equal roots there was no other, since epochs
-//!   only rise: the code of `look` does the one, and both are tested (docs/PROMISES.md). Of a format or an upgrade
-//!   meanwhile the law does not speak.
+//!   batch stand before a header counts it (`StaysReadable` of `specs/Meanwhile.antt`). The law, of a journal with a
+//!   header: sectors that were read one after another, each as some image has it that goes on from the first one under
+//!   the same root, the header of the journal before its body, stand for the state for which the device stood when that
+//!   header was read (`a_look_is_of_one_image`). Each image of a call goes on from what was read before it, if all of
+//!   that was synced, and what goes on over some calls, and then over others, has gone on over all of them
+//!   (`a_store_goes_on`). No clause says that a look reads in this order, nor that between two equal roots there was no
+//!   other, since epochs only rise: the code of `look` does the one, and both are tested (docs/PROMISES.md). Of a
+//!   format or an upgrade meanwhile the law does not speak.
 //! - An image stands for one state under one set of limits, and no two (`an_image_stands_for_one_state`); a batch is of
 //!   one list of events (`a_batch_is_of_one_list`).
 //! - `engine`, `confirmed`, `has_room`, `has_room_for`, `events_left` and `close` show the value, each by its one

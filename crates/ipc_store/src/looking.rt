@@ -1,12 +1,11 @@
 //! A look at a device that somebody else may have, and may write meanwhile.
 
 ghost use Rattle.std.specs.Prelude.{◌≡◌, ◌⊎◌, IfOk, IfErr, IfSome, length};
-ghost use Rattle.ipc_base.specs.declared.limits.Limits.{Limits};
+ghost use Rattle.ipc_limits.specs.declared.limits.Limits.{Limits};
 ghost use Rattle.ipc_disk.specs.Medium.{IsHonest};
-ghost use Rattle.ipc_image.specs.Format.{format};
 ghost use Rattle.ipc_state.specs.State.{State};
 ghost use Rattle.ipc_store.specs.Batch.{most_bytes};
-ghost use Rattle.ipc_store.specs.Image.{StandsFor};
+ghost use Rattle.ipc_store.specs.Image.{form_at, StandsFor};
 ghost use Rattle.ipc_store.specs.Look.{LeavesAlone};
 ghost use Rattle.ipc_store.specs.Refusals.{IsRefusal};
 ghost use Rattle.ipc_store.specs.Relations.Look.{Tells};
@@ -18,7 +17,7 @@ use crate::loading::read_all;
 use crate::opening::room_for;
 use ipc_disk::{DiskFault, SectorDisk};
 use ipc_engine::Engine;
-use ipc_image::{FORMAT, SUPERBLOCK};
+use ipc_image::{JOURNAL, SUPERBLOCK};
 use std::alloc::{AllocError, Global};
 
 /// How often a device is read that is written meanwhile.
@@ -36,7 +35,7 @@ pub fn look<D: SectorDisk>(alloc: Global, disk: &mut D) -> Result<Engine, OpenEr
     ensures refusals { IfErr result (λ error. (limits : Limits) (s : State) → IsHonest (D.medium disk.old)
         → StandsFor limits s (D.medium disk.old).contents → (error ≡ errors.Device) ⊎ (error ≡ errors.NoMemory)) }
     ensures refused { IfErr result (λ error. IsHonest (D.medium disk.old)
-        → IsRefusal format (D.medium disk.old).contents error) }
+        → IsRefusal (form_at (D.medium disk.old).contents) (D.medium disk.old).contents error) }
     // It makes no write and no sync.
     ensures alone { LeavesAlone D.size D.medium D.counts disk.old disk.new }
 {
@@ -69,7 +68,7 @@ fn look_once<D: SectorDisk>(
     let (Ok(before), Ok(after)) = (before, after) else {
         return None;
     };
-    if before.superblock != after.superblock || before.root != after.root {
+    if before != after {
         return None;
     }
     match found {
@@ -79,24 +78,27 @@ fn look_once<D: SectorDisk>(
     }
 }
 
-/// What tells where all else lies.
-#[derive(Clone, Copy)]
+/// What tells where all else lies: the superblock, and the sectors one of which is the root.
+#[derive(Clone, Copy, PartialEq, Eq)]
 struct Heads {
     superblock: [u8; 512],
-    root: [u8; 512],
+    first: [u8; 512],
+    second: [u8; 512],
 }
 
-// The superblock and the root; zeros, if the disk has no such sectors.
+// These sectors; zeros, if the disk has not all of them.
 fn read_heads<D: SectorDisk>(disk: &mut D) -> Result<Heads, DiskFault>
     ensures alone { LeavesAlone D.size D.medium D.counts disk.old disk.new }
 {
     let mut heads = Heads {
         superblock: [0; 512],
-        root: [0; 512],
+        first: [0; 512],
+        second: [0; 512],
     };
-    if FORMAT.root < disk.sectors() {
+    if JOURNAL <= disk.sectors() {
         disk.read(SUPERBLOCK, &mut heads.superblock)?;
-        disk.read(FORMAT.root, &mut heads.root)?;
+        disk.read(1, &mut heads.first)?;
+        disk.read(2, &mut heads.second)?;
     }
     Ok(heads)
 }

@@ -3,7 +3,7 @@
 ghost use Rattle.std.specs.Prelude.{◌≡◌, ◌⊎◌, ◌<◌, ◌≤◌, ◌+◌, false, [], length};
 ghost use Rattle.std.specs.Prelude.{Err, IfOk, IfErr, IsErrOf, OnOk, OnErr};
 ghost use Rattle.std.specs.Result.{IsErrAnd};
-ghost use Rattle.ipc_base.specs.declared.limits.Limits.{Limits};
+ghost use Rattle.ipc_limits.specs.declared.limits.Limits.{Limits};
 ghost use Rattle.ipc_checkpoint.specs.Meanwhile.{EachLater};
 ghost use Rattle.ipc_checkpoint.specs.View.{HasSpare};
 ghost use Rattle.ipc_disk.specs.Calls.{CountsFaultIf};
@@ -12,31 +12,32 @@ ghost use Rattle.ipc_disk.specs.Since.{EachImageSince};
 ghost use Rattle.ipc_journal.specs.Journal.{head};
 ghost use Rattle.ipc_journal.specs.View.{form_of, range_of, used_of};
 ghost use Rattle.ipc_state.specs.State.{State, restart};
-ghost use Rattle.ipc_image.specs.Format.{format};
+ghost use Rattle.ipc_image.specs.Format.{device_form};
 ghost use Rattle.ipc_store.specs.Image.{
   StandsFor,
   HasNoState,
   IsAtEnd,
   epoch_at,
+  form_at,
 };
 ghost use Rattle.ipc_store.specs.Refusals.{IsRefusal};
-ghost use Rattle.ipc_store.specs.Relations.Loading.{OnlySyncs};
+ghost use Rattle.ipc_store.specs.Relations.Loading.{IsLoaded, OnlySyncs};
 ghost use Rattle.ipc_store.specs.Results.{opened_disk};
 ghost use Rattle.ipc_store.specs.View.{IsAtLastEpoch, numbers_used};
 ghost use Rattle.ipc_store.specs.Histories.{OpensOn};
 ghost use Rattle.ipc_store.specs.Meanwhile.{GoesOn};
-ghost use Rattle.ipc_store.specs.Relations.Matches.{AreOnDisk, MachineMatches, StoreMatches};
+ghost use Rattle.ipc_store.specs.Relations.Matches.{AreOnDisk, StoreMatches};
 ghost use Rattle.ipc_store.specs.Relations.Matches.{StandsForEither, OpensTo};
 ghost use Rattle.ipc_store.specs.declared.fault.OpenError.TheVariants as errors;
 
 use crate::batch::{Batch, MOST_BYTES};
 use crate::fault::{CommitError, OpenError};
 use crate::loading::load;
+use crate::places::form_of;
 use crate::store::Store;
 use ipc_checkpoint::Checkpoint;
-use ipc_disk::SectorDisk;
+use ipc_disk::{DiskFault, SectorDisk};
 use ipc_engine::{Engine, Event};
-use ipc_image::FORMAT;
 use ipc_journal::Journal;
 use std::alloc::{AllocError, Global};
 
@@ -72,8 +73,9 @@ impl<D: SectorDisk> Store<D> {
             → (fault.error ≡ errors.Device) ⊎ (fault.error ≡ errors.NoMemory)
             ⊎ IsAtEnd (D.medium disk).contents) }
         ensures refused { IfErr result (λ fault. IsHonest (D.medium disk)
-            → IsRefusal format (D.medium disk).contents fault.error
-            ⊎ (IsAtEnd (D.medium disk).contents × (fault.error ≡ errors.Damaged format.root))) }
+            → IsRefusal (form_at (D.medium disk).contents) (D.medium disk).contents fault.error
+            ⊎ (IsAtEnd (D.medium disk).contents
+            × (fault.error ≡ errors.Damaged (form_at (D.medium disk).contents).root))) }
         // Nothing is written before a refusal but the disk's, and nothing at all on a disk that has no state.
         ensures unwritten { IfErr result (λ fault. (fault.error ≡ errors.Device)
             ⊎ ((D.counts fault.disk).writes ≡ (D.counts disk).writes)) }
@@ -89,6 +91,12 @@ impl<D: SectorDisk> Store<D> {
             Ok(found) => found,
             Err(error) => return Err(Unopened { error, disk }),
         };
+        if let Err(DiskFault) = journal.clear_tail(&mut disk) {
+            return Err(Unopened {
+                error: OpenError::Device,
+                disk,
+            });
+        }
         let mut store = Store::new(disk, checkpoint, journal, engine, batch);
         match store.restart() {
             Ok(()) => Ok(store),
@@ -106,18 +114,19 @@ impl<D: SectorDisk> Store<D> {
         requires none { self.old.waiting ≡ 0 }
         requires empty { self.old.records ≡ [] }
         ensures matches { OnOk result ((base : State) → StoreMatches (D.medium self.old.disk) self.old base []
-            → StoreMatches (D.medium self.new.disk) self.new (restart base) []) }
+            → StoreMatches (D.medium self.new.disk) self.new (restart self.old.machine.limits base) []) }
         ensures confirmed { OnOk result (self.new.confirmed ≡ 1) }
         ensures numbers { OnOk result (numbers_used self.new ≤ numbers_used self.old + 2) }
         ensures limits { self.new.machine.limits ≡ self.old.machine.limits }
         ensures any_moment { (base : State) → StoreMatches (D.medium self.old.disk) self.old base []
             → EachImageSince (D.medium self.old.disk) (D.medium self.new.disk)
-            (StandsForEither self.old.machine.limits base (restart base)) }
+            (StandsForEither self.old.machine.limits base (restart self.old.machine.limits base)) }
         ensures meanwhile { (base : State) → StoreMatches (D.medium self.old.disk) self.old base []
             → EachLater GoesOn (D.medium self.old.disk) (D.medium self.new.disk) }
         ensures faults { OnErr result ((result ≡ Err OpenError.Device)
-            ⊎ (result ≡ Err (OpenError.Damaged format.root))) }
-        ensures at_end { result ≡ Err (OpenError.Damaged format.root) → IsAtLastEpoch self.old
+            ⊎ (result ≡ Err (OpenError.Damaged (device_form self.old.machine.limits).root))) }
+        ensures at_end { result ≡ Err (OpenError.Damaged (device_form self.old.machine.limits).root)
+            → IsAtLastEpoch self.old
             × (head (form_of self.old.journal) + used_of self.old.journal ≡ (range_of self.old.journal).count) }
         ensures unwritten { (result ≡ Err OpenError.Device) ⊎ OnErr result (self.new.disk ≡ self.old.disk) }
         ensures size { D.size self.new.disk ≡ D.size self.old.disk }
@@ -130,7 +139,7 @@ impl<D: SectorDisk> Store<D> {
             Ok(()) => Ok(()),
             Err(CommitError::Device) => Err(OpenError::Device),
             Err(CommitError::Stopped) => Err(OpenError::Damaged {
-                sector: FORMAT.root,
+                sector: form_of(self.engine()).root,
             }),
         }
     }
@@ -143,11 +152,11 @@ fn read_device<D: SectorDisk>(
 ) -> Result<(Checkpoint, Journal, Engine, Batch), OpenError>
     ensures on_disk { IfOk result (λ found. AreOnDisk (D.size disk.new) found.2.limits found.0 found.1) }
     ensures spare { IfOk result (λ found. HasSpare found.0) }
-    ensures matches { IfOk result (λ found. IsHonest (D.medium disk.old)
-        → MachineMatches (D.medium disk.new) found.2 found.0 found.1) }
+    ensures loaded { IfOk result (λ found. IsHonest (D.medium disk.old)
+        → IsLoaded (D.medium disk.new) found.2 found.0 found.1) }
     ensures batch { IfOk result (λ found. found.3 ≡ record { records = []; count = 0 }) }
     ensures refused { IfErr result (λ error. IsHonest (D.medium disk.old)
-        → IsRefusal format (D.medium disk.old).contents error) }
+        → IsRefusal (form_at (D.medium disk.old).contents) (D.medium disk.old).contents error) }
     ensures reads { OnlySyncs D.size D.medium D.counts (IsErrOf result OpenError.Device) disk.old disk.new }
 {
     let mut room = match room_for(alloc, MOST_BYTES) {

@@ -7,6 +7,7 @@ ghost use Rattle.ipc_disk.specs.Medium.{IsHonest};
 ghost use Rattle.ipc_disk.specs.Range.{IsWithin};
 ghost use Rattle.ipc_journal.specs.Reader.{place_of, range_read, HasRead, IsReaderOf};
 ghost use Rattle.ipc_state.specs.State.{State};
+ghost use Rattle.ipc_image.specs.declared.format.Format.{Format as AnyForm};
 ghost use Rattle.ipc_engine.specs.Changes.{IsTracked};
 ghost use Rattle.ipc_engine.specs.Event.{PlainEvent};
 ghost use Rattle.ipc_store.specs.Batch.{batch_bytes, most_bytes};
@@ -31,21 +32,24 @@ pub(crate) fn replay<D: SectorDisk>(
 ) -> Result<(), OpenError>
     requires within { IsWithin (range_read reader.old) (D.size disk.old) }
     requires room { length room.old ≤ most_bytes }
-    ensures of { (epoch : ℕ) → IsReaderOf journal_form journal_range epoch reader.old
-        → IsReaderOf journal_form journal_range epoch reader.new }
+    ensures of { (form : AnyForm) (epoch : ℕ) → IsReaderOf (journal_form form) (journal_range form) epoch reader.old
+        → IsReaderOf (journal_form form) (journal_range form) epoch reader.new }
     // The batches lead to the state of the machine.
     ensures limits { engine.new.limits ≡ engine.old.limits }
     ensures tracked { (base : State) → IsTracked engine.old.changed base engine.old.state
         → IsTracked engine.new.changed base engine.new.state }
-    ensures replays { OnOk result (IsHonest (D.medium disk.old) → (epoch : ℕ)
-        → IsReaderOf journal_form journal_range epoch reader.old → HasRead reader.old [] (D.medium disk.old).contents
+    ensures replays { OnOk result (IsHonest (D.medium disk.old) → (form : AnyForm) (epoch : ℕ)
+        → IsReaderOf (journal_form form) (journal_range form) epoch reader.old
+        → HasRead reader.old [] (D.medium disk.old).contents
         → (batches : List (List PlainEvent))
-        × Replays (length room.old) engine.old.limits engine.old.state epoch (D.medium disk.old).contents
+        × Replays form (length room.old) engine.old.limits engine.old.state epoch (D.medium disk.old).contents
         batches engine.new.state × HasRead reader.new (map batch_bytes batches) (D.medium disk.old).contents) }
     // Some bytes are no such batches; the fault is in the first batch that goes wrong.
-    ensures refused { IfErr result (IsDamage (λ sector. IsHonest (D.medium disk.old) → (epoch : ℕ)
-        → IsReaderOf journal_form journal_range epoch reader.old → HasRead reader.old [] (D.medium disk.old).contents
-        → IsBadAt (length room.old) engine.old.limits engine.old.state epoch (D.medium disk.old).contents sector)) }
+    ensures refused { IfErr result (IsDamage (λ sector. IsHonest (D.medium disk.old) → (form : AnyForm) (epoch : ℕ)
+        → IsReaderOf (journal_form form) (journal_range form) epoch reader.old
+        → HasRead reader.old [] (D.medium disk.old).contents
+        → IsBadAt form (length room.old) engine.old.limits engine.old.state epoch (D.medium disk.old).contents
+        sector)) }
     // It only reads.
     ensures reads { OnlyReads D.size D.medium D.counts (IsErrOf result OpenError.Device) disk.old disk.new }
     ensures room { length room.new ≡ length room.old }

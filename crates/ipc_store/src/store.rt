@@ -7,8 +7,7 @@ ghost use Rattle.ipc_disk.specs.Calls.{IsSameDisk, CountsFaultIf};
 ghost use Rattle.ipc_disk.specs.Counts.{counted, with_calls};
 ghost use Rattle.ipc_disk.specs.Medium.{Image, IsDurable, IsHonest};
 ghost use Rattle.ipc_disk.specs.Since.{EachImageSince};
-ghost use Rattle.ipc_disk.specs.Standing.{sectors_for};
-ghost use Rattle.ipc_base.specs.Limits.{ArePassed};
+ghost use Rattle.ipc_limits.specs.Limits.{ArePassed};
 ghost use Rattle.ipc_engine.specs.Changes.{changes, is_marked};
 ghost use Rattle.ipc_engine.specs.Sound.{IsSound};
 ghost use Rattle.ipc_state.specs.State.{State};
@@ -22,11 +21,12 @@ ghost use Rattle.ipc_journal.specs.View.{range_of, used_of};
 ghost use Rattle.ipc_store.specs.Histories.{Takes};
 ghost use Rattle.ipc_store.specs.Meanwhile.{StaysReadable};
 ghost use Rattle.ipc_store.specs.View.{HasRoom, HasRoomFor, HasPlace, HasTurned, IsStopped, IsAtLastEpoch};
-ghost use Rattle.ipc_store.specs.View.{events_left, save_sectors, store_view, IsCommitted, Spends};
+ghost use Rattle.ipc_store.specs.View.{append_calls, events_left, save_sectors, store_view, IsCommitted, Spends};
 ghost use Rattle.ipc_store.specs.Relations.Matches.{AreOnDisk, MachineMatches, StoreMatches, StandsForEither};
 
 use crate::batch::Batch;
 use crate::fault::{CommitError, StepError};
+use crate::places::form_of;
 use crate::tally::Tally;
 use ipc_base::Errno;
 use ipc_checkpoint::Checkpoint;
@@ -254,7 +254,7 @@ impl<D: SectorDisk> Store<D> {
         ensures nothing_ok { self.old.waiting ≡ 0 → self.old.stopped ≡ false → IsOk result }
         ensures faults { CountsFaultIf D.counts (result ≡ Err CommitError.Device) self.old.disk self.new.disk }
         ensures counts { OnOk result (0 < self.old.waiting → HasPlace self.old → D.counts self.new.disk
-            ≡ with_calls (sectors_for (4 + length self.old.records) + 1) 2 (D.counts self.old.disk)) }
+            ≡ append_calls self.old (D.counts self.old.disk)) }
         ensures keeps { OnOk result (HasPlace self.old → self.new.machine ≡ self.old.machine) }
         ensures writes { OnOk result (IsHonest (D.medium self.old.disk) → 0 < self.old.waiting → ¬ HasPlace self.old
             → D.counts self.new.disk ≡ with_calls (save_sectors self.old.machine) 2 (D.counts self.old.disk)) }
@@ -338,7 +338,7 @@ impl<D: SectorDisk> Store<D> {
         ensures failure { result ≡ Err CommitError.Device → (D.counts self.new.disk).failures
             ≡ counted (D.counts self.old.disk).failures 1 }
         ensures counts { OnOk result (D.counts self.new.disk
-            ≡ with_calls (sectors_for (4 + length self.old.records) + 1) 2 (D.counts self.old.disk)) }
+            ≡ append_calls self.old (D.counts self.old.disk)) }
         ensures same { IsSameDisk D.size D.medium self.old.disk self.new.disk }
     {
         if let Err(DiskFault) = self.journal.append(&mut self.disk, self.batch.bytes()) {
@@ -377,7 +377,7 @@ impl<D: SectorDisk> Store<D> {
             self.stopped = true;
             return Err(CommitError::Stopped);
         };
-        let objects = objects_of(&self.engine);
+        let objects = objects_of(&self.engine, form_of(&self.engine));
         if let Err(DiskFault) = self.checkpoint.save(&mut self.disk, &objects, epoch) {
             self.stopped = true;
             return Err(CommitError::Device);

@@ -3,9 +3,9 @@
 ghost use Rattle.std.specs.Prelude.{◌≡◌, ◌⊎◌, ◌<◌, ◌≤◌, ◌+◌, ℕ, List, [], Some, position, not};
 ghost use Rattle.std.specs.Prelude.{Ok, Err, IfOk, IfErr, OnOk, IsErrOf};
 ghost use Rattle.std.specs.Result.{IsErrAnd};
-ghost use Rattle.ipc_base.specs.Limits.{ArePassed, tests};
+ghost use Rattle.ipc_limits.specs.Limits.{ArePassed, tests};
 ghost use Rattle.ipc_base.specs.Objects.{Fit, PlainObjects};
-ghost use Rattle.ipc_base.specs.declared.limits.Limits.{Limits as AnyLimits};
+ghost use Rattle.ipc_limits.specs.declared.limits.Limits.{Limits as AnyLimits};
 ghost use Rattle.ipc_checkpoint.specs.Checkpoint.{IsLaidOut, Holds as HoldsObjects};
 ghost use Rattle.ipc_checkpoint.specs.Matches.{CheckpointMatches, sectors_of};
 ghost use Rattle.ipc_checkpoint.specs.View.{epoch_of, free_of, layout_of as saved_layout, layout_under, saved_root};
@@ -23,7 +23,7 @@ ghost use Rattle.ipc_image.specs.Greater.{AreAtLeast};
 ghost use Rattle.ipc_image.specs.Saved.{saved, StandForState, StandForStateIn};
 ghost use Rattle.ipc_image.specs.Sizes.{need_in, need_of};
 ghost use Rattle.ipc_image.specs.Superblock.{AreOf};
-ghost use Rattle.ipc_store.specs.Image.{journal_range, last_epoch, objects_range};
+ghost use Rattle.ipc_store.specs.Image.{as_of, journal_range, last_epoch, objects_range};
 ghost use Rattle.ipc_store.specs.Image.{HasBaseIn, HasBatches, LeadToBy};
 ghost use Rattle.ipc_store.specs.Refusals.{IsOldDamage, IsUpgradeRefusal};
 ghost use Rattle.ipc_store.specs.Image.{NamesAll, StandsFor, StandsForIn};
@@ -38,13 +38,13 @@ use crate::fault::{OpenError, UpgradeError};
 use crate::format::put_superblock;
 use crate::loading::{load_base, load_journal, load_objects, load_superblock};
 use crate::opening::room_for;
-use crate::places::layout_in;
+use crate::places::{Versions, as_of, layout_in};
 use crate::store::Store;
-use ipc_base::{BadLimits, Limits};
 use ipc_checkpoint::{Checkpoint, Layout};
 use ipc_disk::{DiskFault, SectorDisk};
 use ipc_engine::{Engine, Event};
 use ipc_image::{FORMAT, FORMAT_ONE, Superblock, first_below, need, objects_of};
+use ipc_limits::{BadLimits, Limits};
 use std::alloc::Global;
 
 /// A device that was not upgraded: why, and its disk.
@@ -65,17 +65,18 @@ impl<D: SectorDisk> Store<D> {
     pub fn upgrade(alloc: Global, disk: D, limits: &Limits) -> Result<D, Unupgraded<D>>
         // Each image that a crash may leave from then on stands for that.
         ensures ok { IfOk result (λ new. IsHonest (D.medium disk)
-            → IsUpgraded limits.now (D.medium disk) (D.medium new)) }
-        ensures accepted { IfOk result (λ new. AreOf format limits.now × (need_of limits.now ≤ D.size disk)) }
+            → IsUpgraded (as_of format limits.now) (D.medium disk) (D.medium new)) }
+        ensures accepted { IfOk result (λ new. AreOf format (as_of format limits.now)
+            × (need_of limits.now ≤ D.size disk)) }
         ensures durable { IfOk result (λ new. IsDurable (D.medium new)) }
         // A crash at any moment of the call, also of one that fails.
         ensures any_moment { IsHonest (D.medium disk)
             → EachImageSince (D.medium disk) (D.medium (upgraded_disk result))
-            (UpgradesTo limits.now (D.medium disk)) }
+            (UpgradesTo (as_of format limits.now) (D.medium disk)) }
         // Refusals. Where limits and room are right, a disk that stands for a state is refused by the disk, for want of
         // memory, or because there is no next epoch.
         ensures refusals { IfErr result (λ fault. (own : AnyLimits) (s : State) → IsHonest (D.medium disk)
-            → StandsForIn format_one own s (D.medium disk).contents → AreOf format limits.now
+            → StandsForIn format_one own s (D.medium disk).contents → AreOf format (as_of format limits.now)
             → AreAtLeast limits.now own → need_of limits.now ≤ D.size disk
             → (fault.error ≡ errors.Device) ⊎ (fault.error ≡ errors.NoMemory)
             ⊎ HasNoNextEpoch (D.medium disk).contents) }
@@ -83,7 +84,7 @@ impl<D: SectorDisk> Store<D> {
             → IfErr result (λ fault. (fault.error ≡ errors.BadLimits (record { field = field }))
             × (fault.disk ≡ disk)) }
         ensures refused { IfErr result (λ fault. IsHonest (D.medium disk)
-            → IsUpgradeRefusal limits.now (D.size disk) (D.medium disk).contents fault.error) }
+            → IsUpgradeRefusal (as_of format limits.now) (D.size disk) (D.medium disk).contents fault.error) }
         ensures small { IfErr result (λ fault. (need : ℕ) → fault.error ≡ errors.TooSmall need
             → (need ≡ need_of limits.now) × (D.size disk < need)) }
         ensures unwritten { IfErr result (λ fault. (fault.error ≡ errors.Device)
@@ -93,18 +94,49 @@ impl<D: SectorDisk> Store<D> {
         ensures counts { CountsFaultIf D.counts (IsErrAnd result (λ fault. fault.error ≡ errors.Device))
             disk (upgraded_disk result) }
     {
-        let mut disk = disk;
-        let (checkpoint, engine) = match read_old(alloc, &mut disk, limits) {
-            Ok(found) => found,
-            Err(error) => return Err(Unupgraded { error, disk }),
-        };
-        match write_new(&mut disk, checkpoint, &engine, limits) {
-            Ok(()) => Ok(disk),
-            Err(DiskFault) => Err(Unupgraded {
-                error: UpgradeError::Device,
-                disk,
-            }),
-        }
+        upgrade_as(alloc, disk, &as_of(FORMAT, limits))
+    }
+}
+
+// The upgrade to version 2, under limits that are of it.
+fn upgrade_as<D: SectorDisk>(alloc: Global, disk: D, limits: &Limits) -> Result<D, Unupgraded<D>>
+    requires { limits.now ≡ as_of format limits.now }
+    ensures ok { IfOk result (λ new. IsHonest (D.medium disk)
+        → IsUpgraded limits.now (D.medium disk) (D.medium new)) }
+    ensures accepted { IfOk result (λ new. AreOf format limits.now × (need_of limits.now ≤ D.size disk)) }
+    ensures durable { IfOk result (λ new. IsDurable (D.medium new)) }
+    ensures any_moment { IsHonest (D.medium disk)
+        → EachImageSince (D.medium disk) (D.medium (upgraded_disk result))
+        (UpgradesTo limits.now (D.medium disk)) }
+    ensures refusals { IfErr result (λ fault. (own : AnyLimits) (s : State) → IsHonest (D.medium disk)
+        → StandsForIn format_one own s (D.medium disk).contents → AreOf format limits.now
+        → AreAtLeast limits.now own → need_of limits.now ≤ D.size disk
+        → (fault.error ≡ errors.Device) ⊎ (fault.error ≡ errors.NoMemory)
+        ⊎ HasNoNextEpoch (D.medium disk).contents) }
+    ensures checked { (field : ℕ) → position not (tests format.most limits.now) ≡ Some field
+        → IfErr result (λ fault. (fault.error ≡ errors.BadLimits (record { field = field }))
+        × (fault.disk ≡ disk)) }
+    ensures refused { IfErr result (λ fault. IsHonest (D.medium disk)
+        → IsUpgradeRefusal limits.now (D.size disk) (D.medium disk).contents fault.error) }
+    ensures small { IfErr result (λ fault. (need : ℕ) → fault.error ≡ errors.TooSmall need
+        → (need ≡ need_of limits.now) × (D.size disk < need)) }
+    ensures unwritten { IfErr result (λ fault. (fault.error ≡ errors.Device)
+        ⊎ ((D.counts fault.disk).writes ≡ (D.counts disk).writes)) }
+    ensures size { D.size (upgraded_disk result) ≡ D.size disk }
+    ensures counts { CountsFaultIf D.counts (IsErrAnd result (λ fault. fault.error ≡ errors.Device))
+        disk (upgraded_disk result) }
+{
+    let mut disk = disk;
+    let (checkpoint, engine) = match read_old(alloc, &mut disk, limits) {
+        Ok(found) => found,
+        Err(error) => return Err(Unupgraded { error, disk }),
+    };
+    match write_new(&mut disk, checkpoint, &engine, limits) {
+        Ok(()) => Ok(disk),
+        Err(DiskFault) => Err(Unupgraded {
+            error: UpgradeError::Device,
+            disk,
+        }),
     }
 }
 
@@ -115,6 +147,7 @@ fn read_old<D: SectorDisk>(
     disk: &mut D,
     limits: &Limits,
 ) -> Result<(Checkpoint, Engine), UpgradeError>
+    requires { limits.now ≡ as_of format limits.now }
     // The objects lie where the new ones will, with room for these beside them.
     ensures of { IfOk result (λ found. AreOf format limits.now) }
     ensures room { IfOk result (λ found. need_of limits.now ≤ D.size disk.old) }
@@ -163,7 +196,7 @@ fn read_limits<D: SectorDisk>(disk: &mut D, limits: &Limits) -> Result<Superbloc
     ensures reads { OnlySyncs D.size D.medium D.counts (IsErrOf result UpgradeError.Device) disk.old disk.new }
 {
     disk.sync()?;
-    let superblock = load_superblock(FORMAT_ONE, disk)?;
+    let (_, superblock) = load_superblock(Versions::One, disk)?;
     test_room(limits, &superblock.limits, disk.sectors())?;
     Ok(superblock)
 }
@@ -258,15 +291,15 @@ fn go_through_journal<D: SectorDisk>(
     checkpoint: &Checkpoint,
     engine: &mut Engine,
 ) -> Result<(), OpenError>
-    requires within { IsWithin journal_range (D.size disk.old) }
+    requires within { IsWithin (journal_range format_one) (D.size disk.old) }
     ensures limits { engine.new.limits ≡ engine.old.limits }
     ensures tracked { OnOk result ((base : State) → IsTracked engine.old.changed base engine.old.state
         → IsTracked engine.new.changed base engine.new.state) }
     ensures sound { OnOk result (IsSound engine.new.limits engine.new.state) }
     ensures later { OnOk result (epoch_of checkpoint.now < last_epoch) }
-    ensures restarted { OnOk result ((s : State) × (engine.new.state ≡ restart s)
+    ensures restarted { OnOk result ((s : State) × (engine.new.state ≡ restart engine.old.limits s)
         × (IsHonest (D.medium disk.old) → IsDurable (D.medium disk.old) → (batches : List (List PlainEvent))
-        × HasBatches (epoch_of checkpoint.now) batches (D.medium disk.old).contents
+        × HasBatches format_one (epoch_of checkpoint.now) batches (D.medium disk.old).contents
         × LeadToBy format_one.batch engine.old.limits engine.old.state batches s)) }
     ensures refused { IfErr result (IsDamage (λ sector. IsHonest (D.medium disk.old)
         → IsDurable (D.medium disk.old)
@@ -275,7 +308,7 @@ fn go_through_journal<D: SectorDisk>(
     ensures reads { OnlyReads D.size D.medium D.counts (IsErrOf result OpenError.Device) disk.old disk.new }
 {
     let mut room = room_for(alloc, FORMAT_ONE.batch as usize)?;
-    load_journal(disk, checkpoint, engine, &mut room)?;
+    load_journal(disk, FORMAT_ONE, checkpoint, engine, &mut room)?;
     // There has to be an epoch for the new objects.
     if checkpoint.epoch() == u64::MAX {
         return Err(OpenError::Damaged {
@@ -322,7 +355,7 @@ fn save_beside<D: SectorDisk>(
     checkpoint: Checkpoint,
     engine: &Engine,
 ) -> Result<(), DiskFault>
-    requires range { (saved_layout checkpoint).range ≡ objects_range (D.size disk.old) }
+    requires range { (saved_layout checkpoint).range ≡ objects_range format (D.size disk.old) }
     requires laid_out { IsLaidOut (layout_under format.root checkpoint) (D.size disk.old) }
     requires root { saved_root checkpoint ≡ format_one.root }
     requires fits { Fit (saved_layout checkpoint).area (saved engine.now.state) }
@@ -342,6 +375,6 @@ fn save_beside<D: SectorDisk>(
     let mut checkpoint = checkpoint;
     checkpoint.set_next_root(FORMAT.root);
     let epoch = checkpoint.epoch() + 1;
-    checkpoint.save(disk, &objects_of(engine), epoch)?;
+    checkpoint.save(disk, &objects_of(engine, FORMAT), epoch)?;
     Ok(())
 }

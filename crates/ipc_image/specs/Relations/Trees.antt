@@ -70,9 +70,11 @@ pub semaphore_one : (x y : Semaphore) → FitsSemaphore x → FitsSemaphore y �
 semaphore_one = one_if_back semaphore_numbers semaphore_from FitsSemaphore (λ x fit. refl)
 
 -- two messages
-pub message_one : (m n : PlainMessage) → FitsMessage m → FitsMessage n → message_tree m ≡ message_tree n → m ≡ n
+pub message_one : (m n : PlainMessage) → FitsMessage m → FitsMessage n → message_tree false m ≡ message_tree false n
+    → m ≡ n
 message_one =
-    one_if_back message_tree message_of FitsMessage (λ m fit. ap (message_from m.text) (to_z-of_z w64 m.mtype fit.0))
+    one_if_back (message_tree false) message_of FitsMessage
+    (λ m fit. ap (message_from m.text) (to_z-of_z w64 m.mtype fit.0))
 
 -- two adjustments
 adjustment-fits : (a : ℤ) → is_adjustment a ≡ true → FitsSigned w16 a

@@ -1,12 +1,13 @@
 -- What a disk is on its way to a device.
 use Rattle.std.specs.Prelude.{ℕ, [], length}
-use Rattle.ipc_base.specs.declared.limits.Limits.{Limits}
+use Rattle.ipc_limits.specs.declared.limits.Limits.{Limits}
 use Rattle.ipc_base.specs.Objects.{PlainObjects}
 use Rattle.ipc_checkpoint.specs.Checkpoint.{Holds}
 use Rattle.ipc_disk.specs.Medium.{Image, Medium}
 use Rattle.ipc_disk.specs.Standing.{sector_at}
 use Rattle.ipc_state.specs.State.{State}
-use Rattle.ipc_image.specs.Saved.{StandForState}
+use Rattle.ipc_image.specs.Format.{device_form}
+use Rattle.ipc_image.specs.Saved.{StandForStateIn}
 use Rattle.ipc_image.specs.Superblock.{IsFormatted}
 use Rattle.ipc_store.specs.Image.{layout_of, HasBatches}
 
@@ -24,5 +25,5 @@ pub record IsPrepared (limits : Limits) (s : State) (image : Image) : Type 0 whe
   pub epoch : ℕ
   pub objects : PlainObjects
   pub there : Holds (layout_of limits (length image)) epoch objects image
-  pub stand : StandForState limits s objects
-  pub journal : HasBatches epoch [] image
+  pub stand : StandForStateIn (device_form limits) limits s objects
+  pub journal : HasBatches (device_form limits) epoch [] image

@@ -1,19 +1,67 @@
 -- Why what stands on a device cannot be loaded: the superblock, and what comes after it.
-use Rattle.std.specs.Prelude.{◌≡◌, ◌⊎◌, ℕ}
-use Rattle.ipc_base.specs.declared.limits.Limits.{Limits}
+use Rattle.std.specs.Prelude.{◌≡◌, ◌⊎◌, ℕ, List, length, map}
+use Rattle.ipc_limits.specs.declared.limits.Limits.{Limits}
 use Rattle.ipc_base.specs.Objects.{PlainObjects}
 use Rattle.ipc_checkpoint.specs.Checkpoint.{IsFirstDamage, Holds}
 use Rattle.ipc_checkpoint.specs.declared.layout.Layout.{Layout}
+use Rattle.ipc_checkpoint.specs.Matches.{CheckpointMatches}
+use Rattle.ipc_checkpoint.specs.View.{CheckpointView, epoch_of as saved_epoch, layout_of as saved_layout}
 use Rattle.ipc_disk.specs.Calls.{IsSameDisk}
 use Rattle.ipc_disk.specs.Counts.{Counts, counted}
-use Rattle.ipc_disk.specs.Medium.{Image, Medium, IsHonest, Stays}
+use Rattle.ipc_disk.specs.Medium.{Image, Medium, IsDurable, IsHonest, Stays}
+use Rattle.ipc_engine.specs.Changes.{IsTracked}
+use Rattle.ipc_engine.specs.Engine.{Machine}
+use Rattle.ipc_engine.specs.Event.{PlainEvent}
+use Rattle.ipc_image.specs.Format.{device_form, format_one}
+use Rattle.ipc_image.specs.Superblock.{named_form}
 use Rattle.ipc_image.specs.declared.format.Format.{Format}
 use Rattle.ipc_image.specs.Saved.{StandForStateIn}
+use Rattle.ipc_journal.specs.declared.journal.Journal.{Journal}
+use Rattle.ipc_journal.specs.Journal.{sectors_of}
+use Rattle.ipc_journal.specs.View.{form_of, range_of, epoch_of, used_of, count_of}
 use Rattle.ipc_state.specs.State.{State}
+use Rattle.ipc_store.specs.Batch.{batch_bytes}
+use Rattle.ipc_store.specs.declared.places.Versions.{Versions}
+use Rattle.ipc_store.specs.Image.{journal_form, journal_range, layout_of, named_sectors, HasBatches, IsDevice, LeadTo}
 use Rattle.ipc_store.specs.Image.{HasBaseIn, HasVersionBut, IsDamagedIn, IsFirstFaultIn, IsNotFormatted}
 use Rattle.ipc_store.specs.Refusals.{IsNoSuperblock}
 use Rattle.ipc_store.specs.declared.fault.OpenError.{OpenError}
 use Rattle.ipc_store.specs.declared.fault.OpenError.TheVariants as errors
+
+-- the form of a device that is read, if it is of version 1, or if it is opened
+abbrev pub form_for : Versions → List ℕ → Format
+form_for Versions.One sector = format_one
+form_for Versions.Opened sector = named_form sector
+
+-- the journal has these batches, as a value that was read
+abbrev pub IsAfter : Journal → List (List PlainEvent) → Type 0
+IsAfter journal batches =
+    (used_of journal ≡ sectors_of (form_of journal) (map batch_bytes batches))
+    × (count_of journal ≡ length (map batch_bytes batches))
+
+-- What was read of a device on which a crash leaves what is read. It is as `MachineMatches` says, but that anything may
+-- stand in the journal after its batches.
+pub record IsLoadedUnder (limits : Limits) (medium : Medium) (machine : Machine) (checkpoint : CheckpointView)
+    (journal : Journal) : Type 0 where
+  pub honest : IsHonest medium
+  pub durable : IsDurable medium
+  pub form : form_of journal ≡ journal_form (device_form limits)
+  pub range : range_of journal ≡ journal_range (device_form limits)
+  pub epoch : epoch_of journal ≡ saved_epoch checkpoint
+  pub device : IsDevice limits medium.contents
+  pub lies : saved_layout checkpoint ≡ layout_of limits (named_sectors medium.contents)
+  pub from : State
+  pub objects : PlainObjects
+  pub stand : StandForStateIn (device_form limits) limits from objects
+  pub saved : CheckpointMatches checkpoint objects medium
+  pub batches : List (List PlainEvent)
+  pub journal_is : HasBatches (device_form limits) (saved_epoch checkpoint) batches medium.contents
+  pub after : IsAfter journal batches
+  pub leads : LeadTo limits from batches machine.state
+  pub tracked : IsTracked machine.changed from machine.state
+
+abbrev pub IsLoaded : Medium → Machine → CheckpointView → Journal → Type 0
+IsLoaded medium machine = IsLoadedUnder machine.limits medium machine
 
 -- what an error says that may come after the superblock was read: such a damage at its sector, and never that the
 -- device begins otherwise or is of another version

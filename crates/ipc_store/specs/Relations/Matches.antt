@@ -1,6 +1,6 @@
 -- A store matches its disk: what stands there, and what waits.
 use Rattle.std.specs.Prelude.{◌≡◌, ◌⊎◌, ℕ, false, List, length, map, All}
-use Rattle.ipc_base.specs.declared.limits.Limits.{Limits}
+use Rattle.ipc_limits.specs.declared.limits.Limits.{Limits}
 use Rattle.ipc_base.specs.Objects.{PlainObjects}
 use Rattle.ipc_checkpoint.specs.Checkpoint.{IsLaidOut}
 use Rattle.ipc_checkpoint.specs.Matches.{CheckpointMatches}
@@ -15,20 +15,23 @@ use Rattle.ipc_engine.specs.Changes.{IsTracked}
 use Rattle.ipc_engine.specs.Engine.{Machine}
 use Rattle.ipc_engine.specs.Event.{PlainEvent}
 use Rattle.ipc_engine.specs.Step.{run}
+use Rattle.ipc_image.specs.Format.{device_form}
 use Rattle.ipc_image.specs.Records.{HasRecord}
-use Rattle.ipc_image.specs.Saved.{StandForState}
-use Rattle.ipc_image.specs.Sizes.{area_of}
+use Rattle.ipc_image.specs.Saved.{StandForStateIn}
+use Rattle.ipc_image.specs.Sizes.{area_in}
+use Rattle.ipc_image.specs.Superblock.{AreOf}
 use Rattle.ipc_store.specs.Batch.{records_of, batch_bytes}
 use Rattle.ipc_store.specs.Image.{journal_form, journal_range, layout_of, named_sectors}
 use Rattle.ipc_store.specs.Image.{AreFor, IsDevice, LeadTo, StandsFor}
 use Rattle.ipc_store.specs.View.{StoreView}
 
--- the objects and the journal lie on a disk of so many sectors, with room for a state under these limits, and are of
--- one epoch
+-- a device may have these limits; its objects and its journal lie on a disk of so many sectors, with room for a state
+-- under them, and are of one epoch
 pub record AreOnDisk (size : ℕ) (limits : Limits) (checkpoint : CheckpointView) (journal : Journal) : Type 0 where
+  pub of : AreOf (device_form limits) limits
   pub objects : IsLaidOut (saved_layout checkpoint) size
-  pub room : (saved_layout checkpoint).area ≡ area_of limits
-  pub form : form_of journal ≡ journal_form
+  pub room : (saved_layout checkpoint).area ≡ area_in (device_form limits) limits
+  pub form : form_of journal ≡ journal_form (device_form limits)
   pub within : IsWithin (range_of journal) size
   pub epoch : epoch_of journal ≡ saved_epoch checkpoint
 
@@ -37,14 +40,14 @@ pub record AreOnDisk (size : ℕ) (limits : Limits) (checkpoint : CheckpointView
 pub record DeviceMatches (medium : Medium) (limits : Limits) (checkpoint : CheckpointView) (journal : Journal)
     (base : State) : Type 0 where
   pub honest : IsHonest medium
-  pub form : form_of journal ≡ journal_form
-  pub range : range_of journal ≡ journal_range
+  pub form : form_of journal ≡ journal_form (device_form limits)
+  pub range : range_of journal ≡ journal_range (device_form limits)
   pub epoch : epoch_of journal ≡ saved_epoch checkpoint
   pub device : (image : Image) → medium.images_now image
       → IsDevice limits image × (saved_layout checkpoint ≡ layout_of limits (named_sectors image))
   pub from : State
   pub objects : PlainObjects
-  pub stand : StandForState limits from objects
+  pub stand : StandForStateIn (device_form limits) limits from objects
   pub saved : CheckpointMatches checkpoint objects medium
   pub batches : List (List PlainEvent)
   pub appended : JournalMatches journal (map batch_bytes batches) medium
@@ -87,4 +90,5 @@ StandsForEither limits s t image = StandsFor limits s image ⊎ StandsFor limits
 -- that was read, or for that state after a restart.
 abbrev pub OpensTo : Medium → Image → Type 0
 OpensTo old image = old.images_now image
-    ⊎ ((limits : Limits) × (s : State) × StandsFor limits s old.contents × StandsForEither limits s (restart s) image)
+    ⊎ ((limits : Limits) × (s : State) × StandsFor limits s old.contents
+    × StandsForEither limits s (restart limits s) image)

@@ -1,6 +1,6 @@
 -- What an upgrade has read, and how it goes on.
 use Rattle.std.specs.Prelude.{◌≡◌, ◌<◌, ℕ, List, Some, position, not as is_not}
-use Rattle.ipc_base.specs.declared.limits.Limits.{Limits}
+use Rattle.ipc_limits.specs.declared.limits.Limits.{Limits}
 use Rattle.ipc_base.specs.Objects.{PlainObjects}
 use Rattle.ipc_checkpoint.specs.declared.layout.Layout.{Layout}
 use Rattle.ipc_checkpoint.specs.Matches.{CheckpointMatches}
@@ -10,19 +10,19 @@ use Rattle.ipc_state.specs.State.{State, restart}
 use Rattle.ipc_engine.specs.Changes.{IsTracked}
 use Rattle.ipc_engine.specs.Engine.{Machine}
 use Rattle.ipc_engine.specs.Event.{PlainEvent}
-use Rattle.ipc_image.specs.Format.{format_one}
+use Rattle.ipc_image.specs.Format.{format, format_one}
 use Rattle.ipc_image.specs.Greater.{AreAtLeast, at_least}
 use Rattle.ipc_image.specs.Saved.{StandForStateIn}
 use Rattle.ipc_image.specs.Sizes.{need_of}
 use Rattle.ipc_image.specs.declared.superblock.Superblock.{Superblock}
 use Rattle.ipc_store.specs.declared.fault.UpgradeError.{UpgradeError}
 use Rattle.ipc_store.specs.declared.fault.UpgradeError.TheVariants as errors
-use Rattle.ipc_store.specs.Image.{layout_of, named_sectors, HasBatches, HasObjectsIn, IsDeviceIn, LeadToBy}
+use Rattle.ipc_store.specs.Image.{layout_in, named_sectors, HasBatches, HasObjectsIn, IsDeviceIn, LeadToBy}
 
 -- where the objects of the version before are read once more, and where those of today are written: on all of the disk,
 -- with the old root
 abbrev pub whole_layout : Limits → ℕ → Layout
-whole_layout limits sectors = record (layout_of limits sectors) { root = format_one.root }
+whole_layout limits sectors = record (layout_in format limits sectors) { root = format_one.root }
 
 -- the superblock is that of the image, which is a device of the old version
 abbrev pub IsNamed : Superblock → Image → Type 0
@@ -41,7 +41,7 @@ pub record HasOld (own : Limits) (epoch : ℕ) (objects : PlainObjects) (batches
     : Type 0 where
   pub device : IsDeviceIn format_one own image
   pub there : HasObjectsIn format_one own epoch objects image
-  pub journal : HasBatches epoch batches image
+  pub journal : HasBatches format_one epoch batches image
 
 -- A crash now leaves what is read, which stands for a state in the old version. The machine is in the state after a
 -- restart, and knows what is otherwise there than in the objects that are saved.
@@ -55,5 +55,5 @@ pub record IsReadOld (medium : Medium) (checkpoint : CheckpointView) (machine : 
   pub stand : StandForStateIn format_one machine.limits base objects
   pub leads : LeadToBy format_one.batch machine.limits base batches state
   pub saved : CheckpointMatches checkpoint objects medium
-  pub restarted : machine.state ≡ restart state
+  pub restarted : machine.state ≡ restart machine.limits state
   pub tracked : IsTracked machine.changed base machine.state

@@ -1,7 +1,7 @@
 -- The parts of a state, and the state that they make.
 use Rattle.std.proofs.Common.{◌≡◌, ◌∙◌, ◌++◌, ℕ, List, [], drop, map, sym, ap}
 use Rattle.std.specs.Prelude.{Err}
-use Rattle.ipc_base.specs.declared.limits.Limits.{Limits}
+use Rattle.ipc_limits.specs.declared.limits.Limits.{Limits}
 use Rattle.ipc_base.specs.Objects.{PlainObjects}
 use Rattle.ipc_base.specs.Table.{keys_of}
 use Rattle.sem_undo.specs.Undo.{Undo}
@@ -120,7 +120,7 @@ returns-clause-ok c =
     c.in-Some-object_numbered-2.calls.now c.in-Some-object_numbered-3.adjustments.now c.in-Some.ensures.some c.in-Some-object_numbered.ensures.some
     c.in-Some-object_numbered-2.ensures.some c.in-Some-object_numbered-3.ensures.some read
     c.in-Some-read_clock.ensures.some ps.1 ps.2 ps.3 ws.1 ws.2 ws.3 ws.4 es.1 fs.1 later.1
-    (es.2 ∙ ap (λ (l : PlainObjects). map queue_object es.0 ++ l) sets) (ap (λ (r : State × Limits). r.0) is)
+    (es.2 ∙ ap (λ (l : PlainObjects). map (queue_object c.args.form.marks) es.0 ++ l) sets) (ap (λ (r : State × Limits). r.0) is)
 
 -- if the version has no System V segments, none was read
 pub returns-clause-kinds : goal.returns-clause-kinds

@@ -1,6 +1,6 @@
 use Rattle.std.proofs.Common.{◌∙◌, ◌++◌, map, sym, ap}
 use Rattle.std.specs.Prelude.{Err}
-use Rattle.ipc_base.specs.declared.limits.Limits.{Limits}
+use Rattle.ipc_limits.specs.declared.limits.Limits.{Limits}
 use Rattle.ipc_base.specs.Objects.{PlainObjects}
 use Rattle.ipc_state.specs.State.{State}
 use Rattle.ipc_image.specs.Saved.{mq_object, psem_object, pshm_object, LaterObjects}

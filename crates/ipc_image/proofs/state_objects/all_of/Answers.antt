@@ -3,13 +3,14 @@ use Rattle.ipc_base.specs.Objects.{AreObjects}
 use Rattle.shm_segment.specs.Segment.{Segment}
 use Rattle.ipc_state.specs.Named.{Named}
 use Rattle.ipc_state.specs.State.{State}
-use Rattle.ipc_image.specs.Saved.{saved, HasAllPlaces}
-use Rattle.ipc_image.proofs.SavedObjects.{seen-is, saved-are, saved-fit}
+use Rattle.ipc_image.specs.Saved.{saved_in, HasAllPlaces}
+use Rattle.ipc_image.proofs.SavedObjects.{seen-is, saved-are}
+use Rattle.ipc_image.proofs.Fits.{saved-fit}
 use Rattle.ipc_image.proofs.state_objects.all_of.Goals as goal
 
 pub invariant_of-result : goal.invariant_of-result
 invariant_of-result c =
-    let same = seen-is (record {
+    let same = seen-is c.args.form (record {
       clock = c.clock.result;
       next_pid = c.next_pid.result;
       next_msg_queue = c.next_msg_queue.result;
@@ -32,12 +33,16 @@ invariant_of-result c =
       };
       shm = record { next = c.next_shm.ensures i; entries = c.shms.ensures i };
     }) in
-    let objects = saved-are c.args.engine.now.limits c.args.engine.now.state c.state-state.ensures.passed c.state-state.ensures.sound in
-    (subst HasAllPlaces (sym same) c.read_state.ensures, subst (λ (s : State). AreObjects (saved s)) (sym (same ∙ c.state-state.ensures.state)) objects)
+    let objects =
+    saved-are c.args.engine.now.limits c.args.engine.now.state c.state-state.ensures.passed c.state-state.ensures.sound c.args.form c.requires in (
+      c.requires,
+      subst HasAllPlaces (sym same) c.read_state.ensures,
+      subst (λ (s : State). AreObjects (saved_in c.args.form s)) (sym (same ∙ c.state-state.ensures.state)) objects,
+    )
 
 pub returns-clause-objects : goal.returns-clause-objects
 returns-clause-objects c =
-    ap saved (seen-is (record {
+    ap (saved_in c.args.form) (seen-is c.args.form (record {
       clock = c.clock.result;
       next_pid = c.next_pid.result;
       next_msg_queue = c.next_msg_queue.result;
@@ -61,4 +66,4 @@ returns-clause-objects c =
     }) ∙ c.state-state.ensures.state)
 
 pub returns-clause-fit : goal.returns-clause-fit
-returns-clause-fit c = saved-fit c.args.engine.now.limits c.args.engine.now.state c.state-state.ensures.passed c.state-state.ensures.sound
+returns-clause-fit c of = saved-fit c.args.form c.requires c.args.engine.now.limits c.args.engine.now.state of c.state-state.ensures.sound

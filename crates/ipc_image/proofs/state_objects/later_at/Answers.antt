@@ -2,6 +2,7 @@ use Rattle.std.proofs.Common.{◌≡◌, ◌<◌, ◌≤◌, ◌-◌, ℕ, List,
 use Rattle.std.proofs.lemmas.List.{length-map}
 use Rattle.ipc_base.specs.declared.objects.Mark.{Mark}
 use Rattle.ipc_state.specs.State.{State}
+use Rattle.ipc_image.specs.declared.format.Format.{Format}
 use Rattle.ipc_state.specs.Tables.{item_row}
 use Rattle.ipc_state.specs.declared.numbered.Item.{Item}
 use Rattle.ipc_state.specs.declared.state.Numbers.{Numbers}
@@ -38,14 +39,14 @@ returns-then-at-objects-clause-stands c =
     let o = c.objects.inside in
     let n : LaterObjects = seen_later o.numbers o.mqs.now o.sems.now o.segments.now o.shms.now in
     let e = get_or o.mqs.now c.args.at c.index-objects-at.result in
-    subst (λ (t : State). Here t c.args.at (mq_object (item_row e)) (IsMarkOfMq (item_row e))) c.objects.view_is
+    subst (λ (t : Format × State). Here t.1 c.args.at (mq_object (item_row e)) (IsMarkOfMq (item_row e))) c.objects.view_is
     (here mq_object IsMarkOfMq (after_mqs n) n.mq.entries (from_psems n) c.args.at (item_row e)
     (table-at item_row o.mqs.now c.args.at c.index-objects-at.result c.if-at-objects.true))
 
 pub returns-then-at-objects-clause-fits : goal.returns-then-at-objects-clause-fits
 returns-then-at-objects-clause-fits c =
     let o = c.objects.inside in
-    each-at (FitsIn FitsMq) (map item_row o.mqs.now) c.args.at _ c.objects.invariant.0.later.mqs
+    each-at (FitsIn FitsMq) (map item_row o.mqs.now) c.args.at _ c.objects.invariant.1.later.mqs
     (table-at item_row o.mqs.now c.args.at c.index-objects-at.result c.if-at-objects.true)
 
 pub returns-then-at-objects-2-clause-stands : goal.returns-then-at-objects-2-clause-stands
@@ -54,7 +55,7 @@ returns-then-at-objects-2-clause-stands c =
     let n : LaterObjects = seen_later o.numbers o.mqs.now o.sems.now o.segments.now o.shms.now in
     let at : ℕ = c.args.at - length o.mqs.now in
     let e = get_or o.sems.now at c.index-objects-at-then-at-objects-2.result in
-    subst (λ (t : State). Here t c.args.at (psem_object (item_row e)) (λ m. Unit {0})) c.objects.view_is
+    subst (λ (t : Format × State). Here t.1 c.args.at (psem_object (item_row e)) (λ m. Unit {0})) c.objects.view_is
     (past mq_object IsMarkOfMq (after_mqs n) n.mq.entries (from_psems n) c.args.at at _ _
     (omega (arith, length-map o.mqs.now item_row, c.if-at-objects.false))
     (here psem_object IsAnyMark (after_psems n) n.psem.entries (from_pshms n) at (item_row e)
@@ -64,7 +65,7 @@ pub returns-then-at-objects-2-clause-fits : goal.returns-then-at-objects-2-claus
 returns-then-at-objects-2-clause-fits c =
     let o = c.objects.inside in
     let at : ℕ = c.args.at - length o.mqs.now in
-    each-at (FitsIn FitsPsem) (map item_row o.sems.now) at _ c.objects.invariant.0.later.psems
+    each-at (FitsIn FitsPsem) (map item_row o.sems.now) at _ c.objects.invariant.1.later.psems
     (table-at item_row o.sems.now at c.index-objects-at-then-at-objects-2.result c.if-at-objects-2.true)
 
 pub returns-then-at-objects-3-clause-stands : goal.returns-then-at-objects-3-clause-stands
@@ -74,7 +75,7 @@ returns-then-at-objects-3-clause-stands c =
     let second : ℕ = c.args.at - length o.mqs.now in
     let at : ℕ = second - length o.sems.now in
     let e = get_or o.segments.now at c.index-objects-at-then-at-objects-3.result in
-    subst (λ (t : State). Here t c.args.at (pshm_object (item_row e)) (λ m. Unit {0})) c.objects.view_is
+    subst (λ (t : Format × State). Here t.1 c.args.at (pshm_object (item_row e)) (λ m. Unit {0})) c.objects.view_is
     (past mq_object IsMarkOfMq (after_mqs n) n.mq.entries (from_psems n) c.args.at second _ _
     (omega (arith, length-map o.mqs.now item_row, c.if-at-objects.false))
     (past psem_object IsAnyMark (after_psems n) n.psem.entries (from_pshms n) second at _ _
@@ -86,7 +87,7 @@ pub returns-then-at-objects-3-clause-fits : goal.returns-then-at-objects-3-claus
 returns-then-at-objects-3-clause-fits c =
     let o = c.objects.inside in
     let at : ℕ = c.args.at - length o.mqs.now - length o.sems.now in
-    each-at (FitsIn FitsSegment) (map item_row o.segments.now) at _ c.objects.invariant.0.later.segments
+    each-at (FitsIn FitsSegment) (map item_row o.segments.now) at _ c.objects.invariant.1.later.segments
     (table-at item_row o.segments.now at c.index-objects-at-then-at-objects-3.result c.if-at-objects-3.true)
 
 -- the last one is within the table of its kind
@@ -112,7 +113,8 @@ within n ms ss gs hs t at seen there mqs sems segments =
 pub bounds-objects-inside-at-2 : goal.bounds-objects-inside-at-2
 bounds-objects-inside-at-2 c =
     let o = c.objects.inside in
-    within o.numbers o.mqs.now o.sems.now o.segments.now o.shms.now c.args.objects.now c.args.at (sym (ap later_in c.objects.view_is)) c.requires
+    within o.numbers o.mqs.now o.sems.now o.segments.now o.shms.now c.args.objects.now.1 c.args.at
+    (sym (ap (λ (t : Format × State). later_in t.1) c.objects.view_is)) c.requires
     (omega (arith, c.if-at-objects.false)) (omega (arith, c.if-at-objects-2.false)) (omega (arith, c.if-at-objects-3.false))
 
 pub returns-clause-stands : goal.returns-clause-stands
@@ -123,7 +125,7 @@ returns-clause-stands c =
     let third : ℕ = second - length o.sems.now in
     let at : ℕ = third - length o.segments.now in
     let e = get_or o.shms.now at c.index-objects-at-2.result in
-    subst (λ (t : State). Here t c.args.at (shm_object (item_row e)) (λ m. Unit {0})) c.objects.view_is
+    subst (λ (t : Format × State). Here t.1 c.args.at (shm_object (item_row e)) (λ m. Unit {0})) c.objects.view_is
     (past mq_object IsMarkOfMq (after_mqs n) n.mq.entries (from_psems n) c.args.at second _ _
     (omega (arith, length-map o.mqs.now item_row, c.if-at-objects.false))
     (past psem_object IsAnyMark (after_psems n) n.psem.entries (from_pshms n) second third _ _
@@ -131,15 +133,17 @@ returns-clause-stands c =
     (past pshm_object IsAnyMark (last n) n.pshm.entries (map shm_object n.shm.entries) third at _ _
     (omega (arith, length-map o.segments.now item_row, c.if-at-objects-3.false))
     (here-last shm_object IsAnyMark (λ at m. Unit {0}) n.shm.entries at (item_row e)
-    (table-at item_row o.shms.now at c.index-objects-at-2.result (within o.numbers o.mqs.now o.sems.now o.segments.now o.shms.now c.args.objects.now
-    c.args.at (sym (ap later_in c.objects.view_is)) c.requires (omega (arith, c.if-at-objects.false)) (omega (arith, c.if-at-objects-2.false))
+    (table-at item_row o.shms.now at c.index-objects-at-2.result (within o.numbers o.mqs.now o.sems.now o.segments.now o.shms.now c.args.objects.now.1
+    c.args.at (sym (ap (λ (t : Format × State). later_in t.1) c.objects.view_is)) c.requires (omega (arith, c.if-at-objects.false))
+    (omega (arith, c.if-at-objects-2.false))
     (omega (arith, c.if-at-objects-3.false))))))))
 
 pub returns-clause-fits : goal.returns-clause-fits
 returns-clause-fits c =
     let o = c.objects.inside in
     let at : ℕ = c.args.at - length o.mqs.now - length o.sems.now - length o.segments.now in
-    each-at (FitsIn FitsShm) (map item_row o.shms.now) at _ c.objects.invariant.0.later.shms
-    (table-at item_row o.shms.now at c.index-objects-at-2.result (within o.numbers o.mqs.now o.sems.now o.segments.now o.shms.now c.args.objects.now
-    c.args.at (sym (ap later_in c.objects.view_is)) c.requires (omega (arith, c.if-at-objects.false)) (omega (arith, c.if-at-objects-2.false))
+    each-at (FitsIn FitsShm) (map item_row o.shms.now) at _ c.objects.invariant.1.later.shms
+    (table-at item_row o.shms.now at c.index-objects-at-2.result (within o.numbers o.mqs.now o.sems.now o.segments.now o.shms.now c.args.objects.now.1
+    c.args.at (sym (ap (λ (t : Format × State). later_in t.1) c.objects.view_is)) c.requires (omega (arith, c.if-at-objects.false))
+    (omega (arith, c.if-at-objects-2.false))
     (omega (arith, c.if-at-objects-3.false))))

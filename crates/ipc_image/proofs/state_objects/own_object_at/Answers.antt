@@ -2,9 +2,10 @@ use Rattle.std.proofs.Common.{◌-◌, ℕ, ap, sym, subst, arith, length, get_o
 use Rattle.std.proofs.lemmas.List.{length-map}
 use Rattle.ipc_base.specs.declared.objects.Mark.{Mark}
 use Rattle.ipc_state.specs.State.{State}
+use Rattle.ipc_image.specs.declared.format.Format.{Format}
 use Rattle.ipc_state.specs.Tables.{item_row}
 use Rattle.ipc_image.specs.Kind.{FitsIn}
-use Rattle.ipc_image.specs.Saved.{queue_object, set_object, LaterObjects, later_in, later_objects, saved, FitsQueue, FitsSet}
+use Rattle.ipc_image.specs.Saved.{queue_object, set_object, LaterObjects, later_in, later_objects, saved_in, FitsQueue, FitsSet}
 use Rattle.ipc_image.specs.SavedParts.{FitsOwnObject, IsFound, IsMarkOfLater, IsMarkOfQueue, IsMarkOfSet, IsMarkOfOwnObject, MarkAt, Stands}
 use Rattle.ipc_image.specs.SavedParts.{object_of, seen_later, seen_state}
 use Rattle.ipc_image.proofs.Marks.{each-at, table-at, here, past}
@@ -28,10 +29,11 @@ returns-then-at-objects c =
     let at : ℕ = c.args.i - 4 in
     let q = get_or o.queues.now at c.index-objects-at.result in
     let is = table-at item_row o.queues.now at c.index-objects-at.result c.if-at-objects.true in
-    subst (λ (t : State). IsFound t c.args.i (queue_object (item_row q)) (IsMarkOfQueue (item_row q)) (FitsIn FitsQueue (item_row q)))
-    c.objects.view_is (found-thing s c.objects.invariant.1 c.args.i c.requires.thing _ _ _
-    (each-at (FitsIn FitsQueue) s.msg.entries at (item_row q) c.objects.invariant.0.queues is)
-    (here queue_object IsMarkOfQueue (later s) s.msg.entries (sets_and_later s) at (item_row q) is))
+    subst (λ (t : Format × State). IsFound t.0 t.1 c.args.i (queue_object t.0.marks (item_row q)) (IsMarkOfQueue t.0.marks (item_row q))
+    (FitsIn FitsQueue (item_row q)))
+    c.objects.view_is (found-thing o.form s c.objects.invariant.2 c.args.i c.requires.thing _ _ _
+    (each-at (FitsIn FitsQueue) s.msg.entries at (item_row q) c.objects.invariant.1.queues is)
+    (here (queue_object o.form.marks) (IsMarkOfQueue o.form.marks) (later s) s.msg.entries (sets_and_later s) at (item_row q) is))
 
 pub returns-then-at-objects-2 : goal.returns-then-at-objects-2
 returns-then-at-objects-2 c =
@@ -41,10 +43,10 @@ returns-then-at-objects-2 c =
     let at : ℕ = c.args.i - 4 - length o.queues.now in
     let e = get_or o.sets.now at c.index-objects-at-then-at-objects-2.result in
     let is = table-at item_row o.sets.now at c.index-objects-at-then-at-objects-2.result c.if-at-objects-2.true in
-    subst (λ (t : State). IsFound t c.args.i (set_object (item_row e)) (IsMarkOfSet (item_row e)) (FitsIn FitsSet (item_row e)))
-    c.objects.view_is (found-thing s c.objects.invariant.1 c.args.i c.requires.thing _ _ _
-    (each-at (FitsIn FitsSet) s.semset.entries at (item_row e) c.objects.invariant.0.sets is)
-    (past queue_object IsMarkOfQueue (later s) s.msg.entries (sets_and_later s) (c.args.i - 4) at _ _
+    subst (λ (t : Format × State). IsFound t.0 t.1 c.args.i (set_object (item_row e)) (IsMarkOfSet (item_row e)) (FitsIn FitsSet (item_row e)))
+    c.objects.view_is (found-thing o.form s c.objects.invariant.2 c.args.i c.requires.thing _ _ _
+    (each-at (FitsIn FitsSet) s.semset.entries at (item_row e) c.objects.invariant.1.sets is)
+    (past (queue_object o.form.marks) (IsMarkOfQueue o.form.marks) (later s) s.msg.entries (sets_and_later s) (c.args.i - 4) at _ _
     (omega (arith, length-map o.queues.now item_row, c.if-at-objects.false))
     (here set_object IsMarkOfSet (last s) s.semset.entries (later_objects (later_in s)) at (item_row e) is)))
 
@@ -54,9 +56,9 @@ later_at-requires c =
     let seen : LaterObjects = seen_later o.numbers o.mqs.now o.sems.now o.segments.now o.shms.now in
     omega (
       arith,
-      ap (λ (t : State). length (saved t)) c.objects.view_is,
-      ap (λ (t : State). length (later_objects (later_in t))) c.objects.view_is,
-      seen_count o.numbers o.processes.now o.waits.now o.undo.now o.queues.now o.sets.now seen,
+      ap (λ (t : Format × State). length (saved_in t.0 t.1)) c.objects.view_is,
+      ap (λ (t : Format × State). length (later_objects (later_in t.1))) c.objects.view_is,
+      seen_count o.form o.numbers o.processes.now o.waits.now o.undo.now o.queues.now o.sets.now seen,
       later-counted seen,
       c.requires.object,
       c.requires.thing,
@@ -72,11 +74,12 @@ returns c =
     let second : ℕ = c.args.i - 4 - length o.queues.now in
     let at : ℕ = second - length o.sets.now in
     let r = c.later_at.result in
-    let stands = subst (λ (t : State). Stands (later_objects (later_in t)) (IsMarkOfLater (later_in t)) at (object_of r) (IsMarkOfOwnObject r))
+    let stands = subst (λ (t : Format × State). Stands (later_objects (later_in t.1)) (IsMarkOfLater (later_in t.1)) at (object_of t.0.marks r)
+    (IsMarkOfOwnObject t.0.marks r))
     (sym c.objects.view_is) c.later_at.ensures.stands in
-    subst (λ (t : State). IsFound t c.args.i (object_of r) (IsMarkOfOwnObject r) (FitsOwnObject r))
-    c.objects.view_is (found-thing s c.objects.invariant.1 c.args.i c.requires.thing _ _ _ c.later_at.ensures.fits
-    (past queue_object IsMarkOfQueue (later s) s.msg.entries (sets_and_later s) (c.args.i - 4) second _ _
+    subst (λ (t : Format × State). IsFound t.0 t.1 c.args.i (object_of t.0.marks r) (IsMarkOfOwnObject t.0.marks r) (FitsOwnObject r))
+    c.objects.view_is (found-thing o.form s c.objects.invariant.2 c.args.i c.requires.thing _ _ _ c.later_at.ensures.fits
+    (past (queue_object o.form.marks) (IsMarkOfQueue o.form.marks) (later s) s.msg.entries (sets_and_later s) (c.args.i - 4) second _ _
     (omega (arith, length-map o.queues.now item_row, c.if-at-objects.false))
     (past set_object IsMarkOfSet (last s) s.semset.entries (later_objects (later_in s)) second at _ _
     (omega (arith, length-map o.sets.now item_row, c.if-at-objects-2.false)) stands)))

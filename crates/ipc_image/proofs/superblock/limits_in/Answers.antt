@@ -1,34 +1,29 @@
-use Rattle.std.proofs.Common.{◌≡◌, Some, take, drop, sym, ◌∙◌, arith}
-use Rattle.std.proofs.lemmas.Option.{none-some, same_Some}
-use Rattle.ipc_image.specs.Superblock.{limit_fields}
-use Rattle.ipc_image.proofs.Reading.{each_fits, first_fit, limits_cut, limits_found, limits_in, shms_bytes}
 use Rattle.ipc_image.proofs.superblock.limits_in.Goals as goal
 
-pub overflow_cast-result-14 : goal.overflow_cast-result-14
-overflow_cast-result-14 c = omega (arith, each_fits 16 c.in_ok-found.found c.in_ok-found.ensures.some.0 13)
-
-pub overflow_cast-result-15 : goal.overflow_cast-result-15
-overflow_cast-result-15 c = omega (arith, each_fits 16 c.in_ok-found.found c.in_ok-found.ensures.some.0 14)
-
-pub overflow_cast-result-16 : goal.overflow_cast-result-16
-overflow_cast-result-16 c = omega (arith, each_fits 16 c.in_ok-found.found c.in_ok-found.ensures.some.0 15)
-
-pub returns-in_err-found-clause-only : goal.returns-in_err-found-clause-only
-returns-in_err-found-clause-only c limits rest of is =
-    absurd (c.in_err-found.ensures.none (take 16 (limit_fields limits)) (shms_bytes c.args.form limits rest)
-    (first_fit c.args.form c.requires.known limits of rest) (is ∙ limits_cut c.args.form c.requires.known limits of rest))
-
-pub returns-in_err-shm-clause-only : goal.returns-in_err-shm-clause-only
-returns-in_err-shm-clause-only c limits rest of is =
-    let found = c.in_ok-found.ensures.some in
-    let both = limits_found c.args.form c.requires.known limits of rest c.in_ok-found.found c.in_ok-found.rest.now c.shm_limits_in.result
-    found.0 (sym is ∙ found.1) c.shm_limits_in.ensures.read c.shm_limits_in.ensures.others in
-    absurd (none-some (drop 16 (limit_fields limits)) (sym c.in_err-shm.was ∙ both.1))
-
-pub returns-clause-only : goal.returns-clause-only
-returns-clause-only c limits rest of is =
-    let found = c.in_ok-found.ensures.some in
-    let both = limits_found c.args.form c.requires.known limits of rest c.in_ok-found.found c.in_ok-found.rest.now c.shm_limits_in.result
-    found.0 (sym is ∙ found.1) c.shm_limits_in.ensures.read c.shm_limits_in.ensures.others in
-    let shm : c.in_ok-shm.shm ≡ drop 16 (limit_fields limits) = same_Some _ _ (sym c.in_ok-shm.was ∙ both.1) in
-    λ i. Some (limits_in (both.0 i) (shm i))
+pub returns : goal.returns
+returns c = λ i. record {
+  version = c.args.form.version;
+  journal = c.args.form.journal;
+  processes = c.limit_at.ensures i;
+  msgmni = c.limit_at-2.ensures i;
+  msgmax = c.limit_at-3.ensures i;
+  msgmnb = c.limit_at-4.ensures i;
+  semmni = c.limit_at-5.ensures i;
+  semmsl = c.limit_at-6.ensures i;
+  semmns = c.limit_at-7.ensures i;
+  semopm = c.limit_at-8.ensures i;
+  queues = c.limit_at-9.ensures i;
+  maxmsg = c.limit_at-10.ensures i;
+  msgsize = c.limit_at-11.ensures i;
+  named_semaphores = c.limit_at-12.ensures i;
+  segments = c.limit_at-13.ensures i;
+  segment_bytes = c.limit_at-14.ensures i;
+  call_bytes = c.limit_at-15.ensures i;
+  descriptors = c.limit_at-16.ensures i;
+  shmmni = c.limit_at-17.ensures i;
+  shmmax = c.limit_at-18.ensures i;
+  shmall = c.limit_at-19.ensures i;
+  msgqlen = c.limit_at-20.ensures i;
+  semume = c.limit_at-21.ensures i;
+  queue_bytes = c.limit_at-22.ensures i;
+}

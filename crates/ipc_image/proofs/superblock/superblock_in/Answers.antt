@@ -1,35 +1,36 @@
-use Rattle.std.proofs.Common.{◌≡◌, ℕ, Some, sym, subst, ◌∙◌, arith}
-use Rattle.std.proofs.lemmas.Option.{none-some, same_Some}
-use Rattle.ipc_base.specs.declared.limits.Limits.{Limits}
+use Rattle.std.proofs.Common.{◌≡◌, ℕ, List, Some, true, false, sym, subst, ◌∙◌, arith}
+use Rattle.ipc_limits.specs.declared.limits.Limits.{Limits}
+use Rattle.ipc_image.specs.declared.format.Format.{Format}
 use Rattle.ipc_image.specs.Superblock.{IsSuperblockIn}
-use Rattle.ipc_image.specs.declared.superblock.Superblock.{Superblock}
-use Rattle.ipc_image.proofs.Reading.{has_sectors}
+use Rattle.ipc_image.proofs.Reading.{has_limits, has_sectors}
 use Rattle.ipc_image.proofs.superblock.superblock_in.Goals as goal
+use Rattle.ipc_image.proofs.superblock.superblock_in.Goals.{then-found-sectors-via-then-found-sectors}
+use Rattle.ipc_image.proofs.superblock.superblock_in.Goals.{then-found-sectors-via-else-found-sectors+then-not-is_superblock}
 
-pub returns-then-named-sectors-clause-only : goal.returns-then-named-sectors-clause-only
-returns-then-named-sectors-clause-only c named limits within is =
-    let own : c.sectors_of-named.result ≡ named =
-    c.sectors_of-named.ensures ∙ has_sectors c.args.form c.requires.known named limits c.args.sector.now is (omega (arith, within)) in
-    absurd (omega (arith, own, within, c.if-named-sectors.true))
+-- a superblock by the numbers that are read
+read : (form : Format) (sector : List ℕ) (n sectors : ℕ) (l limits : Limits) → n ≡ sectors → l ≡ limits → IsSuperblockIn form sectors limits sector
+    → IsSuperblockIn form n l sector
+read form sector n sectors l limits count all is =
+    subst (λ (m : ℕ). IsSuperblockIn form m l sector) (sym count) (subst (λ (m : Limits). IsSuperblockIn form sectors m sector) (sym all) is)
 
-pub returns-in_err-limits-clause-only : goal.returns-in_err-limits-clause-only
-returns-in_err-limits-clause-only c named limits within is =
-    let own : c.sectors_of-named.result ≡ named =
-    c.sectors_of-named.ensures ∙ has_sectors c.args.form c.requires.known named limits c.args.sector.now is (omega (arith, within)) in
-    let here : IsSuperblockIn c.args.form c.sectors_of-named.result limits c.args.sector.now =
-    subst (λ (n : ℕ). IsSuperblockIn c.args.form n limits c.args.sector.now) (sym own) is in
-    absurd (none-some limits (c.in_err-limits.ensures.only limits here))
-
--- what was found, by its two parts
-found : (n named : ℕ) (l limits : Limits) → n ≡ named → l ≡ limits
-    → Some (let s : Superblock = record { sectors = n; limits = l } in s) ≡ Some (record { sectors = named; limits = limits })
-found n named l limits sectors same = λ i. Some (record { sectors = sectors i; limits = same i })
+pub returns-then-found-sectors-clause-only : goal.returns-then-found-sectors-clause-only
+returns-then-found-sectors-clause-only c named limits within is =
+    let form : Format = c.args.form in
+    let sector : List ℕ = c.args.sector.now in
+    let count = c.number_at.ensures ∙ has_sectors form c.requires.known named limits sector is (omega (arith, within)) in
+    absurd (elim c.then-found-sectors.branch [
+      | then-found-sectors-via-then-found-sectors w ↦ omega (arith, count, within, w.if-found-sectors.true)
+      | then-found-sectors-via-else-found-sectors+then-not-is_superblock w ↦
+          let all = c.limits_in.ensures ∙ has_limits form c.requires.known named limits sector is in
+          let yes = w.is_superblock.ensures.1 (read form sector _ named _ limits count all is) in
+          let no : true ≡ false = sym yes ∙ w.if-not-is_superblock.true in
+          cc
+    ])
 
 pub returns-clause-only : goal.returns-clause-only
 returns-clause-only c named limits within is =
-    let own : c.sectors_of-named.result ≡ named =
-    c.sectors_of-named.ensures ∙ has_sectors c.args.form c.requires.known named limits c.args.sector.now is (omega (arith, within)) in
-    let here : IsSuperblockIn c.args.form c.sectors_of-named.result limits c.args.sector.now =
-    subst (λ (n : ℕ). IsSuperblockIn c.args.form n limits c.args.sector.now) (sym own) is in
-    found c.sectors_of-named.result named c.in_ok-limits.limits limits own
-    (same_Some c.in_ok-limits.limits limits (c.in_ok-limits.ensures.only limits here))
+    let form : Format = c.args.form in
+    let sector : List ℕ = c.args.sector.now in
+    let count = c.number_at.ensures ∙ has_sectors form c.requires.known named limits sector is (omega (arith, within)) in
+    let all = c.limits_in.ensures ∙ has_limits form c.requires.known named limits sector is in
+    λ i. Some (record { sectors = count i; limits = all i })

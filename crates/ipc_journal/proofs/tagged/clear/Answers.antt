@@ -58,9 +58,9 @@ module _ (g : Over) (c : After-clear_sector g) (honest : IsHonest (g.D.SectorDis
       (λ out. ⊎_elim (λ low. absurd (omega (arith, low))) (λ high. absurd (omega (arith, high))) out) call
 
 pub returns-in_err-found-clause-any_moment : goal.returns-in_err-found-clause-any_moment
-returns-in_err-found-clause-any_moment g c = λ batches honest at count here.
+returns-in_err-found-clause-any_moment g c = λ batches later honest at count here.
     let m = (goal.at.returns-in_err-found-clause-any_moment g c).After-clear_sector in
-    holds c.args.range c.args.epoch c.args.used batches _ _ c.requires.later at here (images g m honest)
+    holds c.args.range c.args.epoch c.args.used batches _ _ later at here (images g m honest)
 
 pub returns-in_err-found-clause-others : goal.returns-in_err-found-clause-others
 returns-in_err-found-clause-others g c = λ honest. others g (goal.at.returns-in_err-found-clause-others g c).After-clear_sector honest
@@ -71,13 +71,13 @@ loop-i-preserved g c =
     let so_far = c.loop-i.invariant in
     let new = g.D.SectorDisk.medium c.clear_sector.new.disk in
     record {
-      older = λ honest k low high. elim (cases_lt k c.loop-i.i) [
+      older = λ later honest k low high. elim (cases_lt k c.loop-i.i) [
         | inl lt ↦ older-still _ _ (c.args.range.first + c.loop-i.i) (c.args.range.first + k) c.args.epoch (replicate 512 0) (omega (arith, lt))
-            ((call g m honest).contents (then g m honest)) (so_far.older honest k low lt)
+            ((call g m honest).contents (then g m honest)) (so_far.older later honest k low lt)
         | inr le ↦
             let is : k ≡ c.loop-i.i = omega (arith, le, high) in
             subst (λ (n : ℕ). epoch_in (sector_at new.contents (c.args.range.first + n)) < c.args.epoch) (sym is)
-            (c.in_ok-found.ensures.older (then g m honest))
+            (c.in_ok-found.ensures.older later (then g m honest))
       ];
       images = λ honest. images g m honest;
       others = λ honest. others g m honest;
@@ -97,32 +97,33 @@ loop-i-preserved g c =
           or_from c.loop-i.found c.in_ok-found.field-0 none (c.in_ok-found.ensures.exact (then g m honest)
           (subst (λ (image : Image). epoch_in (sector_at image (c.args.range.first + c.loop-i.i)) < c.args.epoch)
           (sym ((so_far.kept none honest).contents honest)) (clear c.loop-i.i (omega arith) (omega arith))));
+      begun = λ at. absurd (omega (arith, at));
     }
 
 pub returns-in_err-sync-clause-any_moment : goal.returns-in_err-sync-clause-any_moment
-returns-in_err-sync-clause-any_moment g c = λ batches honest at count here.
-    holds c.args.range c.args.epoch c.args.used batches _ _ c.requires.later at here
+returns-in_err-sync-clause-any_moment g c = λ batches later honest at count here.
+    holds c.args.range c.args.epoch c.args.used batches _ _ later at here
     (EachImageSince-sync _ _ _ _ (c.loop-i.invariant.images honest) (c.loop-i.invariant.honest.0 honest) c.sync.ensures.medium)
 
 pub returns-clause-any_moment : goal.returns-clause-any_moment
-returns-clause-any_moment g c = λ batches honest at count here.
-    holds c.args.range c.args.epoch c.args.used batches _ _ c.requires.later at here
+returns-clause-any_moment g c = λ batches later honest at count here.
+    holds c.args.range c.args.epoch c.args.used batches _ _ later at here
     (EachImageSince-sync _ _ _ _ (c.loop-i.invariant.images honest) (c.loop-i.invariant.honest.0 honest) c.sync.ensures.medium)
 
 pub returns-clause-cleared : goal.returns-clause-cleared
-returns-clause-cleared g c = λ batches honest durable at count here.
+returns-clause-cleared g c = λ batches later honest durable at count here.
     let range = c.args.range in
     let epoch = c.args.epoch in
     let old = g.D.SectorDisk.medium c.args.disk.now in
     let mid = g.D.SectorDisk.medium c.loop-i.disk in
     let new = g.D.SectorDisk.medium c.sync.new.self in
     let then = c.loop-i.invariant.honest.0 honest in
-    let run = holds range epoch c.args.used batches old mid c.requires.later at
+    let run = holds range epoch c.args.used batches old mid later at
     (λ image now. subst (Holds Tagged range epoch batches) (sym (durable image now)) here) (c.loop-i.invariant.images honest) in
     let one : (image : Image) → new.images_now image → mid.contents ≡ image = λ image now.
     sym (c.in_ok-sync.ensures.durable image now ∙ c.sync.ensures.medium.contents then) in
     let clear : IsClear Tagged range epoch (sectors_of Tagged batches) mid.contents = λ i low high.
-    c.loop-i.invariant.older honest i (omega (arith, at, low)) (omega (arith, high)) in
+    c.loop-i.invariant.older later honest i (omega (arith, at, low)) (omega (arith, high)) in
     record {
       honest = c.sync.ensures.medium.time.honest.0 then;
       images = λ image now. EachImageSince-now old mid _ run then image (c.sync.ensures.medium.images image now);

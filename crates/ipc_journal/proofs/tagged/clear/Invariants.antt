@@ -13,7 +13,7 @@ use Rattle.ipc_journal.proofs.tagged.clear.Given as goal
 
 abbrev pub invariant-loop-i : goal.invariant-loop-i
 invariant-loop-i g l = record {
-  older : IsHonest (g.D.SectorDisk.medium l.initial.disk) → (k : ℕ) → l.used ≤ k → k < l.i
+  older : 0 < l.epoch → IsHonest (g.D.SectorDisk.medium l.initial.disk) → (k : ℕ) → l.used ≤ k → k < l.i
       → epoch_in (sector_at (g.D.SectorDisk.medium l.disk).contents (l.range.first + k)) < l.epoch;
   images : IsHonest (g.D.SectorDisk.medium l.initial.disk)
       → EachImageSince (g.D.SectorDisk.medium l.initial.disk) (g.D.SectorDisk.medium l.disk)
@@ -30,4 +30,5 @@ invariant-loop-i g l = record {
   quiet : l.found ≡ false → g.D.SectorDisk.counts l.disk ≡ g.D.SectorDisk.counts l.initial.disk;
   clear : IsHonest (g.D.SectorDisk.medium l.initial.disk)
       → IsClear Tagged l.range l.epoch l.used (g.D.SectorDisk.medium l.initial.disk).contents → l.found ≡ false;
+  begun : l.i ≡ l.used → (l.found ≡ false) × (l.disk ≡ l.initial.disk);
 }

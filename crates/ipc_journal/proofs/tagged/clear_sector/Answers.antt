@@ -35,7 +35,7 @@ unfolding epoch_in
 read-epoch image at sector found read is = ap (λ (s : List ℕ). big_number 8 s) (get_or_from_slice_get image at sector [] read) ∙ sym is
 
 pub returns-then-read_u64-epoch-clause-older : goal.returns-then-read_u64-epoch-clause-older
-returns-then-read_u64-epoch-clause-older g c = λ honest.
+returns-then-read_u64-epoch-clause-older g c = λ later honest.
     let is = read-epoch _ c.args.at _ _ (c.in_ok-read.ensures.bytes honest) c.read_u64.ensures in
     omega (arith, is, ap (λ (image : Image). epoch_in (sector_at image c.args.at)) (c.read.ensures.medium.contents honest), c.if-read_u64-epoch.true)
 
@@ -44,14 +44,14 @@ returns-in_err-write-clause-medium g c = λ honest.
     writes-then c.args.at (replicate 512 0) _ _ _ honest c.read.ensures.medium c.write.ensures.medium
 
 pub returns-clause-older : goal.returns-clause-older
-returns-clause-older g c = λ honest.
+returns-clause-older g c = λ later honest.
     let mid = g.D.SectorDisk.medium c.read.new.self in
     let then = c.read.ensures.medium.time.honest.0 honest in
     let long = (g.met.D.SectorDisk.shaped c.read.new.self mid.contents then.reads).count in
     let set = c.in_ok-write.ensures.written then in
     let zeros = ap (λ (image : Image). sector_at image c.args.at) set
     ∙ sector_at-set_same mid.contents c.args.at (replicate 512 0) (omega (arith, long, c.read.ensures.call.sectors, c.requires.within)) in
-    omega (arith, ap epoch_in zeros, epoch_in-zeros, c.requires.later)
+    omega (arith, ap epoch_in zeros, epoch_in-zeros, later)
 
 pub returns-clause-medium : goal.returns-clause-medium
 returns-clause-medium g c = λ honest.

@@ -3,7 +3,8 @@ use Rattle.std.proofs.Common.{ℕ, ◌⊎◌, ◌<◌, ◌^◌, ◌∙◌, inl, 
 use Rattle.std.proofs.lemmas.Result.{on_ok_weaker}
 use Rattle.ipc_disk.specs.Medium.{Image}
 use Rattle.ipc_disk.proofs.CallerLemmas.{EachImageSince-set}
-use Rattle.ipc_image.specs.Superblock.{IsSuperblock}
+use Rattle.ipc_image.specs.Format.{device_form}
+use Rattle.ipc_image.specs.Superblock.{IsSuperblockIn}
 use Rattle.ipc_store.specs.Image.{NamesAll, StandsFor}
 use Rattle.ipc_store.proofs.Formatting.{becomes-device, names-all}
 use Rattle.ipc_store.proofs.format.put_superblock.Given.{Over}
@@ -11,9 +12,9 @@ use Rattle.ipc_store.proofs.format.put_superblock.Goals as goal
 
 -- the superblock of an image of now
 the_superblock : (g : Over) (c : goal.After-put_durably g) (image : Image) → (g.D.SectorDisk.medium c.args.disk.now).images_now image
-    → IsSuperblock (length image) c.args.limits.now c.superblock_of-sector.result
+    → IsSuperblockIn (device_form c.args.limits.now) (length image) c.args.limits.now c.superblock_of-sector.result
 the_superblock g c image now =
-    subst (λ (n : ℕ). IsSuperblock n c.args.limits.now c.superblock_of-sector.result)
+    subst (λ (n : ℕ). IsSuperblockIn (device_form c.args.limits.now) n c.args.limits.now c.superblock_of-sector.result)
     (c.sectors.ensures ∙ sym (g.met.D.SectorDisk.shaped c.args.disk.now image now).count) c.superblock_of-sector.ensures
 
 -- its sectors can be counted in four bytes

@@ -3,4 +3,4 @@ use Rattle.ipc_store.proofs.Meanwhile.{read-stands}
 use Rattle.ipc_store.proofs.laws.a_look_is_of_one_image.Goals as goal
 
 pub returns : goal.returns
-returns c = λ limits was s first seen read began stands is. read-stands first seen read is limits was s began stands
+returns c = λ limits was s first seen read headed began stands is. read-stands first seen read is limits was s headed began stands

@@ -17,6 +17,7 @@ use Rattle.ipc_journal.specs.Reader.{place_of, before_of, form_read, range_read,
 use Rattle.ipc_state.specs.State.{State}
 use Rattle.ipc_engine.specs.Event.{PlainEvent}
 use Rattle.ipc_store.specs.Batch.{batch_bytes}
+use Rattle.ipc_image.specs.declared.format.Format.{Format}
 use Rattle.ipc_store.specs.Image.{journal_form, journal_range}
 use Rattle.ipc_store.specs.View.{of_journal_error}
 use Rattle.ipc_store.specs.Relations.Replay.{AreRecords}
@@ -46,19 +47,19 @@ loop-len-init g c = record {
   of = record { form_is = refl; range_is = refl; epoch_is = refl };
   limits = refl;
   tracked = λ base is. is;
-  replayed = λ honest epoch is read. replayed_none (length c.args.room.now) c.args.engine.now.limits c.args.engine.now.state epoch
+  replayed = λ honest d epoch is read. replayed_none d (length c.args.room.now) c.args.engine.now.limits c.args.engine.now.state epoch
       (g.D.SectorDisk.medium c.args.disk.now).contents c.args.reader.now is read;
   reads = OnlyReads-start c.args.disk.now;
 }
 
 -- what was read is the next batch
-found_there : (g : Over) (c : In_ok-go_through g) → IsHonest (g.D.SectorDisk.medium c.args.disk.now) → (epoch : ℕ)
-    → IsReaderOf journal_form journal_range epoch c.args.reader.now → HasRead c.args.reader.now [] (g.D.SectorDisk.medium c.args.disk.now).contents
-    → Found (length c.args.room.now) epoch (g.D.SectorDisk.medium c.args.disk.now).contents (place_of c.loop-len.reader) (before_of c.loop-len.reader)
+found_there : (g : Over) (c : In_ok-go_through g) → IsHonest (g.D.SectorDisk.medium c.args.disk.now) → (d : Format) (epoch : ℕ)
+    → IsReaderOf (journal_form d) (journal_range d) epoch c.args.reader.now → HasRead c.args.reader.now [] (g.D.SectorDisk.medium c.args.disk.now).contents
+    → Found d (length c.args.room.now) epoch (g.D.SectorDisk.medium c.args.disk.now).contents (place_of c.loop-len.reader) (before_of c.loop-len.reader)
     (take c.in-Some.len c.next_batch.new.into)
-found_there g c honest epoch of read =
+found_there g c honest d epoch of read =
     let inv = c.loop-len.invariant in
-    let replayed = inv.replayed honest epoch of read in
+    let replayed = inv.replayed honest d epoch of read in
     let e = c.in_ok-len.ensures in
     let len = c.in-Some.len in
     let room : List ℕ = c.next_batch.new.into in
@@ -69,7 +70,7 @@ found_there g c honest epoch of read =
     let now = subst (HasRead c.loop-len.reader (map batch_bytes replayed.so_far.0)) (sym contents) replayed.so_far.2 in
     let long : length bytes ≡ len = length-take-le len room (omega (arith, e.fits len c.in-Some.is, c.next_batch.auto.into)) in
     record {
-      next = as-journal (λ (f : Form) (r : Range) (n : ℕ). IsNext f r n (place_of c.loop-len.reader) (before_of c.loop-len.reader) bytes image)
+      next = as-journal d (λ (f : Form) (r : Range) (n : ℕ). IsNext f r n (place_of c.loop-len.reader) (before_of c.loop-len.reader) bytes image)
           epoch c.loop-len.reader replayed.of
           (subst
           (λ (i : Image). IsNext (form_read c.loop-len.reader) (range_read c.loop-len.reader) (epoch_read c.loop-len.reader)
@@ -89,29 +90,29 @@ only_there g c events to are =
     (sym (records_slice c.in-Some.len c.next_batch.new.into (c.in_ok-len.ensures.least c.in-Some.len c.in-Some.is))) are)
 
 -- the sector that the reader names
-sector_is : (reader : Reader) (epoch : ℕ) → IsReaderOf journal_form journal_range epoch reader → (sector : ℕ)
-    → sector ≡ sector_of (form_read reader) (range_read reader) (place_of reader) → sector ≡ sector_of journal_form journal_range (place_of reader)
-sector_is reader epoch of sector is =
+sector_is : (d : Format) (reader : Reader) (epoch : ℕ) → IsReaderOf (journal_form d) (journal_range d) epoch reader → (sector : ℕ)
+    → sector ≡ sector_of (form_read reader) (range_read reader) (place_of reader) → sector ≡ sector_of (journal_form d) (journal_range d) (place_of reader)
+sector_is d reader epoch of sector is =
     is ∙ ap (λ (f : Form). sector_of f (range_read reader) (place_of reader)) of.form_is
-    ∙ ap (λ (r : Range). sector_of journal_form r (place_of reader)) of.range_is
+    ∙ ap (λ (r : Range). sector_of (journal_form d) r (place_of reader)) of.range_is
 
 pub returns-in_err-len-clause-refused : goal.returns-in_err-len-clause-refused
 returns-in_err-len-clause-refused g c =
     passed _ c.from_residual.result (of_journal_error c.in_err-len.field-0.0) c.from_residual.ensures.1
     (opened-damage c.in_err-len.field-0.0 _
-    (λ sector is honest epoch of read.
+    (λ sector is honest d epoch of read.
     let inv = c.loop-len.invariant in
     let reader = c.loop-len.reader in
     let image : Image = (g.D.SectorDisk.medium c.args.disk.now).contents in
     let calls = inv.reads.stays honest in
     let contents = calls.contents honest in
-    let replayed = inv.replayed honest epoch of read in
+    let replayed = inv.replayed honest d epoch of read in
     let was = ap (λ (x : JournalError). Err x) is in
     let now = subst (HasRead reader (map batch_bytes replayed.so_far.0)) (sym contents) replayed.so_far.2 in
     let bad = c.in_err-len.ensures.damaged sector was (calls.time.honest.0 honest) (map batch_bytes replayed.so_far.0) now in
-    replayed_damaged (length c.args.room.now) c.requires.room c.args.engine.now.limits c.args.engine.now.state epoch image reader
+    replayed_damaged d (length c.args.room.now) c.requires.room c.args.engine.now.limits c.args.engine.now.state epoch image reader
     c.loop-len.engine.state replayed
-    (as-journal (λ (f : Form) (r : Range) (n : ℕ). HasLater f r n (place_of reader) image
+    (as-journal d (λ (f : Form) (r : Range) (n : ℕ). HasLater f r n (place_of reader) image
     ⊎ (HasMore f r n (place_of reader) (before_of reader) image
     × HasNone f r n (place_of reader) (before_of reader) (length c.args.room.now) image)) epoch reader replayed.of
     (subst
@@ -126,7 +127,7 @@ returns-in_err-len-clause-refused g c =
     × HasNone (form_read reader) (range_read reader) (epoch_read reader) (place_of reader) (before_of reader) k
     (g.D.SectorDisk.medium c.loop-len.disk).contents))
     inv.room bad)))
-    sector (sector_is reader epoch replayed.of sector (c.in_err-len.ensures.named sector was))))
+    sector (sector_is d reader epoch replayed.of sector (c.in_err-len.ensures.named sector was))))
 
 pub returns-in_err-len-clause-reads : goal.returns-in_err-len-clause-reads
 returns-in_err-len-clause-reads g c =
@@ -134,19 +135,19 @@ returns-in_err-len-clause-reads g c =
     OnlyReads-as device.0 device.1 (reads_on g (goal.at.returns-in_err-len-clause-reads g c).After-next_batch)
 
 pub returns-in_default-clause-replays : goal.returns-in_default-clause-replays
-returns-in_default-clause-replays g c = λ honest epoch of read.
+returns-in_default-clause-replays g c = λ honest d epoch of read.
     let inv = c.loop-len.invariant in
     let reader = c.loop-len.reader in
     let image : Image = (g.D.SectorDisk.medium c.args.disk.now).contents in
     let calls = inv.reads.stays honest in
     let contents = calls.contents honest in
-    let replayed = inv.replayed honest epoch of read in
+    let replayed = inv.replayed honest d epoch of read in
     let now = subst (HasRead reader (map batch_bytes replayed.so_far.0)) (sym contents) replayed.so_far.2 in
     let none = c.in_ok-len.was ∙ ap Ok c.in_default.is in
     let end = c.next_batch.ensures.ended none (calls.time.honest.0 honest) (map batch_bytes replayed.so_far.0) now in
-    let all = replayed_all (length c.args.room.now) c.requires.room c.args.engine.now.limits c.args.engine.now.state epoch image reader
+    let all = replayed_all d (length c.args.room.now) c.requires.room c.args.engine.now.limits c.args.engine.now.state epoch image reader
     c.loop-len.engine.state replayed
-    (as-journal (λ (f : Form) (r : Range) (n : ℕ). EndsAt f r n (place_of reader) (before_of reader) image) epoch reader replayed.of
+    (as-journal d (λ (f : Form) (r : Range) (n : ℕ). EndsAt f r n (place_of reader) (before_of reader) image) epoch reader replayed.of
     (subst (λ (i : Image). EndsAt (form_read reader) (range_read reader) (epoch_read reader) (place_of reader) (before_of reader) i) contents end)) in
     (all.0, all.1, subst (λ (r : Reader). HasRead r (map batch_bytes all.0) image) (sym (c.next_batch.ensures.none none)) all.2)
 
@@ -160,12 +161,12 @@ returns-in_err-go_through-clause-reads g c =
     (reads_well g (goal.at.returns-in_err-go_through-clause-reads g c).After-next_batch c.in_ok-len.field-0 c.in_ok-len.was)
 
 pub returns-then-not-branch-clause-refused : goal.returns-then-not-branch-clause-refused
-returns-then-not-branch-clause-refused g c = λ honest epoch of read.
+returns-then-not-branch-clause-refused g c = λ honest d epoch of read.
     let here = (goal.at.returns-then-not-branch-clause-refused g c).In_ok-go_through in
-    let replayed = c.loop-len.invariant.replayed honest epoch of read in
-    replayed_refused (length c.args.room.now) c.requires.room _ _ epoch _ c.loop-len.reader _ replayed _ (found_there g here honest epoch of read)
+    let replayed = c.loop-len.invariant.replayed honest d epoch of read in
+    replayed_refused d (length c.args.room.now) c.requires.room _ _ epoch _ c.loop-len.reader _ replayed _ (found_there g here honest d epoch of read)
     (λ es t are. false≢true (sym c.if-not-branch.true ∙ (only_there g here es t are).0)) _
-    (sector_is c.loop-len.reader epoch replayed.of _ c.sector-sector.ensures)
+    (sector_is d c.loop-len.reader epoch replayed.of _ c.sector-sector.ensures)
 
 pub returns-then-not-branch-clause-reads : goal.returns-then-not-branch-clause-reads
 returns-then-not-branch-clause-reads g c =
@@ -196,18 +197,18 @@ loop-len-preserved g c =
       of = of_next _ _ _ inv.of;
       limits = c.in_ok-go_through.ensures.limits ∙ inv.limits;
       tracked = λ base is. c.go_through.ensures.tracked base (inv.tracked base is);
-      replayed = λ honest epoch of read.
+      replayed = λ honest d epoch of read.
           let image : Image = (g.D.SectorDisk.medium c.args.disk.now).contents in
           let calls = inv.reads.stays honest in
           let contents = calls.contents honest in
-          let replayed = inv.replayed honest epoch of read in
+          let replayed = inv.replayed honest d epoch of read in
           let now = subst (HasRead old (map batch_bytes replayed.so_far.0)) (sym contents) replayed.so_far.2 in
-          replayed_more (length c.args.room.now) c.requires.room _ _ epoch image old s replayed (take len room) (found_there g here honest epoch of read)
+          replayed_more d (length c.args.room.now) c.requires.room _ _ epoch image old s replayed (take len room) (found_there g here honest d epoch of read)
           new (of_next _ _ _ replayed.of)
           (subst (HasRead new (map batch_bytes replayed.so_far.0 ++ take len room ∷ [])) contents
           (e.more len c.in-Some.is (calls.time.honest.0 honest) (map batch_bytes replayed.so_far.0) now))
           (e.passes len c.in-Some.is ∙ ap (λ (f : Form). place_of old + sectors_in f len) replayed.of.form_is
-          ∙ ap (λ (n : ℕ). place_of old + sectors_in journal_form n) (sym size))
+          ∙ ap (λ (n : ℕ). place_of old + sectors_in (journal_form d) n) (sym size))
           (e.counts len c.in-Some.is) events.0 t are (λ es to good. (only_there g here es to good).1);
       reads = reads_well g (goal.at.loop-len-preserved g c).After-next_batch c.in_ok-len.field-0 c.in_ok-len.was;
     }

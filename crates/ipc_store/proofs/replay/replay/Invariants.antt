@@ -5,6 +5,7 @@ use Rattle.ipc_disk.specs.Medium.{IsHonest}
 use Rattle.ipc_journal.specs.Reader.{place_of, form_read, range_read, epoch_read, HasRead, IsReaderOf}
 use Rattle.ipc_state.specs.State.{State}
 use Rattle.ipc_engine.specs.Changes.{IsTracked}
+use Rattle.ipc_image.specs.declared.format.Format.{Format}
 use Rattle.ipc_store.specs.Image.{journal_form, journal_range}
 use Rattle.ipc_store.proofs.Replaying.{Replayed}
 use Rattle.ipc_store.proofs.replay.replay.Given as goal
@@ -17,9 +18,9 @@ invariant-loop-len g l =
       of : IsReaderOf (form_read l.fn.reader) (range_read l.fn.reader) (epoch_read l.fn.reader) l.reader;
       limits : l.engine.limits ≡ l.fn.engine.limits;
       tracked : (base : State) → IsTracked l.fn.engine.changed base l.fn.engine.state → IsTracked l.engine.changed base l.engine.state;
-      replayed : IsHonest (medium l.fn.disk) → (epoch : ℕ) → IsReaderOf journal_form journal_range epoch l.fn.reader
+      replayed : IsHonest (medium l.fn.disk) → (d : Format) (epoch : ℕ) → IsReaderOf (journal_form d) (journal_range d) epoch l.fn.reader
           → HasRead l.fn.reader [] (medium l.fn.disk).contents
-          → Replayed (length l.fn.room) l.fn.engine.limits l.fn.engine.state epoch (medium l.fn.disk).contents l.reader l.engine.state;
+          → Replayed d (length l.fn.room) l.fn.engine.limits l.fn.engine.state epoch (medium l.fn.disk).contents l.reader l.engine.state;
       reads : OnlyReads g.D.SectorDisk.size medium g.D.SectorDisk.counts ⊥ l.fn.disk l.disk;
     }
 

@@ -1,10 +1,14 @@
 -- What is read is what stood there before.
-use Rattle.std.proofs.Common.{ℕ, subst, ◌∙◌, arith}
-use Rattle.ipc_base.specs.declared.limits.Limits.{Limits}
+use Rattle.std.proofs.Common.{◌≡◌, ◌≤◌, Err, inl, ℕ, refl, ap, subst, ◌∙◌, arith}
+use Rattle.std.proofs.lemmas.Result.{err_from_is_err_and}
+use Rattle.ipc_limits.specs.declared.limits.Limits.{Limits}
 use Rattle.ipc_disk.specs.Medium.{Image, IsHonest}
-use Rattle.ipc_disk.proofs.CallerLemmas.{OnlyReads-as, OnlyReads-ok}
+use Rattle.ipc_disk.proofs.CallerLemmas.{IsSameDisk-call, OnlyReads-as, OnlyReads-ok}
 use Rattle.ipc_store.specs.Relations.Loading.{IsSuperblockRefusal, OnlySyncs}
+use Rattle.ipc_image.specs.declared.format.Format.{Format}
 use Rattle.ipc_image.specs.Format.{format_one}
+use Rattle.ipc_image.specs.Sizes.{need_in}
+use Rattle.ipc_store.specs.Image.{named_sectors, IsDeviceIn}
 use Rattle.ipc_store.specs.Relations.Upgrade.{IsNamed, IsRoomRefusal}
 use Rattle.ipc_store.specs.View.{of_open_error}
 use Rattle.ipc_store.specs.declared.fault.UpgradeError.TheVariants as errors
@@ -22,11 +26,24 @@ syncs g c =
     OnlySyncs-then (OnlySyncs-call c.in_ok-sync.ensures.call c.sync.ensures.medium)
     (OnlyReads-ok (ok-device _) c.in_ok-superblock.ensures.reads)
 
+-- it is one of version 1
+is-one : (g : Over) (c : In_ok-superblock g) → c.in_ok-superblock.field-0-0 ≡ format_one
+is-one g c = c.in_ok-superblock.ensures.old refl
+
 device : (g : Over) (c : In_ok-superblock g) → IsHonest (g.D.SectorDisk.medium c.args.disk.now)
     → IsNamed c.in_ok-superblock.superblock (g.D.SectorDisk.medium c.args.disk.now).contents
 device g c honest =
-    subst (IsNamed c.in_ok-superblock.superblock) (c.sync.ensures.medium.contents honest)
-    (c.in_ok-superblock.ensures.device (c.sync.ensures.medium.time.honest.0 honest))
+    let superblock = c.in_ok-superblock.superblock in
+    let image : Image = (g.D.SectorDisk.medium c.sync.new.self).contents in
+    subst (IsNamed superblock) (c.sync.ensures.medium.contents honest)
+    (subst (λ (f : Format). IsDeviceIn f superblock.limits image × (superblock.sectors ≡ named_sectors image)) (is-one g c)
+    (c.in_ok-superblock.ensures.device (c.sync.ensures.medium.time.honest.0 honest)))
+
+pub returns-clause-own_room : goal.returns-clause-own_room
+returns-clause-own_room g c =
+    let superblock = c.in_ok-superblock.superblock in
+    subst (λ (f : Format). need_in f superblock.limits ≤ superblock.sectors) (is-one g (goal.at.returns-clause-own_room g c).In_ok-superblock)
+    c.in_ok-superblock.ensures.room
 
 pub returns-clause-device : goal.returns-clause-device
 returns-clause-device g c = device g (goal.at.returns-clause-device g c).In_ok-superblock
@@ -69,10 +86,21 @@ pub returns-in_err-test_room-clause-small : goal.returns-in_err-test_room-clause
 returns-in_err-test_room-clause-small g c = λ need is.
     let e = passed_on c.from_residual-in_err-test_room.result c.in_err-test_room.field-0.0 (errors.TooSmall need)
     c.from_residual-in_err-test_room.ensures.1 is in
-    let small = small-room c.args.limits.now _ _ c.in_err-test_room.field-0.0 need e c.in_err-test_room.ensures.refused in
+    let small = small-room c.args.limits.now c.in_ok-superblock.superblock.limits _ c.in_err-test_room.field-0.0 need e c.in_err-test_room.ensures.refused in
     (small.0, omega (arith, small.1, c.sectors.ensures, c.load_superblock.ensures.reads.same.sectors, c.sync.ensures.call.sectors))
 
 -- ---- what was done on the disk
+
+pub returns-in_err-sync-clause-reads : goal.returns-in_err-sync-clause-reads
+returns-in_err-sync-clause-reads g c =
+    let q = err_from_is_err_and c.from_residual.result c.from_residual.ensures.1 in
+    record {
+      same = IsSameDisk-call c.in_err-sync.ensures.call c.sync.ensures.medium.time;
+      stays = λ honest. c.sync.ensures.medium;
+      writes = ap (λ n. n.writes) c.in_err-sync.ensures.call.err;
+      failure = λ bad. ap (λ n. n.failures) c.in_err-sync.ensures.call.err;
+      no_failure = inl (q.1 ∙ ap Err q.2);
+    }
 
 pub returns-in_err-superblock-clause-reads : goal.returns-in_err-superblock-clause-reads
 returns-in_err-superblock-clause-reads g c =
@@ -84,7 +112,7 @@ returns-in_err-superblock-clause-reads g c =
 pub returns-in_err-test_room-clause-reads : goal.returns-in_err-test_room-clause-reads
 returns-in_err-test_room-clause-reads g c =
     OnlySyncs-never
-    (λ is. no-device c.args.limits.now _ _ c.in_err-test_room.field-0.0
+    (λ is. no-device c.args.limits.now c.in_ok-superblock.superblock.limits _ c.in_err-test_room.field-0.0
     (passed_on c.from_residual-in_err-test_room.result c.in_err-test_room.field-0.0 errors.Device c.from_residual-in_err-test_room.ensures.1 is)
     c.in_err-test_room.ensures.refused)
     (syncs g (goal.at.returns-in_err-test_room-clause-reads g c).In_ok-superblock)

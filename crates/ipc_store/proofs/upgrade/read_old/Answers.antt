@@ -1,9 +1,14 @@
 -- The limits, and then the state.
-use Rattle.std.proofs.Common.{Err, sym, ap, subst}
+use Rattle.std.proofs.Common.{◌≡◌, Err, sym, ap, subst}
+use Rattle.ipc_limits.specs.declared.limits.Limits.{Limits}
+use Rattle.ipc_limits.specs.Limits.{AreWithin}
 use Rattle.ipc_disk.specs.Medium.{Image, IsHonest, IsDurable, Stays}
 use Rattle.ipc_disk.proofs.CallerLemmas.{OnlyReads-as, OnlyReads-ok}
+use Rattle.ipc_image.specs.Format.{format}
 use Rattle.ipc_image.specs.Greater.{AreAtLeast}
+use Rattle.ipc_image.specs.Superblock.{AreOf}
 use Rattle.ipc_image.proofs.CallerLemmas.{last-of}
+use Rattle.ipc_store.specs.Image.{as_of}
 use Rattle.ipc_store.specs.Refusals.{IsOldDamage}
 use Rattle.ipc_store.specs.Relations.Loading.{OnlySyncs}
 use Rattle.ipc_store.specs.Relations.Upgrade.{IsNamed}
@@ -30,14 +35,18 @@ module _ (g : Over) (c : In_ok-superblock g) (honest : IsHonest (g.D.SectorDisk.
   named-then : IsNamed c.in_ok-superblock.superblock (g.D.SectorDisk.medium c.read_limits.new.disk).contents
   named-then = subst (IsNamed c.in_ok-superblock.superblock) (sym (reads-limits.contents honest)) (c.in_ok-superblock.ensures.device honest)
 
+-- limits of version 2 that pass
+are-of : (limits : Limits) → limits ≡ as_of format limits → AreWithin format.most limits → AreOf format limits
+are-of limits own within = last-of limits (ap (λ (l : Limits). l.version) own) (ap (λ (l : Limits). l.journal) own) within
+
 pub read_limits-requires : goal.read_limits-requires
-read_limits-requires g c = last-of c.args.limits.now c.in_ok-check.ensures.ok
+read_limits-requires g c = are-of c.args.limits.now c.requires c.in_ok-check.ensures.ok
 
 pub read_state-requires-clause-of : goal.read_state-requires-clause-of
-read_state-requires-clause-of g c = last-of c.args.limits.now c.in_ok-check.ensures.ok
+read_state-requires-clause-of g c = are-of c.args.limits.now c.requires c.in_ok-check.ensures.ok
 
 pub returns-clause-of : goal.returns-clause-of
-returns-clause-of g c = last-of c.args.limits.now c.in_ok-check.ensures.ok
+returns-clause-of g c = are-of c.args.limits.now c.requires c.in_ok-check.ensures.ok
 
 pub returns-in_err-found-clause-refused : goal.returns-in_err-found-clause-refused
 returns-in_err-found-clause-refused g c =
@@ -46,7 +55,7 @@ returns-in_err-found-clause-refused g c =
     (λ honest.
     let here = (goal.at.returns-in_err-found-clause-refused g c).In_ok-superblock in
     let image : Image = (g.D.SectorDisk.medium c.args.disk.now).contents in
-    damage-upgrade c.args.limits.now _ image (last-of c.args.limits.now c.in_ok-check.ensures.ok)
+    damage-upgrade c.args.limits.now _ image (are-of c.args.limits.now c.requires c.in_ok-check.ensures.ok)
     (record {
       own = c.in_ok-superblock.superblock.limits;
       device = (c.in_ok-superblock.ensures.device honest).0;

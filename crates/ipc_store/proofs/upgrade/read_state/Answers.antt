@@ -1,6 +1,6 @@
 -- What the objects are in version 1 they are seen from the whole disk.
 use Rattle.std.proofs.Common.{◌≡◌, inl, ℕ, ◌≤◌, ◌<◌, ◌^◌, List, length, refl, sym, ap, subst, ◌∙◌, arith}
-use Rattle.ipc_base.specs.declared.limits.Limits.{Limits}
+use Rattle.ipc_limits.specs.declared.limits.Limits.{Limits}
 use Rattle.ipc_base.specs.Objects.{PlainObjects, Fit}
 use Rattle.ipc_checkpoint.specs.declared.layout.Layout.{Layout}
 use Rattle.ipc_checkpoint.specs.Checkpoint.{Holds}
@@ -11,11 +11,11 @@ use Rattle.ipc_disk.specs.Calls.{OnlyReads}
 use Rattle.ipc_disk.specs.Medium.{Image, Medium, IsHonest, IsDurable, Stays}
 use Rattle.ipc_disk.proofs.CallerLemmas.{OnlyReads-as, OnlyReads-ok, OnlyReads-then}
 use Rattle.ipc_heap.proofs.CallerLemmas.{Holds-wider}
-use Rattle.ipc_state.specs.State.{State}
+use Rattle.ipc_state.specs.State.{State, restart}
 use Rattle.ipc_state.specs.declared.parked.Object.{Object}
 use Rattle.ipc_engine.specs.Changes.{IsTracked}
 use Rattle.ipc_engine.specs.Sound.{IsSound}
-use Rattle.ipc_image.specs.Format.{format_one}
+use Rattle.ipc_image.specs.Format.{format, format_one}
 use Rattle.ipc_image.specs.Saved.{StandForStateIn}
 use Rattle.ipc_image.specs.Sizes.{area_of}
 use Rattle.ipc_image.specs.declared.superblock.Superblock.{Superblock}
@@ -42,7 +42,7 @@ module _ (limits own : Limits) (superblock : Superblock) (size : ℕ) (image : I
   pub seen-from-all : (epoch : ℕ) (objects : PlainObjects) → Holds (layout_in format_one superblock.limits superblock.sectors) epoch objects image
       → Holds (whole_layout limits size) epoch objects image
   seen-from-all epoch objects =
-      Holds-wider (objects_range superblock.sectors) (objects_range size) format_one.root epoch objects image
+      Holds-wider (objects_range format_one superblock.sectors) (objects_range format size) format_one.root epoch objects image
       (λ i inside. (inside.0, omega (arith, inside.1, there)))
 
 -- what was loaded is there, on the disk as it was
@@ -229,7 +229,8 @@ returns-clause-sound g c =
     let limits : Limits = c.args.limits.now in
     let engine = c.go_through_journal.new.engine in
     let after = c.in_ok-go_through_journal.ensures.restarted in
-    sound-greater own limits engine.state (each-at-least limits own c.requires.greater) (ap (λ (s : State). s.wait) after.1 ∙ restart-waits after.0)
+    sound-greater own limits engine.state (each-at-least limits own c.requires.greater) c.requires.of.version
+    (ap (λ (s : State). s.wait) after.1 ∙ restart-waits c.in_ok-checkpoint.engine.limits after.0)
     (subst (λ (l : Limits). IsSound l engine.state) (c.go_through_journal.ensures.limits ∙ c.in_ok-checkpoint.ensures.limits)
     c.in_ok-go_through_journal.ensures.sound)
 
@@ -254,7 +255,7 @@ returns-clause-read g c = λ honest durable named.
     subst (HasOld own (epoch_of checkpoint) objects led.0) (sym (same ∙ same-wide g here honest durable named)) (record {
       device = named.0;
       there = there g here honest durable named;
-      journal = subst (HasBatches (epoch_of checkpoint) led.0) (same-wide g here honest durable named) led.1;
+      journal = subst (HasBatches format_one (epoch_of checkpoint) led.0) (same-wide g here honest durable named) led.1;
     }) in
     record {
       durable = stays-durable wide new honest-there stays durable-there;
@@ -266,7 +267,7 @@ returns-clause-read g c = λ honest durable named.
       stand = subst (λ (l : Limits). StandForStateIn format_one l base objects) (sym limits) (c.in_ok-checkpoint.ensures.base.1);
       leads = subst (λ (l : Limits). LeadToBy format_one.batch l base led.0 after.0) (sym (c.go_through_journal.ensures.limits)) led.2;
       saved = CheckpointMatches-stays checkpoint objects wide new stays (matches g here honest durable named);
-      restarted = after.1;
+      restarted = after.1 ∙ ap (λ (l : Limits). restart l after.0) (sym c.go_through_journal.ensures.limits);
       tracked = c.in_ok-go_through_journal.ensures.tracked base
           (subst (λ (marks : List Object). IsTracked marks base base) (sym c.in_ok-checkpoint.ensures.changed) (λ o off e is. is));
     }

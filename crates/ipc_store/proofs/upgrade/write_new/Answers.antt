@@ -1,7 +1,7 @@
 -- The new objects, and then the superblock.
-use Rattle.std.proofs.Common.{◌≡◌, ◌⊎◌, inl, inr, ⊎_elim, ℕ, ◌+◌, length, refl, sym, ap, subst, ◌∙◌, arith}
+use Rattle.std.proofs.Common.{◌≡◌, ◌⊎◌, inl, inr, ⊎_elim, ℕ, ◌+◌, ◌≤◌, length, refl, sym, ap, subst, ◌∙◌, arith}
 use Rattle.std.proofs.lemmas.Result.{on_ok_weaker}
-use Rattle.ipc_base.specs.declared.limits.Limits.{Limits}
+use Rattle.ipc_limits.specs.declared.limits.Limits.{Limits}
 use Rattle.ipc_base.specs.Objects.{Fit}
 use Rattle.ipc_checkpoint.specs.declared.layout.Layout.{Layout}
 use Rattle.ipc_checkpoint.specs.Checkpoint.{IsLaidOut, Holds}
@@ -11,8 +11,11 @@ use Rattle.ipc_disk.specs.Since.{EachImageSince}
 use Rattle.ipc_disk.proofs.CallerLemmas.{EachImageSince-join, EachImageSince-now, EachImageSince-weaken, IsSameDisk-then}
 use Rattle.ipc_image.specs.Format.{format, format_one}
 use Rattle.ipc_image.specs.Saved.{saved, StandForState}
-use Rattle.ipc_image.proofs.CallerLemmas.{last-known, saved-fits}
-use Rattle.ipc_store.specs.Image.{layout_of, StandsFor, StandsForIn}
+use Rattle.ipc_image.proofs.CallerLemmas.{last-known, last-opened, of-format, saved-fits}
+use Rattle.ipc_image.specs.declared.format.Format.{Format}
+use Rattle.ipc_image.specs.Sizes.{need_in}
+use Rattle.ipc_image.specs.Superblock.{AreOf}
+use Rattle.ipc_store.specs.Image.{layout_in, StandsFor, StandsForIn}
 use Rattle.ipc_store.specs.Relations.Format.{EachNow, IsPrepared}
 use Rattle.ipc_store.specs.Relations.Upgrade.{HasOld, IsReadOld}
 use Rattle.ipc_store.proofs.Formatting.{laid-out}
@@ -47,12 +50,13 @@ prepared g c old image now =
     (c.save_beside.ensures.any_moment old) honest image now in
     let size : length image ≡ g.D.SectorDisk.size c.args.disk.now =
     (g.met.D.SectorDisk.shaped c.save_beside.new.disk image now).count ∙ c.save_beside.ensures.same.sectors in
-    let layout : layout_under format.root c.args.checkpoint ≡ layout_of limits (length image) =
-    ap with_new_root c.requires.layout ∙ ap (layout_of limits) (sym size) in
+    let layout : layout_under format.root c.args.checkpoint ≡ layout_in format limits (length image) =
+    ap with_new_root c.requires.layout ∙ ap (layout_in format limits) (sym size) in
     let own = c.save_beside.ensures.stand in
     let stand : StandForState limits state (saved state) =
     record { sound = c.requires.sound; places = own.places; kinds = own.kinds; are = refl } in
-    old-prepared c.args.engine.now.limits limits (epoch_of c.args.checkpoint) old.objects (saved state) old.batches state image has
+    old-prepared c.args.engine.now.limits limits (epoch_of c.args.checkpoint) old.objects (saved state) old.batches state image
+    (of-format limits c.requires.of) has
     (subst (λ (l : Layout). Holds l (epoch_of c.args.checkpoint + 1) (saved state) image) layout (c.in_ok-save_beside.ensures.ok old image now))
     stand
 
@@ -65,7 +69,16 @@ save_beside-requires-clause-laid_out g c =
 pub save_beside-requires-clause-fits : goal.save_beside-requires-clause-fits
 save_beside-requires-clause-fits g c =
     subst (λ (n : ℕ). Fit n (saved c.args.engine.now.state)) (sym (ap (λ (l : Layout). l.area) c.requires.layout))
-    (saved-fits c.args.limits.now c.args.engine.now.state c.requires.of.passed c.requires.sound)
+    (saved-fits format last-opened c.args.limits.now c.args.engine.now.state c.requires.of c.requires.sound)
+
+pub put_superblock-requires-clause-of : goal.put_superblock-requires-clause-of
+put_superblock-requires-clause-of g c =
+    subst (λ (f : Format). AreOf f c.args.limits.now) (sym (of-format c.args.limits.now c.requires.of)) c.requires.of
+
+pub put_superblock-requires-clause-room : goal.put_superblock-requires-clause-room
+put_superblock-requires-clause-room g c =
+    subst (λ (f : Format). need_in f c.args.limits.now ≤ g.D.SectorDisk.size c.save_beside.new.disk)
+    (sym (of-format c.args.limits.now c.requires.of)) (omega (arith, c.requires.room, c.save_beside.ensures.same.sectors))
 
 pub returns-in_err-save_beside-clause-any_moment : goal.returns-in_err-save_beside-clause-any_moment
 returns-in_err-save_beside-clause-any_moment g c = saved-stands g (goal.at.returns-in_err-save_beside-clause-any_moment g c).After-save_beside

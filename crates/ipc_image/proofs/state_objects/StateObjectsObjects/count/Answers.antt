@@ -1,7 +1,8 @@
 use Rattle.std.proofs.Common.{length, ap, arith, subst}
 use Rattle.ipc_base.specs.Objects.{AreObjects}
 use Rattle.ipc_state.specs.State.{State}
-use Rattle.ipc_image.specs.Saved.{saved}
+use Rattle.ipc_image.specs.declared.format.Format.{Format}
+use Rattle.ipc_image.specs.Saved.{saved_in}
 use Rattle.ipc_image.proofs.SavedObjects.{tables_count}
 use Rattle.ipc_image.proofs.state_objects.StateObjectsObjects.count.Goals as goal
 
@@ -10,10 +11,10 @@ returns-clause-count c =
     let o = c.self.inside in
     omega (
       arith,
-      tables_count o.numbers o.processes.now o.waits.now o.undo.now o.queues.now o.sets.now o.mqs.now o.sems.now o.segments.now
+      tables_count o.form o.numbers o.processes.now o.waits.now o.undo.now o.queues.now o.sets.now o.mqs.now o.sems.now o.segments.now
           o.shms.now,
-      ap (λ (s : State). length (saved s)) c.self.view_is,
+      ap (λ (s : Format × State). length (saved_in s.0 s.1)) c.self.view_is,
     )
 
 pub returns-clause-objects : goal.returns-clause-objects
-returns-clause-objects c = subst (λ (s : State). AreObjects (saved s)) c.self.view_is c.self.invariant.1
+returns-clause-objects c = subst (λ (s : Format × State). AreObjects (saved_in s.0 s.1)) c.self.view_is c.self.invariant.2

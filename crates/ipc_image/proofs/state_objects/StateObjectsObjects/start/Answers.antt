@@ -5,11 +5,11 @@ use Rattle.ipc_image.proofs.state_objects.StateObjectsObjects.start.Goals as goa
 
 pub returns : goal.returns
 returns c =
-    let s = c.args.self.now in
+    let s = c.args.self.now.1 in
     record {
       processes = λ one. refl;
       waits = λ two. refl;
-      things = λ le. mark-each IsMarkOfQueue _ (record { parts = 0; bytes = 0 }) (λ e. refl)
+      things = λ le. mark-each (IsMarkOfQueue c.args.self.now.0.marks) _ (record { parts = 0; bytes = 0 }) (λ e. refl)
           (mark-each IsMarkOfSet _ (record { parts = 0; bytes = 0 }) (λ e. refl)
           (mark-each IsMarkOfMq _ (record { parts = 0; bytes = 0 }) (λ e. refl)
           (mark-each IsAnyMark _ (record { parts = 0; bytes = 0 }) (λ e. tt)

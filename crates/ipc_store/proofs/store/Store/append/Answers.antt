@@ -1,5 +1,9 @@
 -- Each exit: the images since the start, and the store after it.
-use Rattle.std.proofs.Common.{[], refl, sym, ap, ◌∙◌, arith}
+use Rattle.std.proofs.Common.{◌≡◌, ◌+◌, ℕ, [], length, refl, sym, ap, ◌∙◌, arith}
+use Rattle.std.proofs.lemmas.List.{length-append}
+use Rattle.byteorder.specs.Endian.{big_bytes}
+use Rattle.ipc_disk.specs.Counts.{with_calls}
+use Rattle.ipc_journal.specs.View.{append_syncs, append_writes, form_of}
 use Rattle.ipc_engine.specs.Step.{run}
 use Rattle.ipc_store.proofs.Committing.{is_batch, any_moment-append, committed}
 use Rattle.ipc_store.proofs.Devices.{stays-on-disk}
@@ -31,6 +35,15 @@ pub returns-clause-matches : goal.returns-clause-matches
 returns-clause-matches g c = rw (sym c.self.view_is, c.clear.ensures) (λ base pending at.
     committed _ _ _ base pending at c.bytes.ensures.size _ c.bytes.ensures.bytes (c.append.ensures.others at.device.honest) _ _ _
     c.append.ensures.form c.append.ensures.range c.append.ensures.epoch c.in_default.ensures.acknowledged)
+
+pub returns-clause-counts : goal.returns-clause-counts
+returns-clause-counts g c = rw (sym c.self.view_is) (
+    let counts = g.D.SectorDisk.counts in
+    let form = form_of c.self.inside.journal in
+    let records = c.self.inside.batch.records in
+    let long : length c.bytes.result.now ≡ 4 + length records =
+    ap length c.bytes.ensures.bytes ∙ length-append (big_bytes 4 (length records)) records in
+    c.in_default.ensures.counts.ok ∙ ap (λ (n : ℕ). with_calls (append_writes form n) (append_syncs form) (counts c.self.inside.disk)) long)
 
 pub invariant_of-self-2 : goal.invariant_of-self-2
 invariant_of-self-2 g c = (

@@ -1,31 +1,47 @@
--- The objects are those of the first state.
-use Rattle.std.proofs.Common.{refl, sym, subst, inl, inr}
-use Rattle.std.proofs.lemmas.Result.{err_from_is_err_and}
-use Rattle.ipc_base.specs.Objects.{PlainObjects}
+-- A device of the form that the limits name, under limits of it.
+use Rattle.std.proofs.Common.{◌≡◌, ◌⊎◌, ◌<◌, ◌↔◌, ◌∙◌, None, Some, OnOk, IsErrOf, ap, subst}
+use Rattle.ipc_limits.specs.declared.limits.Limits.{Limits}
+use Rattle.ipc_disk.specs.Medium.{Image, IsHonest}
+use Rattle.ipc_disk.specs.Since.{EachImageSince}
 use Rattle.ipc_state.specs.State.{start}
-use Rattle.ipc_image.specs.Saved.{StandForState}
-use Rattle.ipc_image.proofs.CallerLemmas.{start-stands}
+use Rattle.ipc_image.specs.declared.format.Format.{Format}
+use Rattle.ipc_image.specs.Format.{device_form}
+use Rattle.ipc_image.specs.Sizes.{first_fault, need_in}
+use Rattle.ipc_store.specs.Image.{as_of, own_limits, StandsFor, IsNotFormatted}
+use Rattle.ipc_store.specs.declared.fault.FormatError.TheVariants as errors
+use Rattle.ipc_store.proofs.store.Store.format.Given.{Over}
 use Rattle.ipc_store.proofs.store.Store.format.Goals as goal
+use Rattle.ipc_store.proofs.store.Store.format.Goals.{After-format_as}
 
-pub returns-in_err-make-clause-any_moment : goal.returns-in_err-make-clause-any_moment
-returns-in_err-make-clause-any_moment g c = c.in_err-make.ensures.any_moment start
-    (subst (λ (o : PlainObjects). StandForState c.args.limits.now start o) (sym c.start_objects.ensures.objects)
-    (start-stands c.args.limits.now))
-
-pub returns-in_err-make-clause-counts : goal.returns-in_err-make-clause-counts
-returns-in_err-make-clause-counts g c =
-    let q = err_from_is_err_and c.from_residual-in_err-make.result c.from_residual-in_err-make.ensures.1 in
-    record { failure = λ is. c.in_err-make.ensures.counts.err; no_failure = inl (rw (q.1, q.2) refl) }
+own : (g : Over) (c : After-format_as g) → c.as_of.result ≡ own_limits c.args.limits.now
+own g c = c.as_of.ensures ∙ ap (λ (f : Format). as_of f c.args.limits.now) c.of-form.ensures.is
 
 pub returns-clause-ok : goal.returns-clause-ok
-returns-clause-ok g c = c.in_ok-make.ensures.ok start
-    (subst (λ (o : PlainObjects). StandForState c.args.limits.now start o) (sym c.start_objects.ensures.objects)
-    (start-stands c.args.limits.now))
+returns-clause-ok g c =
+    subst (λ (l : Limits). OnOk c.format_as.result (IsHonest (g.D.SectorDisk.medium c.args.disk.now) → (image : Image)
+    → (g.D.SectorDisk.medium c.format_as.new.disk).images_now image → StandsFor l start image))
+    (own g (goal.at.returns-clause-ok g c).After-format_as) c.format_as.ensures.ok
 
 pub returns-clause-any_moment : goal.returns-clause-any_moment
-returns-clause-any_moment g c = c.in_ok-make.ensures.any_moment start
-    (subst (λ (o : PlainObjects). StandForState c.args.limits.now start o) (sym c.start_objects.ensures.objects)
-    (start-stands c.args.limits.now))
+returns-clause-any_moment g c =
+    subst (λ (l : Limits). IsHonest (g.D.SectorDisk.medium c.args.disk.now)
+    → EachImageSince (g.D.SectorDisk.medium c.args.disk.now) (g.D.SectorDisk.medium c.format_as.new.disk)
+    (λ image. (g.D.SectorDisk.medium c.args.disk.now).images_now image ⊎ IsNotFormatted image ⊎ StandsFor l start image))
+    (own g (goal.at.returns-clause-any_moment g c).After-format_as) c.format_as.ensures.any_moment
 
-pub returns-clause-counts : goal.returns-clause-counts
-returns-clause-counts g c = record { failure = λ is. cc; no_failure = inr c.in_ok-make.ensures.counts.ok }
+pub returns-clause-limits : goal.returns-clause-limits
+returns-clause-limits g c = λ field.
+    let refuses = IsErrOf c.format_as.result (errors.BadLimits (record { field = field })) in
+    subst (λ (l : Limits). refuses ↔ (first_fault (device_form c.args.limits.now) l ≡ Some field))
+    (own g (goal.at.returns-clause-limits g c).After-format_as)
+    (subst (λ (f : Format). refuses ↔ (first_fault f c.as_of.result ≡ Some field)) c.of-form.ensures.is (c.format_as.ensures.limits field))
+
+pub returns-clause-small : goal.returns-clause-small
+returns-clause-small g c = λ need.
+    let refuses = IsErrOf c.format_as.result (errors.TooSmall need) in
+    let size = g.D.SectorDisk.size c.args.disk.now in
+    let form : Format = device_form c.args.limits.now in
+    subst (λ (l : Limits). refuses ↔ ((first_fault form l ≡ None) × (need ≡ need_in form l) × (size < need)))
+    (own g (goal.at.returns-clause-small g c).After-format_as)
+    (subst (λ (f : Format). refuses ↔ ((first_fault f c.as_of.result ≡ None) × (need ≡ need_in f c.as_of.result) × (size < need)))
+    c.of-form.ensures.is (c.format_as.ensures.small need))

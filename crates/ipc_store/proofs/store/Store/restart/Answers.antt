@@ -1,5 +1,10 @@
 -- The restart is the one event that waits.
-use Rattle.std.proofs.Common.{◌≡◌, ⊎_elim, ℕ, ◌+◌, List, [], ◌∷◌, ◌++◌, Err, true, false, length, sym, ap, subst, ◌∙◌, arith}
+use Rattle.std.proofs.Common.{◌≡◌, ⊎_elim, inl, inr, refl, ℕ, ◌+◌, List, [], ◌∷◌, ◌++◌, Err, true, false, length, sym, ap, subst, ◌∙◌, arith}
+use Rattle.ipc_limits.specs.declared.limits.Limits.{Limits}
+use Rattle.ipc_disk.specs.Calls.{CountsFaultIf}
+use Rattle.ipc_disk.specs.Counts.{Counts, counted}
+use Rattle.ipc_state.specs.State.{restart}
+use Rattle.ipc_store.specs.Relations.Matches.{StoreMatches}
 use Rattle.ipc_checkpoint.specs.Meanwhile.{EachLater}
 use Rattle.ipc_checkpoint.specs.View.{CheckpointView, epoch_of}
 use Rattle.ipc_store.specs.Image.{last_epoch}
@@ -17,7 +22,9 @@ pub step-requires-clause-room : goal.step-requires-clause-room
 step-requires-clause-room g c = omega (arith, record-length Restart, ap length c.requires.empty)
 
 pub returns-in-Ok-clause-matches : goal.returns-in-Ok-clause-matches
-returns-in-Ok-clause-matches g c = λ base at. c.in-Ok.ensures.matches base (Restart ∷ []) (c.in_default.ensures.matches base [] at)
+returns-in-Ok-clause-matches g c = λ base at.
+    subst (λ (l : Limits). StoreMatches (g.D.SectorDisk.medium c.commit.new.self.disk) c.commit.new.self (restart l base) []) c.step.ensures.limits
+    (c.in-Ok.ensures.matches base (Restart ∷ []) (c.in_default.ensures.matches base [] at))
 
 pub returns-in-Ok-clause-any_moment : goal.returns-in-Ok-clause-any_moment
 returns-in-Ok-clause-any_moment g c = λ base at.
@@ -68,3 +75,20 @@ pub returns-in-Err-Stopped-clause-meanwhile : goal.returns-in-Err-Stopped-clause
 returns-in-Err-Stopped-clause-meanwhile g c = λ base at.
     subst (λ d. EachLater GoesOn (g.D.SectorDisk.medium d) (g.D.SectorDisk.medium c.commit.new.self.disk)) c.step.ensures.disk
     (c.commit.ensures.meanwhile.goes_on base (Restart ∷ []) (c.in_default.ensures.matches base [] at))
+
+-- the same calls, from a disk that is the same, where failed means the same
+counted-as : {D : Type 0} (counts : D → Counts) {failed other : Type 0} {old mid new : D} → mid ≡ old → (failed → other) → (other → failed)
+    → CountsFaultIf counts failed mid new → CountsFaultIf counts other old new
+counted-as counts {failed} {other} {old} {mid} {new} same to from faults = record {
+  failure = λ bad. subst (λ d. (counts new).failures ≡ counted (counts d).failures 1) same (faults.failure (from bad));
+  no_failure = ⊎_elim (λ bad. inl (to bad)) (λ none. inr (subst (λ d. (counts new).failures ≡ (counts d).failures) same none)) faults.no_failure;
+}
+
+pub returns-in-Ok-clause-counts : goal.returns-in-Ok-clause-counts
+returns-in-Ok-clause-counts g c =
+    counted-as g.D.SectorDisk.counts c.step.ensures.disk (λ failed. let went = c.in-Ok.is in cc) (λ failed. cc) c.commit.ensures.faults
+
+pub returns-in-Err-Device-clause-counts : goal.returns-in-Err-Device-clause-counts
+returns-in-Err-Device-clause-counts g c =
+    counted-as g.D.SectorDisk.counts c.step.ensures.disk (λ failed. refl) (λ failed. c.in-Err-Device.is ∙ ap Err c.in-Err-Device.field-0-is)
+    c.commit.ensures.faults

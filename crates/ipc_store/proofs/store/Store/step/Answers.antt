@@ -1,6 +1,6 @@
 use Rattle.std.proofs.Common.{◌≡◌, [], ◌∷◌, ◌++◌, sym, ap, subst, ◌∙◌, arith}
-use Rattle.ipc_base.specs.Limits.{ArePassed}
-use Rattle.ipc_base.specs.declared.limits.Limits.{Limits}
+use Rattle.ipc_limits.specs.Limits.{ArePassed}
+use Rattle.ipc_limits.specs.declared.limits.Limits.{Limits}
 use Rattle.ipc_store.specs.Relations.Matches.{AreOnDisk}
 use Rattle.ipc_engine.specs.Engine.{Machine, IsForProcess}
 use Rattle.ipc_engine.specs.View.{plain_event}
