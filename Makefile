@@ -130,14 +130,17 @@ memory: program
 
 # Each opening of each device that a stop leaves is stopped too, and each byte of a device is wrong once; of those the
 # gate has each tenth. What comes after a stop of an upgrade is stopped too, of each tenth stop, in the gate of each
-# hundredth. Requests of one moment, fed to a hub by hand, are one batch: two writes and two syncs for three replies.
+# hundredth. Requests of one moment, fed to a hub by hand, are one batch: two writes and two syncs for three replies, and
+# on a device of version 3 one write and one sync.
 TRIAL = crates/trials/out/trials
 EACH = 1
 TRIALS = $(TRIAL) stopped 1 < crates/trials/stdin && $(TRIAL) faulted 1 < crates/trials/stdin && \
+	$(TRIAL) stopped-3 1 < crates/trials/stdin && $(TRIAL) faulted-3 1 < crates/trials/stdin && \
 	python3 tests/devices/upgraded.py $(TRIAL) $(EACH)0 && \
 	python3 tests/devices/damaged.py $(BUILT) $(EACH) < tests/devices/damaged.script && \
 	python3 tests/scripts/frames.py $(BUILT) && python3 tests/sockets/limits.py $(BUILT) && \
-	test "$$($(TRIAL) batch)" = "a batch of 163 bytes, 2 writes, 2 syncs, 3 replies"
+	test "$$($(TRIAL) batch)" = "a batch of 163 bytes, 2 writes, 2 syncs, 3 replies" && \
+	test "$$($(TRIAL) batch-3)" = "a batch of 163 bytes, 1 writes, 1 syncs, 3 replies"
 
 trials: program
 	@python3 tools/build.py trials
@@ -172,7 +175,9 @@ SERVES = python3 tests/sockets/serve.py crates/ipcd/out/ipcd && python3 tests/sy
 	python3 tests/sockets/semaphores.py crates/ipcd/out/ipcd && python3 tests/sockets/posix_queues.py crates/ipcd/out/ipcd && \
 	python3 tests/sockets/named_objects.py crates/ipcd/out/ipcd && python3 tests/sockets/attachments.py crates/ipcd/out/ipcd && \
 	python3 tests/system/calls.py crates/ipcd/out/ipcd && python3 tests/sockets/sockets.py crates/ipcd/out/ipcd && \
-	python3 tests/scripts/script_calls.py crates/ipcd/out/ipcd && python3 tests/system/costs.py crates/ipcd/out/ipcd
+	python3 tests/scripts/script_calls.py crates/ipcd/out/ipcd && \
+	python3 tests/scripts/tagged_calls.py crates/ipcd/out/ipcd && \
+	python3 tests/sockets/version_three.py crates/ipcd/out/ipcd && python3 tests/system/costs.py crates/ipcd/out/ipcd
 
 serves: program
 	@$(SERVES)

@@ -137,15 +137,15 @@ def constant(file: str, name: str) -> int:
 
 
 def form() -> dict[str, int]:
-    """The numbers of today's form of devices."""
+    """The numbers of the form of devices that is made if no other is asked for."""
     body = (ROOT / "crates/ipc_image/src/format.rt").read_text().partition("pub const FORMAT: Format = Format {")[2]
     return {name: int(value) for name, value in re.findall(r"(\w+): ([0-9]+),", body.partition("}")[0])}
 
 
 def device_picture() -> str:
-    journal, count = constant("places.rt", "JOURNAL"), constant("places.rt", "JOURNAL_COUNT")
-    objects, root = constant("places.rt", "OBJECTS"), form()["root"]
-    assert constant("places.rt", "SUPERBLOCK") == 0 and objects == journal + count
+    journal, root = constant("places.rt", "JOURNAL"), form()["root"]
+    objects = journal + form()["journal"]
+    assert constant("places.rt", "SUPERBLOCK") == 0
     unused = [it for it in range(1, journal) if it != root]
     last = objects - 1
     rows = [

@@ -5,6 +5,7 @@
 
 from __future__ import annotations
 
+import itertools
 import os
 import random
 import resource
@@ -20,10 +21,12 @@ from pathlib import Path
 sys.dont_write_bytecode = True
 sys.path.insert(0, str(Path(__file__).resolve().parents[1] / "lib"))
 
-from looks import MOST, Writer, epoch, seen, states  # noqa: E402
+from looks import MOST, THREE, TWO, Made, Writer, seen, states  # noqa: E402
 from pseudo_terminal import all_shown, open_terminal  # noqa: E402
-from server import PROGRAM, SECTORS, SEED, TIMEOUT, Client, Server, check, in_a_folder, killed, printed, process, run  # noqa: E402
-from server import run_tests, serving  # noqa: E402
+from device_layout import JOURNAL, SMALL_OF_THREE, Device, Queue, batch, clock, leave, processes, state  # noqa: E402
+from device_layout import superblock, tagged, three, tick  # noqa: E402
+from server import PROGRAM, SECTORS, SECTORS_OF_THREE, SEED, TIMEOUT, Client, Server, check, in_a_folder  # noqa: E402
+from server import killed, printed, process, run, run_tests, serving  # noqa: E402
 
 from client import IPC_CREAT, IPC_NOWAIT, IPC_PRIVATE, O_CREAT
 
@@ -45,7 +48,7 @@ def ended(*words: str, **named: object) -> tuple[int, str, str]:
     return one.returncode, one.stdout, one.stderr
 
 
-def is_copied(limits: str = "standard") -> None:
+def is_copied(sectors: int = SECTORS["standard"]) -> None:
     """A copy is made, as large as the device, for its owner alone."""
     end = time.monotonic() + TIMEOUT
     while True:
@@ -53,10 +56,10 @@ def is_copied(limits: str = "standard") -> None:
         # A machine that is busy with something else reads more slowly than the server saves. Then one tries again.
         if answer != TOO_FAST or os.path.exists("copy") or time.monotonic() > end:
             break
-    check(answer == copied(SECTORS[limits]), f"a backup ends with {answer}")
+    check(answer == copied(sectors), f"a backup ends with {answer}")
     status = os.stat("copy")
     check(stat.S_IMODE(status.st_mode) == 0o600, f"a copy has mode {status.st_mode:o}")
-    check(status.st_size == 512 * SECTORS[limits], f"a copy has {status.st_size} bytes")
+    check(status.st_size == 512 * sectors, f"a copy has {status.st_size} bytes")
 
 
 def is_refused(said: str, device: str = "device", copy: str = "copy") -> None:
@@ -65,10 +68,10 @@ def is_refused(said: str, device: str = "device", copy: str = "copy") -> None:
 
 
 @contextmanager
-def written() -> Iterator[tuple[Server, Writer]]:
+def written(made: Made = TWO) -> Iterator[tuple[Server, Writer]]:
     """A server of a new device that saves again and again."""
-    printed("format", "device")
-    server = Server()
+    made.format()
+    server = Server(sectors=made.sectors)
     try:
         writer = Writer()
         writer.start()
@@ -91,20 +94,24 @@ def is_of(path: str, before: int, after: int) -> None:
     check(seen(printed("dump", path)) == found, "`dump` finds another state")
 
 
-def under_load() -> None:
+def under_load(made: Made = TWO) -> None:
     """Backups beside a server that saves again and again."""
-    with written() as (_, writer):
-        root = epoch()
+    with written(made) as (_, writer):
+        root = made.epoch()
         for _ in range(BACKUPS):
             before = writer.answered
-            is_copied()
+            is_copied(made.sectors)
             is_of("copy", before, writer.begun)
             os.remove("copy")
-        saves = epoch() - root
+        saves = made.epoch() - root
         writer.goes_on = False
         writer.finish()
     check(saves > 0, "the server has not saved meanwhile")
     print(f"backups: {BACKUPS} backups beside {writer.answered} steps and {saves} saves")
+
+
+def under_load_on_version_3() -> None:
+    under_load(THREE)
 
 
 def kills() -> None:
@@ -153,16 +160,16 @@ def outlives_the_server() -> None:
         os.remove("copy")
 
 
-def is_a_device() -> None:
+def is_a_device(sectors: int = SECTORS["small"], *words: str) -> None:
     """The copy is served as the device is. The device stays as it is, and so does what stands where a copy is to be."""
-    printed("format", "device", "--small")
-    with killed() as server, process() as client:
+    printed("format", "device", "--small", *words)
+    with killed(sectors) as server, process() as client:
         queue = client.msgget(7, IPC_CREAT | 0o600)
         client.msgsnd(queue, 5, b"kept", 0)
         client.shmat(client.shmget(IPC_PRIVATE, 100, IPC_CREAT | 0o600))
         client.sem_open("/value", O_CREAT, 0o600, 3)
         before, times = Path("device").read_bytes(), os.stat("device").st_mtime_ns
-        is_copied("small")
+        is_copied(sectors)
         listed = printed("list", "device")
         check(listed.count("\n") == 3, f"{listed!r} is listed")
         check(printed("list", "copy") == listed, "another state is copied")
@@ -174,9 +181,38 @@ def is_a_device() -> None:
         server.process.kill()
         server.process.wait()
     os.replace("copy", "device")
-    with serving(limits="small"), process() as client:
+    with serving(limits="small", sectors=sectors), process() as client:
         check(client.msgget(7, 0) == queue, "the queue has another identifier")
         check(client.msgrcv(queue, 10, 0, IPC_NOWAIT) == (5, b"kept"), "another message is in the queue")
+
+
+def is_a_device_of_version_3() -> None:
+    is_a_device(SECTORS_OF_THREE["small"], "--journal", "257")
+
+
+def keeps_version_and_journal() -> None:
+    """A copy has the version, the limits, the journal and the state of its device, at epoch 1 and with an empty
+    journal: to the byte what a format would make with these objects. A crash has torn a batch of the device."""
+    for journal, sectors in ((8, 73), (8, 80), (300, 365)):
+        version = three(journal)
+        them = processes((1, 1000, 100), (2, 7, 8))
+        queue = Queue(1234, ((5, b"hi"), (6, b"")), times=(9, 0, 3), pids=(1, 0))
+        objects = state(clock(9, 3, 2), them, {1: queue}, version=version)
+        device = Device(SMALL_OF_THREE, sectors, version).save(7, objects)
+        device.journal(7, batch(tick(20)), batch(tick(21), leave(21, 2)))
+        device.put(JOURNAL + 2, 0, tagged(7, 3, batch(*9 * [tick(22)], *40 * [tick(23)]))[1])
+        after = state(clock(21, 3, 2), processes((1, 1000, 100)), {1: queue}, version=version)
+        wanted = Device(SMALL_OF_THREE, sectors, version)
+        wanted.image[:] = bytes(len(wanted.image))
+        wanted.put(0, 0, superblock(SMALL_OF_THREE, sectors, version))
+        wanted.save(1, after, itertools.count(version.objects))
+        Path("device").write_bytes(device.image)
+        is_copied(sectors)
+        check(Path("copy").read_bytes() == bytes(wanted.image), f"another copy of a journal of {journal} sectors")
+        check(Path("device").read_bytes() == bytes(device.image), "a backup has changed the device")
+        fit = f"fit to be served: version 3, {sectors} sectors, small limits, 1 objects\n"
+        check(printed("check", "copy") == fit == printed("check", "device"), "the copy is of another kind")
+        os.remove("copy")
 
 
 def finds_something() -> None:
@@ -261,7 +297,19 @@ def tells() -> None:
     os.remove("copy")
 
 
-TESTS = [is_a_device, finds_something, finds_no_device, is_stopped, tells, outlives_the_server, kills, under_load]
+TESTS = [
+    is_a_device,
+    is_a_device_of_version_3,
+    keeps_version_and_journal,
+    finds_something,
+    finds_no_device,
+    is_stopped,
+    tells,
+    outlives_the_server,
+    kills,
+    under_load,
+    under_load_on_version_3,
+]
 
 if __name__ == "__main__":
     signal.signal(signal.SIGINT, signal.default_int_handler)

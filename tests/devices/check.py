@@ -32,9 +32,9 @@ NOT_PLAIN = "device fault: it is no plain file\n"
 ROUNDS = 20
 
 
-def fit(objects: int, limits: str = "small") -> str:
-    sectors = SECTORS[limits]
-    return f"fit to be served: version 2, {sectors} sectors, {limits} limits, {objects} objects\n"
+def fit(objects: int, limits: str = "small", version: int = 2, sectors: int = 0) -> str:
+    sectors = sectors or SECTORS[limits]
+    return f"fit to be served: version {version}, {sectors} sectors, {limits} limits, {objects} objects\n"
 
 
 def is_found(wanted: str, path: str = "device") -> None:
@@ -88,7 +88,7 @@ def what_is_no_device() -> None:
         is_as_served(f"not formatted: the file has {sectors} sectors, and the first is no superblock\n", "other")
     for version in (0, 1, 7):
         Path("other").write_bytes(whole[:11] + bytes([version]) + whole[12:])
-        is_as_served(f"version {version}: this program serves version 2\n", "other")
+        is_as_served(f"version {version}: this program serves versions 2 and 3\n", "other")
 
 
 def changed(name: str, sector: int, at: int = 0) -> None:
@@ -138,6 +138,29 @@ def what_is_fit() -> None:
     with open("device", "ab") as file:
         file.write(bytes(5 * 512 + 7))
     is_as_served("fit to be served: version 2, 1371 sectors, small limits, 4 objects\n")
+
+
+def what_is_fit_of_version_3() -> None:
+    """Its version is named. Small and standard are the limits of its version, with any journal."""
+    for words, limits, sectors in (
+        (("--journal", "257"), "standard", 91426),
+        (("--journal", "8"), "standard", 91177),
+        (("--small", "--journal", "257"), "small", 322),
+        (("--small", "--journal", "8"), "small", 73),
+        (("--small", "--journal", "300", "--sectors", "500"), "small", 500),
+    ):
+        printed("format", "device", *words)
+        is_as_served(fit(0, limits, 3, sectors))
+        os.remove("device")
+    printed("format", "device", "--small", "--journal", "257")
+    with killed(322) as server, process() as client:
+        client.msgget(IPC_PRIVATE, IPC_CREAT | 0o600)
+        client.sem_open("/one", O_CREAT, 0o600, 1)
+        held = f"it is in use by process {server.process.pid}" if lock_line(server.process.pid) else "it is in use"
+        is_found(f"device fault: {held}\notherwise {fit(2, 'small', 3, 322)}")
+    is_as_served(fit(2, "small", 3, 322))
+    changed("damaged", 0, 20)
+    is_as_served("damaged sector 0: the superblock, or the file was cut\n", "damaged")
 
 
 def lock_line(pid: int) -> bool:
@@ -265,6 +288,7 @@ TESTS = [
     what_is_no_device,
     what_is_damaged,
     what_is_fit,
+    what_is_fit_of_version_3,
     who_has_it,
     who_may,
     who_hears_nothing,

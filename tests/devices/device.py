@@ -25,6 +25,7 @@ from typing import Generator, Iterator
 sys.dont_write_bytecode = True
 sys.path.insert(0, str(Path(__file__).resolve().parents[1] / "lib"))
 
+from device_bounds import bounded_devices  # noqa: E402
 from device_calls import (  # noqa: E402
     FULL,
     SENDING,
@@ -145,6 +146,7 @@ from device_runs import (  # noqa: E402
     stops_at,
 )
 from device_system_v import system_v  # noqa: E402
+from device_tagged import tagged_devices  # noqa: E402
 from device_undo import undo  # noqa: E402
 
 # ---- the writer
@@ -672,6 +674,8 @@ def checks() -> Generator[Check, None, None]:
     yield from posix()
     yield from named()
     yield from system_v()
+    yield from tagged_devices()
+    yield from bounded_devices()
     yield from scattered()
     yield from record_cuts()
     yield from other_records()

@@ -16,12 +16,13 @@ import sys
 import threading
 import time
 from pathlib import Path
+from typing import NamedTuple
 
 sys.dont_write_bytecode = True
 sys.path.insert(0, str(Path(__file__).resolve().parents[1] / "lib"))
 
-from server import PROGRAM, Client, Server, Worker, check, in_a_folder, killed, printed, process, run  # noqa: E402
-from server import run_tests, serving  # noqa: E402
+from server import PROGRAM, SECTORS, SECTORS_OF_THREE, Client, Server, Worker, check, in_a_folder, killed  # noqa: E402
+from server import printed, process, run, run_tests, serving  # noqa: E402
 
 from client import IPC_CREAT, IPC_PRIVATE, O_CREAT, msgrcv_request, msgsnd_request, sem_post_request
 
@@ -31,6 +32,26 @@ SAVES = 10
 TEXT = bytes(7000)
 # What a queue holds at most, before it is drained.
 MOST = 9
+
+
+class Made(NamedTuple):
+    """A version of devices: the words of its format, its sectors with standard limits, and the sector of its root."""
+
+    words: tuple[str, ...]
+    sectors: int
+    root: int
+
+    def format(self) -> None:
+        printed("format", "device", *self.words)
+
+    def epoch(self) -> int:
+        """How many saves the device has seen, and one."""
+        with open("device", "rb") as file:
+            return int.from_bytes(os.pread(file.fileno(), 512, 512 * self.root)[:8], "big")
+
+
+TWO = Made((), SECTORS["standard"], 2)
+THREE = Made(("--journal", "257"), SECTORS_OF_THREE["standard"], 1)
 
 
 def states(step: int) -> tuple[int, int]:
@@ -85,8 +106,9 @@ class Looker(threading.Thread):
     """Looks so many times at least, and until the device has seen so many saves. Each look has to find the state after
     a step that there may have been meanwhile."""
 
-    def __init__(self, writer: Writer, looks: int, saves: int) -> None:
+    def __init__(self, made: Made, writer: Writer, looks: int, saves: int) -> None:
         super().__init__(daemon=True)
+        self.device = made
         self.writer = writer
         self.looks = looks
         self.saves = saves
@@ -95,7 +117,7 @@ class Looker(threading.Thread):
 
     def run(self) -> None:
         try:
-            while self.made < self.looks or epoch() <= self.saves:
+            while self.made < self.looks or self.device.epoch() <= self.saves:
                 before = self.writer.answered
                 found = seen(printed("list", "device"))
                 after = self.writer.begun
@@ -108,41 +130,43 @@ class Looker(threading.Thread):
             self.failure = failure
 
 
-def under_load() -> None:
+def under_load(made: Made = TWO) -> None:
     """Four look at a server that saves again and again."""
-    printed("format", "device")
-    with serving():
+    made.format()
+    with serving(sectors=made.sectors):
         writer = Writer()
         writer.start()
         while writer.answered < 3 * MOST:
             writer.look()
             time.sleep(0.01)
-        root = epoch()
-        lookers = [Looker(writer, LOOKS // 4, root + SAVES) for _ in range(4)]
+        root = made.epoch()
+        lookers = [Looker(made, writer, LOOKS // 4, root + SAVES) for _ in range(4)]
         for looker in lookers:
             looker.start()
         for looker in lookers:
             looker.join()
             if looker.failure:
                 raise looker.failure
-        saves = epoch() - root
+        saves = made.epoch() - root
         writer.goes_on = False
         writer.finish()
     looks = sum(looker.made for looker in lookers)
     print(f"looks: {looks} looks beside {writer.answered} steps and {saves} saves")
 
 
-def epoch() -> int:
-    """How many saves the device has seen, and one."""
-    with open("device", "rb") as file:
-        return int.from_bytes(os.pread(file.fileno(), 512, 1024)[:8], "big")
+def under_load_on_version_3() -> None:
+    under_load(THREE)
 
 
-def kills() -> None:
+def kills_on_version_3() -> None:
+    kills(THREE)
+
+
+def kills(made: Made = TWO) -> None:
     """The server is killed in the midst of its work, and those who look."""
-    printed("format", "device")
+    made.format()
     for _ in range(10):
-        server = Server()
+        server = Server(sectors=made.sectors)
         writer = Writer()
         writer.start()
         time.sleep(0.1)
@@ -160,7 +184,7 @@ def kills() -> None:
         check(found in wanted, f"{found} is left of {answered} to {begun} steps")
         # A restart changes nothing of these.
         check(seen(printed("dump", "device")) == found, "`dump` finds another state")
-        printed("format", "device")
+        made.format()
 
 
 def leaves_all() -> None:
@@ -218,7 +242,7 @@ def is_no_device() -> None:
     is_refused("list", "ipcd: damaged sector 0\n", "damaged")
 
 
-TESTS = [leaves_all, is_no_device, kills, under_load]
+TESTS = [leaves_all, is_no_device, kills, under_load, kills_on_version_3, under_load_on_version_3]
 
 if __name__ == "__main__":
     signal.signal(signal.SIGINT, signal.default_int_handler)

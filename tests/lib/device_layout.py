@@ -9,13 +9,18 @@ its own is an argument.
 from __future__ import annotations
 
 import struct
+from collections import Counter
 from collections.abc import Iterable
 from pathlib import Path
 from typing import NamedTuple
 
 SECTOR = 512
+# The first sectors of the journal, of its body and of the objects, as versions 1 and 2 have them; version 3 has no
+# header, and its objects begin after a journal of any length (`Version.objects`).
 JOURNAL, BODY, OBJECTS = 3, 4, 260
 BODY_COUNT = 256
+# How many bytes of a batch are in a tagged sector of the journal, after its tag.
+TAGGED_BYTES = 496
 # How many bytes of the table are in a sector of it, and how many numbers.
 TABLE_BYTES, TABLE_NUMBERS = 508, 127
 LAST_NUMBER = 2147483647
@@ -42,7 +47,8 @@ Cred = tuple[int, int]
 
 
 class Limits(NamedTuple):
-    """In the order in which they stand in a superblock. One of version 1 has none of System V segments: they are 0."""
+    """In the order in which they stand in a superblock. One of version 1 has none of System V segments: they are 0. The
+    last three are of version 3 alone."""
 
     processes: int
     msgmni: int
@@ -63,6 +69,9 @@ class Limits(NamedTuple):
     shmmni: int = 0
     shmmax: int = 0
     shmall: int = 0
+    msgqlen: int = 0
+    semume: int = 0
+    queue_bytes: int = 0
 
 
 SMALL_OF_ONE = Limits(4, 2, 64, 128, 2, 4, 8, 4, 2, 2, 64, 2, 2, 2048, 64, 4)
@@ -71,6 +80,8 @@ SMALL = Limits(4, 2, 64, 128, 2, 4, 8, 4, 2, 2, 64, 2, 2, 2048, 64, 4, 2, 1024, 
 STANDARD = Limits(
     64, 64, 65536, 65536, 32, 64, 512, 32, 32, 10, 8192, 64, 32, 1048576, 8192, 32, 32, 1048576, 1048576
 )
+SMALL_OF_THREE = SMALL._replace(msgqlen=8, semume=4, queue_bytes=288)
+STANDARD_OF_THREE = STANDARD._replace(msgqlen=4096, semume=512, queue_bytes=2624000)
 
 
 class Version(NamedTuple):
@@ -86,12 +97,37 @@ class Version(NamedTuple):
     # The most bytes of a request's frame without its length, and of a batch with it.
     request: int
     batch: int
+    # How many sectors the journal has, and whether they are tagged: then it has no header, and queues have marks.
+    journal: int = 257
+    tagged: bool = False
+
+    @property
+    def objects(self) -> int:
+        """The first sector of the object area."""
+        return JOURNAL + self.journal
+
+    @property
+    def places(self) -> int:
+        """How many numbers a superblock has after its limits: the two words of features of version 3."""
+        return 2 if self.tagged else 0
+
+    def sectors_of(self, length: int) -> int:
+        """How many sectors a batch of so many bytes takes."""
+        return -(-length // (TAGGED_BYTES if self.tagged else SECTOR))
 
 
 ONE = Version(1, 1, 16, 5, STANDARD_OF_ONE, 8448, 32768)
-# The one that the program makes and opens.
+# The one that the program makes if no journal is asked for.
 TWO = Version(2, 2, 19, 6, STANDARD, 65792, 131072)
 ROOT = TWO.root
+# The one of devices with a journal of 257 tagged sectors, and how many it may have.
+THREE = Version(3, 1, 22, 6, STANDARD_OF_THREE, 65792, 131072, 257, True)
+SHORTEST_JOURNAL, LONGEST_JOURNAL = 8, 65535
+
+
+def three(journal: int) -> Version:
+    """The one of devices with a journal of so many sectors."""
+    return THREE._replace(journal=journal)
 
 
 def sectors_of(length: int) -> int:
@@ -103,17 +139,33 @@ def table_sectors(length: int) -> int:
     return -(-length // TABLE_BYTES)
 
 
+def bounded_sectors(of: Limits, version: Version) -> int:
+    """How many sectors those parts of a state take that version 3 bounds by limits of its own."""
+    if version.tagged:
+        waits = max(25, 21 + of.msgmax, 21 + of.posix_bytes, 17 + 6 * of.semopm)
+        return (
+            sectors_of(4 + of.processes * (16 + waits))
+            + sectors_of(4 + 12 * of.processes * of.semume)
+            + of.msgmni * sectors_of(72 + 36 * of.msgqlen + of.msgmnb)
+            + of.posix_queues
+            + sectors_of(299 * of.posix_queues + of.queue_bytes)
+        )
+    return (
+        sectors_of(4 + of.processes * (16 + version.request))
+        + sectors_of(4 + 12 * of.processes * of.semmns)
+        + of.msgmni * sectors_of(64 + 13 * of.msgmnb)
+        + of.posix_queues * sectors_of(299 + of.posix_messages * (8 + of.posix_bytes))
+    )
+
+
 def area_of(limits: Limits, version: Version = TWO) -> int:
     """How many sectors a state takes."""
     of = limits
     total = (
         sectors_of(12 + 4 * version.kinds)
         + sectors_of(4 + of.processes * (16 + 16 * of.descriptors))
-        + sectors_of(4 + of.processes * (16 + version.request))
-        + sectors_of(4 + 12 * of.processes * of.semmns)
-        + of.msgmni * sectors_of(64 + 13 * of.msgmnb)
+        + bounded_sectors(of, version)
         + of.semmni * sectors_of(44 + 6 * of.semmsl)
-        + of.posix_queues * sectors_of(299 + of.posix_messages * (8 + of.posix_bytes))
         + of.named * sectors_of(271)
         + 2 * of.segments
         + sectors_of(of.segment_bytes)
@@ -125,16 +177,17 @@ def area_of(limits: Limits, version: Version = TWO) -> int:
 
 
 def need_of(limits: Limits, version: Version = TWO) -> int:
-    return OBJECTS + 2 * area_of(limits, version)
+    return version.objects + 2 * area_of(limits, version)
 
 
 # ---- the parts of a device, as bytes
 
 
 def superblock(limits: Limits, sectors: int, version: Version = TWO) -> bytes:
-    places = (sectors, JOURNAL, 1 + BODY_COUNT, OBJECTS, max(sectors - OBJECTS, 0), version.root)
-    numbers = (version.number, *places, *limits[: version.limits])
-    return b"IPCSTORE" + struct.pack(f">{7 + version.limits}I", *numbers)
+    objects = version.objects
+    places = (sectors, JOURNAL, version.journal, objects, max(sectors - objects, 0), version.root)
+    numbers = (version.number, *places, *limits[: version.limits], *version.places * [0])
+    return b"IPCSTORE" + struct.pack(f">{len(numbers)}I", *numbers)
 
 
 def root(epoch: int, first: int, length: int) -> bytes:
@@ -144,6 +197,18 @@ def root(epoch: int, first: int, length: int) -> bytes:
 
 def header(epoch: int, used: int) -> bytes:
     return struct.pack(">QI", epoch, used)
+
+
+def tag(epoch: int, number: int, index: int, count: int) -> bytes:
+    """What a sector of the journal of version 3 begins with."""
+    return struct.pack(">QIHH", epoch, number, index, count)
+
+
+def tagged(epoch: int, number: int, data: bytes) -> list[bytes]:
+    """The sectors of a batch of version 3, which is the one of this number at this epoch."""
+    pieces = [data[at : at + TAGGED_BYTES] for at in range(0, len(data), TAGGED_BYTES)]
+    parts = [tag(epoch, number, at, len(pieces)) + piece for at, piece in enumerate(pieces)]
+    return [part.ljust(SECTOR, b"\0") for part in parts]
 
 
 class Placed(NamedTuple):
@@ -350,6 +415,10 @@ def adjustments(*them: Adjustment) -> bytes:
     return struct.pack(">I", len(them)) + b"".join(struct.pack(">IIHh", *one) for one in them)
 
 
+# The marks of a message that was never taken: how often it was, by which token, by whom and when.
+UNTAKEN = struct.pack(">IQIQ", 0, 0, 0, 0)
+
+
 class Queue(NamedTuple):
     key: int
     messages: tuple[tuple[int, bytes], ...] = ()
@@ -364,8 +433,10 @@ class Queue(NamedTuple):
         """How many bytes of text."""
         return sum(len(text) for _, text in self.messages)
 
-    def is_full_for(self, text: bytes) -> bool:
-        return max(self.held() + len(text), len(self.messages) + 1) > self.qbytes
+    def is_full_for(self, text: bytes, msgqlen: int = 0) -> bool:
+        """With a limit of messages, as version 3 has one: also if it has so many."""
+        is_long = msgqlen != 0 and len(self.messages) + 1 > msgqlen
+        return is_long or max(self.held() + len(text), len(self.messages) + 1) > self.qbytes
 
     def has_one_for(self, wanted: int, flags: int) -> bool:
         """Whether it has a message that a receive of this type may take."""
@@ -376,12 +447,16 @@ class Queue(NamedTuple):
             return any(mtype != wanted for mtype in types)
         return wanted in types or (wanted == 0 and types != [])
 
-    def data(self) -> bytes:
-        parts = [struct.pack(">qI", mtype, len(text)) + text for mtype, text in self.messages]
+    def data(self, version: Version = TWO) -> bytes:
+        """On version 3 with the next token, 1, and with the marks of each message, which nobody has taken."""
+        marks, token = (UNTAKEN, struct.pack(">Q", 1)) if version.tagged else (b"", b"")
+        them = ((struct.pack(">q", mtype), struct.pack(">I", len(text)) + text) for mtype, text in self.messages)
+        parts = [head + marks + rest for head, rest in them]
         return (
             struct.pack(">iIIIII", self.key, *self.owner, *self.creator, self.mode)
             + struct.pack(">QQQ", *self.times)
             + struct.pack(">IIII", *self.pids, self.qbytes, len(self.messages))
+            + token
             + b"".join(parts)
         )
 
@@ -497,9 +572,10 @@ def state(
     named: dict[int, NamedSem] | None = None,
     segments: dict[int, Segment] | None = None,
     system_v: dict[int, SystemVSegment] | None = None,
+    version: Version = TWO,
 ) -> list[tuple[int, bytes]]:
     parts = [(0, the_clock), (1, the_processes), (2, calls), (3, undo)]
-    parts += [(QUEUE_KIND + number, queue.data()) for number, queue in queues.items()]
+    parts += [(QUEUE_KIND + number, queue.data(version)) for number, queue in queues.items()]
     parts += [(SET_KIND + number, one.data()) for number, one in (sets or {}).items()]
     kinds = ((POSIX_KIND, posix), (NAMED_KIND, named), (SEGMENT_KIND, segments), (SYSTEM_V_SEGMENT_KIND, system_v))
     for first, them in kinds:
@@ -561,7 +637,7 @@ class Device:
     def free(self) -> list[int]:
         """The sectors of the object area that the last save has not used, the lowest first."""
         used = {*self.chain, *(sector for one in self.placed for sector in one.sectors)}
-        return [sector for sector in range(OBJECTS, len(self.image) // SECTOR) if sector not in used]
+        return [sector for sector in range(self.version.objects, len(self.image) // SECTOR) if sector not in used]
 
     def save(
         self,
@@ -593,12 +669,22 @@ class Device:
         return self.put(self.version.root, 0, root(epoch, self.chain[0], len(data)))
 
     def journal(self, epoch: int, *batches: bytes) -> Device:
-        """Batches one after another from the first sector of the body on."""
+        """Batches one after another from the first sector of the journal, or of its body, on."""
+        if self.version.tagged:
+            return self.tag(epoch, 1, JOURNAL, *batches)
         used = 0
         for data in batches:
             self.put(BODY + used, 0, data)
             used += sectors_of(len(data))
         return self.put(JOURNAL, 0, header(epoch, used))
+
+    def tag(self, epoch: int, number: int, sector: int, *batches: bytes) -> Device:
+        """Batches of version 3 one after another from this sector on, the first of them of this number."""
+        for more, data in enumerate(batches):
+            for part in tagged(epoch, number + more, data):
+                self.put(sector, 0, part)
+                sector += 1
+        return self
 
     def copy(self) -> Device:
         other = Device.__new__(Device)
@@ -632,6 +718,7 @@ class Unsound(Exception):
 
 
 class Content(NamedTuple):
+    version: Version
     limits: Limits
     epoch: int
     chain: list[int]
@@ -650,30 +737,41 @@ def demand_sound(holds: bool) -> None:
         raise Unsound
 
 
-def read_superblock(image: bytes, version: Version) -> tuple[int, Limits]:
-    """How many sectors it names, which may be fewer than the device has, and its limits."""
+def named_version(image: bytes) -> Version:
+    """The one that the program would open a device as: version 3 if its superblock says so, and else version 2."""
+    return THREE if bytes(image[8:12]) == struct.pack(">I", 3) else TWO
+
+
+def read_superblock(image: bytes, version: Version) -> tuple[int, Limits, Version]:
+    """How many sectors it names, which may be fewer than the device has, its limits, and the version with the journal
+    that it names."""
     if image[:8] != b"IPCSTORE":
         raise Fault("not formatted")
     (found,) = struct.unpack(">I", image[8:12])
-    if found != version.number:
-        raise Fault(f"version {found}")
     end = 36 + 4 * version.limits
+    # A feature that a reader has to know.
+    if found != version.number or (version.tagged and any(image[end : end + 4])):
+        raise Fault(f"version {found}")
     (sectors,) = struct.unpack(">I", image[12:16])
+    if version.tagged:
+        (journal,) = struct.unpack(">I", image[20:24])
+        demand(SHORTEST_JOURNAL <= journal <= LONGEST_JOURNAL, 0)
+        version = version._replace(journal=journal)
     limits = Limits(*struct.unpack(f">{version.limits}I", image[36:end]))
-    demand(image[:end] == superblock(limits, sectors, version) and sectors <= len(image) // SECTOR, 0)
+    demand(image[:end] == superblock(limits, sectors, version)[:end] and sectors <= len(image) // SECTOR, 0)
     demand(all(0 < here <= most for here, most in zip(limits[: version.limits], version.greatest)), 0)
     demand(limits.msgmax <= limits.msgmnb and limits.semmsl <= limits.semmns and limits.shmmax <= limits.shmall, 0)
     demand(sectors >= need_of(limits, version), 0)
-    return sectors, limits
+    return sectors, limits, version
 
 
 class Heap:
     """The objects of a device, and where they stand."""
 
     def __init__(self, image: bytes, version: Version) -> None:
-        self.image, self.root = image, version.root
+        self.image, self.root, self.first = image, version.root, version.objects
         self.epoch, first, self.length = struct.unpack(">QII", self.at(self.root)[:16])
-        most = TABLE_BYTES * (len(image) // SECTOR - OBJECTS)
+        most = TABLE_BYTES * (len(image) // SECTOR - self.first)
         demand(self.epoch > 0 and 4 <= self.length <= most and self.is_inside(first), self.root)
         self.chain = self.read_chain(first)
         data = b"".join(self.at(sector)[4:] for sector in self.chain)
@@ -686,7 +784,7 @@ class Heap:
         return bytes(self.image[SECTOR * sector : SECTOR * (sector + 1)])
 
     def is_inside(self, sector: int) -> bool:
-        return OBJECTS <= sector < len(self.image) // SECTOR
+        return self.first <= sector < len(self.image) // SECTOR
 
     def read_chain(self, first: int) -> list[int]:
         chain = {first: None}
@@ -785,19 +883,25 @@ def read_waits(data: bytes, limits: Limits, moment: int, version: Version) -> di
     return them
 
 
-def read_queue(data: bytes, limits: Limits) -> Queue:
+def read_queue(data: bytes, limits: Limits, version: Version) -> Queue:
     demand_sound(len(data) >= 64)
     key, uid, gid, cuid, cgid, mode, *times = struct.unpack(">iIIIIIQQQ", data[:48])
     *pids, qbytes, count = struct.unpack(">IIII", data[48:64])
     demand_sound(mode < 0o1000 and max(qbytes, count) <= limits.msgmnb)
-    at, messages = 64, []
+    at, messages, marks = 64, [], b""
+    if version.tagged:
+        # Nobody takes a message yet.
+        demand_sound(count <= limits.msgqlen and data[64:72] == struct.pack(">Q", 1))
+        at, marks = 72, UNTAKEN
+    head = 12 + len(marks)
     for _ in range(count):
-        demand_sound(at + 12 <= len(data))
-        mtype, length = struct.unpack(">qI", data[at : at + 12])
-        text = data[at + 12 : at + 12 + length]
+        demand_sound(at + head <= len(data) and data[at + 8 : at + 8 + len(marks)] == marks)
+        (mtype,) = struct.unpack(">q", data[at : at + 8])
+        (length,) = struct.unpack(">I", data[at + head - 4 : at + head])
+        text = data[at + head : at + head + length]
         demand_sound(mtype > 0 and len(text) == length <= limits.msgmax)
         messages.append((mtype, text))
-        at += 12 + length
+        at += head + length
     queue = Queue(key, tuple(messages), (uid, gid), (cuid, cgid), mode, tuple(times), tuple(pids), qbytes)
     demand_sound(at == len(data) and queue.held() <= limits.msgmnb)
     return queue
@@ -938,7 +1042,7 @@ class State(NamedTuple):
         if opcode == 0x0B:
             (mtype,), text = struct.unpack(">q", frame[13:21]), frame[21:]
             is_right = mtype > 0 and len(text) <= self.limits.msgmax
-            return is_right and gives(queue, cred, 2) and queue.is_full_for(text)
+            return is_right and gives(queue, cred, 2) and queue.is_full_for(text, self.limits.msgqlen)
         size, mtype = struct.unpack(">Iq", frame[13:25])
         return size <= 2147483647 and gives(queue, cred, 4) and not queue.has_one_for(mtype, flags)
 
@@ -984,7 +1088,7 @@ def read_state(objects: list[tuple[int, bytes]], limits: Limits, version: Versio
     kinds = sort_kinds(objects[4:], next_numbers)
     most = (limits.msgmni, limits.semmni, limits.posix_queues, limits.named, limits.segments, limits.shmmni)
     demand_sound(all(len(kind) <= here for kind, here in zip(kinds, most)))
-    queues = {number: read_queue(data, limits) for number, data in kinds[0].items()}
+    queues = {number: read_queue(data, limits, version) for number, data in kinds[0].items()}
     sets = {number: read_set(data, limits) for number, data in kinds[1].items()}
     opened: Opened = {(3, number): read_posix(data, limits) for number, data in kinds[2].items()}
     opened |= {(4, number): read_named(data) for number, data in kinds[3].items()}
@@ -1002,6 +1106,11 @@ def read_state(objects: list[tuple[int, bytes]], limits: Limits, version: Versio
         demand_sound(len(keys) == len(set(keys)))
     demand_sound(sum(len(one.semaphores) for one in sets.values()) <= limits.semmns)
     adjustments = read_adjustments(objects[3][1], set(them), sets)
+    if version.tagged:
+        counts = Counter(pid for pid, _, _ in adjustments)
+        demand_sound(all(count <= limits.semume for count in counts.values()))
+        queues_of_posix = (one for one in opened.values() if isinstance(one, Posix))
+        demand_sound(sum(one.maxmsg * (8 + one.msgsize) for one in queues_of_posix) <= limits.queue_bytes)
     found = State(them, opened, queues, sets, adjustments, limits)
     demand_sound(all(found.has_to_wait(pid, frame) for pid, frame in calls.items()))
     return next_pid, set(them)
@@ -1052,13 +1161,15 @@ def read_batch(data: bytes, sector: int, version: Version) -> list[bytes]:
 class Connected:
     """Which processes are connected, event by event."""
 
-    def __init__(self, next_pid: int, pids: set[int], most: int) -> None:
-        self.next_pid, self.pids, self.most = next_pid, pids, most
+    def __init__(self, next_pid: int, pids: set[int], most: int, version: Version = TWO) -> None:
+        self.next_pid, self.pids, self.most, self.version = next_pid, pids, most, version
 
     def takes(self, here: bytes) -> bool:
         kind, rest = here[0], here[9:]
         if kind == 6:
             self.pids.clear()
+            # On version 3 pids begin with 1 in each life.
+            self.next_pid = 1 if self.version.number == 3 else self.next_pid
         if kind == 1 and len(self.pids) < self.most and self.next_pid <= LAST_NUMBER:
             self.pids.add(self.next_pid)
             self.next_pid += 1
@@ -1071,7 +1182,36 @@ class Connected:
         return True
 
 
+def read_tags(image: bytes, at: int, end: int, epoch: int, number: int) -> int:
+    """How many sectors the batch of this number has that stands here; none if not all of them are its own."""
+    (count,) = struct.unpack(">H", image[SECTOR * at + 14 :][:2])
+    if count == 0 or at + count > end:
+        return 0
+    wanted = (tag(epoch, number, index, count) for index in range(count))
+    return count if all(image[SECTOR * (at + k) :][:16] == one for k, one in enumerate(wanted)) else 0
+
+
+def read_tagged(image: bytes, epoch: int, connected: Connected, version: Version) -> list[list[bytes]]:
+    """The journal of version 3: the longest run of batches that are whole, and then no sector of a later epoch."""
+    at, end, batches = JOURNAL, version.objects, []
+    while at < end and (count := read_tags(image, at, end, epoch, len(batches) + 1)):
+        data = b"".join(bytes(image[SECTOR * (at + k) + 16 :][:TAGGED_BYTES]) for k in range(count))
+        length = 4 + struct.unpack(">I", data[:4])[0]
+        demand(length <= version.batch and version.sectors_of(length) == count, at)
+        records = read_batch(data[4:length], at, version)
+        demand(all(connected.takes(here) for here in records), at)
+        batches.append(records)
+        at += count
+    if at < end:
+        (later,) = struct.unpack(">Q", image[SECTOR * at :][:8])
+        demand(later <= epoch, at)
+    demand(at < end or epoch < LAST_EPOCH, version.root)
+    return batches
+
+
 def read_journal(image: bytes, epoch: int, connected: Connected, version: Version) -> list[list[bytes]]:
+    if version.tagged:
+        return read_tagged(image, epoch, connected, version)
     journal_epoch, used = struct.unpack(">QI", image[SECTOR * JOURNAL :][:12])
     if journal_epoch < epoch:
         return []
@@ -1092,7 +1232,7 @@ def read(image: bytes, version: Version = TWO) -> Content:
     image = memoryview(image)
     if len(image) < 3 * SECTOR:
         raise Fault("not formatted")
-    sectors, limits = read_superblock(image, version)
+    sectors, limits, version = read_superblock(image, version)
     # What comes after the sectors that the superblock names is no part of the device.
     image = image[: SECTOR * sectors]
     heap = Heap(image, version)
@@ -1101,6 +1241,6 @@ def read(image: bytes, version: Version = TWO) -> Content:
         next_pid, pids = read_state(objects, limits, version)
     except Unsound:
         raise Fault(f"damaged sector {version.root}") from None
-    connected = Connected(next_pid, pids, limits.processes)
+    connected = Connected(next_pid, pids, limits.processes, version)
     batches = read_journal(image, heap.epoch, connected, version)
-    return Content(limits, heap.epoch, heap.chain, heap.placed, objects, batches)
+    return Content(version, limits, heap.epoch, heap.chain, heap.placed, objects, batches)

@@ -15,7 +15,6 @@ from device_layout import (
     RESTART,
     ROOT,
     SECTOR,
-    TWO,
     Device,
     Fault,
     NamedSem,
@@ -27,9 +26,11 @@ from device_layout import (
     Version,
     batch,
     header,
+    named_version,
     put_into_file,
     read,
     shown,
+    tagged,
 )
 
 PROGRAM = os.path.abspath(sys.argv[1])
@@ -87,10 +88,10 @@ def refuses(image: bytes, fault: str, name: str, *commands: str) -> None:
         is_image(ended.image, bytes(image), name)
 
 
-def fault_of(image: bytes, version: Version = TWO) -> str:
-    """What the checker says of a device; nothing if it opens."""
+def fault_of(image: bytes, version: Version | None = None) -> str:
+    """What the checker says of a device, read as this version or as the one that it names; nothing if it opens."""
     try:
-        read(image, version)
+        read(image, version or named_version(image))
     except Fault as fault:
         return str(fault)
     return ""
@@ -98,12 +99,24 @@ def fault_of(image: bytes, version: Version = TWO) -> str:
 
 def restarted(image: bytes) -> bytes:
     """A device after an open, if its journal has a sector for the restart."""
-    content = read(image)
-    used = sum(-(-(4 + sum(4 + len(one) for one in them)) // SECTOR) for them in content.batches)
+    content = read(image, named_version(image))
+    version, batches = content.version, content.batches
+    used = sum(version.sectors_of(4 + sum(4 + len(one) for one in them)) for them in batches)
     after = bytearray(image)
-    for at, data in ((BODY + used, batch(RESTART)), (JOURNAL, header(content.epoch, used + 1))):
+    if version.tagged:
+        parts = cleared(image, JOURNAL + used, version.objects, content.epoch)
+        parts[JOURNAL + used] = tagged(content.epoch, len(batches) + 1, batch(RESTART))[0]
+    else:
+        parts = {BODY + used: batch(RESTART), JOURNAL: header(content.epoch, used + 1)}
+    for at, data in parts.items():
         after[SECTOR * at : SECTOR * (at + 1)] = data.ljust(SECTOR, b"\0")
     return bytes(after)
+
+
+def cleared(image: bytes, first: int, end: int, epoch: int) -> dict[int, bytes]:
+    """The sectors of these that an open fills with zeros: those of this epoch, or of a later one."""
+    epochs = {at: int.from_bytes(image[SECTOR * at : SECTOR * at + 8], "big") for at in range(first, end)}
+    return {at: b"" for at, found in epochs.items() if found >= epoch}
 
 
 def opens(image: bytes, listed: str, name: str) -> None:
@@ -120,7 +133,8 @@ def runs(device: Device, script: list[str], printed: list[str], wanted: Device, 
     lines = "".join(f"{line}\n" for line in printed)
     check(ended[:3] == (0, "", lines), f"{name}: {ended[:3]}, and not {lines!r}")
     is_image(ended.image, bytes(wanted.image), name)
-    check(fault_of(ended.image) in ("", f"damaged sector {ROOT}"), f"{name}: it would not open")
+    at_end = f"damaged sector {device.version.root}"
+    check(fault_of(ended.image) in ("", at_end), f"{name}: it would not open")
 
 
 def stops_at(device: Device, script: list[str], printed: list[str], wanted: Device) -> None:

@@ -21,11 +21,13 @@ from pathlib import Path
 
 sys.path.insert(0, str(Path(__file__).resolve().parents[2] / "examples"))
 
-from client import IPC_NOWAIT, Connection, msgctl_stat_request, msgrcv_request  # noqa: E402
+from client import IPC_NOWAIT, Connection, hello_request, msgctl_stat_request, msgrcv_request  # noqa: E402
 
 PROGRAM = os.path.realpath(sys.argv[1])
 SEED = int(sys.argv[2]) if len(sys.argv) > 2 else random.randrange(2**32)
 SECTORS = {"standard": 252440, "small": 1366}
+# The same of version 3, with a journal of 257 sectors.
+SECTORS_OF_THREE = {"standard": 91426, "small": 322}
 TIMEOUT = 20
 
 
@@ -85,9 +87,12 @@ class Server:
         *words: str,
         at: str = "socket",
         limits: str = "standard",
+        sectors: int = 0,
         prepare: Callable[[], None] | None = None,
     ) -> None:
+        """The device has as many sectors as one of version 2 with these limits, or so many: it is of version 3."""
         self.at = at
+        self.sectors = sectors or SECTORS[limits]
         self.process = subprocess.Popen(
             [PROGRAM, "serve", "device", at, *words],
             stdout=subprocess.PIPE,
@@ -95,7 +100,8 @@ class Server:
             text=True,
             preexec_fn=prepare,
         )
-        wanted = f"serving device, {SECTORS[limits]} sectors, on {at}, {limits} limits\n"
+        version = "" if self.sectors == SECTORS[limits] else "version 3, "
+        wanted = f"serving device, {self.sectors} sectors, on {at}, {version}{limits} limits\n"
         line = self.process.stdout.readline()
         if line != wanted:
             self.process.kill()
@@ -170,9 +176,17 @@ def small() -> Iterator[Server]:
 
 
 @contextmanager
-def killed() -> Iterator[Server]:
+def of_version_3(*words: str, **named: object) -> Iterator[Server]:
+    """A server of a new device of version 3, which `ipcd format` makes with these words."""
+    sectors = int(printed("format", "device", "--journal", "257", *words).split()[1])
+    with serving(limits="small" if "--small" in words else "standard", sectors=sectors, **named) as server:
+        yield server
+
+
+@contextmanager
+def killed(sectors: int = 0) -> Iterator[Server]:
     """A server with small limits that is killed at the end."""
-    server = Server(limits="small")
+    server = Server(limits="small", sectors=sectors)
     try:
         yield server
         server.stop(signal.SIGKILL)
@@ -185,6 +199,12 @@ class Client(Connection):
 
     def __init__(self) -> None:
         super().__init__("socket", TIMEOUT)
+
+    def hello(self, uid: int, gid: int) -> int:
+        """Its pid, after which a server of a device of version 3 answers the version."""
+        body = self.call(hello_request(uid, gid))
+        check(len(body) == 4 or body[4:] == (3).to_bytes(4, "big"), f"{body.hex()} is answered to a HELLO")
+        return int.from_bytes(body[:4], "big")
 
     def fileno(self) -> int:
         return self._socket.fileno()

@@ -114,8 +114,8 @@ LETTERS |= {"epoll_enter": "", "send": ">", "accept4": "a", "close": "c", "write
 
 
 def letter(call: Call) -> str:
-    """Of a write the part of the device: 0 the superblock, R the root, H the journal's header, B its body, O objects.
-    Of a call that was refused, but for those of sockets, x."""
+    """Of a write the part of a device of version 2: 0 the superblock, R the root, H the journal's header, B its body, O
+    objects, and ? the root of version 3. Of a call that was refused, but for those of sockets, x."""
     if call.result < 0 and call.name not in ("recv", "send", "accept4", "epoll_wait"):
         return "x"
     if call.name != "pwrite":
@@ -146,7 +146,7 @@ def refused_once(them: list[Call]) -> None:
     """One call was refused, and after it nothing is written or synced."""
     left = order(them).partition("x")[2]
     check("x" in order(them), "no call was refused")
-    check(not set(left) & set("x0RHBOSFT"), f"after the refused call come {left}")
+    check(not set(left) & set("x0RHBOSFT?"), f"after the refused call come {left}")
 
 
 class Disk:

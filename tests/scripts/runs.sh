@@ -645,9 +645,10 @@ name "help of a command"
 tells "^ *--small " replay --help
 name "help of format"
 tells "^ *--sectors <N> " format --help
+tells "^ *--journal <N> " format --help
 name "help of upgrade"
 tells "^ *--sectors <N> " upgrade --help
 name "the version"
-tells "^ipcd [0-9]*\.[0-9]*\.[0-9]*, devices of version 2$" --version
+tells "^ipcd [0-9]*\.[0-9]*\.[0-9]*, devices of versions 2 and 3$" --version
 
 echo "runs: $runs runs of the program, each as it should be"

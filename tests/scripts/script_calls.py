@@ -197,15 +197,37 @@ STEPS = [
 LINES = "".join(f"{step.line}\n" for step in STEPS)
 COMMITS = [step for step in STEPS if step.last_words]
 
-# The calls of an open and of a commit: how many calls of each name an open makes, and those of a commit in order.
-OPENED = {"pwrite": 2, "fdatasync": 3}
-COMMIT = ("pwrite", "fdatasync", "pwrite", "fdatasync")
+class Made(NamedTuple):
+    """A version of devices: the words of its format; how many calls of each name an open makes, and those of a commit
+    in order; what HELLO answers after the pid; and whether pids go on after a restart."""
+
+    words: tuple[str, ...]
+    opened: dict[str, int]
+    commit: tuple[str, ...]
+    greeting: str
+    goes_on: bool
+
+    def refusal(self, commits: int, at: int) -> str:
+        """The call of a commit that is refused, after so many commits of a script on a new device."""
+        name = self.commit[at]
+        before = self.opened[name] + commits * self.commit.count(name) + self.commit[:at].count(name)
+        return f"{name} {before + 1} {errno.EIO}"
+
+    def answers(self, text: str) -> str:
+        """What is printed on version 2, as this version prints it: a HELLO has serial 1."""
+        size = 10 + len(self.greeting) // 2
+        return re.sub("0000000a(000000010000[0-9a-f]{8})", rf"{size:08x}\g<1>{self.greeting}", text)
+
+    def fresh(self) -> bytes:
+        """A new device, with small limits."""
+        printed("format", "device", *self.words)
+        return Path("device").read_bytes()
 
 
-def refusal(commits: int, at: int) -> str:
-    """The call of a commit that is refused, after so many commits of a script on a new device."""
-    name = COMMIT[at]
-    return f"{name} {OPENED[name] + 2 * commits + at // 2 + 1} {errno.EIO}"
+TWO = Made(("--small",), {"pwrite": 2, "fdatasync": 3}, ("pwrite", "fdatasync", "pwrite", "fdatasync"), "", True)
+THREE = Made(
+    ("--small", "--journal", "257"), {"pwrite": 1, "fdatasync": 2}, ("pwrite", "fdatasync"), "00000003", False
+)
 
 
 def ending_after(commits: int) -> tuple[tuple[int, str], str, int]:
@@ -220,30 +242,30 @@ def ending_after(commits: int) -> tuple[tuple[int, str], str, int]:
     return WELL, text, 2
 
 
-def is_left(fresh: bytes, processes: int, name: str) -> None:
-    """What a failure of power leaves of the device opens, and the next process is the one after so many."""
+def is_left(made: Made, fresh: bytes, processes: int, name: str) -> None:
+    """What a failure of power leaves of the device opens. The next process is the one after so many, or the first."""
     disk = Disk(fresh)
     for call in calls():
         disk.does(call)
     Path("device").write_bytes(disk.lasting)
-    welcome = f"1 0000000a000000010000{processes + 1:08x}\n"
-    ends(f"{name}, and after it", WELL, welcome, f"0 open 1\n0 data 1 {HELLO}\n", *RUN)
+    welcome = f"1 0000000a000000010000{processes * made.goes_on + 1:08x}\n"
+    ends(f"{name}, and after it", WELL, made.answers(welcome), f"0 open 1\n0 data 1 {HELLO}\n", *RUN)
 
 
-def last_words() -> None:
+def last_words(made: Made = TWO) -> None:
     """Each call of each commit is refused in turn. Nothing is written or synced after it, and of what was not synced
     nothing is left: no line lasts in whose commit the disk failed."""
-    printed("format", "device", "--small")
-    fresh = Path("device").read_bytes()
-    rows = [(commits, refusal(commits, at)) for commits in range(len(COMMITS)) for at in range(4)]
+    fresh = made.fresh()
+    each = range(len(made.commit))
+    rows = [(commits, made.refusal(commits, at)) for commits in range(len(COMMITS)) for at in each]
     for commits, refused in [*rows, (len(COMMITS), "")]:
         Path("device").write_bytes(fresh)
         end, text, processes = ending_after(commits)
         with watched(refused):
-            ends(f"with {refused or 'nothing'} refused", end, text, LINES, *RUN)
+            ends(f"with {refused or 'nothing'} refused", end, made.answers(text), LINES, *RUN)
         if refused:
             refused_once(calls())
-        is_left(fresh, processes, f"with {refused} refused")
+        is_left(made, fresh, processes, f"with {refused} refused")
 
 
 # Long requests: their texts are too long, EINVAL, which is 22.
@@ -252,17 +274,20 @@ LONG = [frame(serial, msgsnd_request(1, 5, 32000 * b"\7")) for serial in range(2
 # records of 32038 there is no room for the longest one, of 65809; the fourth is in a second batch. The HELLO is the
 # first commit, which ends with the fourth write. The batch of three has 188 sectors, which are three writes, and its
 # header is the eighth.
-WITHIN = [(f"pwrite 5 {errno.EIO}", 0), (refusal(1, 3), 0), (f"pwrite 9 {errno.EIO}", 3), (refusal(2, 3), 3), ("", 4)]
+WITHIN = [(f"pwrite 5 {errno.EIO}", 0), (TWO.refusal(1, 3), 0)]
+WITHIN += [(f"pwrite 9 {errno.EIO}", 3), (TWO.refusal(2, 3), 3), ("", 4)]
+# On version 3 the HELLO ends with the second write; the batch of three has 194 sectors, which are four.
+WITHIN_OF_THREE = [(f"pwrite {at} {errno.EIO}", 0) for at in (3, 4, 5, 6)] + [(THREE.refusal(1, 1), 0)]
+WITHIN_OF_THREE += [(f"pwrite 7 {errno.EIO}", 3), (THREE.refusal(2, 1), 3), ("", 4)]
 
 
-def a_disk_that_fails_within_a_line() -> None:
+def a_disk_that_fails_within_a_line(made: Made = TWO, within: list[tuple[str, int]] = WITHIN) -> None:
     """Four long requests in a line are two commits."""
-    printed("format", "device", "--small")
-    fresh = Path("device").read_bytes()
+    fresh = made.fresh()
     script = f"0 open 1\n0 data 1 {HELLO}\n0 data 1 {b''.join(LONG).hex()}\n"
-    for refused, answers in WITHIN:
+    for refused, answers in within:
         Path("device").write_bytes(fresh)
-        text = "1 0000000a00000001000000000001\n"
+        text = made.answers("1 0000000a00000001000000000001\n")
         text += "".join(f"1 00000006{serial:08x}0016\n" for serial in range(2, 2 + answers))
         text += told(1) if refused else ""
         with watched(refused):
@@ -287,6 +312,8 @@ def a_thousand_requests_in_a_line() -> None:
 # How many calls of the commit of a message pass; and whether the message is there if nothing is left that was not
 # synced, and if all is: the batch is written first, and then the header that counts it.
 LEFT = [(0, False, False), (1, False, False), (2, False, False), (3, False, True), (4, True, True)]
+# On version 3 it is there once its one sector is.
+LEFT_OF_THREE = [(0, False, False), (1, False, True), (2, True, True)]
 # A second process comes, finds queue 1, makes another one, and receives.
 NEXT = f"""\
 0 open 1
@@ -295,27 +322,27 @@ NEXT = f"""\
 0 data 1 0000000d000000030a0000000000000380
 0 data 1 00000019000000040c0000000100000800000000400000000000000000
 """
-FOUND = "1 0000000a00000001000000000002\n1 0000000a00000002000000000001\n1 0000000a00000003000000000002\n"
+FOUND = "1 0000000a0000000100000000000{}\n1 0000000a00000002000000000001\n1 0000000a00000003000000000002\n"
 
 
-def a_crash_leaves_the_message_or_not() -> None:
-    """The message is the third commit of a script: it is in the journal once the header is."""
-    lines, answers = (text.splitlines(keepends=True) for text in (SCRIPT, OUTPUT))
-    printed("format", "device", "--small")
-    fresh = Path("device").read_bytes()
-    for passed, lost, kept in LEFT:
+def a_crash_leaves_the_message_or_not(made: Made = TWO, left: list[tuple[int, bool, bool]] = LEFT) -> None:
+    """The message is the third commit of a script: it is in the journal once the header is, or its tagged sector."""
+    lines, answers = (text.splitlines(keepends=True) for text in (SCRIPT, made.answers(OUTPUT)))
+    fresh = made.fresh()
+    for passed, lost, kept in left:
         Path("device").write_bytes(fresh)
-        done = passed == 4
+        done = passed == len(made.commit)
         text = "".join(answers[:3] if done else [*answers[:2], told(1)])
         name = f"after {passed} calls"
-        with watched("" if done else refusal(2, passed)):
+        with watched("" if done else made.refusal(2, passed)):
             ends(name, WELL if done else DEVICE_FAULT, text, "".join(lines[:4]), *RUN)
         disk = Disk(fresh)
         for call in calls():
             disk.does(call)
         for there, content in ((kept, Path("device").read_bytes()), (lost, disk.lasting)):
             Path("device").write_bytes(content)
-            found = FOUND + (answers[3] if there else "1 0000000600000004002a\n")
+            found = made.answers(FOUND.format(1 + made.goes_on))
+            found += answers[3] if there else "1 0000000600000004002a\n"
             ends(f"{name}, opened again", WELL, found, NEXT, *RUN)
 
 

@@ -12,6 +12,7 @@ import json
 import os
 import subprocess
 import sys
+import tempfile
 from pathlib import Path
 
 sys.dont_write_bytecode = True
@@ -21,6 +22,7 @@ PROGRAM = os.path.abspath(sys.argv[1])
 sys.path.insert(0, str(ROOT / "tools"))
 
 import vectors  # noqa: E402
+from vector_rows import VERSION_3  # noqa: E402
 
 # The rows that a server answers at the least, and the errors that no session makes it send.
 FEWEST, NEVER = 150, {"EIO", "ENOMEM"}
@@ -42,11 +44,27 @@ def covered(rows: list[dict[str, str]]) -> None:
         check(bool(refused) or call == "interrupt", f"no row has {call} refused")
 
 
+def answers(name: str) -> str:
+    """What `ipcd replay` answers a session with, or `ipcd run` on a device of version 3."""
+    with tempfile.TemporaryDirectory() as folder:
+        words = ["replay", "--small"]
+        if name == VERSION_3:
+            device = os.path.join(folder, "device")
+            ran("format", "--small", "--journal", "257", device)
+            words = ["run", device]
+        return ran(*words, script=vectors.script(name))
+
+
+def ran(*words: str, script: str = "") -> str:
+    """What the program prints. It ends well."""
+    ended = subprocess.run([PROGRAM, *words], input=script, capture_output=True, text=True)
+    check((ended.returncode, ended.stderr) == (0, ""), f"{words}: {ended}")
+    return ended.stdout
+
+
 def session(name: str, rows: list[dict[str, str]]) -> int:
-    """What `ipcd replay` answers a session with: after each request its replies, those of a connection in the order in
+    """What the program answers a session with: after each request its replies, those of a connection in the order in
     which the document has them, and the end of a connection after a fault."""
-    ended = subprocess.run([PROGRAM, "replay", "--small"], input=vectors.script(name), capture_output=True, text=True)
-    check((ended.returncode, ended.stderr) == (0, ""), f"{name}: {ended}")
     wanted: list[str] = []
     for number, row in enumerate(rows):
         if row["session"] != name:
@@ -58,7 +76,7 @@ def session(name: str, rows: list[dict[str, str]]) -> int:
             wanted.append(f"{it['connection']} {it['reply_bytes']}")
             if it["reply"] == "EPROTO":
                 wanted.append(f"{it['connection']} end")
-    found = ended.stdout.splitlines()
+    found = answers(name).splitlines()
     for at, (one, other) in enumerate(zip(found, wanted)):
         check(one == other, f"{name}: reply {at + 1} is {one}, and not {other}")
     check(len(found) == len(wanted), f"{name}: {len(found)} replies, and not {len(wanted)}")

@@ -45,6 +45,14 @@ REFUSED = [
     ("format", "queues", "--sectors"),
     ("format", "queues", "--sectors", "-1"),
     ("format", "missing/queues", "--sectors", "4294967296"),
+    ("format", "queues", "--journal"),
+    ("format", "queues", "--journal", "7"),
+    ("format", "queues", "--journal", "65536"),
+    ("format", "queues", "--journal", "many", "--small"),
+    ("format", "queues", "--journal", "8", "--journal", "8"),
+    ("upgrade", "queues", "--journal", "8"),
+    ("backup", "queues", "copy", "--journal", "8"),
+    ("replay", "--journal", "8"),
     ("upgrade",),
     ("upgrade", "queues", "more"),
     ("upgrade", "queues", "--sectors", "many"),
@@ -63,7 +71,11 @@ FAILS = [
     (("format", "queues", "--sectors", "0"), "too small, 252440 sectors needed"),
     (("format", "queues", "--sectors", "0", "--small"), "too small, 1366 sectors needed"),
     (("format", "--small", "--sectors=1365", "queues"), "too small, 1366 sectors needed"),
+    (("format", "queues", "--sectors", "0", "--journal", "257"), "too small, 91426 sectors needed"),
+    (("format", "queues", "--sectors", "0", "--journal", "65535"), "too small, 156704 sectors needed"),
+    (("format", "--journal=8", "--small", "--sectors=72", "queues"), "too small, 73 sectors needed"),
     (("format", "missing/queues", "--sectors", GREATEST), "device fault"),
+    (("format", "missing/queues", "--journal", "8"), "device fault"),
     (("upgrade", "--sectors", GREATEST, "missing/queues", "--small"), "device fault"),
     (("backup", "missing/queues", "copy"), "device fault"),
     (("serve", "missing/queues", "socket", "--turns", GREATEST), "device fault"),
@@ -107,12 +119,14 @@ def helps() -> None:
 
 
 def version() -> None:
-    """The version is that of the program, and then that of the devices which it makes."""
+    """The version is that of the program, and then those of the devices which it makes without a journal and with one."""
     printed = run("--version")[1].decode()
     ends((0, b"formatted 1366 sectors\n", b""), "format", "queues", "--small")
     (number,) = struct.unpack_from(">I", Path("queues").read_bytes(), 8)
+    ends((0, b"formatted 73 sectors\n", b""), "format", "queues", "--small", "--journal=8")
+    (tagged,) = struct.unpack_from(">I", Path("queues").read_bytes(), 8)
     os.remove("queues")
-    wanted = rf"ipcd \d+\.\d+\.\d+, devices of version {number}\n"
+    wanted = rf"ipcd \d+\.\d+\.\d+, devices of versions {number} and {tagged}\n"
     check(re.fullmatch(wanted, printed) is not None, f"--version: {printed!r} is printed")
 
 

@@ -88,10 +88,10 @@ def command_lines() -> None:
     refused(1, "ipcd: not formatted", "serve", "empty", "socket")
     printed("format", "changed", "--small")
     device = Path("changed").read_bytes()
-    for place, said in ((11, "ipcd: version 3"), (12, "ipcd: damaged sector 0")):
-        changed = device[:place] + bytes([device[place] ^ 1]) + device[place + 1 :]
+    for place, bit, said in ((11, 4, "version 6"), (11, 1, "damaged sector 0"), (12, 1, "damaged sector 0")):
+        changed = device[:place] + bytes([device[place] ^ bit]) + device[place + 1 :]
         Path("changed").write_bytes(changed)
-        refused(1, said, "serve", "changed", "socket")
+        refused(1, f"ipcd: {said}", "serve", "changed", "socket")
         check(Path("changed").read_bytes() == changed, "a device that is refused is written to")
     refused(1, "ipcd: socket fault", "serve", "device", "")
     refused(1, "ipcd: socket fault", "serve", "device", "missing/socket")

@@ -122,6 +122,23 @@ def told() -> None:
     check(words == wanted, f"{words}")
 
 
+def told_of_version_3() -> None:
+    """HELLO is answered the version too, on a device of version 3."""
+    script = "".join(SCRIPT.splitlines(keepends=True)[:4])
+    with open("script", "w") as file:
+        file.write(script)
+    printed(PROGRAM, "format", "--small", "--journal", "257", "device")
+    replies = printed(PROGRAM, "run", "device", given=script)
+    found = printed(sys.executable, str(EXAMPLES / "frames.py"), "script", given=replies)
+    words = [line for line in found.splitlines() if not line.startswith("    ")]
+    wanted = [
+        "1: HELLO uid 0, gid 0 -> process 1, version 3",
+        "2: HELLO uid 0, gid 7 -> process 2, version 3",
+        "2: msgget key 7, flags 01000 -> queue 1",
+    ]
+    check(words == wanted, f"{words}")
+
+
 def every_call_is_told() -> None:
     """Each script of examples/ is told whole: no request without words, and as many replies as were printed."""
     count = 0
@@ -135,7 +152,7 @@ def every_call_is_told() -> None:
 
 
 def main() -> None:
-    tests = [first_look, faults, told, every_call_is_told]
+    tests = [first_look, faults, told, told_of_version_3, every_call_is_told]
     for test in tests:
         test()
     print(f"first_look: {len(tests)} tests")

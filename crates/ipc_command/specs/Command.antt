@@ -14,8 +14,8 @@ use Rattle.clap.specs.declared.error.Error.{Error}
 use Rattle.clap.specs.Values.{kind_of}
 use Rattle.clap.specs.declared.error.kind.ErrorKind.{ErrorKind}
 use Rattle.clap.specs.declared.error.kind.ErrorKind.TheVariants.{DisplayHelp, DisplayVersion, OutOfMemory}
-use Rattle.ipc_base.specs.declared.limits.Limits.{Limits}
-use Rattle.ipc_base.specs.Limits.{standard_limits, small_limits}
+use Rattle.ipc_limits.specs.declared.limits.Limits.{Limits}
+use Rattle.ipc_limits.specs.Limits.{standard_limits, small_limits}
 use Rattle.ipc_command.specs.declared.command.Request.{Request}
 use Rattle.ipc_command.specs.declared.command.Request.TheVariants as request
 use Rattle.ipc_command.specs.declared.command.Refusal.{Refusal}
@@ -49,6 +49,14 @@ sectors_rule = record (new_rule (codes "sectors")) {
   parser = Some (Signed (pos 0) (pos 4294967295));
 }
 
+-- the option `--journal N`, the sectors of a journal of version 3
+abbrev pub journal_rule : Rule
+journal_rule = record (new_rule (codes "journal")) {
+  long = Some (codes "journal");
+  value_names = 1;
+  parser = Some (Signed (pos 8) (pos 65535));
+}
+
 -- the word that names the file of a device
 abbrev pub device_rule : Rule
 device_rule = record (new_rule (codes "device")) { value_names = 1; required = true }
@@ -75,9 +83,13 @@ metrics_rule = record (new_rule (codes "metrics")) { long = Some (codes "metrics
 abbrev pub replay_command : App
 replay_command = with_rule (new_app (codes "replay")) small_rule
 
--- `format` and `upgrade`, with a device, the flag and the option
+-- `upgrade`, and what `format` has with it: a device, the flag and the option
 abbrev pub sized_command : Text → App
 sized_command name = with_rule (with_rule (with_rule (new_app name) device_rule) small_rule) sectors_rule
+
+-- `format`, with one option more
+abbrev pub format_command : App
+format_command = with_rule (sized_command (codes "format")) journal_rule
 
 -- `run`, `dump`, `list` and `check`, with a device
 abbrev pub device_command : Text → App
@@ -102,7 +114,7 @@ abbrev pub declared : App
 declared =
     with_subcommand (with_subcommand (with_subcommand (with_subcommand (with_subcommand (with_subcommand
     (with_subcommand (with_subcommand (with_subcommand ipcd_command replay_command.top)
-    (sized_command (codes "format")).top) (sized_command (codes "upgrade")).top) (device_command (codes "run")).top)
+    format_command.top) (sized_command (codes "upgrade")).top) (device_command (codes "run")).top)
     (device_command (codes "dump")).top) (device_command (codes "list")).top) backup_command.top)
     (device_command (codes "check")).top) serve_command.top
 
@@ -111,7 +123,7 @@ declared =
 -- a request, with its files as text
 pub data PlainRequest : Type 0 where
   Replay : (small : Bool) → PlainRequest
-  Format : (device : Text) → (small : Bool) → (sectors : Option ℕ) → PlainRequest
+  Format : (device : Text) → (small : Bool) → (sectors journal : Option ℕ) → PlainRequest
   Upgrade : (device : Text) → (small : Bool) → (sectors : Option ℕ) → PlainRequest
   Run : (device : Text) → PlainRequest
   Dump : (device : Text) → PlainRequest
@@ -122,7 +134,7 @@ pub data PlainRequest : Type 0 where
 
 abbrev pub plain_request : Request → PlainRequest
 plain_request (request.Replay small) = Replay small
-plain_request (request.Format device small sectors) = Format (string_bytes device) small sectors
+plain_request (request.Format device small sectors journal) = Format (string_bytes device) small sectors journal
 plain_request (request.Upgrade device small sectors) = Upgrade (string_bytes device) small sectors
 plain_request (request.Run device) = Run (string_bytes device)
 plain_request (request.Dump device) = Dump (string_bytes device)
@@ -161,7 +173,7 @@ asked_request name rows =
     let device = asked_text (codes "device") rows in
     if bytes_eq name (codes "replay") then Replay (asked_small rows)
     else (if bytes_eq name (codes "format")
-    then Format device (asked_small rows) (asked_number (codes "sectors") rows)
+    then Format device (asked_small rows) (asked_number (codes "sectors") rows) (asked_number (codes "journal") rows)
     else (if bytes_eq name (codes "upgrade")
     then Upgrade device (asked_small rows) (asked_number (codes "sectors") rows)
     else (if bytes_eq name (codes "run") then Run device
@@ -190,6 +202,10 @@ small_words small = if small then codes "--small" ∷ [] else []
 abbrev pub sectors_words : Option Text → List Text
 sectors_words None = []
 sectors_words (Some number) = codes "--sectors" ∷ number ∷ []
+
+-- a text of decimal digits writes a number of sectors that a journal may have
+abbrev pub is_journal : Text → Bool
+is_journal text = is_unsigned_in 8 65535 text
 
 -- `[--turns N] [--metrics FILE]`
 abbrev pub turns_words : Option Text → List Text

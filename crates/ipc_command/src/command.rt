@@ -1,8 +1,8 @@
 //! The command line.
 
 ghost use Rattle.std.specs.Prelude.{◌≡◌, ℕ, Bool, true, false, List, [], ◌∷◌, ◌++◌, map, codes};
-ghost use Rattle.std.specs.Prelude.{IfOk, IfSome, IsSome, Option, option_and_then, option_map, string_bytes};
-ghost use Rattle.ipc_base.specs.Limits.{ArePassed, AreWithin, standard_limits};
+ghost use Rattle.std.specs.Prelude.{IfOk, IfSome, IsSome, None, Option, option_and_then, option_map, string_bytes};
+ghost use Rattle.ipc_limits.specs.Limits.{ArePassed, AreWithin, standard_limits};
 ghost use Rattle.clap.specs.Words.{app_of, rule_of, fault_of, subcommand_of, subcommand_rows_of};
 ghost use Rattle.clap.specs.Words.{FailsBy, first_of, found_of, rows_of};
 ghost use Rattle.clap.specs.declared.builder.command.Command.TheViews.{out-Command};
@@ -11,15 +11,16 @@ ghost use Rattle.ipc_command.specs.Command.PlainRequest.{Format, Upgrade, Run, D
 ghost use Rattle.ipc_command.specs.Command.PlainRequest.{Serve};
 ghost use Rattle.ipc_command.specs.Command.{plain_request, asked, asked_serve, asked_small, asked_text};
 ghost use Rattle.ipc_command.specs.Command.{asked_number, parsed_number};
-ghost use Rattle.ipc_command.specs.Command.{is_no_flag, small_words, sectors_words, turns_words, metrics_words};
-ghost use Rattle.ipc_command.specs.Command.{small_rule, sectors_rule, device_rule, copy_rule, socket_rule};
-ghost use Rattle.ipc_command.specs.Command.{turns_rule, metrics_rule};
-ghost use Rattle.ipc_command.specs.Command.{replay_command, sized_command, device_command, backup_command};
-ghost use Rattle.ipc_command.specs.Command.{serve_command};
+ghost use Rattle.ipc_command.specs.Command.{is_journal, is_no_flag, small_words, sectors_words};
+ghost use Rattle.ipc_command.specs.Command.{turns_words, metrics_words};
+ghost use Rattle.ipc_command.specs.Command.{small_rule, sectors_rule, journal_rule, device_rule, copy_rule};
+ghost use Rattle.ipc_command.specs.Command.{socket_rule, turns_rule, metrics_rule};
+ghost use Rattle.ipc_command.specs.Command.{replay_command, sized_command, format_command};
+ghost use Rattle.ipc_command.specs.Command.{device_command, backup_command, serve_command};
 
 use clap::error::ErrorKind;
 use clap::{Arg, ArgAction, ArgMatches, Command, Error, value_parser};
-use ipc_base::Limits;
+use ipc_limits::Limits;
 use std::alloc::{AllocError, Global};
 use std::convert::AsStr;
 use std::io;
@@ -33,11 +34,13 @@ pub enum Request {
     Replay {
         small: bool,
     },
-    /// Make a device in a file, of so many sectors or of as many as it needs.
+    /// Make a device in a file, of so many sectors or of as many as it needs: of version 3 with a journal of so many
+    /// sectors if that is given, else of version 2.
     Format {
         device: String,
         small: bool,
         sectors: Option<u32>,
+        journal: Option<u32>,
     },
     /// Bring the device in a file to the version of today, with small limits or standard ones. A file
     /// of fewer sectors grows to so many first, if any are given.
@@ -142,7 +145,12 @@ pub fn parse<S: AsStr>(alloc: Global, words: &[S]) -> Result<Request, Error>
         → is_no_flag device ≡ true → IfSome number (λ text. IsSome (parsed_number text))
         → map S.text words.now
         ≡ name ∷ codes "format" ∷ device ∷ small_words small ++ sectors_words number
-        → AsksFor (Format device small (option_and_then parsed_number number)) result }
+        → AsksFor (Format device small (option_and_then parsed_number number) None) result }
+    ensures journal { (name device journal : List ℕ) (small : Bool)
+        → is_no_flag device ≡ true → is_journal journal ≡ true
+        → map S.text words.now
+        ≡ name ∷ codes "format" ∷ device ∷ small_words small ++ codes "--journal" ∷ journal ∷ []
+        → AsksFor (Format device small None (parsed_number journal)) result }
     ensures upgrade { (name device : List ℕ) (small : Bool) (number : Option (List ℕ))
         → is_no_flag device ≡ true → IfSome number (λ text. IsSome (parsed_number text))
         → map S.text words.now
@@ -184,7 +192,7 @@ fn command_line<'a>(alloc: Global) -> Result<Command<'a>, AllocError>
 {
     Command::new(alloc, "ipcd")
         .about("System V and POSIX IPC objects that survive crashes and reboots")
-        .version("0.1.0, devices of version 2")
+        .version("0.1.0, devices of versions 2 and 3")
         .subcommand_required(true)
         .subcommand(replay(alloc)?)?
         .subcommand(format(alloc)?)?
@@ -209,7 +217,7 @@ fn replay<'a>(alloc: Global) -> Result<Command<'a>, AllocError>
 
 // The command `format`.
 fn format<'a>(alloc: Global) -> Result<Command<'a>, AllocError>
-    ensures app { IfOk result (λ command. app_of command ≡ sized_command (codes "format")) }
+    ensures app { IfOk result (λ command. app_of command ≡ format_command) }
     ensures local { IfOk result (λ command. (out-Command command).has_globals ≡ false) }
 {
     sized_command(
@@ -217,7 +225,8 @@ fn format<'a>(alloc: Global) -> Result<Command<'a>, AllocError>
         "format",
         "Makes a device in a file and destroys what it held. A terminal shows progress",
         "Number of sectors of 512 bytes, instead of what the limits need",
-    )
+    )?
+    .arg(journal_option(alloc))
 }
 
 // The command `upgrade`.
@@ -359,6 +368,18 @@ fn sectors_option<'a>(alloc: Global, help: &'a str) -> Arg<'a>
         .help(help)
 }
 
+// The option `--journal N`.
+fn journal_option<'a>(alloc: Global) -> Arg<'a>
+    ensures rule { rule_of result ≡ journal_rule }
+    ensures local { result.global ≡ false }
+{
+    Arg::new(alloc, "journal")
+        .long("journal")
+        .value_name("N")
+        .value_parser(value_parser!(u32).range(8..=65535))
+        .help("Version 3, whose commits cost one sync, with a journal of N sectors, 8 to 65535")
+}
+
 // The word that names the file of a device.
 fn device_word<'a>(alloc: Global) -> Arg<'a>
     ensures rule { rule_of result ≡ device_rule }
@@ -430,6 +451,7 @@ fn request_in(alloc: Global, matches: &ArgMatches<'_>) -> Result<Request, AllocE
             device: text_in(alloc, format, "device")?,
             small: small_in(format),
             sectors: number_in(format, "sectors"),
+            journal: number_in(format, "journal"),
         });
     }
     if let Some(upgrade) = matches.subcommand_matches("upgrade") {
@@ -520,11 +542,13 @@ fn number_in(command: &ArgMatches<'_>, name: &str) -> Option<u32>
     command.get_one(name)
 }
 
-/// The limits of a server: small ones where they are asked for, else the standard ones.
+/// The limits of a server on version 2: small ones where they are asked for, else the standard ones.
 pub fn limits_of(small: bool) -> Limits
     ensures limits { result ≡ limits_asked small }
     ensures passed { ArePassed result }
     ensures within { AreWithin standard_limits result }
+    ensures version { result.version ≡ 2 }
+    ensures journal { result.journal ≡ 257 }
 {
     if small {
         Limits::small()

@@ -5,7 +5,7 @@ use Rattle.std.specs.Prelude.{nat_eq}
 use Rattle.std.proofs.lemmas.Bool.{cases_eq}
 use Rattle.std.proofs.lemmas.Bool.Decides.{nat_tests}
 use Rattle.ipc_hub.proofs.Rows.{same_value, process_of}
-use Rattle.ipc_base.specs.Limits.{ArePassed, longest_reply}
+use Rattle.ipc_limits.specs.Limits.{ArePassed, longest_reply}
 use Rattle.ipc_base.specs.Table.{value_at, with_value, keys_of, EachValue}
 use Rattle.ipc_base.proofs.CallerLemmas.{choice, test_cases, at-with, other-with, keys_of-with_value, each-at, each-by_key}
 use Rattle.ipc_state.specs.State.{is_process}

@@ -4,7 +4,7 @@ use Rattle.std.proofs.Common.{append-nil, append_assoc}
 use Rattle.std.specs.Prelude.{nat_eq, option_and_then, option_map}
 use Rattle.std.proofs.lemmas.List.{length-append}
 use Rattle.ipc_base.specs.Table.{value_at, without, seen_as}
-use Rattle.ipc_base.specs.declared.limits.Limits.{Limits}
+use Rattle.ipc_limits.specs.declared.limits.Limits.{Limits}
 use Rattle.ipc_base.proofs.CallerLemmas.{at-map}
 use Rattle.ipc_disk.specs.Medium.{Medium}
 use Rattle.ipc_store.specs.Histories.{Takes}

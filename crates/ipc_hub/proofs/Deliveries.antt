@@ -9,9 +9,9 @@ use Rattle.std.proofs.lemmas.Grind.{flat_map-append}
 use Rattle.std.proofs.lemmas.List.{length-append, drop_all, drop-append-le}
 use Rattle.std.proofs.lemmas.List.Elements.{All-cons, All-head, All-nil, All-tail, All-weaker, All-push}
 use Rattle.std.proofs.lemmas.Bool.Decides.{nat_tests}
-use Rattle.ipc_base.specs.Limits.{ArePassed}
+use Rattle.ipc_limits.specs.Limits.{ArePassed}
 use Rattle.ipc_base.specs.Table.{ArePaired}
-use Rattle.ipc_base.specs.declared.limits.Limits.{Limits}
+use Rattle.ipc_limits.specs.declared.limits.Limits.{Limits}
 use Rattle.ipc_base.proofs.CallerLemmas.{choice, test_cases}
 use Rattle.ipc_wire.specs.Reply.{reply_bytes}
 use Rattle.ipc_state.specs.Sound.{FitsBody}

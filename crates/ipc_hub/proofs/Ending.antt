@@ -4,7 +4,7 @@ use Rattle.std.proofs.Common.{ap, ◌⊎◌, inl, inr, rules}
 use Rattle.std.specs.Prelude.{length, nat_eq, IfSome}
 use Rattle.ipc_base.specs.Table.{value_at, with_value, keys_of}
 use Rattle.ipc_base.specs.declared.errno.Errno.TheVariants.{EPROTO}
-use Rattle.ipc_base.specs.declared.limits.Limits.{Limits}
+use Rattle.ipc_limits.specs.declared.limits.Limits.{Limits}
 use Rattle.ipc_base.proofs.CallerLemmas.{paired-at, paired-none, paired-with, each-at, at-with}
 use Rattle.ipc_wire.proofs.CallerLemmas.{first_short, length-reply_bytes}
 use Rattle.ipc_state.specs.State.{State}

@@ -5,7 +5,7 @@ use Rattle.std.specs.Prelude.{nat_eq, if◌then◌else◌, option_map, not}
 use Rattle.std.proofs.lemmas.Bool.{cases_eq}
 use Rattle.std.proofs.lemmas.List.{length-append}
 use Rattle.ipc_base.specs.Table.{value_at, with_value, keys_of, seen_as, EachValue, IsRising}
-use Rattle.ipc_base.specs.declared.limits.Limits.{Limits}
+use Rattle.ipc_limits.specs.declared.limits.Limits.{Limits}
 use Rattle.ipc_base.proofs.CallerLemmas.{choice, test_cases, each-seen, each-at, each-by_key}
 use Rattle.ipc_base.proofs.CallerLemmas.{each-with, at-map, keys-map, at-with, other-with, keys_of-with_value}
 use Rattle.ipc_wire.specs.Reply.{reply_bytes}
@@ -29,7 +29,7 @@ use Rattle.ipc_hub.specs.View.{ConnectionView, HubView, HasNoFrame, IsBare, Keep
 use Rattle.ipc_hub.proofs.Kept.{both_choose, heard-none}
 use Rattle.ipc_hub.proofs.Requests.{fits-short, quiet-owes}
 use Rattle.ipc_hub.proofs.Rows.{process_of, for-one}
-use Rattle.ipc_base.specs.Limits.{ArePassed, longest_reply}
+use Rattle.ipc_limits.specs.Limits.{ArePassed, longest_reply}
 use Rattle.ipc_hub.specs.Relations.Delivery.{last_frame, last_frames, owed_to, pushed, hears, put_for, put_all, view_endpoint}
 use Rattle.ipc_hub.specs.Relations.Delivery.{HasSpaceAt, HasSpaceIn, HasSpaceFor, HaveSpace}
 use Rattle.ipc_hub.specs.Relations.Rows.{Table, goes_on, hub_view, changed, process_in, is_open_in}

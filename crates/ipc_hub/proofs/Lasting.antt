@@ -5,7 +5,7 @@ use Rattle.std.specs.Prelude.{All, nat_le, Option}
 use Rattle.std.proofs.lemmas.List.{length-append, length-drop, append_cancel_left}
 use Rattle.std.proofs.lemmas.List.Elements.{All-nil, All-cons, All-append, All-head, All-tail, All-take, All-map, All-weaker}
 use Rattle.std.proofs.lemmas.Bool.Decides.{nat_tests}
-use Rattle.ipc_base.specs.declared.limits.Limits.{Limits}
+use Rattle.ipc_limits.specs.declared.limits.Limits.{Limits}
 use Rattle.ipc_base.proofs.CallerLemmas.{each-at, test_cases}
 use Rattle.ipc_disk.specs.Medium.{Image, Medium}
 use Rattle.ipc_state.specs.State.{State, restart}
@@ -198,7 +198,7 @@ module _ {D : Type 0} (medium : D → Medium) (law : (d : D) (image : Image) →
   -- all calls of a life
   lived : (opened : StoreView D) (last : StoredHub D) (now : Clients) (seen : List Seen)
       → Keeps (medium opened.disk) opened (reopened past) → opened.machine.limits ≡ limits
-      → opened.machine.state ≡ restart (state_after past) → Serving medium limits opened last now seen → Lived medium past last now seen
+      → opened.machine.state ≡ restart limits (state_after past) → Serving medium limits opened last now seen → Lived medium past last now seen
   lived opened hub _ _ keeps under state (New _ store matches) = record {
     history = reopened past;
     keeps = subst (λ (s : StoreView D). Keeps (medium s.disk) s (reopened past)) (sym store) keeps;
@@ -281,7 +281,7 @@ module _ {D : Type 0} (medium : D → Medium) (law : (d : D) (image : Image) →
         history = rested.sure ++ f.kept;
         is = rested.histories f.kept f.lost f.prefix;
         under = f.under;
-        state = f.state ∙ ap (λ (p : Past). restart (state_after p)) all;
+        state = f.state ∙ ap (λ (p : Past). restart past.limits (state_after p)) all;
         keeps = subst (λ (p : Past). Keeps (medium store.disk) store (reopened p)) all f.keeps;
       }
 

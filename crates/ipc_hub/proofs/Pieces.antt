@@ -3,7 +3,7 @@ use Rattle.std.proofs.Common.{◌≡◌, ℕ, zero, suc, Bool, true, false, ◌&
 use Rattle.std.proofs.Common.{◌⊎◌, inl, inr, subst, arith, append_assoc, append-nil, rules}
 use Rattle.std.specs.Prelude.{nat_eq, option_map}
 use Rattle.ipc_base.specs.declared.errno.Errno.TheVariants.{ENOMEM}
-use Rattle.ipc_base.specs.declared.limits.Limits.{Limits}
+use Rattle.ipc_limits.specs.declared.limits.Limits.{Limits}
 use Rattle.ipc_wire.specs.Request.{PlainRequest}
 use Rattle.ipc_wire.specs.Stream.{first, Ending, Stream, stream_of, continued}
 use Rattle.ipc_wire.specs.Stream.PlainFrame.{More}

@@ -5,7 +5,7 @@ use Rattle.std.specs.Prelude.{nat_eq, option_map, not, IfSome}
 use Rattle.std.proofs.lemmas.List.{drop_all, length-append}
 use Rattle.ipc_base.specs.Table.{value_at, with_value, keys_of}
 use Rattle.ipc_base.specs.declared.errno.Errno.TheVariants.{ENOMEM}
-use Rattle.ipc_base.specs.declared.limits.Limits.{Limits}
+use Rattle.ipc_limits.specs.declared.limits.Limits.{Limits}
 use Rattle.ipc_base.proofs.CallerLemmas.{at-map, at-with, each-at, paired-at}
 use Rattle.ipc_wire.specs.Stream.{PlainFrame, first}
 use Rattle.ipc_wire.specs.Stream.PlainFrame.{More, Whole, Fault}

@@ -3,7 +3,7 @@ use Rattle.std.proofs.Common.{◌≡◌, ℕ, ◌+◌, List, [], ◌∷◌, ◌+
 use Rattle.std.specs.Prelude.{All, nat_eq}
 use Rattle.std.proofs.lemmas.List.Elements.{All-nil, All-cons, All-push}
 use Rattle.ipc_base.specs.declared.errno.Errno.TheVariants.{EIO}
-use Rattle.ipc_base.specs.declared.limits.Limits.{Limits}
+use Rattle.ipc_limits.specs.declared.limits.Limits.{Limits}
 use Rattle.ipc_base.specs.Table.{without, EachValue}
 use Rattle.ipc_base.proofs.CallerLemmas.{each-at, each-with, each-without, each-entry, each-seen}
 use Rattle.ipc_state.specs.State.{State}

@@ -4,10 +4,11 @@ use Rattle.std.proofs.Common.{◌≡◌, ◌≢◌, ℕ, ◌+◌, ◌<◌, ◌�
 use Rattle.std.specs.Prelude.{nat_eq, if◌then◌else◌, ◌&&◌, not}
 use Rattle.std.proofs.Math.Bool.{and-false}
 use Rattle.std.proofs.lemmas.Bool.Decides.{nat_tests}
-use Rattle.ipc_base.specs.Limits.{ArePassed, longest_reply}
+use Rattle.ipc_limits.specs.Limits.{ArePassed, longest_reply}
 use Rattle.ipc_base.specs.declared.identity.Cred.{Cred}
-use Rattle.ipc_base.specs.declared.limits.Limits.{Limits}
-use Rattle.ipc_base.proofs.CallerLemmas.{rising-bounds, rising-found, longest_reply-bound, same_key, other_key}
+use Rattle.ipc_limits.specs.declared.limits.Limits.{Limits}
+use Rattle.ipc_base.proofs.CallerLemmas.{rising-bounds, rising-found, same_key, other_key}
+use Rattle.ipc_limits.proofs.CallerLemmas.{longest_reply-bound}
 use Rattle.ipc_base.specs.Table.{keys_of}
 use Rattle.ipc_wire.specs.Reply.{reply_bytes}
 use Rattle.ipc_wire.specs.Request.{PlainRequest, PlainKind, Hello, Interrupt as Interrupts, Sysv, Posix}

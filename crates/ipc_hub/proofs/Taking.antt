@@ -3,7 +3,7 @@ use Rattle.std.proofs.Common.{◌≡◌, ◌≤◌, ℕ, Bool, true, false, List
 use Rattle.std.proofs.Common.{append-nil, append_assoc, inl, inr}
 use Rattle.std.specs.Prelude.{not}
 use Rattle.std.proofs.lemmas.List.{length-append}
-use Rattle.ipc_base.specs.declared.limits.Limits.{Limits}
+use Rattle.ipc_limits.specs.declared.limits.Limits.{Limits}
 use Rattle.ipc_base.proofs.CallerLemmas.{each-at, test_cases, at-with, twice, own}
 use Rattle.ipc_wire.specs.Stream.{PlainFrame, first, Stream, begins_with, stream_of}
 use Rattle.ipc_wire.specs.Stream.PlainFrame.{More, Whole, Fault}

@@ -2,7 +2,7 @@
 -- nothing else than to be counted.
 use Rattle.std.proofs.Common.{◌≡◌, ℕ, ◌≤◌, Bool, List, [], ◌∷◌, ◌++◌, length, max, get_or, Option, Some, None, refl, sym, ap, subst, ◌∙◌, arith, rules}
 use Rattle.std.specs.Prelude.{nat_eq, if◌then◌else◌, option_map}
-use Rattle.ipc_base.specs.declared.limits.Limits.{Limits}
+use Rattle.ipc_limits.specs.declared.limits.Limits.{Limits}
 use Rattle.ipc_base.specs.Table.{value_at, EachValue, ArePaired}
 use Rattle.ipc_base.proofs.CallerLemmas.{at-map}
 use Rattle.ipc_wire.specs.Request.{PlainRequest}

@@ -1,7 +1,7 @@
 -- What clients may count on, over any number of lives of the server. A life is an open of the device, and calls on a
 -- hub over it. The last of these may be stopped at any moment of it, and so may opens before the one that succeeds.
 use Rattle.std.specs.Prelude.{◌≡◌, ◌≤◌, ℕ, Bool, List, [], ◌∷◌, ◌++◌, length, drop, map, Option, Some, All}
-use Rattle.ipc_base.specs.declared.limits.Limits.{Limits}
+use Rattle.ipc_limits.specs.declared.limits.Limits.{Limits}
 use Rattle.ipc_disk.specs.Medium.{Medium}
 use Rattle.ipc_state.specs.State.{State, restart}
 use Rattle.ipc_engine.specs.Event.{PlainEvent, Restart}
@@ -126,7 +126,7 @@ pub record Lives {D : Type 0} (medium : D → Medium) (limits : Limits) (disk : 
 pub data IsHistory (past : Past) : List Life → List PlainEvent → Type 0 where
   None : IsHistory past [] []
   More : (lives : List Life) (life : Life) (history kept lost : List PlainEvent)
-      → IsHistory past lives history → life.opened ≡ restart (state_after (grown past history))
+      → IsHistory past lives history → life.opened ≡ restart past.limits (state_after (grown past history))
       → kept ++ lost ≡ life.accepted → life.confirmed ≤ length kept
       → All (λ s. (s.frame.mark ≤ length kept)
       × IsAnswer past.limits (state_after (grown past history)) life.accepted s.joined_as s.frame) life.seen
@@ -149,5 +149,5 @@ pub record HasHistory {D : Type 0} (medium : Medium) (past : Past) (lives : List
   pub history : List PlainEvent
   pub is : IsHistory past lives history
   pub under : store.machine.limits ≡ past.limits
-  pub state : store.machine.state ≡ restart (state_after (grown past history))
+  pub state : store.machine.state ≡ restart past.limits (state_after (grown past history))
   pub keeps : Keeps medium store (reopened (grown past history))

@@ -1,7 +1,7 @@
 -- What a caller sees of the hub: its limits, the state of its machine, and its connections by number, which rise.
 use Rattle.std.specs.Prelude.{◌≡◌, ◌<◌, ◌≤◌, ℕ, Bool, false, nat_eq, List, [], ◌++◌, Option, is_some, option_map}
 use Rattle.std.specs.Prelude.{length, unwrap_or, IfSome}
-use Rattle.ipc_base.specs.declared.limits.Limits.{Limits}
+use Rattle.ipc_limits.specs.declared.limits.Limits.{Limits}
 use Rattle.ipc_base.specs.Table.{keys_of, value_at}
 use Rattle.ipc_state.specs.State.{State}
 use Rattle.ipc_store.specs.declared.fault.CommitError.{CommitError}

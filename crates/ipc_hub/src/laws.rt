@@ -2,7 +2,7 @@
 //! contract is the law.
 
 ghost use Rattle.std.specs.Prelude.{◌≡◌, ℕ, Bool, List, ◌++◌, length, drop};
-ghost use Rattle.ipc_base.specs.declared.limits.Limits.{Limits};
+ghost use Rattle.ipc_limits.specs.declared.limits.Limits.{Limits};
 ghost use Rattle.ipc_hub.specs.Clients.{Client, Clients, client_at, feed, take_in, arriving, fitted, all_bytes, shown};
 ghost use Rattle.ipc_hub.specs.Unmarked.{unmarked};
 ghost use Rattle.ipc_store.specs.Histories.{Past};

@@ -2,7 +2,7 @@
 
 ghost use Rattle.std.specs.Prelude.{◌≡◌, ◌⊎◌, ◌+◌, ◌<◌, ◌≤◌, ℕ, true, false, [], ◌∷◌, length, map, take};
 ghost use Rattle.std.specs.Prelude.{◌↔◌, Some, nat_eq, option_map, IfSome, IsTrue};
-ghost use Rattle.ipc_base.specs.Limits.{longest_reply, ArePassed};
+ghost use Rattle.ipc_limits.specs.Limits.{longest_reply, ArePassed};
 ghost use Rattle.ipc_base.specs.Table.{value_at};
 ghost use Rattle.ipc_wire.specs.View.{plain_request};
 ghost use Rattle.ipc_wire.specs.Stream.{first};

@@ -4,7 +4,7 @@ use Rattle.std.proofs.Common.{ap, ◌∙◌, subst, append_assoc, append-nil}
 use Rattle.std.specs.Prelude.{◌≢◌, All, Ok, Err, Result, nat_lt, not, if◌then◌else◌, option_map}
 use Rattle.std.specs.List.{flat_map}
 use Rattle.std.proofs.lemmas.List.Elements.{All-nil, All-head, All-tail}
-use Rattle.ipc_base.specs.declared.limits.Limits.{Limits}
+use Rattle.ipc_limits.specs.declared.limits.Limits.{Limits}
 use Rattle.ipc_base.specs.Table.{EachValue, keys_of}
 use Rattle.ipc_base.proofs.CallerLemmas.{at-map, each-at, test_cases as test}
 use Rattle.ipc_state.specs.State.{State}

@@ -9,7 +9,7 @@ use Rattle.std.proofs.Math.Seq.{take-append_seam}
 use Rattle.std.proofs.lemmas.List.{length-append}
 use Rattle.std.proofs.lemmas.List.Elements.{All-head, All-tail, All-weaker}
 use Rattle.std.proofs.lemmas.Bool.Decides.{nat_tests}
-use Rattle.ipc_base.specs.declared.limits.Limits.{Limits}
+use Rattle.ipc_limits.specs.declared.limits.Limits.{Limits}
 use Rattle.ipc_base.specs.Table.{with_value}
 use Rattle.ipc_hub.specs.View.{HubView}
 use Rattle.ipc_hub.specs.Clients.{accepted, Frame, Client, Clients, client_at, with_client, consume, consumed_from, confirmed_bytes, shown, shown_at}

@@ -1,7 +1,7 @@
 -- The history of a device over lives of it.
 use Rattle.std.proofs.Common.{◌≡◌, ◌++◌, ℕ, ◌+◌, Option, true, false, List, [], ◌∷◌, length, inl, inr, refl, sym, ap, subst, ◌∙◌, arith, append_assoc}
 use Rattle.std.proofs.Common.{append-nil}
-use Rattle.ipc_base.specs.declared.limits.Limits.{Limits}
+use Rattle.ipc_limits.specs.declared.limits.Limits.{Limits}
 use Rattle.ipc_disk.specs.Medium.{Medium}
 use Rattle.ipc_disk.specs.Since.{EachImageSince}
 use Rattle.ipc_engine.specs.Event.{PlainEvent, Restart}
@@ -198,7 +198,7 @@ module _ {D : Type 0} (medium : D → Medium) where
         lines-on _ _ opened _ text (Again number lines line last closed _ r _ so_far is took state again) =
             let was = lines-on number lines last r text so_far in
             let ended = goes-more before last closed was.0 ([], took) in
-            let ending : Progress = record { text = []; run = stopped r } in
+            let ending : Progress = record { text = []; run = stopped limits r } in
             let all : List PlainEvent = accepted ended.after in
             let same : all ≡ accepted was.0.after = (took was.0.after was.0.keeps).follows.accepts ∙ append-nil (accepted was.0.after) in (
               goes-again before closed opened ended again,
@@ -213,12 +213,12 @@ module _ {D : Type 0} (medium : D → Medium) where
                         so.0.state ∙ sym (run-parts limits before.base told.others r.hub.events)
                         ∙ ap (λ (es : List PlainEvent). (run limits before.base es).state) (sym (same ∙ told.ends)) in (
                           record {
-                            state = ap restart state ∙ sym (restart-is limits (run limits before.base all).state);
+                            state = ap (restart limits) state ∙ sym (restart-is limits (run limits before.base all).state);
                             each = tt;
                           },
-                          subst (λ (es : List PlainEvent). Says es (number + 1) (lines ++ line ∷ []) (stopped r) text)
+                          subst (λ (es : List PlainEvent). Says es (number + 1) (lines ++ line ∷ []) (stopped limits r) text)
                               (sym (append-nil (all ++ Restart ∷ [])))
-                              (subst (Says (all ++ Restart ∷ []) (number + 1) (lines ++ line ∷ []) (stopped r)) (append-nil text)
+                              (subst (Says (all ++ Restart ∷ []) (number + 1) (lines ++ line ∷ []) (stopped limits r)) (append-nil text)
                               (told_line number lines line r text [] ending
                               (subst (λ (es : List PlainEvent). Says (es ++ Restart ∷ []) number lines r text) (sym same)
                               (lines-more limits before.base (accepted was.0.after) (Restart ∷ []) h number lines r text so.1))

@@ -4,7 +4,7 @@ use Rattle.std.specs.Prelude.{◌≢◌, Ok, Err, Result, ⊤, OnOk, IfErr}
 use Rattle.std.specs.Io.KnownBytes.{Appends}
 use Rattle.std.proofs.KnownBytes.{Appends-nil}
 use Rattle.std.proofs.Math.Seq.{take-append_seam}
-use Rattle.ipc_base.specs.declared.limits.Limits.{Limits}
+use Rattle.ipc_limits.specs.declared.limits.Limits.{Limits}
 use Rattle.ipc_disk.specs.Medium.{Medium}
 use Rattle.ipc_store.specs.Histories.{Takes}
 use Rattle.ipc_hub.specs.View.{StoredHub}

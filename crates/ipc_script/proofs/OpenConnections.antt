@@ -6,7 +6,7 @@ use Rattle.std.proofs.lemmas.Bool.Decides.{nat_tests}
 use Rattle.std.specs.List.{insert, prefix_len, AllByRecursion}
 use Rattle.std.proofs.Math.Numerals.{one-add}
 use Rattle.std.proofs.lemmas.Bool.{cases_eq}
-use Rattle.ipc_base.specs.declared.limits.Limits.{Limits}
+use Rattle.ipc_limits.specs.declared.limits.Limits.{Limits}
 use Rattle.ipc_base.specs.Table.{value_at, without, with_entry, keys_of, IsRising}
 use Rattle.ipc_base.proofs.CallerLemmas.{value_at-without}
 use Rattle.ipc_base.proofs.CallerLemmas.{entry-at, entry-other, rising-entry, rising-gone, rising-without}

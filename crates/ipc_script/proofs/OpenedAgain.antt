@@ -1,6 +1,6 @@
 -- A device that is opened again is in the state of the server that was dropped, after a restart.
 use Rattle.std.proofs.Common.{◌≡◌, ◌+◌, ◌<◌, ◌≤◌, ◌^◌, List, [], ◌∷◌, length, sym, ap, subst, ◌∙◌, arith}
-use Rattle.ipc_base.specs.declared.limits.Limits.{Limits}
+use Rattle.ipc_limits.specs.declared.limits.Limits.{Limits}
 use Rattle.ipc_disk.specs.Medium.{Image, Medium, IsHonest}
 use Rattle.ipc_state.specs.State.{State, restart}
 use Rattle.ipc_engine.specs.Event.{PlainEvent, Restart}
@@ -42,19 +42,21 @@ module _ {D : Type 0} (medium : D → Medium) (old now : StoreView D) where
       same-limits =
           (StandsFor-one now.machine.limits old.machine.limits opens.found.0 old.machine.state (medium disk).contents fits opens.found.1 stood).0
 
-      same-state : now.machine.state ≡ restart old.machine.state
+      same-state : now.machine.state ≡ restart now.machine.limits old.machine.state
       same-state =
           opens.found.2.waits.state
-          ∙ ap restart (StandsFor-one now.machine.limits old.machine.limits opens.found.0 old.machine.state (medium disk).contents fits opens.found.1 stood).1
+          ∙ ap (restart now.machine.limits)
+          (StandsFor-one now.machine.limits old.machine.limits opens.found.0 old.machine.state (medium disk).contents fits opens.found.1 stood).1
 
       -- a hub over it has no client
       pub reopens : (limits : Limits) (h : Clients) (hub next : StoredHub D) → StoredMatches limits hub h → old.machine.limits ≡ hub.hub.limits
           → old.machine.state ≡ hub.hub.state → now.confirmed ≡ 1
           → ((events : List PlainEvent) → length events ≡ now.confirmed + now.waiting
           → StoredMatches now.machine.limits next (no_clients now.machine.state events))
-          → StoredMatches limits next (no_clients (restart h.state) (Restart ∷ []))
+          → StoredMatches limits next (no_clients (restart limits h.state) (Restart ∷ []))
       reopens limits h hub next m limited stated one begins =
           let count : length (Restart ∷ []) ≡ now.confirmed + now.waiting = omega (arith, one, opens.found.2.waits.count) in
-          subst (λ (l : Limits). StoredMatches l next (no_clients (restart h.state) (Restart ∷ []))) (same-limits ∙ limited ∙ m.hub.same)
-          (subst (λ (s : State). StoredMatches now.machine.limits next (no_clients s (Restart ∷ []))) (same-state ∙ ap restart (stated ∙ m.hub.state))
+          subst (λ (l : Limits). StoredMatches l next (no_clients (restart l h.state) (Restart ∷ []))) (same-limits ∙ limited ∙ m.hub.same)
+          (subst (λ (s : State). StoredMatches now.machine.limits next (no_clients s (Restart ∷ [])))
+          (same-state ∙ ap (restart now.machine.limits) (stated ∙ m.hub.state))
           (begins (Restart ∷ []) count))

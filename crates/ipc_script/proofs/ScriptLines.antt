@@ -7,7 +7,7 @@ use Rattle.std.specs.Io.KnownBytes.{Appends}
 use Rattle.std.proofs.KnownBytes.{Appends-nil, Appends-trans}
 use Rattle.std.proofs.lemmas.List.{length-append}
 use Rattle.std.proofs.lemmas.List.Elements.{All-head, All-tail}
-use Rattle.ipc_base.specs.declared.limits.Limits.{Limits}
+use Rattle.ipc_limits.specs.declared.limits.Limits.{Limits}
 use Rattle.ipc_base.specs.Table.{keys_of}
 use Rattle.ipc_disk.specs.Medium.{Image, Medium, IsHonest}
 use Rattle.ipc_state.specs.State.{restart}
@@ -134,13 +134,13 @@ module _ {D : Type 0} (limits : Limits) (h : Clients) (script : List ℕ) (mediu
 
     -- the server was dropped, and its device opened again
     pub run_stopped : (line beyond : List ℕ) → lines_of rest ≡ line ∷ lines_of beyond → line_of line ≡ Some Stop → (next : StoredHub D)
-        → StoredMatches limits next (no_clients (restart p.now.hub.state) (Restart ∷ [])) → (closed : StoreView D) → Takes medium hub.store [] closed
+        → StoredMatches limits next (no_clients (restart limits p.now.hub.state) (Restart ∷ [])) → (closed : StoreView D) → Takes medium hub.store [] closed
         → closed.machine.state ≡ p.now.hub.state → IsReopened medium closed next.store
         → PartlyRun limits h script medium old (number + 1) next [] beyond w0 w1
     run_stopped line beyond lines is next matches closed took state again =
-        run_more line beyond lines [] (record { text = []; run = stopped p.now }) (ap (λ (o : Option PlainLine). text_done limits number p.now o []) is)
-        next [] w1 (starts limits (no_clients (restart p.now.hub.state) (Restart ∷ [])) next matches refl) (Appends-nil w1)
-        (subst (HasRunLines medium limits old h (number + 1) (p.first ++ line ∷ []) next.store (stopped p.now)) (sym (append-nil p.text))
+        run_more line beyond lines [] (record { text = []; run = stopped limits p.now }) (ap (λ (o : Option PlainLine). text_done limits number p.now o []) is)
+        next [] w1 (starts limits (no_clients (restart limits p.now.hub.state) (Restart ∷ [])) next matches refl) (Appends-nil w1)
+        (subst (HasRunLines medium limits old h (number + 1) (p.first ++ line ∷ []) next.store (stopped limits p.now)) (sym (append-nil p.text))
         (line_again number p.first line hub.store closed next.store p.now p.text p.lived is took state again))
 
     -- all lines were run, or the next one is refused: the store is as it was

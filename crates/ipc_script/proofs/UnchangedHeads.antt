@@ -3,7 +3,7 @@
 use Rattle.std.proofs.Common.{length, ◌≡◌, ◌⊎◌, ℕ, Bool, false, ◌&&◌, List, [], ◌∷◌, ◌++◌, drop, map, Option, Some, None, IfSome, refl, sym, ap, ◌∙◌}
 use Rattle.std.proofs.Common.{inl, inr, subst}
 use Rattle.std.specs.Prelude.{nat_eq, option_and_then, option_map, is_some, if◌then◌else◌}
-use Rattle.ipc_base.specs.declared.limits.Limits.{Limits}
+use Rattle.ipc_limits.specs.declared.limits.Limits.{Limits}
 use Rattle.ipc_wire.specs.Request.{PlainRequest}
 use Rattle.ipc_engine.specs.Engine.{event_takes_memory}
 use Rattle.ipc_wire.specs.Stream.{Ending, stream_of}

@@ -3,7 +3,7 @@
 use Rattle.std.specs.Prelude.{◌≡◌, ◌≢◌, ◌⊎◌, ⊤, ◌+◌, ℕ, false, Some, List, [], ◌∷◌, ◌++◌, Option, Result, Ok, Err}
 use Rattle.std.specs.Prelude.{OnOk}
 use Rattle.std.specs.Io.KnownBytes.{Appends}
-use Rattle.ipc_base.specs.declared.limits.Limits.{Limits}
+use Rattle.ipc_limits.specs.declared.limits.Limits.{Limits}
 use Rattle.ipc_disk.specs.Medium.{Medium}
 use Rattle.ipc_disk.specs.Since.{EachImageSince}
 use Rattle.ipc_engine.specs.Event.{PlainEvent}
@@ -40,7 +40,7 @@ pub data HasRunLines {D : Type 0} (medium : D → Medium) (limits : Limits) (old
   Again : (number : ℕ) (lines : List (List ℕ)) (line : List ℕ) (last closed opened : StoreView D) (r : Run)
       (text : List ℕ) → HasRunLines medium limits old h number lines last r text → line_of line ≡ Some Stop
       → Takes medium last [] closed → closed.machine.state ≡ r.hub.state → IsReopened medium closed opened
-      → HasRunLines medium limits old h (number + 1) (lines ++ line ∷ []) opened (stopped r) text
+      → HasRunLines medium limits old h (number + 1) (lines ++ line ∷ []) opened (stopped limits r) text
 
 -- one thing if memory, a write or the disk failed; another if all lines were run, the next one is wrong, or the script
 -- was not read

@@ -1,7 +1,7 @@
 -- What a run has written when the disk has failed within a line.
 use Rattle.std.specs.Prelude.{◌≡◌, ℕ, Bool, List, [], ◌∷◌, ◌++◌, take, drop, Option, Some}
 use Rattle.std.specs.Io.KnownBytes.{Appends}
-use Rattle.ipc_base.specs.declared.limits.Limits.{Limits}
+use Rattle.ipc_limits.specs.declared.limits.Limits.{Limits}
 use Rattle.ipc_hub.specs.Clients.{fail, feed, hangup, tick}
 use Rattle.ipc_script.specs.Line.{PlainLine, Open, Data, End, Tick, line_of}
 use Rattle.ipc_script.specs.Script.{Cut, Progress, Run, fed_in_pieces, opened, report}

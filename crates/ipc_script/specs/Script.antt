@@ -8,7 +8,7 @@ use Rattle.std.specs.List.{flat_map}
 use Rattle.std.specs.Fmt.{decimal}
 use Rattle.std.specs.Io.KnownBytes.{Appends}
 use Rattle.hex.specs.Hex.{encode_lower}
-use Rattle.ipc_base.specs.declared.limits.Limits.{Limits}
+use Rattle.ipc_limits.specs.declared.limits.Limits.{Limits}
 use Rattle.ipc_base.specs.Table.{keys_of}
 use Rattle.ipc_disk.specs.Counts.{counted}
 use Rattle.ipc_disk.specs.Medium.{Medium, IsHonest}
@@ -91,8 +91,8 @@ opened r conn =
 
 -- The server and all connections are dropped without a word, and the device is opened again: the
 -- restart is the one event since then.
-abbrev pub stopped : Run → Run
-stopped r = start_run (no_clients (restart r.hub.state) (Restart ∷ []))
+abbrev pub stopped : Limits → Run → Run
+stopped limits r = start_run (no_clients (restart limits r.hub.state) (Restart ∷ []))
 
 -- some bytes, at least one, and of which of the requests in them memory was refused
 pub record Piece : Type 0 where
@@ -135,7 +135,7 @@ line_done limits number r (Tick moment) cut =
     Ok (report (record r { hub = tick limits r.hub moment }))
 -- what was accepted is confirmed already, so that a save changes nothing that a client sees
 line_done limits number r Save cut = Ok (report r)
-line_done limits number r Stop cut = Ok (record { text = []; run = stopped r })
+line_done limits number r Stop cut = Ok (record { text = []; run = stopped limits r })
 
 -- a first part of a line: of `data` so many of its bytes; another line is done as a whole
 abbrev pub first_part : ℕ → PlainLine → PlainLine

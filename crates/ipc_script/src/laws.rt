@@ -1,7 +1,7 @@
 //! What follows from what a run promises. A call of it does nothing; its contract is the law.
 
 ghost use Rattle.std.specs.Prelude.{◌≡◌, ℕ, List};
-ghost use Rattle.ipc_base.specs.declared.limits.Limits.{Limits};
+ghost use Rattle.ipc_limits.specs.declared.limits.Limits.{Limits};
 ghost use Rattle.ipc_engine.specs.Event.{PlainEvent};
 ghost use Rattle.ipc_hub.specs.Clients.{Clients};
 ghost use Rattle.ipc_store.specs.Histories.{History, Keeps, Takes};

@@ -1,7 +1,7 @@
 //! A server that is stopped, and its device opened again.
 
 ghost use Rattle.std.specs.Prelude.{◌≡◌, ⊤, [], ◌∷◌, IfOk, IfErr};
-ghost use Rattle.ipc_base.specs.declared.limits.Limits.{Limits};
+ghost use Rattle.ipc_limits.specs.declared.limits.Limits.{Limits};
 ghost use Rattle.ipc_disk.specs.Medium.{IsHonest};
 ghost use Rattle.ipc_state.specs.State.{restart};
 ghost use Rattle.ipc_engine.specs.Event.{Restart};
@@ -29,7 +29,7 @@ pub(crate) fn reopened<D: SectorDisk>(
 ) -> Result<Hub<D>, (ScriptFault, D)>
     ensures ok { IfOk result (λ next. (limits : Limits) (h : Clients) → StoredMatches limits hub h →
         IsHonest (D.medium hub.store.disk) →
-        StoredMatches limits next (no_clients (restart h.state) (Restart ∷ []))) }
+        StoredMatches limits next (no_clients (restart limits h.state) (Restart ∷ []))) }
     ensures honest { IfOk result (λ next.
         IsHonest (D.medium hub.store.disk) → IsHonest (D.medium next.store.disk)) }
     ensures stops { IfOk result (λ next. IsHonest (D.medium hub.store.disk) →

@@ -3,7 +3,7 @@ use Rattle.std.proofs.Common.{◌≡◌, ℕ, Bool, true, ◌||◌, ◌==◌, Li
 use Rattle.std.proofs.Common.{take, drop, take-append-drop, length-take-le}
 use Rattle.std.specs.Prelude.{◌≤◌, ◌↔◌, ⊤, Result, Ok, Err, OnOk, OnErr, length}
 use Rattle.std.proofs.lemmas.List.Elements.{All-cons, All-nil}
-use Rattle.ipc_base.specs.declared.limits.Limits.{Limits}
+use Rattle.ipc_limits.specs.declared.limits.Limits.{Limits}
 use Rattle.ipc_disk.specs.Counts.{Counts}
 use Rattle.ipc_disk.specs.Medium.{Image, Medium}
 use Rattle.ipc_store.specs.declared.fault.CommitError.{CommitError}

@@ -3,7 +3,7 @@ use Rattle.std.proofs.Common.{◌≡◌, ℕ, true, List, [], ◌∷◌, ◌++�
 use Rattle.std.specs.Prelude.{nat_le, All, map}
 use Rattle.std.proofs.lemmas.List.Elements.{All-map}
 use Rattle.ipc_base.proofs.CallerLemmas.{paired-at, test_cases}
-use Rattle.ipc_base.specs.declared.limits.Limits.{Limits}
+use Rattle.ipc_limits.specs.declared.limits.Limits.{Limits}
 use Rattle.ipc_hub.specs.Clients.{Client, Clients, Frame, accepted, all_bytes, confirmed_bytes, confirmed_frames}
 use Rattle.ipc_hub.specs.Lives.{Seen, Shows, as_seen}
 use Rattle.ipc_hub.specs.Relations.Matches.{ClientMatches, HubMatches}

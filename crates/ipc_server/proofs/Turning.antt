@@ -1,7 +1,7 @@
 -- Turns as calls on the hub.
 use Rattle.std.proofs.Common.{◌≡◌, ◌≤◌, ℕ, List, [], ◌∷◌, ◌++◌, All, Contains, drop, length, inl, inr, sym, ap, subst, ◌∙◌, append_assoc, arith}
 use Rattle.std.proofs.lemmas.List.Elements.{All-contains_itself, All-nil, All-push, All-weaker, Contains-append_left, Contains-append_right}
-use Rattle.ipc_base.specs.declared.limits.Limits.{Limits}
+use Rattle.ipc_limits.specs.declared.limits.Limits.{Limits}
 use Rattle.ipc_disk.specs.Counts.{Counts}
 use Rattle.ipc_disk.specs.Medium.{Medium}
 use Rattle.ipc_store.specs.declared.fault.CommitError.{CommitError}

@@ -1,7 +1,7 @@
 -- What a server does with its hub: calls of it, one after another, as the hub's definitions have them.
 use Rattle.std.specs.Prelude.{◌≡◌, ◌≢◌, ℕ, nat_eq, ⊤, Bool, true, if◌then◌else◌, List, [], ◌∷◌, ◌++◌, length, map}
 use Rattle.std.specs.List.{flat_map}
-use Rattle.ipc_base.specs.declared.limits.Limits.{Limits}
+use Rattle.ipc_limits.specs.declared.limits.Limits.{Limits}
 use Rattle.ipc_hub.specs.Clients.{Clients, connect, consume, feed, hangup, tick}
 use Rattle.ipc_hub.specs.Lives.{Seen, Shows}
 use Rattle.ipc_hub.specs.View.{HubView, is_connected, output_of}

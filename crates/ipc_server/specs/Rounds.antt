@@ -1,6 +1,6 @@
 -- How a turn parts with the clients that are gone.
 use Rattle.std.specs.Prelude.{◌≡◌, ◌⊎◌, ℕ, false, List, [], ◌∷◌, ◌++◌, Option}
-use Rattle.ipc_base.specs.declared.limits.Limits.{Limits}
+use Rattle.ipc_limits.specs.declared.limits.Limits.{Limits}
 use Rattle.ipc_disk.specs.Medium.{Medium}
 use Rattle.ipc_store.specs.Histories.{Takes}
 use Rattle.ipc_hub.specs.Clients.{Clients, hangup}

@@ -1,6 +1,6 @@
 -- What clients may count on, over any number of turns, and within one.
 use Rattle.std.specs.Prelude.{◌≡◌, ◌≤◌, ℕ, ⊤, List, [], ◌∷◌, ◌++◌, drop, map, All, Contains}
-use Rattle.ipc_base.specs.declared.limits.Limits.{Limits}
+use Rattle.ipc_limits.specs.declared.limits.Limits.{Limits}
 use Rattle.ipc_disk.specs.Medium.{Medium}
 use Rattle.ipc_engine.specs.Event.{Restart}
 use Rattle.ipc_store.specs.Histories.{Takes}

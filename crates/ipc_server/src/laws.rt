@@ -1,7 +1,7 @@
 //! What follows from what a turn promises. A call of it does nothing; its contract is the law.
 
 ghost use Rattle.std.specs.Prelude.{◌≤◌, ℕ, All, List};
-ghost use Rattle.ipc_base.specs.declared.limits.Limits.{Limits};
+ghost use Rattle.ipc_limits.specs.declared.limits.Limits.{Limits};
 ghost use Rattle.ipc_store.specs.View.{StoreView};
 ghost use Rattle.ipc_store.specs.declared.fault.CommitError.{CommitError};
 ghost use Rattle.ipc_hub.specs.Clients.{Clients};

@@ -1,17 +1,20 @@
 //! What `serve` would say of the device in a file, and why. The file is only read.
 
-ghost use Rattle.std.specs.Prelude.{◌≡◌, Some};
+ghost use Rattle.std.specs.Prelude.{◌≡◌, ◌<◌, IfOk, Some, true};
 ghost use Rattle.ipc_disk.specs.Medium.{IsHonest};
 ghost use Rattle.ipc_store.specs.Look.{LeavesAlone};
-ghost use Rattle.ipcd.specs.Check.{finding_text, limits_text, form_text, place_text, refusal_of, verdict_of};
-ghost use Rattle.ipcd.specs.Check.{IsFoundIn, IsOfMachine};
+ghost use Rattle.ipc_image.specs.Format.{IsFormat};
+ghost use Rattle.ipc_store.specs.Image.{form_at};
+ghost use Rattle.ipcd.specs.Check.{finding_text, limits_text, form_text, place_of, place_text};
+ghost use Rattle.ipcd.specs.Check.{refusal_of, verdict_of};
+ghost use Rattle.ipcd.specs.Check.{AreSmall, IsFoundIn, IsOfMachine};
 
 use crate::ending::Fault;
 use crate::holder::{Holder, holder_of};
-use ipc_base::Limits;
-use ipc_disk::{FileDisk, SectorDisk};
+use ipc_disk::{DiskFault, FileDisk, SectorDisk};
 use ipc_engine::Engine;
-use ipc_image::{FORMAT, JOURNAL, OBJECTS, SUPERBLOCK};
+use ipc_image::{FORMAT, Format, JOURNAL, SUPERBLOCK};
+use ipc_limits::Limits;
 use ipc_script::ScriptFault;
 use ipc_store::{OpenError, look};
 use std::alloc::{AllocError, Global};
@@ -22,8 +25,9 @@ use std::{fmt, io};
 /// What a look at a device finds. Its `Display` is what `serve` would say, and why.
 #[derive(Clone, Copy)]
 pub enum Finding {
-    /// It is fit to be served. It has so many sectors and objects.
+    /// It is fit to be served. It is of this version, and has so many sectors and objects.
     Fit {
+        version: u32,
         sectors: u32,
         small: bool,
         objects: usize,
@@ -36,14 +40,25 @@ pub enum Finding {
     Version {
         found: u32,
     },
-    /// It stands for no state, as this sector shows first.
+    /// It stands for no state, as this sector shows first, which has this place.
     Damaged {
         sector: u32,
+        place: Place,
     },
     /// It cannot be read, or it is saved again and again.
     Unread,
     /// Memory was refused.
     NoMemory,
+}
+
+/// What stands in a sector of a device.
+#[derive(Clone, Copy)]
+pub enum Place {
+    Superblock,
+    Root,
+    JournalHeader,
+    Batch,
+    Table,
 }
 
 impl fmt::Display for Finding {
@@ -52,13 +67,13 @@ impl fmt::Display for Finding {
     fn fmt<W: fmt::Write>(&self, f: &mut fmt::Formatter<W>) -> fmt::Result {
         match self {
             Finding::Fit {
+                version,
                 sectors,
                 small,
                 objects,
             } => write!(
                 f,
-                "fit to be served: version {}, {sectors} sectors, {} limits, {objects} objects",
-                FORMAT.version,
+                "fit to be served: version {version}, {sectors} sectors, {} limits, {objects} objects",
                 size_name(*small)
             ),
             Finding::NotFormatted { sectors } => write!(
@@ -67,10 +82,10 @@ impl fmt::Display for Finding {
                 form_name(*sectors)
             ),
             Finding::Version { found } => {
-                write!(f, "version {found}: this program serves version 2")
+                write!(f, "version {found}: this program serves versions 2 and 3")
             }
-            Finding::Damaged { sector } => {
-                write!(f, "damaged sector {sector}: {}", place_name(*sector))
+            Finding::Damaged { sector, place } => {
+                write!(f, "damaged sector {sector}: {}", place_name(*place))
             }
             Finding::Unread => {
                 write!(
@@ -101,20 +116,34 @@ fn form_name(sectors: u32) -> &'static str
     }
 }
 
-// What is wrong if an open names this sector: it names the root if the objects stand for no state.
-fn place_name(sector: u32) -> &'static str
-    ensures { result.now ≡ place_text sector }
+// What is wrong if an open names a sector of this place: it names the root if the objects stand for no state.
+fn place_name(place: Place) -> &'static str
+    ensures { result.now ≡ place_text place }
+{
+    match place {
+        Place::Superblock => "the superblock, or the file was cut",
+        Place::Root => "the root, or the bytes of an object",
+        Place::JournalHeader => "the header of the journal",
+        Place::Batch => "a batch of the journal",
+        Place::Table => "the table of objects",
+    }
+}
+
+// What stands in this sector of a device of this form.
+fn place_of(form: Format, sector: u32) -> Place
+    requires { IsFormat form }
+    ensures { result ≡ place_of form sector }
 {
     if sector == SUPERBLOCK {
-        "the superblock, or the file was cut"
-    } else if sector == FORMAT.root {
-        "the root, or the bytes of an object"
-    } else if sector == JOURNAL {
-        "the header of the journal"
-    } else if sector < OBJECTS {
-        "a batch of the journal"
+        Place::Superblock
+    } else if sector == form.root {
+        Place::Root
+    } else if sector == JOURNAL && !form.tags {
+        Place::JournalHeader
+    } else if sector < form.objects() {
+        Place::Batch
     } else {
-        "the table of objects"
+        Place::Table
     }
 }
 
@@ -181,20 +210,41 @@ fn find<D: SectorDisk>(alloc: Global, disk: &mut D) -> Finding
     ensures alone { LeavesAlone D.size D.medium D.counts disk.old disk.new }
 {
     let sectors = disk.sectors();
+    let Ok(form) = read_form(disk) else {
+        return Finding::Unread;
+    };
     match look(alloc, disk) {
         Ok(engine) => fitness(alloc, &engine, sectors),
-        Err(error) => refusal_of(error, sectors),
+        Err(error) => refusal_of(error, form, sectors),
     }
 }
 
-// A disk of so many sectors of which a look is refused.
-fn refusal_of(error: OpenError, sectors: u32) -> Finding
-    ensures { result ≡ refusal_of sectors error }
+// The form that the first sector of a disk names, if there is one.
+fn read_form<D: SectorDisk>(disk: &mut D) -> Result<Format, DiskFault>
+    ensures known { IfOk result (λ form. IsFormat form) }
+    ensures form { IfOk result (λ form. IsHonest (D.medium disk.old) → 0 < D.size disk.old
+        → form ≡ form_at (D.medium disk.old).contents) }
+    ensures alone { LeavesAlone D.size D.medium D.counts disk.old disk.new }
+{
+    let mut first = [0; 512];
+    if SUPERBLOCK < disk.sectors() {
+        disk.read(SUPERBLOCK, &mut first)?;
+    }
+    Ok(Format::named(&first))
+}
+
+// A disk of so many sectors, of this form, of which a look is refused.
+fn refusal_of(error: OpenError, form: Format, sectors: u32) -> Finding
+    requires { IsFormat form }
+    ensures { result ≡ refusal_of sectors form error }
 {
     match error {
         OpenError::NotFormatted => Finding::NotFormatted { sectors },
         OpenError::Version { found } => Finding::Version { found },
-        OpenError::Damaged { sector } => Finding::Damaged { sector },
+        OpenError::Damaged { sector } => Finding::Damaged {
+            sector,
+            place: place_of(form, sector),
+        },
         OpenError::Device => Finding::Unread,
         OpenError::NoMemory => Finding::NoMemory,
     }
@@ -206,12 +256,27 @@ fn fitness(alloc: Global, engine: &Engine, sectors: u32) -> Finding
 {
     match engine.list(alloc) {
         Ok(rows) => Finding::Fit {
+            version: engine.limits().version,
             sectors,
-            small: *engine.limits() == Limits::small(),
+            small: are_small(engine.limits()),
             objects: rows.len(),
         },
         Err(AllocError) => Finding::NoMemory,
     }
+}
+
+/// Whether they are the small limits of their version, with any journal.
+pub fn are_small(limits: &Limits) -> bool
+    ensures { result ≡ true → AreSmall limits.now }
+{
+    if *limits == Limits::small() {
+        return true;
+    }
+    let large = Limits {
+        journal: limits.journal,
+        ..Limits::small_of_three()
+    };
+    *limits == large
 }
 
 // Says what was found on a device that nothing keeps `serve` from.

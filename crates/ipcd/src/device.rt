@@ -1,17 +1,18 @@
 //! The device of a run, in memory or in a file.
 
 ghost use Rattle.std.specs.Prelude.{◌≡◌, ◌⊎◌, ◌<◌, ◌≤◌, ℕ, Ok, Err, IfOk, IfErr, IfSome};
-ghost use Rattle.ipc_base.specs.declared.limits.Limits.{Limits};
+ghost use Rattle.ipc_limits.specs.declared.limits.Limits.{Limits};
+ghost use Rattle.ipc_limits.specs.Limits.{small_of_three, standard_of_three};
 ghost use Rattle.ipc_disk.specs.File.{file_size};
 ghost use Rattle.ipc_disk.specs.Joined.{disk_under};
 ghost use Rattle.ipc_disk.specs.Medium.{IsHonest};
 ghost use Rattle.ipc_disk.specs.Memory.{memory_medium};
-ghost use Rattle.ipc_image.specs.Format.{format};
-ghost use Rattle.ipc_image.specs.Sizes.{need_of};
+ghost use Rattle.ipc_image.specs.Format.{device_form, format};
+ghost use Rattle.ipc_image.specs.Sizes.{need_in, need_of};
 ghost use Rattle.ipc_image.specs.Superblock.{AreOf};
 ghost use Rattle.ipc_state.specs.State.{start};
 ghost use Rattle.ipc_store.specs.Histories.{Keeps, OpensOn, Past, new_past, reopened};
-ghost use Rattle.ipc_store.specs.Image.{IsAtEnd};
+ghost use Rattle.ipc_store.specs.Image.{form_at, IsAtEnd};
 ghost use Rattle.ipc_store.specs.Lives.{StandsAfter};
 ghost use Rattle.ipc_store.specs.Refusals.{IsRefusal, IsUpgradeRefusal};
 ghost use Rattle.ipc_store.specs.Upgrade.{IsUpgraded};
@@ -25,11 +26,11 @@ ghost use Rattle.ipcd.specs.Device.{sectors_given};
 
 use crate::ending::Fault;
 use crate::meter::Meter;
-use ipc_base::Limits;
 use ipc_command::limits_of;
 use ipc_disk::{DiskFault, FileDisk, MemoryDisk, SectorDisk};
 use ipc_engine::Engine;
-use ipc_image::{FORMAT, need};
+use ipc_image::{Format, need};
+use ipc_limits::Limits;
 use ipc_script::ScriptFault;
 use ipc_store::{Store, an_open_finds_what_stands_there, look};
 use std::alloc::Global;
@@ -37,17 +38,42 @@ use std::fs::{File, symlink_metadata};
 use std::io::IsTerminal;
 use std::rt::Files;
 
-/// The limits that a command line asks for: a device may have them.
+/// The limits that a command line asks for: a device of version 2 may have them.
 pub fn limits_for(small: bool) -> Limits
-    ensures { AreOf format result }
+    ensures old { AreOf format result }
+    ensures own { AreOf (device_form result) result }
 {
     limits_of(small)
+}
+
+/// The limits that a command line asks for a new device: of version 3 with a journal of so many sectors if that is
+/// given, and of version 2 if not.
+pub fn new_limits(small: bool, journal: Option<u32>) -> Limits
+    ensures { AreOf (device_form result) result }
+{
+    match journal {
+        None => limits_for(small),
+        Some(journal) if small => with_journal(Limits::small_of_three(), journal),
+        Some(journal) => with_journal(Limits::standard_of_three(), journal),
+    }
+}
+
+/// These limits, with a journal of so many sectors, or the nearest that a device may have.
+fn with_journal(limits: Limits, journal: u32) -> Limits
+    requires { (limits ≡ small_of_three) ⊎ (limits ≡ standard_of_three) }
+    ensures { AreOf (device_form result) result }
+{
+    let form = Format::of(&Limits { journal, ..limits });
+    Limits {
+        journal: form.journal,
+        ..limits
+    }
 }
 
 /// A store over a new device in memory, which has as many sectors as these limits need. Its machine
 /// is in the first state.
 pub fn new_store(alloc: Global, limits: &Limits) -> Result<Store<MemoryDisk>, Fault>
-    requires { AreOf format limits.now }
+    requires { AreOf (device_form limits.now) limits.now }
     ensures limits { IfOk result (λ store. store.machine.limits ≡ limits.now) }
     ensures state { IfOk result (λ store. store.machine.state ≡ start) }
     ensures confirmed { IfOk result (λ store. store.confirmed ≡ 1) }
@@ -56,7 +82,7 @@ pub fn new_store(alloc: Global, limits: &Limits) -> Result<Store<MemoryDisk>, Fa
         (reopened (new_past limits.now))) }
     ensures named { IfErr result (λ fault. (error : OpenError) × (fault ≡ of_open_error error)) }
 {
-    let Ok(mut memory) = MemoryDisk::new(alloc, need(FORMAT, limits)) else {
+    let Ok(mut memory) = MemoryDisk::new(alloc, need(Format::of(limits), limits)) else {
         return Err(Fault::Run(ScriptFault::NoMemory));
     };
     Store::format(&mut memory, limits)?;
@@ -72,8 +98,10 @@ pub fn open_store<D: SectorDisk + Drop>(alloc: Global, disk: D) -> Result<Store<
     ensures history { IfOk result (λ store. (past : Past) → StandsAfter past (D.medium disk)
         → Keeps (D.medium store.disk) store (reopened past)) }
     ensures refused { IfErr result (λ fault. (error : OpenError) × (fault ≡ of_open_error error)
-        × (IsHonest (D.medium disk) → IsRefusal format (D.medium disk).contents error
-        ⊎ (IsAtEnd (D.medium disk).contents × (error ≡ errors.Damaged format.root)))) }
+        × (IsHonest (D.medium disk)
+        → IsRefusal (form_at (D.medium disk).contents) (D.medium disk).contents error
+        ⊎ (IsAtEnd (D.medium disk).contents
+        × (error ≡ errors.Damaged (form_at (D.medium disk).contents).root)))) }
 {
     an_open_finds_what_stands_there::<D>();
     match Store::open(alloc, disk) {
@@ -92,10 +120,11 @@ pub fn format_file<R: Files<File = File> + AllocGlobal, E: Eprint + IsTerminal>(
     limits: &Limits,
     asked: Option<u32>,
 ) -> Result<u32, Fault>
-    requires { AreOf format limits.now }
-    ensures ok { IfOk result (λ sectors. sectors_given (need_of limits.now) asked ≡ Ok sectors) }
+    requires { AreOf (device_form limits.now) limits.now }
+    ensures ok { IfOk result (λ sectors.
+        sectors_given (need_in (device_form limits.now) limits.now) asked ≡ Ok sectors) }
     ensures err { IfErr result (λ fault. (fault ≡ device_fault)
-        ⊎ (sectors_given (need_of limits.now) asked ≡ Err fault)) }
+        ⊎ (sectors_given (need_in (device_form limits.now) limits.now) asked ≡ Err fault)) }
 {
     let sectors = sectors_for(limits, asked)?;
     let mut meter = Meter::new(errors, sectors);
@@ -108,10 +137,10 @@ pub fn format_file<R: Files<File = File> + AllocGlobal, E: Eprint + IsTerminal>(
 
 /// How many sectors a new device gets.
 fn sectors_for(limits: &Limits, asked: Option<u32>) -> Result<u32, Fault>
-    requires { AreOf format limits.now }
-    ensures { result ≡ sectors_given (need_of limits.now) asked }
+    requires { AreOf (device_form limits.now) limits.now }
+    ensures { result ≡ sectors_given (need_in (device_form limits.now) limits.now) asked }
 {
-    let need = need(FORMAT, limits);
+    let need = need(Format::of(limits), limits);
     match asked {
         None => Ok(need),
         Some(sectors) if sectors < need => Err(Fault::TooSmall { need }),
@@ -220,7 +249,8 @@ fn put_in_file<R: Files<File = File> + AllocGlobal, E: Eprint + IsTerminal>(
 ) -> Result<(), Fault>
     ensures named { IfErr result (λ fault. (error : FormatError) × (fault ≡ of_format_error error)) }
     // If there is room for the machine's device, it is the disk that refuses.
-    ensures err { IfErr result (λ fault. need_of engine.now.limits ≤ sectors → fault ≡ device_fault) }
+    ensures err { IfErr result (λ fault. need_in (device_form engine.now.limits) engine.now.limits ≤ sectors
+        → fault ≡ device_fault) }
 {
     let mut meter = Meter::new(errors, sectors);
     let made = FileDisk::create_new_with(rt, path, sectors, &mut meter);

@@ -6,8 +6,8 @@ ghost use Rattle.ipcd.specs.Ending.{of_upgrade_error};
 ghost use Rattle.ipcd.specs.Ending.{of_dump_error, of_server_error, of_serve_fault, device_fault};
 ghost use Rattle.ipcd.specs.declared.ending.Fault.TheVariants.{Run};
 
-use ipc_base::BadLimits;
 use ipc_disk::DiskFault;
+use ipc_limits::BadLimits;
 use ipc_script::{DumpError, ScriptFault};
 use ipc_server::{ServeFault, ServerError};
 use ipc_store::{FormatError, OpenError, UpgradeError};

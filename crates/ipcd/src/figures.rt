@@ -1,10 +1,11 @@
 //! The figures of a server, as text in the format of Prometheus.
 
 use crate::timed::SyncTimes;
-use ipc_base::{Errno, Limits, Moment};
+use ipc_base::{Errno, Moment};
 use ipc_disk::SectorDisk;
 use ipc_engine::{Engine, Row};
 use ipc_hub::Hub;
+use ipc_limits::Limits;
 use ipc_state::State;
 use ipc_store::{Store, Tally};
 use ipc_wire::request_name;

@@ -40,6 +40,9 @@
 //!   disk under it. What `Metrics` writes into its file no clause tells: runs test it (`metrics.py` of `tests/`).
 #![tactic(auto)]
 
+ghost use Rattle.ipc_image.specs.Format.{device_form};
+ghost use Rattle.ipc_image.specs.Superblock.{AreOf};
+
 mod checking;
 mod device;
 mod ending;
@@ -52,11 +55,13 @@ mod timed;
 
 use checking::check;
 use device::{
-    copy_file, format_file, limits_for, look_at_file, new_store, open_file, upgrade_file,
+    copy_file, format_file, limits_for, look_at_file, new_limits, new_store, open_file,
+    upgrade_file,
 };
 use ending::{Fault, exit_of};
 use ipc_command::{Refusal, Request, request_of};
 use ipc_disk::SectorDisk;
+use ipc_limits::Limits;
 use ipc_script::{ScriptFault, dump, list_objects, run_script};
 use ipc_store::Store;
 use serve::serve;
@@ -121,7 +126,8 @@ fn answer(
             device,
             small,
             sectors,
-        } => format(rt, errors, device, *small, *sectors),
+            journal,
+        } => format(rt, errors, device, &new_limits(*small, *journal), *sectors),
         Request::Upgrade {
             device,
             small,
@@ -189,10 +195,12 @@ fn format(
     rt: &(impl Print + AllocGlobal + Files<File = File>),
     errors: &(impl Eprint + IsTerminal),
     device: &str,
-    small: bool,
+    limits: &Limits,
     sectors: Option<u32>,
-) -> Result<(), Fault> {
-    let made = format_file(rt, errors, device, &limits_for(small), sectors)?;
+) -> Result<(), Fault>
+    requires { AreOf (device_form limits.now) limits.now }
+{
+    let made = format_file(rt, errors, device, limits, sectors)?;
     say_made(rt, "formatted", made)
 }
 

@@ -3,13 +3,15 @@
 ghost use Rattle.std.specs.Prelude.{◌≡◌, [], IfOk};
 ghost use Rattle.ipcd.specs.Clock.{ahead_by};
 
+use crate::checking::are_small;
 use crate::device::open_store;
 use crate::ending::Fault;
 use crate::metrics::Metrics;
 use crate::timed::{Timed, TimedRuns};
-use ipc_base::{Limits, Moment};
+use ipc_base::Moment;
 use ipc_disk::{FileDisk, FileRuns, JoinedDisk, SectorDisk};
 use ipc_hub::Hub;
+use ipc_limits::Limits;
 use ipc_script::ScriptFault;
 use ipc_server::{Observer, ServeFault, Server, Unobserved, now};
 use ipc_store::Store;
@@ -89,9 +91,10 @@ fn serve_store<D: SectorDisk + Timed + Drop>(
     turns: Option<u32>,
     metrics: Option<&str>,
 ) -> Result<(), Fault> {
-    let limits = limits_name(store.engine().limits());
+    let limits = store.engine().limits();
+    let (version, name) = (limits.version, limits_name(limits));
     let server = start(rt, store, socket)?;
-    say_serving(rt, device, sectors, socket, limits)?;
+    say_serving(rt, device, sectors, socket, version, name)?;
     let Some(path) = metrics else {
         return serve_turns(rt, server, turns, &mut Unobserved);
     };
@@ -154,15 +157,23 @@ fn serve_turns<D: SectorDisk + Drop, O: Observer<D>>(
     Ok(())
 }
 
-// Says what is served.
+// Says what is served. It names the version of a device from version 3 on: before there was no other.
 fn say_serving(
     rt: &impl Print,
     device: &str,
     sectors: u32,
     socket: &str,
+    version: u32,
     limits: &str,
 ) -> Result<(), Fault> {
-    if println!(rt; "serving {device}, {sectors} sectors, on {socket}, {limits} limits").is_err() {
+    let said = if version < 3 {
+        println!(rt; "serving {device}, {sectors} sectors, on {socket}, {limits} limits")
+    } else {
+        println!(rt;
+            "serving {device}, {sectors} sectors, on {socket}, version {version}, {limits} limits"
+        )
+    };
+    if said.is_err() {
         return Err(Fault::Run(ScriptFault::Output));
     }
     Ok(())
@@ -181,7 +192,7 @@ fn bind(rt: &(impl Files<File = File> + Net), socket: &str) -> Result<UnixListen
 
 // What the limits of a device are called.
 fn limits_name(limits: &Limits) -> &'static str {
-    if *limits == Limits::small() {
+    if are_small(limits) {
         "small"
     } else {
         "standard"

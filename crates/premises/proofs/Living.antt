@@ -1,6 +1,6 @@
 -- A life of one tick that is made to last, from the clauses of its calls.
 use Rattle.std.proofs.Common.{◌≡◌, [], ◌∷◌, ℕ, refl, sym, subst, append-nil, arith}
-use Rattle.ipc_base.specs.declared.limits.Limits.{Limits}
+use Rattle.ipc_limits.specs.declared.limits.Limits.{Limits}
 use Rattle.ipc_disk.specs.Medium.{Medium, IsHonest}
 use Rattle.ipc_engine.specs.Event.{Restart}
 use Rattle.ipc_store.specs.Histories.{OpensOn, Takes}

@@ -1,6 +1,6 @@
 -- A life in which a client sees what it is answered, and the last call of which is stopped.
 use Rattle.std.specs.Prelude.{◌≡◌, ℕ, List, ◌∷◌, drop, map}
-use Rattle.ipc_base.specs.declared.limits.Limits.{Limits}
+use Rattle.ipc_limits.specs.declared.limits.Limits.{Limits}
 use Rattle.ipc_disk.specs.Medium.{Medium}
 use Rattle.ipc_engine.specs.Event.{PlainEvent, Restart}
 use Rattle.ipc_store.specs.View.{StoreView}

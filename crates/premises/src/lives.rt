@@ -1,14 +1,14 @@
 //! The law over lives, used on disks in memory.
 
 ghost use Rattle.std.specs.Prelude.{[], ◌∷◌, List, IfSome};
-ghost use Rattle.ipc_base.specs.declared.limits.Limits.{Limits};
+ghost use Rattle.ipc_limits.specs.declared.limits.Limits.{Limits};
 ghost use Rattle.ipc_disk.specs.Medium.{Image};
 ghost use Rattle.ipc_disk.specs.Memory.{memory_medium};
 ghost use Rattle.ipc_disk.specs.declared.memory.MemoryDisk.{MemoryDisk};
 ghost use Rattle.ipc_store.specs.Histories.{Past, new_past, state_after};
-ghost use Rattle.ipc_image.specs.Format.{format_one};
+ghost use Rattle.ipc_image.specs.Format.{format, format_one};
 ghost use Rattle.ipc_state.specs.State.{State, restart};
-ghost use Rattle.ipc_store.specs.Image.{StandsFor, StandsForIn};
+ghost use Rattle.ipc_store.specs.Image.{as_of, own_limits, StandsFor, StandsForIn};
 ghost use Rattle.ipc_store.specs.Lives.{StandsAfter};
 ghost use Rattle.ipc_store.specs.Meanwhile.{IsRead};
 ghost use Rattle.ipc_store.specs.View.{StoreView};
@@ -18,10 +18,11 @@ ghost use Rattle.premises.specs.Remembering.{remembering_medium};
 ghost use Rattle.premises.specs.Visits.{AreSeen, Saw, Goes, Ends};
 
 use crate::remembering::RememberingDisk;
-use ipc_base::{Limits, Moment};
+use ipc_base::Moment;
 use ipc_disk::{MemoryDisk, disks_in_memory_are_honest};
 use ipc_engine::Engine;
 use ipc_hub::{Hub, no_answer_is_taken_back};
+use ipc_limits::Limits;
 use ipc_store::{CommitError, Store, an_open_finds_what_stands_there, look};
 use std::alloc::{AllocError, Global};
 
@@ -47,7 +48,7 @@ pub fn one_life(
     moment: Moment,
 ) -> Option<Store<MemoryDisk>>
     ensures { IfSome result (λ store. (life : Life)
-        × HasHistory (memory_medium store.disk) (new_past limits.now) (life ∷ []) store) }
+        × HasHistory (memory_medium store.disk) (new_past (own_limits limits.now)) (life ∷ []) store) }
 {
     disks_in_memory_are_honest();
     let disk = new_device(alloc, limits, sectors)?;
@@ -65,7 +66,11 @@ pub fn one_life_after_an_upgrade(
     ensures { IfSome result (λ store. (own : Limits) × ((s : State)
         × StandsForIn format_one own s (memory_medium disk).contents
         × ((life : Life) × HasHistory (memory_medium store.disk)
-        (record { limits = limits.now; base = restart s; events = [] }) (life ∷ []) store))) }
+        (record {
+          limits = as_of format limits.now;
+          base = restart (as_of format limits.now) s;
+          events = [];
+        }) (life ∷ []) store))) }
 {
     disks_in_memory_are_honest();
     let Ok(upgraded) = Store::upgrade(alloc, disk, limits) else {
@@ -89,7 +94,7 @@ pub fn one_look(alloc: Global, limits: &Limits, sectors: u32) -> Option<Engine>
 
 // A disk in memory that is a new device: it stands for the first state.
 fn new_device(alloc: Global, limits: &Limits, sectors: u32) -> Option<MemoryDisk>
-    ensures { IfSome result (λ disk. StandsAfter (new_past limits.now) (memory_medium disk)) }
+    ensures { IfSome result (λ disk. StandsAfter (new_past (own_limits limits.now)) (memory_medium disk)) }
 {
     disks_in_memory_are_honest();
     let Ok(mut disk) = MemoryDisk::new(alloc, sectors) else {
@@ -139,7 +144,7 @@ pub fn one_life_with_a_crash(
     keep: &[bool],
 ) -> Option<(Vec<u8>, Store<RememberingDisk>)>
     ensures { IfSome result (λ found. (life : Life) × Saw found.0.items life
-        × HasHistory (remembering_medium found.1.disk) (new_past limits.now) (life ∷ []) found.1) }
+        × HasHistory (remembering_medium found.1.disk) (new_past (own_limits limits.now)) (life ∷ []) found.1) }
 {
     no_answer_is_taken_back::<RememberingDisk>();
     an_open_finds_what_stands_there::<RememberingDisk>();

@@ -3,12 +3,13 @@
 use crate::fault::Fault;
 use crate::hubs::used_disk;
 use crate::subject::{Seen, Subject, seen};
-use ipc_base::{Limits, ObjectMap};
+use ipc_base::ObjectMap;
 use ipc_checkpoint::{Checkpoint, Layout, LoadError};
 use ipc_disk::{MemoryDisk, Range, SectorDisk, sectors_for_len, write_bytes};
 use ipc_engine::StateFault;
 use ipc_heap::Heap;
-use ipc_image::{FORMAT, OBJECTS, checked_need, engine_of};
+use ipc_image::{FORMAT, JOURNAL, checked_need, engine_of};
+use ipc_limits::Limits;
 use ipc_store::Store;
 use std::alloc::Global;
 
@@ -30,14 +31,14 @@ const AREA: u32 = 553;
 
 const LAYOUT: Layout = Layout {
     range: Range {
-        first: OBJECTS,
+        first: JOURNAL + FORMAT.journal,
         count: 2 * AREA,
     },
     root: FORMAT.root,
     area: AREA,
 };
 
-const SECTORS: u32 = OBJECTS + 2 * AREA;
+const SECTORS: u32 = JOURNAL + FORMAT.journal + 2 * AREA;
 
 /// A device with a queue that is saved, and its objects if they are loaded already.
 #[derive(Drop)]
@@ -69,7 +70,7 @@ pub(crate) fn old_device(alloc: Global, image: &[u8]) -> Result<Device, Fault> {
     let mut disk = MemoryDisk::new(alloc, sectors)?;
     write_bytes(&mut disk, 0, image)?;
     disk.sync()?;
-    let Ok(need) = checked_need(&Limits::small()) else {
+    let Ok(need) = checked_need(FORMAT, &Limits::small()) else {
         return Err(Fault::Unready);
     };
     disk.grow(need)?;

@@ -2,9 +2,10 @@
 
 use crate::fault::Fault;
 use crate::subject::{Seen, Subject, done, seen};
-use ipc_base::{Cred, Limits, Moment, Objects, Pid};
+use ipc_base::{Cred, Moment, Objects, Pid};
 use ipc_engine::{Engine, Event};
-use ipc_image::objects_of;
+use ipc_image::{FORMAT, objects_of};
+use ipc_limits::Limits;
 use ipc_wire::{RequestKind, read_request};
 use std::alloc::Global;
 
@@ -198,7 +199,7 @@ impl Subject for Engine {
     }
 
     fn tells(&self) -> Seen {
-        let objects = objects_of(self);
+        let objects = objects_of(self, FORMAT);
         seen(&[
             sum_of(&objects),
             u64::from(objects.count()),

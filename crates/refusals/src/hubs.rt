@@ -2,10 +2,11 @@
 
 use crate::fault::Fault;
 use crate::subject::{Seen, Subject, seen};
-use ipc_base::{Limits, Moment};
+use ipc_base::Moment;
 use ipc_disk::MemoryDisk;
 use ipc_hub::Hub;
-use ipc_image::checked_need;
+use ipc_image::{FORMAT, checked_need};
+use ipc_limits::Limits;
 use ipc_server::{Server, ServerError};
 use ipc_store::Store;
 use mio::net::UnixListener;
@@ -76,7 +77,7 @@ pub(crate) fn used_disk(alloc: Global) -> Result<MemoryDisk, Fault> {
 /// A new device under small limits, on a disk of just as many sectors as it needs.
 fn new_device(alloc: Global) -> Result<MemoryDisk, Fault> {
     let limits = Limits::small();
-    let Ok(need) = checked_need(&limits) else {
+    let Ok(need) = checked_need(FORMAT, &limits) else {
         return Err(Fault::Unready);
     };
     let mut disk = MemoryDisk::new(alloc, need)?;

@@ -3,10 +3,11 @@
 use crate::fault::Fault;
 use crate::subject::{Seen, Subject, done};
 use ipc_arrivals::Arrivals;
-use ipc_base::{Limits, Moment, Pid};
+use ipc_base::{Moment, Pid};
 use ipc_disk::{JoinedDisk, MemoryDisk, SectorRuns};
 use ipc_engine::{Engine, StateFault};
 use ipc_keys::Name;
+use ipc_limits::Limits;
 use ipc_state::{Descriptors, Operations, Parked, State};
 use ipc_wait::{WaitList, Waiting};
 use ipc_wire::{SemBufs, read_request};

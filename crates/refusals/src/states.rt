@@ -2,8 +2,9 @@
 
 use crate::fault::Fault;
 use crate::subject::{Seen, Subject, done};
-use ipc_base::{Cred, Id, Limits, Moment, Pid};
+use ipc_base::{Cred, Id, Moment, Pid};
 use ipc_keys::Name;
+use ipc_limits::Limits;
 use ipc_perm::Perm;
 use ipc_state::{Descriptors, KeyedEntry, NamedEntry, Process, State};
 use ipc_wire::read_request;

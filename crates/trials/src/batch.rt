@@ -4,11 +4,12 @@ use crate::fault::Fault;
 use crate::halted::{consume, feed};
 use crate::request::Field::{Bytes, Long, Word};
 use crate::request::{Field, GROUP, HELLO, MAKE, MSGGET, MSGSND, USER, reply, request};
-use crate::runs::{device, sector};
+use crate::runs::{new_device, sector};
 use crate::told::Told;
 use ipc_disk::{MemoryDisk, SectorDisk};
 use ipc_hub::Hub;
-use ipc_image::JOURNAL;
+use ipc_image::{Format, JOURNAL};
+use ipc_limits::Limits;
 use ipc_store::Store;
 use std::alloc::Global;
 
@@ -17,6 +18,9 @@ const CLIENTS: u32 = 3;
 
 /// Where the journal's header says how many sectors of it are used.
 const USED: usize = 8;
+
+/// The bytes before a batch in a tagged sector.
+const TAG: usize = 16;
 
 /// What a hub was left with: its disk, and the clients that have the reply to a msgsnd.
 #[derive(Drop)]
@@ -27,10 +31,10 @@ struct Left {
 
 /// Each of three clients sends a message at one moment, and then one release makes the three last. What it has written,
 /// with the length of the batch, and the clients that have a reply.
-pub(crate) fn batch_of_three(alloc: Global) -> Result<Told, Fault> {
-    let before = hub_left(alloc, false)?;
-    let mut after = hub_left(alloc, true)?;
-    let bytes = u64::from(last_batch(&mut after.disk)?);
+pub(crate) fn batch_of_three(alloc: Global, limits: &Limits) -> Result<Told, Fault> {
+    let before = hub_left(alloc, limits, false)?;
+    let mut after = hub_left(alloc, limits, true)?;
+    let bytes = u64::from(last_batch(&mut after.disk, Format::of(limits))?);
     let writes = after.disk.writes().saturating_sub(before.disk.writes());
     let syncs = after.disk.syncs().saturating_sub(before.disk.syncs());
     Ok(Told::new(
@@ -40,8 +44,8 @@ pub(crate) fn batch_of_three(alloc: Global) -> Result<Told, Fault> {
 }
 
 /// Feeds a hub on a new device, with the messages or without.
-fn hub_left(alloc: Global, messages: bool) -> Result<Left, Fault> {
-    let mut hub = match Store::open(alloc, device(alloc)?) {
+fn hub_left(alloc: Global, limits: &Limits, messages: bool) -> Result<Left, Fault> {
+    let mut hub = match Store::open(alloc, new_device(alloc, limits)?) {
         Ok(store) => Hub::new(alloc, store),
         Err(unopened) => return Err(Fault::from(unopened.error)),
     };
@@ -101,11 +105,27 @@ fn replies_of(alloc: Global, hub: &Hub<MemoryDisk>) -> Result<u64, Fault> {
 }
 
 /// How many bytes the last batch of the journal has, with its length; it is one of less than a sector.
-fn last_batch(disk: &mut MemoryDisk) -> Result<u32, Fault> {
+fn last_batch(disk: &mut MemoryDisk, form: Format) -> Result<u32, Fault> {
+    if form.tags {
+        return last_tagged(disk, form.journal);
+    }
     let header = sector(disk, JOURNAL)?;
     let used = number_at(&header, USED);
     let last = sector(disk, JOURNAL.saturating_add(used))?;
     Ok(number_at(&last, 0).saturating_add(4))
+}
+
+/// The same of a journal of tagged sectors: its last batch is in the last sector that is not of epoch 0.
+fn last_tagged(disk: &mut MemoryDisk, count: u32) -> Result<u32, Fault> {
+    let mut bytes = 0;
+    for place in 0..count {
+        let tagged = sector(disk, JOURNAL.saturating_add(place))?;
+        if tagged.starts_with(&[0; 8]) {
+            break;
+        }
+        bytes = number_at(&tagged, TAG).saturating_add(4);
+    }
+    Ok(bytes)
 }
 
 /// The number of four bytes at a place, or 0 where there are fewer.

@@ -4,11 +4,12 @@
 use crate::fault::Fault;
 use crate::halted::halt_hubs;
 use crate::last_words::last_words_of;
-use crate::runs::{device, found_on, run};
+use crate::runs::{found_on, run};
 use crate::stages::{Trial, trial_of};
 use crate::stops::{Fails, fail_each};
 use crate::told::Told;
 use ipc_disk::OnceDisk;
+use ipc_limits::Limits;
 use std::alloc::Global;
 
 /// Runs of a script, its last words, and how many of them left the line done that failed.
@@ -33,11 +34,16 @@ struct Openings<'a> {
 }
 
 /// Lets each call of the script of a text fail, each of the openings after each N-th line, and each of hubs.
-pub(crate) fn faulted(alloc: Global, text: &[u8], every: usize) -> Result<Told, Fault> {
-    let trial = &trial_of(alloc, text)?;
+pub(crate) fn faulted(
+    alloc: Global,
+    limits: Limits,
+    text: &[u8],
+    every: usize,
+) -> Result<Told, Fault> {
+    let trial = &trial_of(alloc, limits, text)?;
     let words = &last_words_of(alloc, trial.script)?;
     let opening = fail_each(&mut FirstOpenings { trial }, 0, false)?;
-    let [feeds, ticks, hangups, releases, saves] = halt_hubs(alloc, opening)?;
+    let [feeds, ticks, hangups, releases, saves] = halt_hubs(trial, opening)?;
     let mut runs = Runs {
         trial,
         words,
@@ -64,7 +70,7 @@ pub(crate) fn faulted(alloc: Global, text: &[u8], every: usize) -> Result<Told, 
 impl Fails for Runs<'_> {
     fn fail(&mut self, at: u64, done: bool) -> Result<bool, Fault> {
         let Runs { trial, words, .. } = *self;
-        let disk = OnceDisk::new(device(trial.alloc)?, at, done);
+        let disk = OnceDisk::new(trial.device()?, at, done);
         let ran = run(trial.alloc, disk, trial.script);
         match (ran.outcome, ran.disk.has_failed()) {
             (Ok(()), false) => return Ok(false),
@@ -115,7 +121,7 @@ impl Fails for FirstOpenings<'_> {
         let Some(first) = self.trial.stages.first() else {
             return Ok(false);
         };
-        let disk = OnceDisk::new(device(self.trial.alloc)?, at, done);
+        let disk = OnceDisk::new(self.trial.device()?, at, done);
         match open_to(self.trial, disk, &first.found) {
             Some(is_failed) => Ok(is_failed),
             None => Err(untold_of_opening(0, at, done)),
@@ -130,7 +136,7 @@ impl Fails for Openings<'_> {
             return Ok(false);
         };
         let script = trial.script.get(..stage.end).unwrap_or(trial.script);
-        let used = run(trial.alloc, device(trial.alloc)?, script).disk;
+        let used = run(trial.alloc, trial.device()?, script).disk;
         match open_to(trial, OnceDisk::new(used, at, done), &stage.found) {
             Some(is_failed) => Ok(is_failed),
             None => Err(untold_of_opening(lines, at, done)),

@@ -1,10 +1,9 @@
 //! A format of a device that is used, stopped at each of its calls: it leaves the old device, or none, or the new one.
 
 use crate::fault::Fault;
-use crate::runs::{device, found_on, run};
+use crate::runs::{found_on, run};
 use crate::stages::Trial;
 use crate::stops::{Stops, stop_each};
-use ipc_base::Limits;
 use ipc_disk::{FuseDisk, MemoryDisk};
 use ipc_store::Store;
 
@@ -32,7 +31,7 @@ pub(crate) fn stop_formats(trial: &Trial<'_>) -> Result<[u64; 4], Fault> {
 impl Stops for Formats<'_> {
     fn stop(&mut self, calls: u64, keep: u64) -> Result<Option<u32>, Fault> {
         let mut fuse = FuseDisk::new(used(self.trial)?, calls, keep);
-        if Store::format(&mut fuse, &Limits::small()).is_ok() {
+        if Store::format(&mut fuse, &self.trial.limits).is_ok() {
             return Ok(None);
         }
         let unsynced = fuse.unsynced();
@@ -53,5 +52,5 @@ impl Stops for Formats<'_> {
 
 /// The disk after the whole script.
 fn used(trial: &Trial<'_>) -> Result<MemoryDisk, Fault> {
-    Ok(run(trial.alloc, device(trial.alloc)?, trial.script).disk)
+    Ok(run(trial.alloc, trial.device()?, trial.script).disk)
 }

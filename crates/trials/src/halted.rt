@@ -3,7 +3,8 @@
 use crate::fault::Fault;
 use crate::request::Field::{Long, Text, Word};
 use crate::request::{GROUP, HELLO, MAKE, MSGGET, MSGSND, USER, request};
-use crate::runs::{MOST_CALLS, device};
+use crate::runs::MOST_CALLS;
+use crate::stages::Trial;
 use ipc_base::Moment;
 use ipc_disk::{FuseDisk, OnceDisk, SectorDisk};
 use ipc_hub::{ConnectError, Hub, ServeError};
@@ -84,7 +85,7 @@ impl Halts {
 /// Lets one call on the disk of a hub fail after another, from the first that comes after its opening, until none is
 /// left: as the only one, and then with all calls that come after it. A disk of the second kind counts one failure
 /// alone if the hub leaves it alone. How many feeds, ticks, hang-ups, releases and saves were told.
-pub(crate) fn halt_hubs(alloc: Global, first: u64) -> Result<[u64; 5], Fault> {
+pub(crate) fn halt_hubs(trial: &Trial<'_>, first: u64) -> Result<[u64; 5], Fault> {
     let mut halts = Halts {
         feeds: 0,
         ticks: 0,
@@ -93,8 +94,8 @@ pub(crate) fn halt_hubs(alloc: Global, first: u64) -> Result<[u64; 5], Fault> {
         saves: 0,
     };
     for at in first..MOST_CALLS {
-        let steps = [halt_once(alloc, at, false)?, halt_once(alloc, at, true)?];
-        halt_from(alloc, at)?;
+        let steps = [halt_once(trial, at, false)?, halt_once(trial, at, true)?];
+        halt_from(trial, at)?;
         for step in steps {
             match step {
                 Some(step) => halts.add(step),
@@ -112,8 +113,8 @@ pub(crate) fn halt_hubs(alloc: Global, first: u64) -> Result<[u64; 5], Fault> {
 }
 
 /// The step in which a hub is told that a call fails as the only one, if there is such a call.
-fn halt_once(alloc: Global, at: u64, done: bool) -> Result<Option<Step>, Fault> {
-    let (step, told, disk) = halt(alloc, OnceDisk::new(device(alloc)?, at, done))?;
+fn halt_once(trial: &Trial<'_>, at: u64, done: bool) -> Result<Option<Step>, Fault> {
+    let (step, told, disk) = halt(trial.alloc, OnceDisk::new(trial.device()?, at, done))?;
     if disk.has_failed() != step.is_some() || !told {
         return Err(goes_on(at, done));
     }
@@ -121,8 +122,8 @@ fn halt_once(alloc: Global, at: u64, done: bool) -> Result<Option<Step>, Fault> 
 }
 
 /// A call fails, and all that come after it.
-fn halt_from(alloc: Global, at: u64) -> Result<(), Fault> {
-    let (step, told, disk) = halt(alloc, FuseDisk::new(device(alloc)?, at, 0))?;
+fn halt_from(trial: &Trial<'_>, at: u64) -> Result<(), Fault> {
+    let (step, told, disk) = halt(trial.alloc, FuseDisk::new(trial.device()?, at, 0))?;
     if disk.failures() != u64::from(step.is_some()) || !told {
         return Err(goes_on(at, false));
     }

@@ -3,6 +3,7 @@
 //!
 //!     trials stopped N < SCRIPT    stops the script at each call on its disk, its formats, and each N-th opening
 //!     trials faulted N < SCRIPT    lets each call on its disk fail once, and each of the openings after each N-th line
+//!     trials stopped-3 N, faulted-3 N, batch-3   the same on a device of version 3, with a journal of 8 sectors
 //!     trials upgraded N < TEXT     upgrades and opens a device of version 1, stopped at each call on its disk, as is
 //!                                  what comes after each N-th stop, and with each call failing once
 //!     trials batch                 feeds a hub requests of one moment, and counts what one release writes of them
@@ -33,6 +34,7 @@ mod upgraded;
 use batch::batch_of_three;
 use fault::Fault;
 use faulted::faulted;
+use ipc_limits::Limits;
 use script::script;
 use std::alloc::Global;
 use std::io;
@@ -66,7 +68,8 @@ fn answer(rt: &(impl Env + Input + Print + AllocGlobal)) -> Result<(), Fault> {
 /// Does what a word asks for, with one more or alone.
 fn act(rt: &(impl Input + Print + AllocGlobal), word: &str, more: &str) -> Result<(), Fault> {
     match (word, more) {
-        ("batch", "") => print(rt, batch_of_three(rt.alloc())),
+        ("batch", "") => print(rt, batch_of_three(rt.alloc(), &Limits::small())),
+        ("batch-3", "") => print(rt, batch_of_three(rt.alloc(), &limits_of_three())),
         ("script", "") => script(rt),
         _ => with_number(rt, word, number_of(more)?),
     }
@@ -79,10 +82,29 @@ fn with_number(rt: &(impl Input + Print + AllocGlobal), word: &str, every: u64) 
     let alloc = rt.alloc();
     let text = input(alloc, &mut rt.reader())?;
     match word {
-        "stopped" => print(rt, stopped(alloc, text.as_slice(), every)),
-        "faulted" => print(rt, faulted(alloc, text.as_slice(), every as usize)),
+        "stopped" => print(rt, stopped(alloc, Limits::small(), text.as_slice(), every)),
+        "faulted" => print(
+            rt,
+            faulted(alloc, Limits::small(), text.as_slice(), every as usize),
+        ),
+        "stopped-3" => print(
+            rt,
+            stopped(alloc, limits_of_three(), text.as_slice(), every),
+        ),
+        "faulted-3" => print(
+            rt,
+            faulted(alloc, limits_of_three(), text.as_slice(), every as usize),
+        ),
         "upgraded" => print(rt, upgraded(alloc, text.as_slice(), every)),
         _ => Err(Fault::Usage),
+    }
+}
+
+/// Small limits of version 3, with the shortest journal, which is full after a few commits.
+fn limits_of_three() -> Limits {
+    Limits {
+        journal: 8,
+        ..Limits::small_of_three()
     }
 }
 

@@ -1,9 +1,9 @@
 //! Runs of a script on a disk, which each give the disk back.
 
 use crate::fault::Fault;
-use ipc_base::Limits;
 use ipc_disk::{MemoryDisk, SectorDisk};
-use ipc_image::checked_need;
+use ipc_image::{Format, checked_need};
+use ipc_limits::Limits;
 use ipc_script::run_script;
 use ipc_store::Store;
 use std::alloc::Global;
@@ -37,14 +37,9 @@ pub(crate) fn run<D: SectorDisk>(alloc: Global, disk: D, script: &[u8]) -> Ran<D
     }
 }
 
-/// A new device under small limits.
-pub(crate) fn device(alloc: Global) -> Result<MemoryDisk, Fault> {
-    new_device(alloc, &Limits::small())
-}
-
 /// A new device on a disk of just as many sectors as it needs.
 pub(crate) fn new_device(alloc: Global, limits: &Limits) -> Result<MemoryDisk, Fault> {
-    let Ok(need) = checked_need(limits) else {
+    let Ok(need) = checked_need(Format::of(limits), limits) else {
         return Err(Fault::Unready);
     };
     let mut disk = MemoryDisk::new(alloc, need)?;

@@ -2,8 +2,8 @@
 
 use crate::fault::Fault;
 use crate::runs::new_device;
-use ipc_base::Limits;
 use ipc_disk::MemoryDisk;
+use ipc_limits::Limits;
 use ipc_script::run_script;
 use ipc_store::Store;
 use std::alloc::Global;

@@ -1,7 +1,9 @@
 //! What a script comes to after each of its lines, found by runs that nothing stops.
 
 use crate::fault::Fault;
-use crate::runs::{device, found_on, run};
+use crate::runs::{found_on, new_device, run};
+use ipc_disk::MemoryDisk;
+use ipc_limits::Limits;
 use std::alloc::Global;
 
 /// A run of the first lines of a script: where these end, what it writes, and what is found on its device then.
@@ -16,18 +18,20 @@ pub(crate) struct Stage {
 #[derive(Drop)]
 pub(crate) struct Trial<'a> {
     pub(crate) alloc: Global,
+    pub(crate) limits: Limits,
     pub(crate) script: &'a [u8],
     pub(crate) probe: &'a [u8],
     pub(crate) stages: Vec<Stage>,
 }
 
 /// The trial of a text: a script, a line `-`, and a probe.
-pub(crate) fn trial_of(alloc: Global, text: &[u8]) -> Result<Trial<'_>, Fault> {
+pub(crate) fn trial_of(alloc: Global, limits: Limits, text: &[u8]) -> Result<Trial<'_>, Fault> {
     let (script, probe) = parts_of(alloc, text)?;
-    let stages = stages_of(alloc, script, probe)?;
+    let stages = stages_of(alloc, &limits, script, probe)?;
     saves_keep_all(script, &stages)?;
     Ok(Trial {
         alloc,
+        limits,
         script,
         probe,
         stages,
@@ -58,11 +62,16 @@ fn ends_of(alloc: Global, text: &[u8]) -> Result<Vec<usize>, Fault> {
 }
 
 /// The stage before the first line of a script, and after each.
-fn stages_of(alloc: Global, script: &[u8], probe: &[u8]) -> Result<Vec<Stage>, Fault> {
+fn stages_of(
+    alloc: Global,
+    limits: &Limits,
+    script: &[u8],
+    probe: &[u8],
+) -> Result<Vec<Stage>, Fault> {
     let mut stages = Vec::new(alloc);
     for end in &ends_of(alloc, script)? {
         let lines = script.get(..*end).unwrap_or(script);
-        let ran = run(alloc, device(alloc)?, lines);
+        let ran = run(alloc, new_device(alloc, limits)?, lines);
         ran.outcome?;
         stages.push(Stage {
             end: *end,
@@ -96,6 +105,11 @@ pub(crate) enum Place {
 }
 
 impl Trial<'_> {
+    /// A new device, of the version that is tried.
+    pub(crate) fn device(&self) -> Result<MemoryDisk, Fault> {
+        new_device(self.alloc, &self.limits)
+    }
+
     /// Where the state that is found stands, if it is one that a stop may leave: the output of the run that was stopped
     /// begins with that of some first lines; all that were answered are done, and at most one more.
     pub(crate) fn place(&self, output: &[u8], found: &[u8]) -> Option<Place> {

@@ -5,11 +5,12 @@ ghost use Rattle.std.specs.Prelude.{◌<◌};
 use crate::fault::Fault;
 use crate::formats::stop_formats;
 use crate::openings::stop_openings;
-use crate::runs::{device, found_on, run};
+use crate::runs::{found_on, run};
 use crate::stages::{Place, Trial, trial_of};
 use crate::stops::{Stops, stop_each};
 use crate::told::Told;
 use ipc_disk::{FuseDisk, MemoryDisk};
+use ipc_limits::Limits;
 use std::alloc::Global;
 
 /// Stops of a script: of which of them the openings are stopped too, each N-th; how many devices they left, those that
@@ -25,10 +26,10 @@ struct Runs<'a> {
 }
 
 /// Stops the script of a text, its formats, and the opening of each device that the N-th stops left.
-pub(crate) fn stopped(alloc: Global, text: &[u8], every: u64) -> Result<Told, Fault>
+pub(crate) fn stopped(alloc: Global, limits: Limits, text: &[u8], every: u64) -> Result<Told, Fault>
     requires { 0 < every }
 {
-    let trial = trial_of(alloc, text)?;
+    let trial = trial_of(alloc, limits, text)?;
     let [formats, old, none, new] = stop_formats(&trial)?;
     let mut runs = Runs {
         trial: &trial,
@@ -69,7 +70,7 @@ impl Stops for Runs<'_> {
 /// How many sectors are not synced at such a stop, and whether what is found after the crash is ahead of what was
 /// answered. None if the script is not stopped.
 fn stop(trial: &Trial<'_>, calls: u64, keep: u64) -> Result<Option<(u32, bool)>, Fault> {
-    let fuse = FuseDisk::new(device(trial.alloc)?, calls, keep);
+    let fuse = FuseDisk::new(trial.device()?, calls, keep);
     let ran = run(trial.alloc, fuse, trial.script);
     match ran.outcome {
         Ok(()) => return Ok(None),
@@ -96,6 +97,6 @@ fn lost(calls: u64, keep: u64) -> Fault {
 
 /// The disk that a crash leaves of a run which was stopped after so many calls.
 pub(crate) fn left(trial: &Trial<'_>, (calls, keep): (u64, u64)) -> Result<MemoryDisk, Fault> {
-    let fuse = FuseDisk::new(device(trial.alloc)?, calls, keep);
+    let fuse = FuseDisk::new(trial.device()?, calls, keep);
     Ok(run(trial.alloc, fuse, trial.script).disk.crash())
 }

@@ -9,9 +9,9 @@ use crate::runs::{Ran, run};
 use crate::stages::parts_of;
 use crate::stops::{Fails, Stops, fail_each, stop_each};
 use crate::told::Told;
-use ipc_base::Limits;
 use ipc_disk::{FuseDisk, MemoryDisk, OnceDisk, SectorDisk, sectors_for_len, write_bytes};
-use ipc_image::checked_need;
+use ipc_image::{FORMAT, checked_need};
+use ipc_limits::Limits;
 use ipc_store::Store;
 use std::alloc::Global;
 
@@ -83,7 +83,7 @@ pub(crate) fn old_disk(alloc: Global, image: &[u8]) -> Result<MemoryDisk, Fault>
     let mut disk = MemoryDisk::new(alloc, sectors)?;
     write_bytes(&mut disk, 0, image)?;
     disk.sync()?;
-    let Ok(need) = checked_need(&Limits::small()) else {
+    let Ok(need) = checked_need(FORMAT, &Limits::small()) else {
         return Err(Fault::Unready);
     };
     disk.grow(need)?;

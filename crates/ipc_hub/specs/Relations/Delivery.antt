@@ -4,7 +4,7 @@ use Rattle.std.specs.Prelude.{List, [], ◌∷◌, ◌++◌, length, drop}
 use Rattle.std.specs.Prelude.{Option, Some, None, IfSome, nat_eq}
 use Rattle.ipc_base.specs.declared.errno.Errno.TheVariants.{EIO}
 use Rattle.ipc_base.specs.Table.{value_at, seen_as, EachValue}
-use Rattle.ipc_base.specs.declared.limits.Limits.{Limits}
+use Rattle.ipc_limits.specs.declared.limits.Limits.{Limits}
 use Rattle.ipc_wire.specs.Reply.{PlainReply, reply_bytes, body_bytes}
 use Rattle.ipc_state.specs.State.{State}
 use Rattle.ipc_engine.specs.Bytes.{owed, unanswered}

@@ -1,8 +1,8 @@
 -- What a call comes to that is refused.
 use Rattle.std.specs.Prelude.{◌≡◌, ◌⊎◌, ◌+◌, ◌<◌, ◌≤◌, ◌==◌, ◌||◌, ℕ, true, false, List, [], length, take, ⊤}
 use Rattle.std.specs.Prelude.{Result, OnOk, OnErr, IfOk, IfErr}
-use Rattle.ipc_base.specs.declared.limits.Limits.{Limits}
-use Rattle.ipc_base.specs.Limits.{longest_reply}
+use Rattle.ipc_limits.specs.declared.limits.Limits.{Limits}
+use Rattle.ipc_limits.specs.Limits.{longest_reply}
 use Rattle.ipc_base.specs.Table.{seen_as}
 use Rattle.ipc_disk.specs.Counts.{Counts, counted}
 use Rattle.ipc_disk.specs.Medium.{Medium, IsHonest}

@@ -1,9 +1,9 @@
 -- What holds of a hub after every call, and while it serves its connections.
 use Rattle.std.specs.Prelude.{◌≡◌, ◌≢◌, ◌⊎◌, ℕ, ◌+◌, ◌≤◌, ◌^◌, true, false, []}
 use Rattle.std.specs.Prelude.{length, nat_eq, Option, Some, None}
-use Rattle.ipc_base.specs.Limits.{longest_reply}
+use Rattle.ipc_limits.specs.Limits.{longest_reply}
 use Rattle.ipc_base.specs.Table.{value_at, keys_of, seen_as, EachValue, IsRising}
-use Rattle.ipc_base.specs.declared.limits.Limits.{Limits}
+use Rattle.ipc_limits.specs.declared.limits.Limits.{Limits}
 use Rattle.ipc_wire.specs.Stream.{first}
 use Rattle.ipc_wire.specs.Stream.PlainFrame.{More}
 use Rattle.ipc_state.specs.State.{State, is_process}

@@ -1,8 +1,8 @@
 -- What a request comes to: a step of the machine, or none.
 use Rattle.std.specs.Prelude.{◌≡◌, ◌⊎◌, ℕ, ◌+◌, ◌<◌, ◌≤◌, true, false, List, [], ◌∷◌, ◌++◌}
 use Rattle.std.specs.Prelude.{length, nat_eq, Option, Some, None}
-use Rattle.ipc_base.specs.declared.limits.Limits.{Limits}
-use Rattle.ipc_base.specs.Limits.{ArePassed, longest_reply}
+use Rattle.ipc_limits.specs.declared.limits.Limits.{Limits}
+use Rattle.ipc_limits.specs.Limits.{ArePassed, longest_reply}
 use Rattle.ipc_base.specs.Table.{value_at, with_value, keys_of}
 use Rattle.ipc_disk.specs.Medium.{Medium}
 use Rattle.ipc_wire.specs.Request.{PlainRequest}

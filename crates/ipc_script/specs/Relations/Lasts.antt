@@ -1,6 +1,6 @@
 -- What a line does to the store's history, whatever it answers.
 use Rattle.std.specs.Prelude.{◌≡◌, ◌≢◌, ◌⊎◌, ⊤, ℕ, List, [], ◌++◌, Result, Ok, Err}
-use Rattle.ipc_base.specs.declared.limits.Limits.{Limits}
+use Rattle.ipc_limits.specs.declared.limits.Limits.{Limits}
 use Rattle.ipc_disk.specs.Medium.{Medium}
 use Rattle.ipc_engine.specs.Event.{PlainEvent}
 use Rattle.ipc_store.specs.Histories.{Takes}

@@ -4,7 +4,7 @@
 use Rattle.std.specs.Prelude.{◌≡◌, ◌^◌, ℕ, Bool, List, [], map, Option, IfSome}
 use Rattle.std.specs.Io.KnownBytes.{Appends}
 use Rattle.ipc_base.specs.Table.{keys_of, IsRising}
-use Rattle.ipc_base.specs.declared.limits.Limits.{Limits}
+use Rattle.ipc_limits.specs.declared.limits.Limits.{Limits}
 use Rattle.ipc_hub.specs.View.{HubView, StoredHub}
 use Rattle.ipc_hub.specs.Clients.{Client, accepted, client_at, fail}
 use Rattle.ipc_hub.specs.Relations.Matches.{HubMatches, StoredMatches}

@@ -2,7 +2,7 @@
 use Rattle.std.specs.Prelude.{◌≡◌, ℕ, List, [], Option, None, Some}
 use Rattle.std.specs.List.{flat_map}
 use Rattle.std.specs.Io.KnownBytes.{Appends}
-use Rattle.ipc_base.specs.declared.limits.Limits.{Limits}
+use Rattle.ipc_limits.specs.declared.limits.Limits.{Limits}
 use Rattle.ipc_hub.specs.View.{HubView}
 use Rattle.ipc_hub.specs.Clients.{Client, Clients, accepted, client_at, with_client}
 use Rattle.ipc_hub.specs.Relations.Matches.{HubMatches}

@@ -1,7 +1,7 @@
 -- What the program does with a line, and with all lines of a script, is what the definitions do.
 use Rattle.std.specs.Prelude.{◌≡◌, ◌≢◌, ℕ, List, [], Option, None, Some, Result, Ok, Err, ⊤}
 use Rattle.std.specs.Io.KnownBytes.{Appends}
-use Rattle.ipc_base.specs.declared.limits.Limits.{Limits}
+use Rattle.ipc_limits.specs.declared.limits.Limits.{Limits}
 use Rattle.ipc_disk.specs.Medium.{Medium}
 use Rattle.ipc_hub.specs.Clients.{Clients}
 use Rattle.ipc_hub.specs.View.{StoredHub}

@@ -111,27 +111,33 @@ backup-taken : (name device copy : List ℕ) → IsValue device → IsValue copy
 unfolding clap_on_literals
 backup-taken name device copy v w = rw (v.dashes, v.long, v.short, w.dashes, w.long, w.short) refl
 
--- the parser reads such a word as a number
-pub record IsNumber (word : Text) : Type 0 where
+-- the parser reads such a word as a number from one to another
+pub record IsNumberIn (low high : ℕ) (word : Text) : Type 0 where
   pub value : IsValue word
   pub same : without_minus word ≡ word
-  pub passes : is_signed_in (pos 0) (pos 4294967295) word ≡ true
+  pub passes : is_signed_in (pos low) (pos high) word ≡ true
+
+abbrev pub IsNumber : Text → Type 0
+IsNumber = IsNumberIn 0 4294967295
+
+abbrev pub IsJournal : Text → Type 0
+IsJournal = IsNumberIn 8 65535
 
 -- a numeral has no hyphen, so it is read alike with a sign and without
-number-from : (word : Text) → is_unsigned_in 0 4294967295 word ≡ true → IsNumber word
-number-from [] is =
-    let fits = accepts-Accepts false (Unsigned 0 4294967295) [] is in absurd (omega (arith, fits.0.0))
-number-from (x ∷ rest) is = by (x == 45) refl
+number-from : (low high : ℕ) → high < 2 ^ 63 → (word : Text) → is_unsigned_in low high word ≡ true → IsNumberIn low high word
+number-from low high few [] is =
+    let fits = accepts-Accepts false (Unsigned low high) [] is in absurd (omega (arith, fits.0.0))
+number-from low high few (x ∷ rest) is = by (x == 45) refl
   where
-    fits : Accepts false (Unsigned 0 4294967295) (x ∷ rest)
-    fits = accepts-Accepts false (Unsigned 0 4294967295) (x ∷ rest) is
+    fits : Accepts false (Unsigned low high) (x ∷ rest)
+    fits = accepts-Accepts false (Unsigned low high) (x ∷ rest) is
 
     minus : (y : ℕ) → y ≡ 45 → IsNumeral 10 (without_leading_plus (y ∷ rest)) → ⊥
     minus y same numeral =
         let digits : (36 < 10) × AllDigits 10 rest = subst (λ (k : ℕ). AllDigits 10 (without_leading_plus (k ∷ rest))) same numeral.1 in
         omega (arith, digits.0)
 
-    by : (has : Bool) → (x == 45) ≡ has → IsNumber (x ∷ rest)
+    by : (has : Bool) → (x == 45) ≡ has → IsNumberIn low high (x ∷ rest)
     by true has = absurd (minus x (eqb-true x 45 has) fits.0)
     by false has =
         let numeral : is_numeral (without_leading_plus (x ∷ rest)) ≡ true = (both _ _ is).0 in
@@ -141,9 +147,9 @@ number-from (x ∷ rest) is = by (x == 45) refl
           passes = rw (
             has,
             numeral,
-            lt-ltb (digits_value 10 (without_leading_plus (x ∷ rest))) (2 ^ 63) (omega (arith, fits.3)),
-            le-leb 0 (digits_value 10 (without_leading_plus (x ∷ rest))) (omega arith),
-            le-leb (digits_value 10 (without_leading_plus (x ∷ rest))) 4294967295 fits.3,
+            lt-ltb (digits_value 10 (without_leading_plus (x ∷ rest))) (2 ^ 63) (omega (arith, few, fits.3)),
+            le-leb low (digits_value 10 (without_leading_plus (x ∷ rest))) fits.2,
+            le-leb (digits_value 10 (without_leading_plus (x ∷ rest))) high fits.3,
           ) refl;
         }
 
@@ -151,7 +157,7 @@ number-at : (word : Text) → IsSome (parsed_number word) → IsNumber word
 number-at word some = by (is_unsigned_in 0 4294967295 word) refl
   where
     by : (is : Bool) → is_unsigned_in 0 4294967295 word ≡ is → IsNumber word
-    by true is = number-from word is
+    by true is = number-from 0 4294967295 (omega arith) word is
     by false is = let never : false ≡ true = rw is at some in cc
 
 numbers-of : (number : Option Text) → IfSome number (λ word. IsSome (parsed_number word)) → IfSome number IsNumber
@@ -162,14 +168,26 @@ abbrev sized_line : List ℕ → Text → List ℕ → Bool → Option Text → 
 sized_line name command device small number = name ∷ command ∷ device ∷ small_words small ++ sectors_words number
 
 format-read : (name device : List ℕ) (small : Bool) (number : Option Text) → IsValue device → IfSome number IsNumber
-    → asked (subcommand_of declared (sized_line name (codes "format") device small number)) ≡ Format device small (option_and_then parsed_number number)
+    → asked (subcommand_of declared (sized_line name (codes "format") device small number))
+    ≡ Format device small (option_and_then parsed_number number) None
 unfolding clap_on_literals
 format-read name device false None v n = rw (v.dashes, v.long, v.short) refl
 format-read name device true None v n = rw (v.dashes, v.long, v.short) refl
 format-read name device false (Some word) v n =
-    rw (v.dashes, v.long, v.short, n.value.dashes, n.value.long, n.value.short) (ap (λ (t : Text). Format device false (parsed_number t)) n.same)
+    rw (v.dashes, v.long, v.short, n.value.dashes, n.value.long, n.value.short) (ap (λ (t : Text). Format device false (parsed_number t) None) n.same)
 format-read name device true (Some word) v n =
-    rw (v.dashes, v.long, v.short, n.value.dashes, n.value.long, n.value.short) (ap (λ (t : Text). Format device true (parsed_number t)) n.same)
+    rw (v.dashes, v.long, v.short, n.value.dashes, n.value.long, n.value.short) (ap (λ (t : Text). Format device true (parsed_number t) None) n.same)
+
+abbrev journal_line : List ℕ → List ℕ → Bool → Text → List Text
+journal_line name device small journal = name ∷ codes "format" ∷ device ∷ small_words small ++ codes "--journal" ∷ journal ∷ []
+
+journal-read : (name device : List ℕ) (small : Bool) (journal : Text) → IsValue device → IsJournal journal
+    → asked (subcommand_of declared (journal_line name device small journal)) ≡ Format device small None (parsed_number journal)
+unfolding clap_on_literals
+journal-read name device false journal v n =
+    rw (v.dashes, v.long, v.short, n.value.dashes, n.value.long, n.value.short) (ap (λ (t : Text). Format device false None (parsed_number t)) n.same)
+journal-read name device true journal v n =
+    rw (v.dashes, v.long, v.short, n.value.dashes, n.value.long, n.value.short) (ap (λ (t : Text). Format device true None (parsed_number t)) n.same)
 
 upgrade-read : (name device : List ℕ) (small : Bool) (number : Option Text) → IsValue device → IfSome number IsNumber
     → asked (subcommand_of declared (sized_line name (codes "upgrade") device small number)) ≡ Upgrade device small (option_and_then parsed_number number)
@@ -193,6 +211,14 @@ format-taken name device true None v n = rw (v.dashes, v.long, v.short) refl
 format-taken name device false (Some word) v n =
     rw (v.dashes, v.long, v.short, n.value.dashes, n.value.long, n.value.short) (ap passes_all n.passes)
 format-taken name device true (Some word) v n =
+    rw (v.dashes, v.long, v.short, n.value.dashes, n.value.long, n.value.short) (ap passes_all n.passes)
+
+journal-taken : (name device : List ℕ) (small : Bool) (journal : Text) → IsValue device → IsJournal journal
+    → takes declared (journal_line name device small journal) ≡ true
+unfolding clap_on_literals
+journal-taken name device false journal v n =
+    rw (v.dashes, v.long, v.short, n.value.dashes, n.value.long, n.value.short) (ap passes_all n.passes)
+journal-taken name device true journal v n =
     rw (v.dashes, v.long, v.short, n.value.dashes, n.value.long, n.value.short) (ap passes_all n.passes)
 
 upgrade-taken : (name device : List ℕ) (small : Bool) (number : Option Text) → IsValue device → IfSome number IsNumber
@@ -280,7 +306,7 @@ fails app words (Err e) error same is kinds =
 -- the one request for a replay
 replay-only : (r : Request) (small : Bool) → plain_request r ≡ Replay small → r ≡ request.Replay small
 replay-only (request.Replay b) small is = let same : b ≡ small = cc in ap (λ (s : Bool). request.Replay s) same
-replay-only (request.Format device b sectors) small is = cc
+replay-only (request.Format device b sectors journal) small is = cc
 replay-only (request.Upgrade device b sectors) small is = cc
 replay-only (request.Run device) small is = cc
 replay-only (request.Dump device) small is = cc
@@ -315,6 +341,12 @@ returns-in_err-matches-clause-format g c = λ name device small number no_flag s
     memory-only _ _ _ c.from_residual-in_err-matches.ensures.1
     (c.in_err-matches.ensures.passes (ap₂ takes c.in_ok-command_line.ensures words
     ∙ format-taken name device small number (value-of device no_flag) (numbers-of number some)))
+
+pub returns-in_err-matches-clause-journal : goal.returns-in_err-matches-clause-journal
+returns-in_err-matches-clause-journal g c = λ name device journal small no_flag sized words.
+    memory-only _ _ _ c.from_residual-in_err-matches.ensures.1
+    (c.in_err-matches.ensures.passes (ap₂ takes c.in_ok-command_line.ensures words
+    ∙ journal-taken name device small journal (value-of device no_flag) (number-from 8 65535 (omega arith) journal sized)))
 
 pub returns-in_err-matches-clause-upgrade : goal.returns-in_err-matches-clause-upgrade
 returns-in_err-matches-clause-upgrade g c = λ name device small number no_flag some words.
@@ -372,6 +404,13 @@ pub returns-clause-format : goal.returns-clause-format
 returns-clause-format g c = λ name device small number no_flag some words. record {
   ok = asks _ _ _ _ _ _ c.in_ok-command_line.ensures c.in_ok-matches.ensures.matches
       c.in_ok-request_in.ensures words (format-read name device small number (value-of device no_flag) (numbers-of number some));
+  err = tt;
+}
+
+pub returns-clause-journal : goal.returns-clause-journal
+returns-clause-journal g c = λ name device journal small no_flag sized words. record {
+  ok = asks _ _ _ _ _ _ c.in_ok-command_line.ensures c.in_ok-matches.ensures.matches c.in_ok-request_in.ensures words
+      (journal-read name device small journal (value-of device no_flag) (number-from 8 65535 (omega arith) journal sized));
   err = tt;
 }
 

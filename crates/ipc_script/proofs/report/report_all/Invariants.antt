@@ -1,5 +1,5 @@
 use Rattle.std.proofs.Common.{◌≡◌, []}
-use Rattle.ipc_base.specs.declared.limits.Limits.{Limits}
+use Rattle.ipc_limits.specs.declared.limits.Limits.{Limits}
 use Rattle.ipc_script.specs.Script.{Run, WritesMore}
 use Rattle.ipc_script.specs.Relations.Matches.{CanReport}
 use Rattle.ipc_script.proofs.ReportText.{PartlyReported}

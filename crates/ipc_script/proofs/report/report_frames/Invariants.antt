@@ -1,6 +1,6 @@
 use Rattle.std.proofs.Common.{◌≡◌, [], length, IfSome}
 use Rattle.ipc_script.specs.Script.{WritesMore}
-use Rattle.ipc_base.specs.declared.limits.Limits.{Limits}
+use Rattle.ipc_limits.specs.declared.limits.Limits.{Limits}
 use Rattle.ipc_hub.specs.Clients.{accepted, Clients, client_at}
 use Rattle.ipc_hub.specs.View.{output_of}
 use Rattle.ipc_hub.specs.Relations.Matches.{HubMatches}

@@ -1,6 +1,6 @@
 use Rattle.std.proofs.Common.{◌≤◌, ◌<◌, ◌+◌, ◌-◌, ◌*◌, length}
 use Rattle.ipc_disk.specs.Medium.{IsHonest}
-use Rattle.ipc_base.specs.declared.limits.Limits.{Limits}
+use Rattle.ipc_limits.specs.declared.limits.Limits.{Limits}
 use Rattle.ipc_store.specs.View.{Spends}
 use Rattle.ipc_script.specs.Script.{Run}
 use Rattle.ipc_script.specs.Relations.Numbers.{HasNumbers}

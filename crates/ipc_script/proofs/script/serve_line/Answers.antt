@@ -6,7 +6,7 @@ use Rattle.ipc_hub.specs.Clients.{tick}
 use Rattle.ipc_script.specs.declared.report.Opened.{Opened}
 use Rattle.ipc_script.specs.Relations.Lines.{hex_bytes, plain_line}
 use Rattle.ipc_script.specs.Line.{PlainLine, Open, End, Tick, Save, Stop}
-use Rattle.ipc_base.specs.declared.limits.Limits.{Limits}
+use Rattle.ipc_limits.specs.declared.limits.Limits.{Limits}
 use Rattle.ipc_script.specs.declared.fault.ScriptFault.TheVariants.{Device, InUse, NoMemory, Unknown}
 use Rattle.ipc_script.specs.Script.{Cut, Run, first_part, is_open, line_done, opened, report}
 use Rattle.ipc_script.specs.Relations.Lasts.{LastsAs}

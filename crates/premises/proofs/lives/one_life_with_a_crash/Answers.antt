@@ -1,11 +1,12 @@
 -- The clauses of the calls give the premises of the law.
 use Rattle.std.proofs.Common.{◌≡◌, ◌+◌, ◌<◌, ◌^◌, ◌∙◌, [], ◌∷◌, length, ap, subst, arith}
 use Rattle.std.proofs.lemmas.List.{length-map}
-use Rattle.ipc_base.specs.declared.limits.Limits.{Limits}
+use Rattle.ipc_limits.specs.declared.limits.Limits.{Limits}
 use Rattle.ipc_disk.specs.declared.memory.Slot.{Slot}
 use Rattle.ipc_disk.specs.Medium.{IsHonest}
 use Rattle.ipc_engine.specs.Event.{Restart}
 use Rattle.ipc_store.specs.Histories.{new_past, reopened}
+use Rattle.ipc_store.specs.Image.{own_limits}
 use Rattle.ipc_store.specs.Lives.{StandsAfter}
 use Rattle.ipc_store.proofs.CallerLemmas.{StandsFor-one}
 use Rattle.ipc_hub.specs.Clients.{Clients, no_clients}
@@ -31,7 +32,7 @@ honest disk = IsHonest-remembered _ _
 
 pub returns-in-Ok-open-2 : goal.returns-in-Ok-open-2
 returns-in-Ok-open-2 c =
-    let limits : Limits = c.args.limits.now in
+    let limits : Limits = own_limits c.args.limits.now in
     let disk = c.format.new.disk in
     let stands = c.in-Ok.ensures.ok (honest c.args.disk) in
     let opened = c.in-Ok-open.store in

@@ -1,7 +1,7 @@
 use Rattle.std.proofs.Common.{rules, ◌≡◌, ◌+◌, ℕ, false, None, refl, sym, ap, ◌∙◌, subst}
 use Rattle.std.specs.Prelude.{nat_eq, is_some, ◌==◌, ◌||◌}
 use Rattle.ipc_hub.specs.View.{is_connected}
-use Rattle.ipc_base.specs.Limits.{longest_reply}
+use Rattle.ipc_limits.specs.Limits.{longest_reply}
 use Rattle.ipc_base.specs.Table.{value_at}
 use Rattle.ipc_base.proofs.CallerLemmas.{nobody}
 use Rattle.ipc_engine.specs.Bytes.{most_owed}
