@@ -89,16 +89,23 @@ static void finish(struct frame *frame, uint32_t serial)
 	memcpy(frame->bytes + 4, &serial, 4);
 }
 
-/* Sends a request, and waits for its reply, whose body has so many bytes. */
+/* Sends a request, and waits for its reply, whose body begins with so many bytes. That to HELLO may have more. */
 static void ask(struct client *client, struct frame *frame, void *body, size_t size)
 {
-	unsigned char bytes[14];
+	unsigned char head[10], rest[128];
+	uint32_t length;
 	finish(frame, 1);
 	if (send(client->socket, frame->bytes, frame->size, 0) != (ssize_t)frame->size)
 		die("a request cannot be sent");
-	if (recv(client->socket, bytes, 10 + size, MSG_WAITALL) != (ssize_t)(10 + size) || bytes[8] || bytes[9])
+	if (recv(client->socket, head, sizeof head, MSG_WAITALL) != sizeof head || head[8] || head[9])
 		die("a first request is refused");
-	memcpy(body, bytes + 10, size);
+	memcpy(&length, head, 4);
+	length = be32toh(length) - 6;
+	if (length < size || length > sizeof rest)
+		die("a first reply has another size");
+	if (length > 0 && recv(client->socket, rest, length, MSG_WAITALL) != (ssize_t)length)
+		die("the server has ended a connection");
+	memcpy(body, rest, size);
 }
 
 /* The same, and the body is a number. */

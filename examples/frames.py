@@ -16,9 +16,10 @@ from collections.abc import Iterator
 from typing import NamedTuple
 
 # Of each opcode the call, the fields of the request, and those of the reply. A field is a name and how it stands: by
-# the letters of struct, `o` for a number of bits, `t` for a time, and at the end `*` for a text, `+` for bytes.
+# the letters of struct, `o` for a number of bits, `t` for a time, and at the end `*` for a text, `+` for bytes. A body
+# may end before a field whose name has a `?`.
 CALLS = {
-    0x01: ("HELLO", "uid:I gid:I", "process:I"),
+    0x01: ("HELLO", "uid:I gid:I", "process:I version?:I"),
     0x02: ("INTERRUPT", "", ""),
     0x03: ("close", "descriptor:I", ""),
     0x0A: ("msgget", "key:i flags:o", "queue:I"),
@@ -101,6 +102,9 @@ def fields(forms: str, body: bytes) -> str:
     told = []
     for word in forms.split():
         name, form = word.split(":")
+        if name.endswith("?") and not body:
+            break
+        name = name.rstrip("?")
         if form in "*+":
             told.append(f"{name} {body.hex()}" if form == "+" else json.dumps(body.decode("latin-1")))
             continue

@@ -4,6 +4,8 @@ A row is `CONNECTION REQUEST -> REPLY`. `@MOMENT` sets the clock in milliseconds
 its fields in their order; a text or a name has `%HH` for a byte that is no plain character. A reply is `ok`, fields, or
 the name of an error. `after +N`: the reply comes for the request N rows later. A row without a request is a frame that
 comes unasked. `never`: no session makes a server send the reply, so only clients are tested on it.
+
+The device of the session VERSION_3 is of version 3, and that of the others of version 2.
 """
 
 from __future__ import annotations
@@ -337,6 +339,7 @@ OTHER_FAULTS = [
     "4 frame (half a value of SETALL) 0000000a 00000063 1c 00000001 00 -> EPROTO",
 ]
 
+VERSION_3 = "a device of version 3"
 SESSIONS = {
     "processes": PROCESSES,
     "messages": MESSAGES,
@@ -347,4 +350,5 @@ SESSIONS = {
     "System V segments": SYSTEM_V_SEGMENTS,
     "faults of the stream": FAULTS,
     "other faults of the stream": OTHER_FAULTS,
+    VERSION_3: ["1 hello uid=1000 gid=100 -> pid=1 version=3"],
 }

@@ -7,7 +7,8 @@ are read from the table of requests, error numbers and flags from their tables. 
 sentence, so its layout is in this file beside that sentence, and the script fails if the document has the sentence no
 longer. What is answered, in words, was computed by hand from the document; tools/vector_rows.py has it.
 
-`python3 tools/vectors.py --script SESSION` prints a session as a script of `ipcd replay --small`.
+`python3 tools/vectors.py --script SESSION` prints a session as a script of `ipcd replay --small`, or of `ipcd run` on a
+small device of version 3, if that is its name.
 """
 
 from __future__ import annotations
@@ -78,6 +79,9 @@ LAYOUTS = {
         "fd u32, cookie u32", 8),
 }  # fmt: skip
 LAYOUTS["the attributes as they were before"] = LAYOUTS["the attributes of a queue"]
+# HELLO's body: the pid alone, and from version 3 of the device on its version after it. The row of the table begins
+# with the pid.
+HELLO_BODY = "pid u32, version u32"
 HEADS = [
     "All numbers are big-endian; signed numbers are in two's complement.",
     "| 4 | length of what follows, 5 to 65792 |",
@@ -144,7 +148,17 @@ def calls() -> dict[str, tuple[int, tuple[Field, ...], tuple[Field, ...]]]:
     opcodes = [row[0] for row in rows]
     if opcodes != list(NAMES):
         fail(f"the table of requests has other opcodes: {set(opcodes) ^ set(NAMES)}")
-    return {NAMES[it]: (int(it, 16), fields(asked), fields(answer)) for it, asked, answer in rows}
+    return {NAMES[it]: (int(it, 16), fields(asked), body_of(NAMES[it], answer)) for it, asked, answer in rows}
+
+
+def body_of(call: str, text: str) -> tuple[Field, ...]:
+    """The fields of a reply's body, by its cell of the table of requests."""
+    if call != "hello":
+        return fields(text)
+    if not text.strip().startswith(HELLO_BODY.split(",")[0]):
+        fail(f"HELLO's body does not begin with the pid: {text}")
+    has("On a device of version 3 the body has 8 bytes: the pid, and then the version, 3, u32.")
+    return fields(HELLO_BODY)
 
 
 @cache
@@ -217,7 +231,8 @@ def reply_frame(serial: int, call: str, words: list[str]) -> bytes:
     elif words[0] == "notification":
         body = encoded(fields("a notification"), words[1:])
     else:
-        body = encoded(calls()[call][2], [] if words == ["ok"] else words)
+        kinds = calls()[call][2]
+        body = encoded(kinds[: len(words)] if call == "hello" else kinds, [] if words == ["ok"] else words)
     rest = serial.to_bytes(4, "big") + error.to_bytes(2, "big") + body
     return len(rest).to_bytes(4, "big") + rest
 
@@ -283,7 +298,7 @@ def text() -> str:
 
 
 def script(session: str) -> str:
-    """A session as a script of `ipcd replay --small`."""
+    """A session as a script of `ipcd replay --small`, or of `ipcd run`."""
     lines, opened = [], set()
     for row in vectors():
         if row.session != session or row.by < 0:

@@ -461,7 +461,8 @@ int link_connect(struct link *link, const char *path)
         link_begin(link, HELLO);
         put_u32(link, uid);
         put_u32(link, gid);
-        done = link_exchange(link, ANSWERED_AT_ONCE, 4, 4);
+        // The pid. On a device of version 3 that number follows, and a later server may tell more.
+        done = link_exchange(link, ANSWERED_AT_ONCE, 4, BODY_MOST);
         if (done >= 0 || errno != ENFILE || link->socket < 0)
             break;
         nanosleep(&(struct timespec){.tv_nsec = HELLO_PAUSE}, NULL);

@@ -154,7 +154,28 @@ func deadline(moment time.Time) uint64 {
 // Hello makes the connection a process of this user and group, and answers its pid. ENFILE: there are as many processes
 // as the limit allows; one that has just ended may still be there, so send it again.
 func (c *Conn) Hello(uid, gid uint32) *Pending[uint32] {
-	return begin(c, "hello", 0x01, record[uint32], uid, gid)
+	return begin(c, "hello", 0x01, c.greeting, uid, gid)
+}
+
+// greeting is the pid. The version may follow, and what a later server tells after it.
+func (c *Conn) greeting(body []byte) (uint32, bool) {
+	if len(body) < 4 {
+		return 0, false
+	}
+	if len(body) >= 8 {
+		c.lock.Lock()
+		c.version = binary.BigEndian.Uint32(body[4:])
+		c.lock.Unlock()
+	}
+	return binary.BigEndian.Uint32(body), true
+}
+
+// Version is the version of the server's device, 3 or later, after the Wait of Hello. It is 0 if the server has told
+// none, as on devices of version 1 and 2.
+func (c *Conn) Version() uint32 {
+	c.lock.Lock()
+	defer c.lock.Unlock()
+	return c.version
 }
 
 // Interrupt ends the call that waits, if one does: that call is EINTR, unless its reply came first.

@@ -64,6 +64,7 @@ type Conn struct {
 	writing   sync.Mutex // requests are written in the order of their serials
 	serial    uint32
 	lock      sync.Mutex // of what follows
+	version   uint32
 	asked     map[uint32]*answer
 	notified  []Notification
 	came      chan struct{} // has one element if notified may have some

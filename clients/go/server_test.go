@@ -22,14 +22,14 @@ type server struct {
 	process *exec.Cmd
 }
 
-// start serves a small device in a folder of its own.
-func start(t *testing.T) *server {
+// start serves a small device in a folder of its own. It is of version 2, if format gets no other words.
+func start(t *testing.T, words ...string) *server {
 	program := os.Getenv("IPCD_PROGRAM")
 	if program == "" {
 		t.Fatal("IPCD_PROGRAM names no program")
 	}
 	s := &server{t: t, folder: t.TempDir()}
-	format := exec.Command(program, "format", "--small", "device")
+	format := exec.Command(program, append([]string{"format", "--small", "device"}, words...)...)
 	format.Dir = s.folder
 	if said, err := format.CombinedOutput(); err != nil {
 		t.Fatalf("%s %v", said, err)
@@ -103,6 +103,7 @@ func equal(t *testing.T, found, wanted any) {
 
 func TestEachFamily(t *testing.T) {
 	c := start(t).connect()
+	equal(t, c.Version(), 0)
 	queue := has(t, c.Msgget(1234, IPC_CREAT|0o600))
 	has(t, c.Msgsnd(queue, 5, []byte("hi"), 0))
 	equal(t, has(t, c.Msgrcv(queue, 64, 0, 0)), Message{5, []byte("hi")})
@@ -131,6 +132,22 @@ func TestEachFamily(t *testing.T) {
 	has(t, c.Shmdt(shared))
 	refused(t, c.ShmStat(9), syscall.EBADF)
 	refused(t, c.Msgsnd(queue, 1, make([]byte, 70000), 0), syscall.EINVAL)
+}
+
+// The server tells its version, and the calls are as ever.
+func TestVersion3(t *testing.T) {
+	s := start(t, "--journal", "257")
+	c, err := Dial(filepath.Join(s.folder, "socket"))
+	if err != nil {
+		t.Fatal(err)
+	}
+	defer c.Close()
+	equal(t, c.Version(), 0)
+	equal(t, has(t, c.Hello(1000, 100)), 1)
+	equal(t, c.Version(), 3)
+	queue := has(t, c.Msgget(1234, IPC_CREAT|0o600))
+	has(t, c.Msgsnd(queue, 5, []byte("hi"), 0))
+	equal(t, has(t, c.Msgrcv(queue, 64, 0, 0)), Message{5, []byte("hi")})
 }
 
 // waits sees that a call of this connection waits: the next one is EALREADY.

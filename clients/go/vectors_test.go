@@ -171,6 +171,14 @@ func one(name string, p *Pending[uint32]) (string, error) {
 	return get(p, func(it uint32) string { return fmt.Sprintf("%s=%d", name, it) })
 }
 
+func greeting(c *Conn, p *Pending[uint32]) (string, error) {
+	found, err := one("pid", p)
+	if version := c.Version(); version != 0 {
+		found += fmt.Sprintf(" version=%d", version)
+	}
+	return found, err
+}
+
 func raw(p *Pending[[]byte]) (string, error) {
 	return get(p, func(it []byte) string { return fmt.Sprintf("bytes=%x", it) })
 }
@@ -187,7 +195,7 @@ func owner(key int32, o Owner) string {
 }
 
 var calls = map[string]func(c *Conn, w words) (string, error){
-	"hello":     func(c *Conn, w words) (string, error) { return one("pid", c.Hello(w.u32("uid"), w.u32("gid"))) },
+	"hello":     func(c *Conn, w words) (string, error) { return greeting(c, c.Hello(w.u32("uid"), w.u32("gid"))) },
 	"interrupt": func(c *Conn, w words) (string, error) { return ok(c.Interrupt()) },
 	"close":     func(c *Conn, w words) (string, error) { return ok(c.CloseFd(w.u32("fd"))) },
 	"msgget": func(c *Conn, w words) (string, error) {
@@ -444,6 +452,33 @@ func TestStrangeReplies(t *testing.T) {
 			t.Errorf("%s: a call after the end: %v", digits, err)
 		}
 		cancel()
+		theirs.Close()
+	}
+}
+
+// greetings are bodies of replies to HELLO, and what each says; one without a pid is none. Nobody knows yet what comes
+// after the version.
+var greetings = map[string]string{"": "", "000007": "", "00000007": "pid=7", "0000000700": "pid=7",
+	"00000007000000": "pid=7", "0000000700000003": "pid=7 version=3", "00000007000000040a0b0c0d0e": "pid=7 version=4"}
+
+func TestGreetings(t *testing.T) {
+	for digits, wanted := range greetings {
+		body, err := hex.DecodeString(digits)
+		if err != nil {
+			t.Fatal(err)
+		}
+		reply := append([]byte{0, 0, 0, byte(6 + len(body)), 0, 0, 0, 1, 0, 0}, body...)
+		ours, theirs := net.Pipe()
+		c := newConn(ours)
+		go func() {
+			io.ReadFull(theirs, make([]byte, 17))
+			theirs.Write(reply)
+		}()
+		found, err := greeting(c, c.Hello(1000, 100))
+		if found != wanted || (wanted == "") != errors.Is(err, ErrProtocol) {
+			t.Errorf("%s: %q, %v, and not %q", digits, found, err, wanted)
+		}
+		c.Close()
 		theirs.Close()
 	}
 }

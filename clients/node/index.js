@@ -54,9 +54,21 @@ const operation = ([num, op, flags = 0]) => Buffer.concat([u16(num), i16(op), u1
  * promise. The server has one waiting call of a process at a time: further calls are EALREADY meanwhile, so a wait has
  * a connection of its own. Texts are strings or bytes, and come as Buffers. Calls that wait take { signal } last. */
 export class Connection extends Stream {
+  /** The version of the server's device, 3 or later, after `hello`. null: the server has told none, as on devices of
+   * version 1 and 2. */
+  version = null
+
   /** Makes the connection a process of this user and group: its pid. ENFILE: there are as many processes as the limit
    * allows; one that has just ended may still be there, so send it again. */
-  hello(uid, gid) { return this.call('hello', 0x01, [u32(uid), u32(gid)], number) }
+  hello(uid, gid) {
+    return this.call('hello', 0x01, [u32(uid), u32(gid)], (it) => {
+      const pid = it.u32()
+      if (it.left() >= 4) this.version = it.u32()
+      // A later server may tell more.
+      it.rest()
+      return pid
+    })
+  }
   /** Ends the call that waits, if one does: that call is EINTR, unless its reply came first. */
   interrupt() { return this.call('interrupt', 0x02, [], nothing) }
   /** Closes a descriptor of a POSIX queue, a named semaphore or a segment: mq_close(3), sem_close(3), close(2). */

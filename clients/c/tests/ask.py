@@ -20,7 +20,7 @@ HERE = Path(__file__).resolve().parent
 ASK = str(HERE.parent / "out/ipcd-ask")
 sys.path.insert(0, str(HERE.parents[2] / "tests/lib"))
 
-from server import Server, check, in_a_folder, printed, run_tests, serving  # noqa: E402
+from server import Server, check, in_a_folder, of_version_3, printed, run_tests, serving  # noqa: E402
 
 UID, GID = os.geteuid(), os.getegid()
 OWNER = f"uid={UID} gid={GID} cuid={UID} cgid={GID}"
@@ -229,6 +229,13 @@ def large_texts() -> None:
         check(ask(given=f"msgsnd 1 3 {text}x\n").stderr == "ipcd-ask: msgsnd: EINVAL\n", "a larger message")
 
 
+def on_version_3() -> None:
+    """The server tells more at HELLO there, and the calls are as ever."""
+    with of_version_3("--small"):
+        check(answers("msgget 1234 IPC_CREAT|0600", "msgsnd $ 5 hi", "msgrcv 1 64") == ["1", "0", "5 hi"], "version 3")
+    device()
+
+
 def outlives_a_kill() -> None:
     """What was answered is there after a kill. A request that waits ends with the connection."""
     check(ask("msgget 1", at="none").stderr == "ipcd-ask: none: ECONNREFUSED\n", "without a server")
@@ -249,6 +256,8 @@ def outlives_a_kill() -> None:
         check(answers("msgget 1234", "msgrcv $ 64") == ["1", "5 hi"], "after the kill")
 
 
+TESTS = [each_call, removes_a_set, refusals, wrong_words, large_texts, on_version_3, outlives_a_kill]
+
 if __name__ == "__main__":
     with in_a_folder(120):
-        run_tests("ipcd-ask", [each_call, removes_a_set, refusals, wrong_words, large_texts, outlives_a_kill])
+        run_tests("ipcd-ask", TESTS)

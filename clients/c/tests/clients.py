@@ -163,6 +163,16 @@ def redirected_calls() -> None:
             check(connection.shmget(0, 1, 0o600) == 1, "segments of System V are not the kernel's")
 
 
+def on_version_3() -> None:
+    """The calls of the library and the redirected ones on a device of version 3, whose server tells more at HELLO."""
+    device()
+    sectors = int(printed("format", "device", "--journal", "257").split()[1])
+    with serving(sectors=sectors, prepare=by_anybody):
+        names = [name for name in CALLS if name != "handlers"]
+        all_end_well([[str(OUT / "tests" / f"library_{name}")] for name in [*names, "attachments"]])
+        all_end_well([[RUN, str(OUT / "tests" / name)] for name in names])
+
+
 def loads() -> None:
     """Calls of a library that a program loads, however it loads it, and calls that it finds by name."""
     program, folder = str(OUT / "tests" / "loads"), str(OUT / "tests" / "loaded")
@@ -466,7 +476,9 @@ def all_are_errors(each: list[tuple[list[str], str, str, Fault]]) -> None:
 def false_servers() -> None:
     """Whatever comes ends in an error and a closed connection, never in a crash, a hang or an answer."""
     plain, hasty = [str(OUT / "tests" / "each_call")], [str(OUT / "tests" / "hasty_each_call")]
-    each = [(plain, name, "answered", fault) for name in ["hello", *EACH_CALL] for fault in FAULTS]
+    each = [(plain, name, "answered", fault) for name in EACH_CALL for fault in FAULTS]
+    # What follows the pid may be of any length.
+    each += [(plain, "hello", "answered", fault) for fault in FAULTS if fault.name != "a body too long"]
     each += [(hasty, name, "answered", fault) for name in ["hello", *EACH_CALL] for fault in TORN]
     each += [(plain, name, "interrupted", fault) for name in EACH_THAT_WAITS for fault in INTERRUPTED]
     each += [(hasty, name, "interrupted", fault) for name in EACH_THAT_WAITS for fault in HALF_AFTER_INTERRUPT]
@@ -887,6 +899,7 @@ def pieces() -> None:
 
 
 TESTS = [exports, headers, built_otherwise, static_library, refuses_programs, installs, kernel_agrees, library_calls,
+         on_version_3,
          pieces, memcheck, sanitized, looks_inside, redirected_calls, loads, lists, check_counts, shared_memory,
          waits_for_a_server, processes, drops_uid_0, unlinked, cannot_be_told, pids, manual_pages, without_a_server,
          restarts, killed_in_each_call, false_servers]  # fmt: skip

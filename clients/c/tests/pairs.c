@@ -29,7 +29,7 @@ static void by_calls(int queue, size_t size, int pairs)
     }
 }
 
-// Sends a request whose fields are written, and reads its reply with a body of so many bytes.
+// Sends a request whose fields are written, and reads its reply, whose body has so many bytes, or more after HELLO.
 static void exchange(int server, size_t fields, enum opcode opcode, size_t body)
 {
     static uint32_t serial;
@@ -38,11 +38,12 @@ static void exchange(int server, size_t fields, enum opcode opcode, size_t body)
     request[8] = (unsigned char) opcode;
     size_t size = REQUEST_HEAD + fields, come = 0;
     CHECK(send(server, request, size, MSG_NOSIGNAL) == (ssize_t) size);
-    while (come < REPLY_HEAD + body) {
+    while (come < REPLY_HEAD || come < 4 + (size_t) read_u32(reply)) {
         ssize_t more = recv(server, reply + come, sizeof reply - come, 0);
         CHECK(more > 0);
         come += (size_t) more;
     }
+    CHECK(come == REPLY_HEAD + body || (opcode == HELLO && come > REPLY_HEAD + body));
     CHECK(read_u32(reply + 4) == serial && read_u16(reply + 8) == 0);
 }
 

@@ -5,6 +5,7 @@ import java.nio.charset.StandardCharsets;
 import java.time.Duration;
 import java.time.Instant;
 import java.util.List;
+import java.util.OptionalInt;
 import java.util.function.Function;
 
 /**
@@ -81,6 +82,9 @@ public abstract class Calls {
     public record Limits(int maxmsg, int msgsize) {
     }
 
+    // Whoever reads the reply to hello writes it, and other threads may read it.
+    private volatile OptionalInt version = OptionalInt.empty();
+
     abstract <T> Reply<T> call(String call, int opcode, Function<ByteBuffer, T> read, Object... fields);
 
     private static Void nothing(ByteBuffer body) {
@@ -131,7 +135,25 @@ public abstract class Calls {
      * allows; one that has just ended may still be there, so send it again.
      */
     public Reply<Integer> hello(int uid, int gid) {
-        return call("hello", 0x01, ByteBuffer::getInt, uid, gid);
+        return call("hello", 0x01, this::greeting, uid, gid);
+    }
+
+    /**
+     * The version of the server's device, 3 or later, after the {@code get} of hello. Empty: the server has told none,
+     * as on devices of version 1 and 2.
+     */
+    public OptionalInt version() {
+        return version;
+    }
+
+    /** The pid. The version may follow, and what a later server tells after it. */
+    private int greeting(ByteBuffer body) {
+        int pid = body.getInt();
+        if (body.remaining() >= 4) {
+            version = OptionalInt.of(body.getInt());
+        }
+        body.position(body.limit());
+        return pid;
     }
 
     /** Ends the call that waits, if one does: that call is EINTR, unless its reply came first. */

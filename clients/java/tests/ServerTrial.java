@@ -17,6 +17,7 @@ import java.util.ArrayList;
 import java.util.Arrays;
 import java.util.Comparator;
 import java.util.List;
+import java.util.OptionalInt;
 import java.util.concurrent.CompletableFuture;
 import java.util.stream.Stream;
 
@@ -38,16 +39,18 @@ final class ServerTrial {
         void on(Server server) throws Exception;
     }
 
-    /** A server of a small device, in a folder of its own. */
+    /** A server of a small device, in a folder of its own. It is of version 2, if format gets no other words. */
     private static final class Server {
         final String program;
         final Path folder;
         Process process;
 
-        Server(String program) throws Exception {
+        Server(String program, String... words) throws Exception {
             this.program = program;
             folder = Files.createTempDirectory("ipcd-java-");
-            Process format = run("format", "--small", "device");
+            List<String> line = new ArrayList<>(List.of("format", "--small", "device"));
+            line.addAll(List.of(words));
+            Process format = run(line.toArray(String[]::new));
             check(format.waitFor() == 0, "no device");
             serve();
         }
@@ -76,8 +79,8 @@ final class ServerTrial {
         }
     }
 
-    private static void served(String program, String name, Trial trial) throws Exception {
-        Server server = new Server(program);
+    private static void served(String program, String name, Trial trial, String... words) throws Exception {
+        Server server = new Server(program, words);
         try {
             trial.on(server);
             System.out.println("clients in Java: " + name);
@@ -116,6 +119,7 @@ final class ServerTrial {
 
     private static void eachFamily(Server server) throws Exception {
         Connection c = server.connect();
+        check(c.version().isEmpty(), "" + c.version());
         int queue = c.msgget(1234, Connection.IPC_CREAT | MODE).get();
         c.msgsnd(queue, 5, bytes("hi"), 0).get();
         Message message = c.msgrcv(queue, 64, 0, 0).get();
@@ -146,6 +150,18 @@ final class ServerTrial {
         c.shmdt(shared).get();
         refused(c.shmStat(9), Errno.EBADF);
         refused(c.msgsnd(queue, 1, new byte[70000], 0), Errno.EINVAL);
+        c.close();
+    }
+
+    /** The server tells its version, and the calls are as ever. */
+    private static void version3(Server server) throws Exception {
+        Connection c = Connection.connect(server.folder.resolve("socket"));
+        check(c.version().isEmpty(), "" + c.version());
+        check(c.hello(1000, 100).get() == 1, "another pid");
+        check(c.version().equals(OptionalInt.of(3)), "" + c.version());
+        int queue = c.msgget(1234, Connection.IPC_CREAT | MODE).get();
+        c.msgsnd(queue, 5, bytes("hi"), 0).get();
+        equal(c.msgrcv(queue, 64, 0, 0).get().text(), "hi");
         c.close();
     }
 
@@ -261,6 +277,7 @@ final class ServerTrial {
 
     public static void main(String[] arguments) throws Exception {
         served(arguments[0], "each family", ServerTrial::eachFamily);
+        served(arguments[0], "a device of version 3", ServerTrial::version3, "--journal", "257");
         served(arguments[0], "waits and deadlines", ServerTrial::waitsAndDeadlines);
         served(arguments[0], "kills", ServerTrial::kills);
     }

@@ -20,6 +20,7 @@ import java.util.ArrayList;
 import java.util.Arrays;
 import java.util.HexFormat;
 import java.util.List;
+import java.util.Map;
 import java.util.concurrent.CompletableFuture;
 import java.util.function.Function;
 
@@ -188,7 +189,7 @@ final class Vectors {
 
     private static String call(Connection c, String name, Words w) throws IOException, InterruptedException {
         return switch (name) {
-            case "hello" -> one("pid", c.hello(w.n("uid"), w.n("gid")));
+            case "hello" -> greeting(c, c.hello(w.n("uid"), w.n("gid")));
             case "interrupt" -> ok(c.interrupt());
             case "close" -> ok(c.closeFd(w.n("fd")));
             case "msgget" -> one("identifier", c.msgget(w.n("key"), w.n("flags")));
@@ -247,6 +248,11 @@ final class Vectors {
             case "attached_write" -> ok(c.attachedWrite(w.n("attachment"), w.l("offset"), w.bytes("bytes")));
             default -> throw new AssertionError("no such call: " + name);
         };
+    }
+
+    private static String greeting(Connection c, Reply<Integer> reply) throws IOException, InterruptedException {
+        String pid = one("pid", reply);
+        return c.version().isEmpty() ? pid : pid + " version=" + c.version().getAsInt();
     }
 
     private static List<Calls.Op> operations(Words w) {
@@ -351,6 +357,28 @@ final class Vectors {
         }
     }
 
+    // The bodies of replies to HELLO, and what each says; one without a pid is none. Nobody knows yet what
+    // comes after the version.
+    private static final Map<String, String> GREETINGS = Map.of("", "", "000007", "", "00000007", "pid=7",
+            "0000000700", "pid=7", "00000007000000", "pid=7", "0000000700000003", "pid=7 version=3",
+            "00000007000000040a0b0c0d0e", "pid=7 version=4");
+
+    private static void tryGreeting(String digits, Connection c, SocketChannel server) throws Exception {
+        Reply<Integer> reply = c.hello(1000, 100);
+        whole(server, 17);
+        byte[] body = HEX.parseHex(digits);
+        ByteBuffer frame = ByteBuffer.allocate(10 + body.length);
+        server.write(frame.putInt(6 + body.length).putInt(1).putShort((short) 0).put(body).flip());
+        String found;
+        try {
+            found = greeting(c, reply);
+        } catch (EndedException ended) {
+            check(ended.getMessage().contains("the server has sent what is no reply"), digits + ": " + ended);
+            found = "";
+        }
+        check(found.equals(GREETINGS.get(digits)), digits + " is " + found);
+    }
+
     public static void main(String[] arguments) throws Exception {
         List<String> rows = new ArrayList<>(Files.readAllLines(Path.of(arguments[0]), StandardCharsets.US_ASCII));
         rows.removeIf(it -> !it.startsWith("{"));
@@ -364,6 +392,11 @@ final class Vectors {
                     tryRow(line, c, server);
                 } catch (Throwable wrong) {
                     throw new AssertionError(line, wrong);
+                }
+            }
+            for (String digits : GREETINGS.keySet()) {
+                try (Connection c = Connection.connect(socket); SocketChannel server = listening.accept()) {
+                    tryGreeting(digits, c, server);
                 }
             }
             for (String digits : STRANGE) {

@@ -14,11 +14,11 @@ const { IPC_CREAT, IPC_NOWAIT, O_CREAT, O_RDWR, SEM_UNDO } = ipcd
 const PROGRAM = process.env.IPCD_PROGRAM
 assert.ok(PROGRAM, 'IPCD_PROGRAM names the program')
 
-// A server of a small device, in a folder of its own.
+// A server of a small device, in a folder of its own. The device is of version 2, if `format` gets no other words.
 class Server {
-  constructor() {
+  constructor(words) {
     this.folder = fs.mkdtempSync(path.join(os.tmpdir(), 'ipcd-node-'))
-    const format = spawnSync(PROGRAM, ['format', '--small', 'device'], { cwd: this.folder })
+    const format = spawnSync(PROGRAM, ['format', '--small', 'device', ...words], { cwd: this.folder })
     assert.equal(format.status, 0, String(format.stderr))
   }
   async serve() {
@@ -39,8 +39,8 @@ class Server {
   }
 }
 
-async function served(tried) {
-  const server = new Server()
+async function served(tried, ...words) {
+  const server = new Server(words)
   await server.serve()
   try {
     await tried(server)
@@ -56,6 +56,7 @@ const waits = (connection) => refused(connection.msgctlStat(1), 'EALREADY')
 
 test('each family', { timeout: 100000 }, () => served(async (server) => {
   const c = await server.connect()
+  assert.equal(c.version, null)
   const queue = await c.msgget(1234, IPC_CREAT | 0o600)
   await c.msgsnd(queue, 5, 'hi')
   assert.deepEqual(await c.msgrcv(queue, 64), { type: 5n, text: Buffer.from('hi') })
@@ -86,6 +87,18 @@ test('each family', { timeout: 100000 }, () => served(async (server) => {
   await refused(c.msgsnd(queue, 1, Buffer.alloc(70000)), 'EINVAL')
   c.close()
 }))
+
+// The server tells its version, and the calls are as ever.
+test('a device of version 3', { timeout: 100000 }, () => served(async (server) => {
+  const c = await ipcd.Connection.connect(path.join(server.folder, 'socket'))
+  assert.equal(c.version, null)
+  assert.equal(await c.hello(1000, 100), 1)
+  assert.equal(c.version, 3)
+  const queue = await c.msgget(1234, IPC_CREAT | 0o600)
+  await c.msgsnd(queue, 5, 'hi')
+  assert.deepEqual(await c.msgrcv(queue, 64), { type: 5n, text: Buffer.from('hi') })
+  c.close()
+}, '--journal', '257'))
 
 test('waits and deadlines', { timeout: 100000 }, () => served(async (server) => {
   const [c, other] = [await server.connect(), await server.connect()]

@@ -49,7 +49,10 @@ function shown(value, name) {
 
 // Of each call, how its method is called with the words of a request. `n` reads a number of at most 32 bits.
 const calls = {
-  hello: (c, w, n) => c.hello(n.uid, n.gid),
+  hello: async (c, w, n) => {
+    const pid = await c.hello(n.uid, n.gid)
+    return c.version === null ? pid : { pid, version: c.version }
+  },
   interrupt: (c) => c.interrupt(),
   close: (c, w, n) => c.closeFd(n.fd),
   msgget: (c, w, n) => c.msgget(n.key, n.flags),
@@ -161,6 +164,35 @@ test('vectors', { timeout: 100000 }, async () => {
         c.close()
         socket.destroy()
       }
+    }
+  } finally {
+    server.close()
+    fs.rmSync(folder, { recursive: true })
+  }
+})
+
+// The bodies of replies to HELLO, and the pid and the version that each has; one without a pid is none. Nobody knows
+// yet what comes after the version.
+const GREETINGS = [['', null], ['000007', null], ['00000007', [7, null]], ['0000000700', [7, null]],
+  ['00000007000000', [7, null]], ['0000000700000003', [7, 3]], ['00000007000000040a0b0c0d0e', [7, 4]]]
+
+test('replies to HELLO', { timeout: 100000 }, async () => {
+  const folder = fs.mkdtempSync(path.join(os.tmpdir(), 'ipcd-node-'))
+  const server = net.createServer((socket) => {
+    const body = Buffer.from(GREETINGS[server.at][0], 'hex')
+    const head = Buffer.from('00000000000000010000', 'hex')
+    head.writeUInt32BE(6 + body.length, 0)
+    socket.once('data', () => socket.write(Buffer.concat([head, body])))
+  }).listen(path.join(folder, 'socket'))
+  try {
+    for (server.at = 0; server.at < GREETINGS.length; server.at++) {
+      const [body, wanted] = GREETINGS[server.at]
+      const c = await ipcd.Connection.connect(path.join(folder, 'socket'))
+      const late = setTimeout(() => c.close(), 20000)
+      if (wanted === null) await assert.rejects(c.hello(1000, 100), { code: 'ERR_PROTOCOL' }, body)
+      else assert.deepEqual([await c.hello(1000, 100), c.version], wanted, body)
+      clearTimeout(late)
+      c.close()
     }
   } finally {
     server.close()

@@ -35,11 +35,12 @@ from collections import deque
 from collections.abc import Awaitable, Callable, Sequence
 from contextlib import suppress
 from types import TracebackType
+from typing import NoReturn
 
 from .connection import _deadline
 from .stream import PATIENCE, ProtocolError, ServerFault
 from .wire import *  # noqa: F403
-from .wire import LONGEST_REQUEST, TOO_LONG
+from .wire import LONGEST_REQUEST, TOO_LONG, greeting
 
 __all__ = ["Connection"]
 
@@ -49,6 +50,9 @@ Late = Callable[[bytes], Awaitable[None]]
 
 class Connection:
     """A connection to a server, which `connect` makes. It is a process once it has said hello, until it is closed."""
+
+    # As that of `ipcd.connection.Connection`.
+    version: int | None = None
 
     def __init__(self, reader: asyncio.StreamReader, writer: asyncio.StreamWriter, patience: float) -> None:
         self._reader, self._writer, self._patience = reader, writer, patience
@@ -176,7 +180,7 @@ class Connection:
         else:
             reply.set_result(body)
 
-    def _breaks(self, what: str) -> None:
+    def _breaks(self, what: str) -> NoReturn:
         """The server has sent this, which is against the protocol."""
         broken = ProtocolError(errno.EPROTO, f"the server has sent {what}")
         self._end(broken)
@@ -225,8 +229,12 @@ class Connection:
         return body
 
     async def hello(self, uid: int, gid: int) -> int:
-        """Makes the connection a process of this user and group: its pid."""
-        return await self._number(hello_request(uid, gid))
+        """Makes the connection a process of this user and group: its pid. The server may tell its `version` with it."""
+        told = greeting(await self.call(hello_request(uid, gid)))
+        if told is None:
+            self._breaks("a body of another size")
+        pid, self.version = told
+        return pid
 
     async def msgget(self, key: int, msgflg: int) -> int:
         """The identifier of the queue with this key, see msgget(2)."""

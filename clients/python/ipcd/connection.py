@@ -89,12 +89,17 @@ from collections.abc import Sequence
 
 from .stream import PATIENCE, ProtocolError, ServerFault, Stream
 from .wire import *  # noqa: F403
+from .wire import greeting
 
 __all__ = ["PATIENCE", "Connection", "ProtocolError", "ServerFault"]
 
 
 class Connection(Stream):
     """A connection to a server. It is a process once it has said hello, until it is closed."""
+
+    # The version of the server's device, 3 or later, after hello. None: the server has told none, as on devices of
+    # version 1 and 2.
+    version: int | None = None
 
     def __enter__(self) -> Connection:
         return self
@@ -103,8 +108,13 @@ class Connection(Stream):
         self.close()
 
     def hello(self, uid: int, gid: int) -> int:
-        """Makes the connection a process of this user and group, and answers its pid."""
-        return self._number(hello_request(uid, gid))
+        """Makes the connection a process of this user and group, and answers its pid. `version` is what the server
+        tells with it."""
+        told = greeting(self.call(hello_request(uid, gid)))
+        if told is None:
+            self._breaks("a body of another size")
+        pid, self.version = told
+        return pid
 
     def msgget(self, key: int, msgflg: int) -> int:
         """The identifier of the queue with this key, see msgget(2)."""

@@ -285,6 +285,15 @@ def _milliseconds(seconds: float | None) -> int:
     return 2**64 - 1 if seconds is None else round(1000 * seconds)
 
 
+def greeting(body: bytes) -> tuple[int, int | None] | None:
+    """The pid and the version that the body of a reply to HELLO has, or nothing if it is too short for a pid. A server
+    on a device of version 1 or 2 sends the pid alone, and a later one may send more than the version."""
+    if len(body) < 4:
+        return None
+    version = int.from_bytes(body[4:8], "big") if len(body) >= 8 else None
+    return int.from_bytes(body[:4], "big"), version
+
+
 # How the records stand in a body.
 QUEUE_FORM, SET_FORM, ATTR_FORM, SEGMENT_FORM = ">iIIIIIQQQIIIII", ">iIIIIIQQI", ">IIII", ">QIII"
 SYSTEM_V_SEGMENT_FORM = ">iIIIIIQQQIIIQ"

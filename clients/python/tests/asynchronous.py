@@ -18,7 +18,7 @@ from typing import Any
 import setting  # noqa: F401
 from ipcd import IPC_CREAT, IPC_NOWAIT, NOTIFY_FRAME, O_CREAT, O_RDWR, SEM_UNDO, MqAttr
 from ipcd.aio import Connection
-from server import Server, check, in_a_folder, printed, run_tests, serving
+from server import Server, check, in_a_folder, of_version_3, printed, run_tests, serving
 
 SECONDS = 60
 
@@ -77,6 +77,7 @@ def on_a_server(test: Callable[[], Awaitable[None]]) -> Callable[[], None]:
 @on_a_server
 async def each_family() -> None:
     async with await connect() as c:
+        equals(c.version, None)
         queue = await c.msgget(1234, IPC_CREAT | 0o600)
         await c.msgsnd(queue, 5, b"hi")
         equals(await c.msgrcv(queue, 64), (5, b"hi"))
@@ -106,6 +107,22 @@ async def each_family() -> None:
         await asyncio.gather(*(c.msgsnd(queue, kind, b"") for kind in range(1, 101)))
         received = await asyncio.gather(*(c.msgrcv(queue, 0) for _ in range(100)))
         equals([kind for kind, _ in received], list(range(1, 101)))
+
+
+def on_version_3() -> None:
+    """The server tells its version there, and the calls are as ever."""
+
+    async def tried() -> None:
+        async with await Connection.connect("socket") as c:
+            equals(c.version, None)
+            equals(await c.hello(1000, 100), 1)
+            equals(c.version, 3)
+            queue = await c.msgget(1234, IPC_CREAT | 0o600)
+            await c.msgsnd(queue, 5, b"hi")
+            equals(await c.msgrcv(queue, 64), (5, b"hi"))
+
+    with of_version_3("--small"):
+        asyncio.run(asyncio.wait_for(tried(), SECONDS))
 
 
 @on_a_server
@@ -277,7 +294,7 @@ def a_server_that_stops() -> None:
     server.stop(signal.SIGKILL)
 
 
-TESTS = [each_family, waits_and_timeouts, a_cancelled_call_is_withdrawn, what_came_first_is_kept, kills,
+TESTS = [each_family, on_version_3, waits_and_timeouts, a_cancelled_call_is_withdrawn, what_came_first_is_kept, kills,
          a_server_that_stops]  # fmt: skip
 
 if __name__ == "__main__":

@@ -27,7 +27,7 @@ from typing import Optional
 
 import setting
 from ipcd import Connection, posix_ipc, session, sysv_ipc
-from server import Server, check, in_a_folder, printed, run_tests, until
+from server import Server, check, in_a_folder, of_version_3, printed, run_tests, until
 
 TRANSCRIPT = str(Path(__file__).resolve().parent / "sysv_transcript.py")
 # Of the kernel's module these are its author's.
@@ -412,6 +412,18 @@ def the_server_is_killed_in_each_wait() -> None:
         equals((named.value, jobs.current_messages, stuffed.current_messages), (0, 0, 1))
 
 
+def on_version_3() -> None:
+    with of_version_3():
+        session._forget_all()
+        queue = sysv_ipc.MessageQueue(7, sysv_ipc.IPC_CREX)
+        queue.send("hi", type=5)
+        equals((queue.receive(), queue.last_send_pid), ((b"hi", 5), 1))
+        with posix_ipc.Semaphore("/s", posix_ipc.O_CREX, initial_value=1) as sem:
+            equals(sem.value, 0)
+        session._forget_all()
+    os.remove("device")
+
+
 def more_than_the_limit() -> None:
     """The 65th process is ENFILE, and a place that becomes free is taken."""
     with served():
@@ -759,7 +771,7 @@ def main() -> None:
     os.chmod(".", 0o755)
     tests = [the_kernels_sysv_ipc, signatures, a_key_that_is_none, named_semaphores, posix_queues, shared_memory]
     tests += [attachments, attachments_of_others]
-    tests += [notifications, two_threads_of_which_one_waits, a_fork, a_restart, more_than_the_limit]
+    tests += [notifications, two_threads_of_which_one_waits, a_fork, a_restart, on_version_3, more_than_the_limit]
     tests += [interrupted_again_and_again, sixty_processes, descriptors_that_the_program_closes]
     tests += [with_a_thousand_descriptors, others_call_while_one_connects, an_empty_variable]
     tests += [users, killed_in_each_call, a_handler_with_and_without_restart]

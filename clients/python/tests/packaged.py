@@ -25,7 +25,7 @@ MODULES += ["wire"]
 # What a connection has beside the calls: how it begins and ends, and how frames pass.
 OF_STREAM = {
     *("answer", "call", "close", "closed", "fileno", "has_ended", "has_notification", "interrupt", "next_reply"),
-    *("notification", "receive", "send", "settle", "wait_for_bytes", "hello"),
+    *("notification", "receive", "send", "settle", "wait_for_bytes", "hello", "version"),
 }
 CALLS = ("attached_", "ftruncate", "mq_", "msg", "sem", "shm")
 

@@ -17,7 +17,7 @@ import setting
 from ipcd import IPC_CREAT, O_CREAT, O_RDWR, Connection, QueueStat, ShmidStat, semop_request, top
 from ipcd import __version__ as ipcd_version
 from ipcd.__main__ import main as main_of_shell
-from server import PROGRAM, check, in_a_folder, printed, run_tests, serving, until
+from server import PROGRAM, check, in_a_folder, of_version_3, printed, run_tests, serving, until
 
 ROOT = os.geteuid() == 0
 ME = os.popen("id -un").read().strip()
@@ -60,6 +60,25 @@ def messages() -> None:
         says("receive --posix-mqueue /jobs --timeout 1", "sweep")
         says("receive --posix-mqueue /jobs --nowait", "", 1, "ipcd: receive: Connection timed out\n")
         says("send --posix-mqueue /no text", "", 1, "ipcd: send: No such file or directory\n")
+
+
+def on_version_3() -> None:
+    """The shell, and a connection, which the server tells its version. After a restart pids begin anew."""
+    with of_version_3("--small") as first, Connection("socket") as connection:
+        check(connection.version is None, f"version {connection.version} before HELLO")
+        check((connection.hello(os.geteuid(), os.getegid()), connection.version) == (1, 3), f"{connection.version}")
+        queue = connection.msgget(7, IPC_CREAT | 0o600)
+        connection.msgsnd(queue, 5, b"sweep")
+        check(connection.msgrcv(queue, 64) == (5, b"sweep"), "another message comes")
+        says("send -Q 7 hi", "")
+        row = f"0x00000007 1          {ME:10} 600        2            1\n"
+        says("ls -q --upto 1", EMPTY.partition("\n\n")[0] + f"\n{row}\nidentifiers 1 to 1 were tried\n")
+        says("receive -Q 7", "hi")
+    with serving(limits="small", sectors=first.sectors), Connection("socket") as connection:
+        check((connection.hello(0, 0), connection.version) == (1, 3), f"{connection.version} after a restart")
+    printed("format", "device")
+    with serving(), Connection("socket") as connection:
+        check((connection.hello(0, 0), connection.version) == (1, None), f"{connection.version} on version 2")
 
 
 def lists() -> None:
@@ -337,8 +356,8 @@ def without_a_server() -> None:
 
 
 def main() -> None:
-    tests = [messages, empties, lists, of_what_is_not_there, a_full_server, what_may_not_be_read, pages_of_top]
-    run_tests("shell", [*tests, without_a_server, which_version_and_which_server])
+    tests = [messages, on_version_3, empties, lists, of_what_is_not_there, a_full_server, what_may_not_be_read]
+    run_tests("shell", [*tests, pages_of_top, without_a_server, which_version_and_which_server])
 
 
 if __name__ == "__main__":

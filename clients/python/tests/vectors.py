@@ -90,6 +90,11 @@ def begin(of: Any, row: Row) -> Any:
     return CALLS[name](of, words) if name in CALLS else getattr(of, name)(*words.all())
 
 
+def told(of: Any, row: Row, answer: Any) -> Any:
+    """What a call answers, and after HELLO the version, if the server has told one."""
+    return (answer, of.version) if row["request"].startswith("hello ") and of.version is not None else answer
+
+
 def flat(value: Any) -> list[Any]:
     """What a call answers, as the list of its fields."""
     return [] if value is None else list(value) if isinstance(value, tuple) else [value]
@@ -126,7 +131,7 @@ def plain(row: Row) -> Any:
         if row["request"] == "":
             return of.notification()
         if row["request"] != "interrupt":
-            return begin(of, row)
+            return told(of, row, begin(of, row))
         # Its reply is for nobody: it is read by whoever reads next.
         of.interrupt()
         while of._interrupts:
@@ -138,7 +143,8 @@ def plain(row: Row) -> Any:
 
 async def asynchronous(row: Row) -> Any:
     async with await aio.Connection.connect("socket") as of:
-        return await asyncio.wait_for(of.notification() if row["request"] == "" else begin(of, row), SECONDS)
+        answer = await asyncio.wait_for(of.notification() if row["request"] == "" else begin(of, row), SECONDS)
+        return told(of, row, answer)
 
 
 # What no server sends: the client ends the connection. Each is the answer to a msgget of serial 1.
@@ -169,6 +175,28 @@ async def strange_replies() -> None:
     server.close()
 
 
+# The bodies of replies to HELLO, and what each says; one without a pid is none. Nobody knows yet what comes after the
+# version.
+GREETINGS = {
+    **{"": "", "000007": "", "00000007": "pid=7", "0000000700": "pid=7", "00000007000000": "pid=7"},
+    **{"0000000700000003": "pid=7 version=3", "00000007000000040a0b0c0d0e": "pid=7 version=4"},
+}
+
+
+def greetings(server: FalseServer, call: Callable[[Row], Any]) -> None:
+    for body, words in GREETINGS.items():
+        reply = f"{6 + len(body) // 2:08x}000000010000{body}"
+        sent = "0000000d0000000101000003e800000064"
+        server.row = {"request": "hello uid=1000 gid=100", "bytes": sent, "reply": words, "reply_bytes": reply}
+        if words:
+            tried(server.row, call)
+            continue
+        try:
+            check(False, f"{reply}: {call(server.row)} is answered")
+        except ipcd.ProtocolError:
+            continue
+
+
 def tried(row: Row, call: Callable[[Row], Any]) -> None:
     try:
         found = flat(call(row))
@@ -192,6 +220,7 @@ def main() -> None:
             server.row = row
             tried(row, call)
             check(server.wrong == "", f"{row}: {server.wrong}")
+        greetings(server, call)
     asyncio.run(strange_replies())
     print(f"vectors: {len(rows)} rows, by the plain connection and by that of asyncio")
 

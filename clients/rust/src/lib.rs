@@ -22,6 +22,8 @@ pub use calls::*;
 pub const PATIENCE: Duration = Duration::from_secs(30);
 
 const LONGEST_FRAME: usize = 65792;
+/// The name of the call whose reply may have more than this client knows.
+const HELLO: &str = "hello";
 
 /// Why a call has no result.
 #[derive(Clone, Debug, PartialEq, Eq)]
@@ -90,9 +92,19 @@ enum Answer {
 }
 
 struct State {
+    version: Option<u32>,
     answers: HashMap<u32, Answer>,
     notified: VecDeque<Notification>,
     ended: Option<Ended>,
+}
+
+impl State {
+    /// The pid of the body of a reply to HELLO. The version may follow, and what a later server tells after it.
+    fn pid_of(&mut self, mut body: Vec<u8>) -> Vec<u8> {
+        self.version = body.get(4..8).and_then(whole);
+        body.truncate(4);
+        body
+    }
 }
 
 struct Shared {
@@ -129,7 +141,7 @@ impl Connection {
     /// A connection over a socket that is connected.
     pub fn over(socket: UnixStream) -> io::Result<Connection> {
         let reader = socket.try_clone()?;
-        let state = State { answers: HashMap::new(), notified: VecDeque::new(), ended: None };
+        let state = State { version: None, answers: HashMap::new(), notified: VecDeque::new(), ended: None };
         let shared =
             Arc::new(Shared { socket, serial: Mutex::new(0), state: Mutex::new(state), changed: Condvar::new() });
         let reading = Arc::clone(&shared);
@@ -143,6 +155,12 @@ impl Connection {
     /// Ends the process: its waiting call is gone, its adjustments are added, its descriptors are closed.
     pub fn close(&self) {
         self.handle.0.end(Ended::Closed);
+    }
+
+    /// The version of the server's device, 3 or later, once `hello` is answered. None: the server has told none, as on
+    /// devices of version 1 and 2.
+    pub fn version(&self) -> Option<u32> {
+        self.handle.0.state().version
     }
 
     /// The next notification, or nothing within this time.
@@ -243,6 +261,7 @@ impl Shared {
                     if number != 0 && !body.is_empty() {
                         return Err(Ended::Protocol);
                     }
+                    let body = if call == HELLO { state.pid_of(body) } else { body };
                     let reply = if number == 0 { Ok(body) } else { Err(Error::Refused { call, errno: number }) };
                     state.answers.insert(serial, Answer::Came(reply));
                 }

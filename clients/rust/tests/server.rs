@@ -11,7 +11,8 @@ use ipcd::*;
 
 const MINUTE: Duration = Duration::from_secs(60);
 
-/// A server of a small device, in a folder of its own, which goes with it.
+/// A server of a small device, in a folder of its own, which goes with it. The device is of version 2, if `format` gets
+/// no other words.
 struct Server {
     folder: PathBuf,
     process: Child,
@@ -28,11 +29,12 @@ fn serve(folder: &PathBuf) -> Child {
 }
 
 impl Server {
-    fn new(name: &str) -> Server {
+    fn new(name: &str, words: &[&str]) -> Server {
         let folder = std::env::temp_dir().join(format!("ipcd-rust-{name}-{}", std::process::id()));
         std::fs::create_dir(&folder).unwrap();
         let program = std::env::var("IPCD_PROGRAM").expect("IPCD_PROGRAM names the program");
-        let ended = Command::new(program).current_dir(&folder).args(["format", "--small", "device"]).output().unwrap();
+        let mut format = Command::new(program);
+        let ended = format.current_dir(&folder).args(["format", "--small", "device"]).args(words).output().unwrap();
         assert!(ended.status.success(), "{ended:?}");
         Server { process: serve(&folder), folder }
     }
@@ -67,10 +69,25 @@ fn waits(c: &Connection) {
     refused(c.msgctl_stat(1), EALREADY);
 }
 
+/// The server tells its version, and the calls are as ever.
+#[test]
+fn version_3() -> Result<(), Error> {
+    let server = Server::new("version", &["--journal", "257"]);
+    let c = Connection::connect(server.folder.join("socket")).unwrap();
+    assert_eq!(c.version(), None);
+    assert_eq!(c.hello(1000, 100).wait()?, 1);
+    assert_eq!(c.version(), Some(3));
+    let queue = c.msgget(1234, IPC_CREAT | 0o600).wait()?;
+    c.msgsnd(queue, 5, b"hi", 0).wait()?;
+    assert_eq!(c.msgrcv(queue, 64, 0, 0).wait()?, Message { kind: 5, text: b"hi".to_vec() });
+    Ok(())
+}
+
 #[test]
 fn each_family() -> Result<(), Error> {
-    let server = Server::new("family");
+    let server = Server::new("family", &[]);
     let c = server.connect();
+    assert_eq!(c.version(), None);
     let queue = c.msgget(1234, IPC_CREAT | 0o600).wait()?;
     c.msgsnd(queue, 5, b"hi", 0).wait()?;
     assert_eq!(c.msgrcv(queue, 64, 0, 0).wait()?, Message { kind: 5, text: b"hi".to_vec() });
@@ -104,7 +121,7 @@ fn each_family() -> Result<(), Error> {
 
 #[test]
 fn waits_and_deadlines() -> Result<(), Error> {
-    let server = Server::new("waits");
+    let server = Server::new("waits", &[]);
     let (c, other) = (server.connect(), server.connect());
     let queue = c.msgget(1, IPC_CREAT | 0o600).wait()?;
     let waiting = c.msgrcv(queue, 64, 3, 0);
@@ -152,7 +169,7 @@ fn waiting_is_answered(c: &Connection) {
 /// After each kill all that was answered is there, in its order, and at most what was sent.
 #[test]
 fn kills() -> Result<(), Error> {
-    let mut server = Server::new("kills");
+    let mut server = Server::new("kills", &[]);
     for (round, kill) in [1, 7, 30, 60, 99].into_iter().enumerate() {
         let c = server.connect();
         let queue = c.msgget(round as i32 + 1, IPC_CREAT | 0o600).wait()?;

@@ -119,6 +119,11 @@ fn one(name: &str, pending: Pending<u32>) -> Reply {
     get(pending, |it| format!("{name}={it}"))
 }
 
+fn greeting(c: &Connection, pending: Pending<u32>) -> Reply {
+    let version = |pid| c.version().map_or(format!("pid={pid}"), |it| format!("pid={pid} version={it}"));
+    get(pending, version)
+}
+
 fn list<T: Debug>(name: &str, pending: Pending<Vec<T>>) -> Reply
 where
     Vec<T>: Body,
@@ -136,7 +141,7 @@ fn owned(key: i32, it: &Owner) -> String {
 
 fn call(c: &Connection, name: &str, w: &Words) -> Reply {
     match name {
-        "hello" => one("pid", c.hello(w.u("uid"), w.u("gid"))),
+        "hello" => greeting(c, c.hello(w.u("uid"), w.u("gid"))),
         "interrupt" => ok(c.interrupt()),
         "close" => ok(c.close_fd(w.u("fd"))),
         "msgget" => one("identifier", c.msgget(w.i("key"), w.u("flags"))),
@@ -267,6 +272,34 @@ fn vectors() {
     for line in rows {
         println!("{line}");
         try_row(line);
+    }
+}
+
+/// The bodies of replies to HELLO, and what each says; one without a pid is none. Nobody knows yet what comes after the
+/// version.
+const GREETINGS: [(&str, &str); 7] = [
+    ("", ""),
+    ("000007", ""),
+    ("00000007", "pid=7"),
+    ("0000000700", "pid=7"),
+    ("00000007000000", "pid=7"),
+    ("0000000700000003", "pid=7 version=3"),
+    ("00000007000000040a0b0c0d0e", "pid=7 version=4"),
+];
+
+#[test]
+fn greetings() {
+    for (digits, wanted) in GREETINGS {
+        let (ours, mut theirs) = UnixStream::pair().unwrap();
+        let c = Connection::over(ours).unwrap();
+        let call = c.hello(1000, 100);
+        theirs.read_exact(&mut [0; 17]).unwrap();
+        let mut frame = (6 + digits.len() as u32 / 2).to_be_bytes().to_vec();
+        frame.extend([0, 0, 0, 1, 0, 0]);
+        frame.extend(bytes(digits));
+        theirs.write_all(&frame).unwrap();
+        let ended = Err(Error::Ended(Ended::Protocol));
+        assert_eq!(greeting(&c, call), if wanted.is_empty() { ended } else { Ok(wanted.into()) }, "{digits}");
     }
 }
 
