@@ -1,5 +1,5 @@
-// Segments of System V: shmget(2), shmctl(2), and attachments, by which they are read and written. The bytes are the
-// server's, so there is no address: shmat(2) and shmdt(2) are ENOSYS.
+// Segments of System V: shmget(2), shmctl(2), and attachments, by which they are read and written. What is mapped has a
+// file of its own.
 #define _GNU_SOURCE
 #include <errno.h>
 #include <string.h>
@@ -12,6 +12,7 @@
 #include "info.h"
 #include "memory.h"
 #include "processes.h"
+#include "segment_files.h"
 
 enum { RECORD = 68 };
 
@@ -133,7 +134,10 @@ int ipcd_shmctl(int shmid, int cmd, struct shmid_ds *buf)
     if (link == NULL)
         return -1;
     put_u32(link, (uint32_t) shmid);
-    return end_empty(link, ANSWERED_AT_ONCE);
+    if (end_empty(link, ANSWERED_AT_ONCE) < 0)
+        return -1;
+    forget_file(current_client(), shmid);
+    return 0;
 }
 
 int ipcd_shmattach(int shmid, int shmflg)
@@ -187,20 +191,4 @@ ssize_t ipcd_shmwrite(int attachment, const void *buf, size_t count, off_t offse
         return -1;
     put_text(link, buf, count);
     return end_empty(link, ANSWERED_AT_ONCE) < 0 ? -1 : (ssize_t) count;
-}
-
-void *ipcd_shmat(int shmid, const void *shmaddr, int shmflg)
-{
-    (void) shmid;
-    (void) shmaddr;
-    (void) shmflg;
-    errno = ENOSYS;
-    return (void *) -1;
-}
-
-int ipcd_shmdt(const void *shmaddr)
-{
-    (void) shmaddr;
-    errno = ENOSYS;
-    return -1;
 }

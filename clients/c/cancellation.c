@@ -6,6 +6,7 @@
 #include <sys/mman.h>
 
 #include "client.h"
+#include "memory.h"
 
 enum { CANCELLED_MOST = 64 };
 
@@ -59,7 +60,7 @@ struct memory {
 static void unmap(void *memory)
 {
     struct memory *it = memory;
-    munmap(it->place, it->size);
+    give_back(it->place, it->size);
 }
 
 void end_if_cancelled(int state, void *memory, size_t size)

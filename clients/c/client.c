@@ -18,6 +18,7 @@
 #include "cancellation.h"
 #include "changes.h"
 #include "handles.h"
+#include "mapped_segments.h"
 #include "memory.h"
 #include "places.h"
 #include "processes.h"
@@ -60,11 +61,18 @@ static void after_fork(void)
     }
     if (same_process != NULL)
         *same_process = 1;
+    renew_mappings();
+}
+
+static void be_child(void)
+{
+    after_fork();
+    let_mappings();
 }
 
 __attribute__((constructor)) static void prepare(void)
 {
-    pthread_atfork(NULL, NULL, after_fork);
+    pthread_atfork(hold_mappings, let_mappings, be_child);
     size_t size = (size_t) sysconf(_SC_PAGESIZE);
     void *page = mmap(NULL, size, PROT_READ | PROT_WRITE, MAP_PRIVATE | MAP_ANONYMOUS, -1, 0);
     if (page == MAP_FAILED)
@@ -75,12 +83,20 @@ __attribute__((constructor)) static void prepare(void)
     }
 }
 
+static void tell_no_more(const struct ipcd *client)
+{
+    for (size_t i = 0; i < PROCESSES_MOST; i++)
+        if (client->links[i] != NULL && client->links[i]->socket >= 0)
+            no_more(client->path, client->links[i]->pid);
+}
+
 // What the process has told of itself is taken back, so that the folder stays small.
 __attribute__((destructor)) static void leave(void)
 {
-    for (size_t i = 0; i < PROCESSES_MOST; i++)
-        if (of_process.links[i] != NULL && of_process.links[i]->socket >= 0)
-            no_more(of_process.path, of_process.links[i]->pid);
+    write_back();
+    tell_no_more(&of_process);
+    if (of_process.mapper != NULL)
+        tell_no_more(of_process.mapper);
     tell_all_closed(&of_process);
 }
 
@@ -208,7 +224,7 @@ static struct link *add_link(struct ipcd *client)
         if (atomic_compare_exchange_strong(&client->links[i], &none, made))
             return made;
     }
-    munmap(made, sizeof *made);
+    give_back(made, sizeof *made);
     errno = ENFILE;
     return NULL;
 }
@@ -357,8 +373,18 @@ static struct link *take(struct ipcd *client, bool of_any_user)
     }
 }
 
+// Before a call by which another process may proceed, what was written into mapped segments is the server's.
+static bool may_begin(enum opcode opcode)
+{
+    bool lets_proceed = opcode == MSGSND || opcode == SEMOP || opcode == SEM_SETVAL || opcode == SEM_SETALL ||
+        opcode == MQ_SEND || opcode == SEM_POST;
+    return !lets_proceed || write_back() == 0;
+}
+
 struct link *begin(enum opcode opcode)
 {
+    if (!may_begin(opcode))
+        return NULL;
     struct link *link = take(current_client(), false);
     if (link != NULL)
         link_begin(link, opcode);
@@ -461,7 +487,7 @@ int lend(struct link *link, enum waiting waiting)
         link->end = link->request + head;
         put_text(link, text, text_size);
     }
-    munmap(request, head);
+    give_back(request, head);
     return !is_there ? ECONNRESET : is_ended ? EINTR : 0;
 }
 
@@ -500,6 +526,8 @@ struct link *begin_on(struct ipcd *client, size_t number, enum kind kind, int wr
         errno = wrong;
         return NULL;
     }
+    if (!may_begin(opcode))
+        return NULL;
     struct link *link = take_on(client, number, &handle);
     if (link == NULL) {
         if (errno == ENOENT)
@@ -632,6 +660,8 @@ void ipcd_disconnect(struct ipcd *connection)
         return;
     if (used == connection)
         used = NULL;
+    if (connection->mapper != NULL)
+        unmap_all(connection);
     int cancellation = hold_cancellation();
     pthread_mutex_lock(&all_lock);
     for (struct ipcd *it = &of_process; it != NULL; it = it->next)
@@ -648,7 +678,7 @@ void ipcd_disconnect(struct ipcd *connection)
         if (link->socket >= 0)
             no_more(connection->path, link->pid);
         link_drop(link);
-        munmap(link, sizeof *link);
+        give_back(link, sizeof *link);
     }
     free(connection);
     allow_cancellation(cancellation);

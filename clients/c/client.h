@@ -52,6 +52,7 @@ struct ipcd {
     _Atomic(char *) places;   // of semaphores, a page each, or NULL if none was opened yet
     atomic_uchar states[SEMAPHORES]; // of these, see places.h
     struct registration *registrations;
+    struct ipcd *mapper;      // or NULL: see mapped_segments.c
     atomic_uint seen[FAMILIES][SEEN]; // identifiers that were got, in no order; 0 in a place that is free
     char path[256];           // is written before another thread knows of the client
 };

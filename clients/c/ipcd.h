@@ -109,11 +109,11 @@ IPCD_PUBLIC int ipcd_fstat(int fd, struct stat *statbuf);
 IPCD_PUBLIC int ipcd_close(int fd);
 
 // Segments of System V, see shmget(2), shmctl(2). Commands are IPC_STAT, IPC_SET, IPC_RMID, IPC_INFO and SHM_INFO.
-// There is no mapping: ipcd_shmat and ipcd_shmdt are ENOSYS. In their place ipcd_shmattach answers a number like the
-// descriptors above, by which one call reads or writes at most 8192 bytes, all within the segment (else EINVAL); with
-// SHM_RDONLY a write is EBADF. ipcd_shmdetach gives it up. No read is short: the length of a segment of System V is
-// fixed, so what passes its end is a mistake, as with a mapping. A segment of shm_open is a file that may be cut, and
-// ends as one in ipcd_pread.
+// ipcd_shmat maps a segment: what is written there is the server's before each call by which another process may
+// proceed. ipcd_shmattach maps none and answers a number like the descriptors above, by which one call reads or writes
+// at most 8192 bytes, all within the segment (else EINVAL); with SHM_RDONLY a write is EBADF. ipcd_shmdetach gives it
+// up. No read is short: the length of a segment of System V is fixed, so what passes its end is a mistake, as with a
+// mapping. A segment of shm_open is a file that may be cut, and ends as one in ipcd_pread.
 IPCD_PUBLIC int ipcd_shmget(key_t key, size_t size, int shmflg);
 IPCD_PUBLIC int ipcd_shmctl(int shmid, int cmd, struct shmid_ds *buf);
 IPCD_PUBLIC int ipcd_shmattach(int shmid, int shmflg);

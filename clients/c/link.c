@@ -452,6 +452,7 @@ int link_connect(struct link *link, const char *path)
     link->cookie = cookie_of(made);
     link->filled = link->taken = 0;
     link->ends_always = link->has_undone = false;
+    link->known.count = 0;
     forget_opened(link);
     uid_t uid = (uid_t) syscall(SYS_geteuid);
     gid_t gid = (gid_t) syscall(SYS_getegid);
@@ -461,7 +462,7 @@ int link_connect(struct link *link, const char *path)
         link_begin(link, HELLO);
         put_u32(link, uid);
         put_u32(link, gid);
-        // The pid. On a device of version 3 that number follows, and a later server may tell more.
+        // The pid. From version 3 on that number follows, and a later server may tell more.
         done = link_exchange(link, ANSWERED_AT_ONCE, 4, BODY_MOST);
         if (done >= 0 || errno != ENFILE || link->socket < 0)
             break;
@@ -472,5 +473,6 @@ int link_connect(struct link *link, const char *path)
         return -1;
     }
     link->pid = read_u32(link->body);
+    link->pids_come_again = done > 4;
     return 0;
 }

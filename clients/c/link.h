@@ -8,6 +8,7 @@
 #include <stdint.h>
 #include <sys/types.h>
 
+#include "semaphore_values.h"
 #include "wire.h"
 
 // Milliseconds in which the rest of a frame comes that has begun, and the second of two that come together.
@@ -47,6 +48,7 @@ struct link {
     size_t into_size;
     size_t placed;            // how many bytes of it are there
     uint32_t pid;             // the server's number of the process
+    bool pids_come_again;     // after a restart of the server, as on a device of version 3
     uint32_t serial;
     uint32_t file_changes;    // when it was last seen that the socket is there
     uint32_t closings;        // how many handles were closed when it was last looked through
@@ -61,6 +63,7 @@ struct link {
     const unsigned char *body; // of the reply
     atomic_uint generations[HANDLES]; // of the handle for which `opened` counts; 0 if it is open for none
     struct opened opened[HANDLES];
+    struct known_values known; // of the process that it is at the server
     unsigned char request[FRAME_BYTES];
     unsigned char input[2 * FRAME_BYTES];
 };

@@ -95,3 +95,8 @@ ssize_t text_length(const char *text, size_t most)
     }
     return (ssize_t) length;
 }
+
+int give_back(void *address, size_t size)
+{
+    return (int) syscall(SYS_munmap, address, size);
+}

@@ -16,6 +16,9 @@ bool is_in_page(const void *address, size_t size);
 // Whether all of it can be written, if the first bytes of it, at least one, can.
 bool is_writable_on(void *address, size_t first, size_t size);
 
+// As munmap(2), which the preloaded library redirects. What this library has mapped is no segment of the program's.
+int give_back(void *address, size_t size);
+
 // The length of a text that ends with a byte 0, at most `most`, or -1 with EFAULT.
 ssize_t text_length(const char *text, size_t most);
 

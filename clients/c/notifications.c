@@ -31,7 +31,7 @@ static void free_registration(struct registration *it)
 {
     no_more(it->client->path, it->link->pid);
     link_drop(it->link);
-    munmap(it->link, sizeof *it->link);
+    give_back(it->link, sizeof *it->link);
     pthread_attr_destroy(&it->attributes);
     free(it);
 }

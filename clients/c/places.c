@@ -9,6 +9,7 @@
 
 #include "handles.h"
 #include "link.h"
+#include "memory.h"
 #include "places.h"
 #include "processes.h"
 
@@ -69,7 +70,7 @@ int make_place(struct ipcd *client, size_t number, uint64_t token)
 void remove_places(struct ipcd *client)
 {
     if (client->places != NULL)
-        munmap(client->places, SEMAPHORES * page());
+        give_back(client->places, SEMAPHORES * page());
 }
 
 static void pause_shortly(void)

@@ -38,11 +38,11 @@ static _Atomic(void *) self;
 static const char *const names[] = {
     "__mq_open_2", "bsd_signal", "close", "close_range", "closefrom", "dlmopen", "dlopen", "dlsym", "dup2",
     "dup3", "mq_close", "mq_getattr", "mq_notify", "mq_open", "mq_receive", "mq_send", "mq_setattr",
-    "mq_timedreceive", "mq_timedsend", "mq_unlink", "msgctl", "msgget", "msgrcv", "msgsnd", "pthread_cancel",
-    "sem_clockwait", "sem_close", "sem_getvalue", "sem_open", "sem_post", "sem_timedwait", "sem_trywait",
-    "sem_unlink", "sem_wait", "semctl", "semget", "semop", "semtimedop", "setegid", "seteuid", "setgid", "setregid",
-    "setresgid", "setresuid", "setreuid", "setuid", "shm_open", "shmat", "shmget", "sigaction", "siginterrupt",
-    "signal", "sigset", "ssignal",
+    "mq_timedreceive", "mq_timedsend", "mq_unlink", "msgctl", "msgget", "msgrcv", "msgsnd", "msync", "munmap",
+    "pthread_cancel", "sem_clockwait", "sem_close", "sem_getvalue", "sem_open", "sem_post", "sem_timedwait",
+    "sem_trywait", "sem_unlink", "sem_wait", "semctl", "semget", "semop", "semtimedop", "setegid", "seteuid", "setgid",
+    "setregid", "setresgid", "setresuid", "setreuid", "setuid", "shm_open", "shmat", "shmctl", "shmdt", "shmget",
+    "sigaction", "siginterrupt", "signal", "sigset", "ssignal",
 };
 
 // Which version it has is each processor's: the first that the C library had there, and 2.34 on those that are older.

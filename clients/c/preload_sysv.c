@@ -8,6 +8,7 @@
 #include "again.h"
 #include "ipcd.h"
 #include "preload.h"
+#include "semaphore_values.h"
 
 int redirected_msgget(key_t key, int msgflg) IN_PLACE_OF(msgget);
 int redirected_msgsnd(int msqid, const void *msgp, size_t msgsz, int msgflg) IN_PLACE_OF(msgsnd);
@@ -61,14 +62,21 @@ int redirected_semget(key_t key, int nsems, int semflg)
     SERVED(int, ipcd_semget(key, nsems, semflg), -1);
 }
 
+// A semop whose reply was lost is not done again, if it is known that it was done.
+static int operate(int semid, struct sembuf *sops, size_t nsops, const struct timespec *timeout)
+{
+    struct lost_semop lost = {.pid = 0};
+    SERVED(int, semtimedop_once(semid, sops, nsops, timeout, &lost), -1);
+}
+
 int redirected_semop(int semid, struct sembuf *sops, size_t nsops)
 {
-    SERVED(int, ipcd_semop(semid, sops, nsops), -1);
+    return operate(semid, sops, nsops, NULL);
 }
 
 int redirected_semtimedop(int semid, struct sembuf *sops, size_t nsops, const struct timespec *timeout)
 {
-    SERVED(int, ipcd_semtimedop(semid, sops, nsops, timeout), -1);
+    return operate(semid, sops, nsops, timeout);
 }
 
 int redirected_semctl(int semid, int semnum, int cmd, ...)

@@ -3,7 +3,7 @@
 // It counts if the process is alive, began then, and is of the owner of the entry, who was its user at its HELLO; one
 // of root's counts whoever the process is now. Semaphores have entries there too: an `s` and the hash of its name,
 // the system's number of the process that has it open, and a number of the entry, with dots between; the text is as
-// above, then a token and the namespace in which the process has its number.
+// above, then a token and the namespace in which the process has its number. An `m` begins what segment_files.c has.
 #define _GNU_SOURCE
 #include "processes.h"
 

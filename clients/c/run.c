@@ -22,7 +22,8 @@ static void fail(int status, const char *name, const char *why)
 
 static void print_usage(FILE *file)
 {
-    fputs("usage: ipcd-run [--check] [--socket SOCKET] [--strict] [--wait SECONDS] PROGRAM [ARGUMENT]...\n", file);
+    fputs("usage: ipcd-run [--check] [--segments] [--socket SOCKET] [--strict] [--wait SECONDS] PROGRAM "
+          "[ARGUMENT]...\n", file);
 }
 
 // Sets a variable to a path that holds wherever the program goes.
@@ -75,6 +76,7 @@ static void set_preload(void)
 struct options {
     const char *socket;
     const char *seconds;
+    bool has_segments;
     bool is_strict;
     bool is_checked;
 };
@@ -103,6 +105,9 @@ static int read_options(int count, char **words, struct options *options)
             return at + 1;
         if (strcmp(words[at], "--strict") == 0) {
             options->is_strict = true;
+            at++;
+        } else if (strcmp(words[at], "--segments") == 0) {
+            options->has_segments = true;
             at++;
         } else if (strcmp(words[at], "--check") == 0) {
             options->is_checked = true;
@@ -153,6 +158,8 @@ int main(int count, char **words)
         fail(NOT_RUN, words[at], why);
     if (options.socket != NULL && *options.socket != 0)
         set_socket(options.socket);
+    if (options.has_segments)
+        set("IPCD_SEGMENTS", "1");
     if (options.is_strict)
         set("IPCD_STRICT", "1");
     if (options.seconds != NULL)

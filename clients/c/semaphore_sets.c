@@ -11,6 +11,7 @@
 #include "info.h"
 #include "memory.h"
 #include "processes.h"
+#include "semaphore_values.h"
 
 enum { RECORD = 44, OPERATION = 6, OPERATIONS_MOST = 500, VALUES_MOST = BODY_MOST / 2 };
 
@@ -26,21 +27,46 @@ int ipcd_semget(key_t key, int nsems, int semflg)
     return noted(client, SETS, end_number(link));
 }
 
-int ipcd_semtimedop(int semid, struct sembuf *sops, size_t nsops, const struct timespec *timeout)
+// What was done, as the request has it: a value that was added to is not below what was added.
+static void note_operations(struct link *link, uint32_t semid, size_t nsops)
 {
-    uint64_t limit;
-    int refusal = milliseconds(timeout, &limit);
-    if (refusal == 0 && nsops > OPERATIONS_MOST)
-        refusal = E2BIG;
-    if (refusal == 0 && !is_readable(sops, nsops * sizeof *sops))
-        refusal = EFAULT;
-    if (refusal != 0) {
-        errno = refusal;
-        return -1;
+    const unsigned char *at = link->request + REQUEST_HEAD + 12;
+    for (size_t i = 0; i < nsops; i++, at += OPERATION) {
+        int16_t added = (int16_t) read_u16(at + 2);
+        note_value(&link->known, semid, read_u16(at), added > 0 ? (uint16_t) added : 0);
     }
-    // The server counts from the begin of the millisecond in which it reads the request: of that a part is over.
-    if (limit > 0 && limit < NO_TIME - 1)
-        limit++;
+}
+
+// A call whose field beside the set is the number of a semaphore, and whose answer is a number.
+static int number_of(enum opcode opcode, int semid, int semnum)
+{
+    struct link *link = begin(opcode);
+    if (link == NULL)
+        return -1;
+    put_u32(link, (uint32_t) semid);
+    put_u32(link, (uint32_t) semnum);
+    return end_number(link);
+}
+
+// Whether a lost semop is known to have been done: 1 or 0; or -1, if there is no server. If its process has changed a
+// semaphore last, the value has stayed since: and if that is less than what the process has left there before, or it
+// has left nothing, the lost semop has changed it.
+static int was_done(int semid, const struct sembuf *sops, size_t nsops, const struct lost_semop *lost)
+{
+    for (size_t i = 0; i < nsops; i++) {
+        int value = number_of(SEM_GETVAL, semid, sops[i].sem_num);
+        int pid = value < 0 ? -1 : number_of(SEM_GETPID, semid, sops[i].sem_num);
+        if (pid < 0)
+            return errno == ECONNRESET || errno == ECONNREFUSED ? -1 : 0;
+        uint32_t least = least_value(&lost->known, (uint32_t) semid, sops[i].sem_num);
+        if ((uint32_t) pid == lost->pid && (uint32_t) value < least)
+            return 1;
+    }
+    return 0;
+}
+
+static int operate(int semid, const struct sembuf *sops, size_t nsops, uint64_t limit, struct lost_semop *lost)
+{
     struct link *link = begin(SEMOP);
     if (link == NULL)
         return -1;
@@ -55,23 +81,47 @@ int ipcd_semtimedop(int semid, struct sembuf *sops, size_t nsops, const struct t
         if (sops[i].sem_op <= 0 && !(sops[i].sem_flg & IPC_NOWAIT))
             waiting = ENDED_BY_HANDLERS;
     }
-    return end_empty(link, waiting);
+    ssize_t done = link_exchange(link, waiting, 0, 0);
+    if (done == 0)
+        note_operations(link, (uint32_t) semid, nsops);
+    else if (errno == ECONNRESET && lost != NULL)
+        *lost = (struct lost_semop){link->pids_come_again ? 0 : link->pid, link->known};
+    return (int) end(link, done);
+}
+
+int semtimedop_once(
+    int semid, struct sembuf *sops, size_t nsops, const struct timespec *timeout, struct lost_semop *lost)
+{
+    uint64_t limit;
+    int refusal = milliseconds(timeout, &limit);
+    if (refusal == 0 && nsops > OPERATIONS_MOST)
+        refusal = E2BIG;
+    if (refusal == 0 && !is_readable(sops, nsops * sizeof *sops))
+        refusal = EFAULT;
+    if (refusal != 0) {
+        errno = refusal;
+        return -1;
+    }
+    // The server counts from the begin of the millisecond in which it reads the request: of that a part is over.
+    if (limit > 0 && limit < NO_TIME - 1)
+        limit++;
+    if (lost != NULL && lost->pid != 0) {
+        int done = was_done(semid, sops, nsops, lost);
+        if (done != 0)
+            return done < 0 ? -1 : 0;
+        lost->pid = 0;
+    }
+    return operate(semid, sops, nsops, limit, lost);
+}
+
+int ipcd_semtimedop(int semid, struct sembuf *sops, size_t nsops, const struct timespec *timeout)
+{
+    return semtimedop_once(semid, sops, nsops, timeout, NULL);
 }
 
 int ipcd_semop(int semid, struct sembuf *sops, size_t nsops)
 {
     return ipcd_semtimedop(semid, sops, nsops, NULL);
-}
-
-// A call whose field beside the set is the number of a semaphore, and whose answer is a number.
-static int number_of(enum opcode opcode, int semid, int semnum)
-{
-    struct link *link = begin(opcode);
-    if (link == NULL)
-        return -1;
-    put_u32(link, (uint32_t) semid);
-    put_u32(link, (uint32_t) semnum);
-    return end_number(link);
 }
 
 static int last_process(int semid, int semnum)
@@ -92,7 +142,10 @@ static int set_value(int semid, int semnum, int value)
     put_u32(link, (uint32_t) semid);
     put_u32(link, (uint32_t) semnum);
     put_u32(link, (uint32_t) value);
-    return end_empty(link, ANSWERED_AT_ONCE);
+    ssize_t done = link_exchange(link, ANSWERED_AT_ONCE, 0, 0);
+    if (done == 0)
+        note_value(&link->known, (uint32_t) semid, (uint16_t) semnum, (uint16_t) value);
+    return (int) end(link, done);
 }
 
 static int stat_set(int semid, struct semid_ds *record)
@@ -158,7 +211,12 @@ static int set_all(int semid, const unsigned short *array)
     put_u32(link, (uint32_t) semid);
     for (size_t i = 0; i < record.sem_nsems; i++)
         put_u16(link, array[i]);
-    return end_empty(link, ANSWERED_AT_ONCE);
+    ssize_t done = link_exchange(link, ANSWERED_AT_ONCE, 0, 0);
+    for (size_t i = 0; done == 0 && i < record.sem_nsems; i++) {
+        uint16_t value = read_u16(link->request + REQUEST_HEAD + 4 + 2 * i);
+        note_value(&link->known, (uint32_t) semid, (uint16_t) i, value);
+    }
+    return (int) end(link, done);
 }
 
 static int set_set(int semid, const struct semid_ds *record)

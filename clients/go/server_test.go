@@ -131,7 +131,9 @@ func TestEachFamily(t *testing.T) {
 	equal(t, has(t, c.AttachedRead(shared, 8, 3)), []byte("old"))
 	has(t, c.Shmdt(shared))
 	refused(t, c.ShmStat(9), syscall.EBADF)
-	refused(t, c.Msgsnd(queue, 1, make([]byte, 70000), 0), syscall.EINVAL)
+	// The longest request that a server reads, and one that would end the connection.
+	refused(t, c.Msgsnd(queue, 1, make([]byte, 65792-21), 0), syscall.EINVAL)
+	refused(t, c.Msgsnd(queue, 1, make([]byte, 65793-21), 0), syscall.EINVAL)
 }
 
 // The server tells its version, and the calls are as ever.

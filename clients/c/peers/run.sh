@@ -13,9 +13,10 @@ program=$(realpath "$1")
 only_installed=$2
 run=$here/../out/ipcd-run
 work=$(mktemp -d)
-packages="perl fakeroot python3-sysv-ipc stress-ng php-cli util-linux dmsetup"
+packages="perl fakeroot python3-sysv-ipc stress-ng php-cli util-linux dmsetup libipc-sharelite-perl
+    libipc-shareable-perl python3-pyqt5"
 passed=0 failed=0 skipped=0
-server='' apart=''
+server='' apart='' options=''
 
 finish() {
     [ -z "$server" ] || kill "$server" 2>/dev/null
@@ -66,7 +67,7 @@ compare() {
     fi
     (cd "$work" && timeout 120 $apart "$@"; echo "status $?") >"$work/kernel" 2>&1
     before=$(next_process)
-    (cd "$work" && timeout 120 $apart "$run" --socket "$work/socket" "$@"; echo "status $?") >"$work/ipcd" 2>&1
+    (cd "$work" && timeout 120 $apart "$run" --socket "$work/socket" $options "$@"; echo "status $?") >"$work/ipcd" 2>&1
     came=$(($(next_process) - before - 1))
     : >"$work/differs"
     if [ -n "$known" ]; then
@@ -108,6 +109,15 @@ all() {
     start_server
     compare "IPC::SysV, IPC::Msg, IPC::Semaphore" perl "perl -MIPC::Msg -MIPC::Semaphore -e 1" "^new qbytes" \
         perl "$here/sysv.pl"
+    options=--segments
+    compare "IPC::SharedMem, with --segments" perl "perl -MIPC::SharedMem -e 1" "" perl "$here/shared.pl"
+    compare "IPC::ShareLite, with --segments" libipc-sharelite-perl "perl -MIPC::ShareLite -e 1" "" \
+        perl "$here/sharelite.pl"
+    compare "IPC::Shareable, with --segments" libipc-shareable-perl "perl -MIPC::Shareable -e 1" "" \
+        perl "$here/shareable.pl"
+    compare "QSharedMemory, with --segments" python3-pyqt5 "/usr/bin/python3 -c 'import PyQt5.QtCore'" "" \
+        /usr/bin/python3 "$here/qshared.py"
+    options=''
     compare "sysv_ipc" python3-sysv-ipc "/usr/bin/python3 -c 'import sysv_ipc'" "^new qbytes" \
         /usr/bin/python3 "$here/sysv.py"
     compare "calls by name of ctypes" python3 "python3 -c 'import ctypes'" "" python3 "$here/by_name.py"

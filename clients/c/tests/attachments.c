@@ -1,5 +1,5 @@
-// Segments of System V: what shmget(2), shmctl(2) and shmop(2) say. The kernel's are mapped; those of a server, by the
-// library's names alone, are read and written at an offset.
+// Segments of System V: what shmget(2), shmctl(2) and shmop(2) say, mapped; and by the library's names read and written
+// at an offset.
 #define _GNU_SOURCE
 #include <sys/ipc.h>
 #include <sys/shm.h>
@@ -222,11 +222,9 @@ static void has_a_mode(void)
 }
 
 #ifdef PREFIXED
-static void has_no_address(void)
+static void is_at_an_offset(void)
 {
     int segment = shmget(IPC_PRIVATE, SIZE, 0600), others[MOST], count = 0;
-    REFUSED((long) ipcd_shmat(segment, NULL, 0), ENOSYS);
-    REFUSED(ipcd_shmdt(buffer), ENOSYS);
     int one = attach(segment, 0), two = attach(segment, SHM_RDONLY);
     REFUSED(write_at(two, "a", 1, 0), EBADF);
     REFUSED(write_at(one, "abc", 3, SIZE - 2), EINVAL);
@@ -274,7 +272,7 @@ int main(void)
     ends_give_attachments_up();
     has_a_mode();
 #ifdef PREFIXED
-    has_no_address();
+    is_at_an_offset();
 #endif
     return 0;
 }

@@ -31,6 +31,7 @@ sys.path.insert(0, str(HERE.parents[2] / "tests/lib"))
 sys.path.insert(0, str(HERE))
 
 from false_server import FAULTS, HALF_AFTER_INTERRUPT, INTERRUPTED, TORN, Fault, FalseServer  # noqa: E402
+from losing_server import LosingServer  # noqa: E402
 from server import PROGRAM, Connection, Server, check, in_a_folder, printed, run_tests, serving, until  # noqa: E402
 
 SECONDS = 100
@@ -58,7 +59,7 @@ EACH_CALL = """
     setall semctl_stat semctl_set semctl_rmid mq_open mq_unlink mq_getattr mq_setattr mq_notify
     mq_close sem_open sem_unlink sem_trywait sem_post sem_getvalue sem_close shm_open shm_unlink
     ftruncate pread pwrite fstat close shmget shmctl_stat shmctl_set shmctl_rmid shmattach shmdetach
-    shmread shmwrite
+    shmread shmwrite shmat
 """.split() + EACH_THAT_WAITS
 
 
@@ -316,6 +317,50 @@ def waits_for_a_server() -> None:
         check(ended.returncode == 125 and ended.stdout == "", f"{words}: {ended}")
 
 
+def takes_once() -> None:
+    """With --wait a semop that takes is done once, whether its connection ends before it has come or after that."""
+    program = str(OUT / "tests" / "waits")
+    ends_well(program, "takes_once")
+    ends_well(program, "takes_one_of_many")
+    device()
+    with serving():
+        for is_done, word, lost in ((True, "takes_once", 8), (False, "takes_once", 8), (False, "takes_one_of_many", 3)):
+            with LosingServer(is_done) as losing:
+                ends_well(RUN, "--socket", losing.path, "--wait", "30", program, word)
+                check(losing.lost == lost, f"{word}: {losing.lost} were lost, and not {lost}")
+
+
+def waits_for_its_turn() -> None:
+    """With --wait and a device of version 3 a semop that was lost is not held to be done because another process, which
+    has the same number after a restart, has done one."""
+    device()
+    sectors = int(printed("format", "device", "--journal", "257").split()[1])
+    server = Server(sectors=sectors)
+    with waiting_program("its_turn") as program:
+        check(program.stdout.readline() == "take it\n", "it does not come so far")
+        with Connection("socket") as connection:
+            connection.hello(0, 0)
+            connection.semop(connection.semget(77, 1, 0), [(0, -1, 0)])
+        program.stdin.write("\n")
+        program.stdin.flush()
+        until_one_waits(program)
+        program.send_signal(signal.SIGSTOP)
+        server.stop(signal.SIGKILL)
+        server = Server(sectors=sectors)
+        with Connection("socket") as connection:
+            check(connection.hello(0, 0) == 1, "it is not the first process")
+            semaphores = connection.semget(77, 1, 0)
+            connection.semctl_setval(semaphores, 0, 1)
+            connection.semop(semaphores, [(0, -1, 0)])
+            program.send_signal(signal.SIGCONT)
+            until(lambda: connection.semctl_getncnt(semaphores, 0) == 1, "it does not wait")
+            check(connection.semctl_getval(semaphores, 0) == 0, "the semaphore has changed")
+            connection.semop(semaphores, [(0, 1, 0)])
+            check(program.stdout.readline() == "taken\n", "it does not take it")
+            check(connection.semctl_getval(semaphores, 0) == 0, "it has not taken it")
+    server.stop()
+
+
 def processes() -> None:
     device()
     with serving(prepare=by_anybody):
@@ -525,7 +570,7 @@ def names_of(library: Path) -> set[str]:
 
 
 # What the C library has of these calls, and the library that is preloaded leaves to it.
-LEFT = {"sem_init", "sem_destroy", "shm_unlink", "__shm_get_name", "shmdt", "shmctl"}
+LEFT = {"sem_init", "sem_destroy", "shm_unlink", "__shm_get_name"}
 
 
 def exports() -> None:
@@ -535,10 +580,10 @@ def exports() -> None:
     heard = """
         close closefrom close_range dup2 dup3 setuid seteuid setreuid setresuid setgid setegid
         setregid setresgid sigaction siginterrupt signal bsd_signal ssignal sigset dlopen dlmopen dlsym
-        pthread_cancel
+        pthread_cancel msync munmap
     """.split()
     calls = names_of(preload) - set(heard)
-    check(len(calls) == 31 and names_of(preload) >= set(heard), f"{names_of(preload)}")
+    check(len(calls) == 33 and names_of(preload) >= set(heard), f"{names_of(preload)}")
     own = {name for it in c_library(preload) for name in names_of(it)}
     kinds = r"_*(msg(get|snd|rcv|ctl)|sem(get|op|timedop|ctl)|shm(get|at|dt|ctl)|mq_|sem_|shm_)"
     wanted = {name for name in own if re.match(kinds, name)}
@@ -546,7 +591,7 @@ def exports() -> None:
     names = names_of(library)
     prefixed = {name for name in calls if name != "__mq_open_2"}
     others = "version connect disconnect use shm_open shm_unlink ftruncate pread pwrite fstat close".split()
-    others += "shmget shmctl shmattach shmdetach shmread shmwrite shmat shmdt".split()
+    others += "shmattach shmdetach shmread shmwrite".split()
     check(names == {f"ipcd_{name}" for name in [*prefixed, *others]}, f"{names}")
     listed = subprocess.run(["nm", "-D", "--defined-only", library], capture_output=True, text=True).stdout
     check(all(f"{name}@@IPCD_0\n" in listed for name in names), f"a name has no version: {listed}")
@@ -901,8 +946,8 @@ def pieces() -> None:
 TESTS = [exports, headers, built_otherwise, static_library, refuses_programs, installs, kernel_agrees, library_calls,
          on_version_3,
          pieces, memcheck, sanitized, looks_inside, redirected_calls, loads, lists, check_counts, shared_memory,
-         waits_for_a_server, processes, drops_uid_0, unlinked, cannot_be_told, pids, manual_pages, without_a_server,
-         restarts, killed_in_each_call, false_servers]  # fmt: skip
+         waits_for_a_server, takes_once, waits_for_its_turn, processes, drops_uid_0, unlinked, cannot_be_told,
+         pids, manual_pages, without_a_server, restarts, killed_in_each_call, false_servers]  # fmt: skip
 
 if __name__ == "__main__":
     with in_a_folder(600):

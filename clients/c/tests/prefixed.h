@@ -23,6 +23,8 @@
 #define semctl ipcd_semctl
 #define shmget ipcd_shmget
 #define shmctl ipcd_shmctl
+#define shmat ipcd_shmat
+#define shmdt ipcd_shmdt
 #define mq_open ipcd_mq_open
 #define mq_close ipcd_mq_close
 #define mq_unlink ipcd_mq_unlink

@@ -69,6 +69,63 @@ static void hears_of_a_lost_lock(void)
     CHECK(semctl(set, 0, GETVAL) == 1);
 }
 
+// A semop that takes one from a semaphore, and one that adds it again: what is there after each.
+static void take_one(int set, int left)
+{
+    struct sembuf down = {1, -1, 0};
+    errno = ERANGE;
+    CHECK(semop(set, &down, 1) == 0 && errno == ERANGE && semctl(set, 1, GETVAL) == left);
+}
+
+static void add_one(int set, int left)
+{
+    struct sembuf up = {1, 1, 0};
+    CHECK(semop(set, &up, 1) == 0 && semctl(set, 1, GETVAL) == left);
+}
+
+// Whether this process has set the value, has added to it or has taken from it before, or nothing over the connection
+// that is lost then.
+static void takes_once(void)
+{
+    int set = semget(IPC_PRIVATE, 2, 0600);
+    CHECK(set >= 0 && semctl(set, 1, SETVAL, 1) == 0);
+    for (int i = 0; i < 5; i++) {
+        take_one(set, 0);
+        add_one(set, 1);
+    }
+    CHECK(semctl(set, 1, SETVAL, 2) == 0);
+    take_one(set, 1);
+    take_one(set, 0);
+    CHECK(semctl(set, 0, SETALL, (unsigned short[]){0, 1}) == 0);
+    take_one(set, 0);
+    CHECK(semctl(set, 0, IPC_RMID) == 0);
+}
+
+// It has changed more semaphores than the library keeps in mind. What is not done is made again.
+static void takes_one_of_many(void)
+{
+    enum { MANY = 64 };
+    unsigned short values[MANY] = {0};
+    int many = semget(IPC_PRIVATE, MANY, 0600), set = semget(IPC_PRIVATE, 2, 0600);
+    CHECK(many >= 0 && set >= 0 && semctl(many, 0, SETALL, values) == 0 && semctl(set, 1, SETVAL, 3) == 0);
+    for (int left = 2; left >= 0; left--)
+        take_one(set, left);
+    CHECK(semctl(many, 0, IPC_RMID) == 0 && semctl(set, 0, IPC_RMID) == 0);
+}
+
+// It has released a semaphore that another process has taken then. While it waits for it the server ends.
+static void waits_for_its_turn(void)
+{
+    int set = semget(77, 1, IPC_CREAT | 0600);
+    struct sembuf down = {0, -1, 0}, up = {0, 1, 0};
+    CHECK(set >= 0 && semctl(set, 0, SETVAL, 0) == 0 && semop(set, &up, 1) == 0);
+    say("take it");
+    wait_for_a_line();
+    CHECK(semop(set, &down, 1) == 0);
+    say("taken");
+    wait_for_a_line();
+}
+
 // Nobody comes.
 static void gives_up(void)
 {
@@ -125,6 +182,12 @@ int main(int count, char **words)
         goes_on();
     else if (strcmp(word, "lost_lock") == 0)
         hears_of_a_lost_lock();
+    else if (strcmp(word, "takes_once") == 0)
+        takes_once();
+    else if (strcmp(word, "takes_one_of_many") == 0)
+        takes_one_of_many();
+    else if (strcmp(word, "its_turn") == 0)
+        waits_for_its_turn();
     else if (strcmp(word, "gives_up") == 0)
         gives_up();
     else if (strcmp(word, "memory") == 0)

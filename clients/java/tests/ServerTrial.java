@@ -149,7 +149,9 @@ final class ServerTrial {
         equal(c.attachedRead(shared, 8, 3).get(), "old");
         c.shmdt(shared).get();
         refused(c.shmStat(9), Errno.EBADF);
-        refused(c.msgsnd(queue, 1, new byte[70000], 0), Errno.EINVAL);
+        // The longest request that a server reads, and one that would end the connection.
+        refused(c.msgsnd(queue, 1, new byte[65792 - 21], 0), Errno.EINVAL);
+        refused(c.msgsnd(queue, 1, new byte[65793 - 21], 0), Errno.EINVAL);
         c.close();
     }
 

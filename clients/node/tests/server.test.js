@@ -84,7 +84,9 @@ test('each family', { timeout: 100000 }, () => served(async (server) => {
   assert.deepEqual(await c.attachedRead(shared, 8, 3), Buffer.from('old'))
   await c.shmdt(shared)
   await refused(c.shmStat(9), 'EBADF')
-  await refused(c.msgsnd(queue, 1, Buffer.alloc(70000)), 'EINVAL')
+  // The longest request that a server reads, and one that would end the connection.
+  await refused(c.msgsnd(queue, 1, Buffer.alloc(65792 - 21)), 'EINVAL')
+  await refused(c.msgsnd(queue, 1, Buffer.alloc(65793 - 21)), 'EINVAL')
   c.close()
 }))
 

@@ -115,7 +115,9 @@ fn each_family() -> Result<(), Error> {
     assert_eq!(c.attached_read(shared, 8, 3).wait()?, b"old");
     c.shmdt(shared).wait()?;
     refused(c.shm_stat(9), EBADF);
-    refused(c.msgsnd(queue, 1, &[0; 70000], 0), EINVAL);
+    // The longest request that a server reads, and one that would end the connection.
+    refused(c.msgsnd(queue, 1, &[0; 65792 - 21], 0), EINVAL);
+    refused(c.msgsnd(queue, 1, &[0; 65793 - 21], 0), EINVAL);
     Ok(())
 }
 

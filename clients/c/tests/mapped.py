@@ -1,0 +1,320 @@
+"""Segments of System V that programs map: as the kernel has them, over crashes of programs, server and machine.
+
+    python3 clients/c/tests/mapped.py PROGRAM [TEST]...
+"""
+
+from __future__ import annotations
+
+import os
+import random
+import shutil
+import signal
+import subprocess
+import time
+from collections.abc import Iterator
+from contextlib import contextmanager
+from pathlib import Path
+
+from clients import OUT, RUN, SECONDS, WANTED, all_end_well, by_anybody, device, ends_well, says, with_socket
+from losing_server import LosingServer, writes
+from server import Connection, Server, check, in_a_folder, printed, run_tests, serving, until
+
+KEY, SIZE, PAGE = 0x69706352, 10000, 4096
+PARTS = "shared address rounded holes replaces inherited read_only threads children handlers".split()
+MAPPED, LIBRARY = [RUN, "--segments", str(OUT / "tests/mapped")], [str(OUT / "tests/library_mapped")]
+EACH = (MAPPED, LIBRARY)
+# Where the programs write their text.
+PLACE = SIZE - 100
+
+
+def as_the_kernel() -> None:
+    """Each part does the same with the kernel's segments, with a server's, and by the library's names."""
+    for part in [*PARTS, "unmapped"]:
+        ends_well(str(OUT / "tests/mapped"), part)
+    all_end_well([[str(OUT / "tests/attachments")]], ON_KERNEL="1")
+    device()
+    with serving(prepare=by_anybody):
+        for part in [*PARTS, "most"]:
+            for words in EACH:
+                ends_well(*words, part)
+        ends_well(*MAPPED, "unmapped")
+        ends_well(*LIBRARY, "connection")
+        ends_well(RUN, "--segments", str(OUT / "tests/attachments"))
+        check(os.listdir("socket.pids") == [], f"there is left {os.listdir('socket.pids')}")
+
+
+def sanitized() -> None:
+    """ThreadSanitizer and AddressSanitizer report nothing of mappings."""
+    device()
+    for_address = ["connection", *(it for it in PARTS if it != "read_only")]
+    with serving(prepare=by_anybody):
+        for kind, parts in (("thread", ["shared", "threads", "handlers"]), ("address", for_address)):
+            program = OUT / f"tests/{kind}_mapped"
+            said = subprocess.run([program], capture_output=True, text=True).stderr if program.stat().st_size else ""
+            if program.stat().st_size == 0 or "unexpected memory mapping" in said:
+                print(f"mapped: there is no sanitizer of {kind} here, so it was not run")
+                continue
+            for part in parts:
+                # A forked child has its parent's thread in mind, and would say that it does not find it.
+                forks = part in ("holes", "replaces", "inherited", "children")
+                ends_well(str(program), part, ASAN_OPTIONS="detect_leaks=0" if forks else "")
+
+
+def at_server(offset: int, length: int) -> bytes:
+    """What the server has of the segment."""
+    with Connection("socket") as connection:
+        connection.hello(0, 0)
+        return connection.attached_read(connection.shmat(connection.shmget(KEY, 0, 0)), offset, length)
+
+
+def has(text: str) -> bool:
+    return at_server(PLACE, len(text) + 1) == text.encode() + b"\0"
+
+
+@contextmanager
+def program(*words: str, errors: int | None = None, socket: str | None = None) -> Iterator[subprocess.Popen[str]]:
+    pipes = {"stdin": subprocess.PIPE, "stdout": subprocess.PIPE, "stderr": errors}
+    there = with_socket() if socket is None else {**os.environ, "IPCD_SOCKET": socket}
+    it = subprocess.Popen(words, text=True, env=there, **pipes)
+    try:
+        yield it
+    finally:
+        it.kill()
+        it.communicate()
+
+
+def dies(word: str, text: str) -> None:
+    it = subprocess.run([*MAPPED, word, text], env=with_socket(), timeout=SECONDS)
+    check(it.returncode == -signal.SIGKILL, "it does not die")
+
+
+def needs_the_folder() -> None:
+    """Where no file can be made, nothing is attached."""
+    if os.geteuid() != 0:
+        print("mapped: the folder is not tried, since this is not uid 0")
+        return
+    device()
+    os.mkdir("socket.pids", 0o755)
+    with serving(prepare=by_anybody):
+        for words in EACH:
+            ends_well(*words, "no_folder")
+
+
+def is_written_back() -> None:
+    """At exit, at shmdt, at msync and munmap, and soon if a program only goes on."""
+    for words in EACH:
+        device()
+        with serving(prepare=by_anybody):
+            ends_well(*words, "exit", "at exit")
+            check(has("at exit"), "it is not there after exit")
+            for word, text in (("detach", "detached"), ("stay", "stays")):
+                with program(*words, word, text) as it:
+                    check(it.stdout.readline() == "written\n", "it does not come so far")
+                    if word == "stay":
+                        until(lambda text=text: has(text), "it is not written while the program stays")
+                    check(has(text), f"it is not there after {word}")
+    with serving(prepare=by_anybody):
+        for word in ("sync", "unmap"):
+            dies(word, word)
+            check(has(word), f"it is not there after {word}")
+
+
+class Servers:
+    """Servers of one device, one after another, of which the last is killed at the end."""
+
+    def __enter__(self) -> Servers:
+        self._server = Server()
+        return self
+
+    def __exit__(self, *raised: object) -> None:
+        self._server.process.kill()
+        self._server.process.communicate()
+        if os.path.exists("socket"):
+            os.remove("socket")
+
+    def stop(self) -> None:
+        self._server.stop(signal.SIGKILL)
+
+    def restart(self) -> None:
+        self.stop()
+        self._server = Server()
+
+
+def outlives_a_machine() -> None:
+    """After a crash of the machine nothing is mapped, and the bytes are the server's."""
+    for words in EACH:
+        device()
+        with Servers():
+            ends_well(*words, "exit", "kept")
+        shutil.rmtree("socket.pids")
+        with serving(prepare=by_anybody):
+            ends_well(*words, "find", "kept")
+
+
+def what_a_killed_program_wrote() -> None:
+    """It is there for whoever attaches the segment next, as on the kernel, and is written back then."""
+    device()
+    with serving(prepare=by_anybody):
+        for word in ("leave", "exec"):
+            ends_well(*MAPPED, word, word)
+            ends_well(*MAPPED, "find", word)
+        dies("die", "killed")
+        ends_well(*MAPPED, "find", "killed")
+        # Who has it read-only does not write.
+        check(not has("killed"), "it is written by one who has only read it")
+        with program(*MAPPED, "stay", "killed"):
+            until(lambda: has("killed"), "nobody writes what was left")
+
+
+def requests_are_seen() -> None:
+    """What a client has written by requests, or another device has, is there for the first that attaches."""
+    device()
+    with serving(prepare=by_anybody):
+        ends_well(*MAPPED, "exit", "mapped")
+        with Connection("socket") as connection:
+            connection.hello(0, 0)
+            attachment = connection.shmat(connection.shmget(KEY, 0, 0))
+            connection.attached_write(attachment, PLACE, b"asked\0\0")
+        ends_well(*MAPPED, "find", "asked")
+        # What a killed program has left of the same piece counts for more.
+        dies("die", "killed")
+        with Connection("socket") as connection:
+            connection.hello(0, 0)
+            attachment = connection.shmat(connection.shmget(KEY, 0, 0))
+            connection.attached_write(attachment, PLACE - 100, b"asked")
+        ends_well(*MAPPED, "find", "killed")
+        ends_well(*MAPPED, "exit", "of this device")
+        # A file of another length is of another segment that had this number.
+        files = list(Path("socket.pids").glob("m*"))
+        check(len(files) == 1, f"there are {files}")
+        os.truncate(files[0], 100)
+        ends_well(*MAPPED, "find", "of this device")
+    os.remove("device")
+    printed("format", "device")
+    with serving(prepare=by_anybody):
+        ends_well(*MAPPED, "find", "")
+
+
+def a_lock_comes_after_its_bytes() -> None:
+    """Whoever takes a lock after a crash finds all that was written before it was given."""
+    chance = random.Random(5)
+    for words in EACH * 2:
+        device()
+        with Servers() as servers, program(*words, "counts_on", errors=subprocess.DEVNULL) as it:
+            said = it.stdout.readline()
+            time.sleep(chance.random() * 0.2)
+            servers.stop()
+            it.kill()
+            said += it.stdout.read()
+        last = int(said.split()[-1])
+        shutil.rmtree("socket.pids")
+        with serving(prepare=by_anybody):
+            numbers = [int.from_bytes(at_server(page * PAGE, 4), "little") for page in range(3)]
+        check(all(last <= number <= last + 1 for number in numbers), f"{last} was said, and there are {numbers}")
+
+
+def goes_on_over_restarts() -> None:
+    """A program that waits for the server finds all that it has counted, whatever was killed."""
+    device()
+    with Servers() as servers, program(RUN, "--wait", "30", *MAPPED[1:], "counts_on") as it:
+        began = restarted = time.monotonic()
+
+        def next_number() -> int:
+            line = it.stdout.readline()
+            if line == "":
+                since = [round(time.monotonic() - moment) for moment in (began, restarted)]
+                check(False, f"the program ends with {it.wait(SECONDS)}, {since} s after its begin and a restart")
+            return int(line)
+
+        for _ in range(5):
+            before = next_number()
+            servers.restart()
+            restarted = time.monotonic()
+        while next_number() < before + 20:
+            pass
+        it.kill()
+        last = max(map(int, it.stdout.read().split()), default=before + 20)
+        numbers = [int.from_bytes(at_server(page * PAGE, 4), "little") for page in range(3)]
+        check(all(last <= number <= last + 2 for number in numbers), f"{last} was said, and there are {numbers}")
+
+
+def hears_of_a_restart_once() -> None:
+    """The end of the connection by which bytes go is no error of a call."""
+    for words in EACH:
+        device()
+        with Servers() as servers, program(*words, "hears_once") as it:
+            check(it.stdout.readline() == "kill it now\n", "it does not come so far")
+            servers.restart()
+            it.stdin.write("\n")
+            it.stdin.flush()
+            check(it.stdout.readline() == "released\n", "it does not come so far")
+            check(at_server(0, 4) == (7).to_bytes(4, "little"), "what was written is not there")
+            it.stdin.write("\n")
+            it.stdin.flush()
+            check(it.wait(SECONDS) == 0, "it does not end well")
+
+
+def is_removed_meanwhile() -> None:
+    """After a restart of the server a segment that was removed while attached is gone; its bytes are the program's."""
+    for words in EACH:
+        device()
+        with Servers() as servers, program(*words, "outlives") as it:
+            check(it.stdout.readline() == "kill it now\n", "it does not come so far")
+            servers.restart()
+            it.stdin.write("\n")
+            it.stdin.flush()
+            check(it.wait(SECONDS) == 0, "it does not end well")
+
+
+def answers_are_lost() -> None:
+    """A write of which nobody knows whether it was done fails the call that needs it, and is made again, also if what
+    was there before was written back; and so it is, if the program is killed then."""
+
+    def server_has(byte: bytes) -> bool:
+        return at_server(0, 1) == byte
+
+    for words, is_killed in [(words, is_killed) for words in EACH for is_killed in (False, True)]:
+        device()
+        with serving(prepare=by_anybody), LosingServer(True, writes) as losing:
+            with program(*words, "changes_back", socket=losing.path) as it:
+                check(it.stdout.readline() == "changed\n", "it does not come so far")
+                until(lambda: losing.lost > 0 and server_has(b"x"), "nothing is lost")
+                it.stdin.write("\n")
+                it.stdin.flush()
+                check(it.stdout.readline() == "changed back\n", "it does not come so far")
+                if is_killed:
+                    it.kill()
+                    it.wait(SECONDS)
+                    losing.loses = False
+                    # The files are of that socket.
+                    with program(*words, "stay", "", socket=losing.path) as other:
+                        check(other.stdout.readline() == "written\n", "it does not come so far")
+                        until(lambda: server_has(b"\0"), "what was written back is not at the server")
+                    continue
+                losing.loses = False
+                it.stdin.write("\n")
+                it.stdin.flush()
+                check(it.stdout.readline() == "released\n", "it does not come so far")
+                check(server_has(b"\0"), "what was written back is not at the server")
+                it.stdin.write("\n")
+                it.stdin.flush()
+                check(it.wait(SECONDS) == 0, "it does not end well")
+
+
+def of_the_kernel() -> None:
+    """Without --segments they stay the kernel's, and with --strict too much is refused no more."""
+    device()
+    with serving(prepare=by_anybody):
+        line = "shared memory (shmget) stays the kernel's, and outlives no crash of the machine"
+        says(RUN, str(OUT / "tests/mapped"), "shared", line=line)
+        ends_well(RUN, "--segments", "--strict", str(OUT / "tests/mapped"), "shared")
+
+
+TESTS = [as_the_kernel, sanitized, needs_the_folder, is_written_back, outlives_a_machine, what_a_killed_program_wrote,
+         requests_are_seen, a_lock_comes_after_its_bytes, goes_on_over_restarts, hears_of_a_restart_once,
+         is_removed_meanwhile, answers_are_lost, of_the_kernel]  # fmt: skip
+
+if __name__ == "__main__":
+    with in_a_folder(600):
+        os.chmod(".", 0o755)
+        run_tests("mapped segments", [test for test in TESTS if not WANTED or test.__name__ in WANTED])
