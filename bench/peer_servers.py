@@ -76,6 +76,7 @@ class IpcdPeer(Peer):
     name = "ipcd"
     meaning = "a send and a receive are on the disk, by two syncs"
     client = Ipcd
+    options: tuple[str, ...] = ()
 
     def __init__(self, program: str) -> None:
         self.program = program
@@ -86,10 +87,18 @@ class IpcdPeer(Peer):
     @contextmanager
     def serving(self, folder: str) -> Iterator[str]:
         device, address = f"{folder}/device", f"{folder}/socket"
-        subprocess.run([self.program, "format", device], check=True, stdout=subprocess.DEVNULL)
+        subprocess.run([self.program, "format", device, *self.options], check=True, stdout=subprocess.DEVNULL)
         with running([self.program, "serve", device, address]):
             until_answered(self.client, address)
             yield address
+
+
+class IpcdOfThree(IpcdPeer):
+    """On a device of version 3, with a journal as long as `--large` has it."""
+
+    name = "ipcd, version 3"
+    meaning = "a send and a receive are on the disk, by one sync"
+    options = ("--journal", "8192")
 
 
 class RedisPeer(Peer):
@@ -199,4 +208,4 @@ class SqlitePeer(Peer):
 
 
 def peers(program: str) -> list[Peer]:
-    return [IpcdPeer(program), RedisPeer(), BeanstalkPeer(), PostgresPeer(), SqlitePeer()]
+    return [IpcdPeer(program), IpcdOfThree(program), RedisPeer(), BeanstalkPeer(), PostgresPeer(), SqlitePeer()]

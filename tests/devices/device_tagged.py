@@ -434,6 +434,19 @@ def later_epochs() -> Iterator[tuple[str, Device]]:
     yield "later epochs all over", used().put(8, 0, 252 * (tag(LAST_EPOCH, 7, 7, 7) + 496 * b"\xee"))
 
 
+def after_the_restart() -> None:
+    """Directly after the restart a sector of a later epoch is damage. One of this epoch that is of batch 9 is none: an
+    open clears it, and its own restart comes there, with zeros after it."""
+    device = new().journal(1, batch(RESTART))
+    later = device.copy().put(4, 0, tag(2, 9, 0, 1))
+    refuses(bytes(later.image), "damaged sector 4", "epoch 2 after the restart", "dump", "list", "run")
+    other = device.copy().put(4, 0, tag(1, 9, 0, 1) + TAGGED_BYTES * b"\xee")
+    looked = ipcd(other.image, "list")
+    check(looked[:3] == (0, "", ""), f"batch 9 after the restart: {looked[:3]} is listed")
+    is_image(looked.image, bytes(other.image), "batch 9 after the restart: a look")
+    runs(other, [], [], device.copy().journal(1, batch(RESTART), batch(RESTART)), "batch 9 after the restart")
+
+
 def stays(name: str, device: Device, at: int) -> None:
     """An open leaves a sector of the journal that is of an earlier epoch."""
     before = sector(device.image, at)
@@ -476,6 +489,7 @@ def journals() -> Iterator[Check]:
         yield partial(refuses, bytes(device.image), f"damaged sector {at}", name, "dump", "list", "run")
     for name, device in later_epochs():
         yield partial(is_cleared, name, device)
+    yield after_the_restart
     older = new().save(2, start(THREE)).journal(1, *3 * [batch(RESTART)])
     yield partial(stays, "sectors of an earlier epoch", older, JOURNAL + 2)
 

@@ -1,5 +1,6 @@
 """How many writes and syncs the program makes on a device of version 3, in which order, and what is left if one of them
-fails: of a format, of an open that clears what a torn batch has left, of commits and saves.
+fails: of a format, of an open that clears what a torn batch has left, of commits and saves; and which sectors of the
+journal a look reads.
 
     python3 tests/scripts/tagged_calls.py PROGRAM
 
@@ -32,6 +33,7 @@ from device_layout import (  # noqa: E402
     msgsnd,
     read,
     request,
+    tag,
     tagged,
     three,
     tick,
@@ -127,8 +129,76 @@ def batches() -> None:
         check(length == size, f"{name}: the batch has {length} bytes, and not {size}")
 
 
+# A HELLO, msgget with key 1234, and a send of `hi` of type 5 to that queue, each in a line of its own: batches 2, 3 and
+# 4, after that of the restart.
+MESSAGE = f"""\
+0 open 1
+0 data 1 {HELLO}
+0 data 1 0000000d000000020a000004d200000380
+0 data 1 00000017000000030b000000010000080000000000000000056869
+"""
+# The sector of the send: epoch 1, batch 4, index 0, count 1, and then 57 bytes: the length of the records, a tick and
+# the call, each with its length.
+SENT = bytes.fromhex(
+    "0000000000000001 00000004 0000 0001 00000035 00000009 04 0000000000000000"
+    "00000024 02 0000000000000000 00000001 00000003 0b 00000001 00000800 0000000000000005 6869"
+)
+
+
+def a_message() -> None:
+    """A send of two bytes is one write of one sector, which is spelled by hand, and one sync."""
+    check(len(SENT) == 16 + 57, f"the batch has {len(SENT) - 16} bytes")
+    makes("a message", MESSAGE, OPEN + 3 * COMMIT)
+    last = [call for call in calls() if call.name in WRITES][-2:]
+    check([call.name for call in last] == [*WRITES], f"a message ends with {last}")
+    write = last[0]
+    check((write.sector, write.size) == (JOURNAL + 3, SECTOR), f"sector {write.sector}, {write.size} bytes")
+    check(write.data == SENT.ljust(SECTOR, b"\0"), f"the sector is {write.data.hex()}")
+
+
+# ---- a look
+
+
+def read_in_order() -> list[int]:
+    """The sectors that were read. A program that takes no lock reads each until two reads agree: here the first two."""
+    sectors = [call.sector for call in calls() if call.name == "pread"]
+    check(sectors[::2] == sectors[1::2], f"not each of these is read twice: {sectors}")
+    return sectors[::2]
+
+
+def a_look_in_order() -> None:
+    """`list` reads each sector of the journal once, in rising order, up to the first after the batches, and none after
+    that: the superblock and the root before them, and once more at the end. It writes nothing."""
+    batches = [batch(RESTART), three_sectors(), batch(tick(0))]
+    # After five sectors of batches: none; the first two sectors of a batch of three; a sector of an earlier epoch.
+    for name, tail, ends_at in (
+        ("nothing after the batches", [], 5),
+        ("a torn batch after them", tagged(1, 4, three_sectors())[:2], 7),
+        ("the last sector of a torn batch after them", [bytes(SECTOR), tagged(1, 4, three_sectors())[1]], 5),
+    ):
+        device = new().journal(1, *batches)
+        for at, data in enumerate(tail):
+            device.put(JOURNAL + 5 + at, 0, data)
+        before = bytes(device.image)
+        Path("device").write_bytes(before)
+        with watched():
+            listed = printed("list", "device")
+        check(listed == QUEUE, f"{name}: {listed!r} is listed")
+        found = read_in_order()
+        journal = [at for at in found if JOURNAL <= at < LAYOUT.objects]
+        check(journal == list(range(JOURNAL, JOURNAL + ends_at + 1)), f"{name}: {journal} are read of the journal")
+        first, last = found.index(journal[0]), found.index(journal[-1])
+        check(found[first : last + 1] == journal, f"{name}: others are read between those of the journal: {found}")
+        check({0, LAYOUT.root} <= set(found[:first]), f"{name}: {found[:first]} are read before the journal")
+        check({0, LAYOUT.root} <= set(found[last:]), f"{name}: {found[last:]} are read after the journal")
+        names = {call.name for call in calls()}
+        check(not names & {*WRITES, "fsync", "ftruncate"}, f"{name}: a look makes the calls {names}")
+        check(Path("device").read_bytes() == before, f"{name}: a look has changed the file")
+
+
 # ---- an open after a stop that has torn a batch
 
+QUEUE = "msg          1        1234 0600       1000        100          0          0\n"
 MADE = (connect(0, 1, 1000, 100), request(0, 1, msgget(4, 1234)))
 
 
@@ -168,6 +238,19 @@ def opens_after_a_torn_batch() -> None:
         check(all(not any(it) for it in data[:-1]), f"{kept} are new: not zeros are written")
         wanted_image = bytes(new().journal(1, batch(RESTART), batch(RESTART)).image)
         check(Path("device").read_bytes() == wanted_image, f"{kept} are new: more is left than two restarts")
+
+
+def another_batch_after_the_restart() -> None:
+    """Directly after the restart's sector one of the same epoch that is of batch 9 is no batch, and no damage. An open
+    writes zeros over it, and syncs, before its own restart comes there."""
+    device = new().journal(1, batch(RESTART)).put(JOURNAL + 1, 0, tag(1, 9, 0, 1) + TAGGED_BYTES * b"\xee")
+    Path("device").write_bytes(bytes(device.image))
+    with watched():
+        printed_of("batch 9 after the restart", "")
+    check(order() == "SJS" + COMMIT, f"batch 9 after the restart: the calls are {order()}")
+    data = [(call.sector, call.data) for call in calls() if call.name == "pwrite"]
+    restart = tagged(1, 2, batch(RESTART))[0].ljust(SECTOR, b"\0")
+    check(data == [(4, bytes(SECTOR)), (4, restart)], f"batch 9 after the restart: {data} is written")
 
 
 def clearing_that_fails() -> None:
@@ -230,7 +313,6 @@ def format_that_fails() -> None:
     with watched():
         printed(*FORMAT)
     made = [call.name for call in calls() if call.name in WRITES]
-    listed = "msg          1        1234 0600       1000        100          0          0\n"
     seen = set()
     for at, name in enumerate(made):
         refused = f"{name} {made[: at + 1].count(name)} {errno.EIO}"
@@ -246,10 +328,10 @@ def format_that_fails() -> None:
             Path("device").write_bytes(content)
             found = run("list", "device")
             left = (found.returncode, found.stdout, found.stderr)
-            check(left in ((0, listed, ""), (0, "", ""), (1, "", "ipcd: not formatted\n")), f"{refused}: {left}")
+            check(left in ((0, QUEUE, ""), (0, "", ""), (1, "", "ipcd: not formatted\n")), f"{refused}: {left}")
             # A device that opens is the old one up to the first sync, and the new one from the last write on.
             if left[0] == 0:
-                check((left[1] == listed) == (at < 2), f"with {refused} refused: {left}")
+                check((left[1] == QUEUE) == (at < 2), f"with {refused} refused: {left}")
             seen.add(left)
     check(len(seen) == 3, f"of the old device, none and a new one only {seen} were seen")
 
@@ -267,7 +349,10 @@ def named(name: str, test: partial[None]) -> partial[None]:
 TESTS = [
     writes_and_syncs,
     batches,
+    a_message,
+    a_look_in_order,
     opens_after_a_torn_batch,
+    another_batch_after_the_restart,
     clearing_that_fails,
     format_in_order,
     format_that_fails,
