@@ -168,7 +168,8 @@ SERVES = python3 tests/sockets/serve.py crates/ipcd/out/ipcd && python3 tests/sy
 	python3 tests/devices/check.py crates/ipcd/out/ipcd && python3 tests/sockets/metrics.py crates/ipcd/out/ipcd && \
 	python3 tests/sockets/figures.py crates/ipcd/out/ipcd && \
 	python3 tests/system/container.py crates/ipcd/out/ipcd && \
-	python3 tests/system/session.py crates/ipcd/out/ipcd && sh examples/serve.sh crates/ipcd/out/ipcd && \
+	python3 tests/system/session.py crates/ipcd/out/ipcd && python3 tests/system/shown_bytes.py crates/ipcd/out/ipcd && \
+	sh examples/serve.sh crates/ipcd/out/ipcd && \
 	sh examples/users.sh crates/ipcd/out/ipcd && sh examples/worker.sh crates/ipcd/out/ipcd && \
 	sh examples/lock.sh crates/ipcd/out/ipcd && sh examples/notify.sh crates/ipcd/out/ipcd && \
 	python3 tests/sockets/waiting.py crates/ipcd/out/ipcd && python3 tests/sockets/waiting_load.py crates/ipcd/out/ipcd && \

@@ -1,9 +1,9 @@
-"""Tells in words what a script asks and what it is answered, with the bytes below.
+"""Prints in words what a script asks and what the server answers, with the bytes below.
 
     ipcd replay < SCRIPT | python3 examples/frames.py SCRIPT
 
-Each frame is told as docs/PROTOCOL.md has it: a request when its reply comes, with that reply, and a crash where the
-script has one. A request that is never answered waits at the end. It needs Python's standard library alone.
+Words and fields are those of docs/PROTOCOL.md. A request stands where its reply comes, with that reply, and a crash
+where the script has one. A request without a reply stands at the end. It needs Python's standard library alone.
 """
 
 from __future__ import annotations
@@ -150,7 +150,7 @@ class Telling:
             waiting = self.asked.get((connection, reply.serial))
             if reply.serial == 0:
                 words = reply_in_words(reply, NOTIFICATION)
-                print(f"{self.whose(connection)}told without asking: {words}\n    -> {reply.digits}")
+                print(f"{self.whose(connection)}notification: {words}\n    -> {reply.digits}")
             elif waiting:
                 request = waiting.pop(0)
                 words = reply_in_words(reply, CALLS.get(request.head, ("", "", "body:+"))[2])

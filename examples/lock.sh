@@ -1,10 +1,11 @@
 # Two job runners share a lock, a semaphore of value 1, and the one that holds it is killed: SEM_UNDO gives it back, and
-# the other goes on. Then the server is killed too, and the lock is free when it is there again. The one argument is the
+# the other continues. Then the server is killed too, and the lock is free when it is there again. The one argument is the
 # program. The client is examples/client.py, which needs Python.
 #
-# Making a set and giving it a value are two requests. If its maker, or the server, ended between them, a lock whose value
-# its maker alone sets would be shut for ever. So semaphore 1 says whether semaphore 0, the lock, was given its value, and
-# each client gives it by one list: the first list that is done sets both, and each one after it is refused (EAGAIN).
+# Making a set and giving it a value are two requests. If its creator, or the server, ended between them, a lock whose
+# value its creator alone sets would be shut for ever. So semaphore 1 says whether semaphore 0, the lock, was given its
+# value, and each client gives it by one list: the first list that is done sets both, and each one after it is refused
+# (EAGAIN).
 set -eu
 . "$(dirname "$0")/server.sh"
 "$ipcd" format device --small > formatted

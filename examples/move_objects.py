@@ -5,7 +5,7 @@
 
 `listing` is what `dump` prints of a copy of the old server's device. Nobody else should be connected
 to either server. Messages are taken from the old one as they are put to the new one, in their order:
-so keep a copy of the old device, and if this ends with an error, begin anew with that copy and an
+so keep a copy of the old device, and if this ends with an error, start again with that copy and an
 empty new device. Of a set, a named semaphore or a segment the values and bytes are read, and stay.
 
 Each object is made by a process of the user and the group that have made the old one, and then gets

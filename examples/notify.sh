@@ -1,5 +1,5 @@
-# A process is told that a message has come to an empty POSIX queue, and takes it. A later message outlives the server,
-# which is killed, under the name of the queue. The one argument is the program. The client is examples/client.py, which
+# A process is notified that a message has come to an empty POSIX queue, and receives it. A later message survives a kill
+# of the server, under the name of the queue. The one argument is the program. The client is examples/client.py, which
 # needs Python.
 set -eu
 . "$(dirname "$0")/server.sh"
@@ -32,19 +32,19 @@ python3 -c "$(does "
     server.mq_notify(jobs, NOTIFY_FRAME, cookie=7)
     print('anna registers', flush=True)
     descriptor, cookie = server.notification()
-    print('anna is told of', cookie, flush=True)
+    print('anna is notified by', cookie, flush=True)
     print('anna receives', *server.mq_receive(descriptor, 64), flush=True)")" > anna &
 anna=$!
 trap 'kill "$anna" 2> ended || :; [ -z "$server" ] || crash; rm -r "$folder"' EXIT
 until_it_says anna registers
 shows "server.mq_send(jobs, b'sweep', priority=5)" None
-until_it_says anna "is told of 7"
+until_it_says anna "is notified by 7"
 until_it_says anna "receives 5 b'sweep'"
 cat anna
 wait "$anna"
 trap '[ -z "$server" ] || crash; rm -r "$folder"' EXIT
 
-# Nobody is told of this message, so it is left.
+# Nobody is notified of this message, so it stays in the queue.
 shows "server.mq_send(jobs, b'wash', priority=3)" None
 echo "\$ kill -9 $server"
 crash

@@ -8,7 +8,7 @@ serve
 python3 - <<'SESSION'
 from client import *
 
-# What is said of each line, and what it has to come to.
+# Evaluates a line, prints it with its value, and checks the value.
 def shows(line, wanted):
     try:
         value = eval(line, globals())

@@ -92,8 +92,16 @@ POSTINST = """\
 #!/bin/sh
 set -e
 if [ "$1" = configure ] && [ -z "$DPKG_ROOT" ]; then
-	if command -v systemd-sysusers >/dev/null; then systemd-sysusers ipcd.conf; fi
-	if command -v systemd-tmpfiles >/dev/null; then systemd-tmpfiles --create ipcd.conf; fi
+	if command -v systemd-sysusers >/dev/null; then
+		systemd-sysusers ipcd.conf
+	elif ! getent passwd ipcd >/dev/null; then
+		useradd --system --user-group --no-create-home --home-dir /var/lib/ipcd --shell /usr/sbin/nologin ipcd
+	fi
+	if command -v systemd-tmpfiles >/dev/null; then
+		systemd-tmpfiles --create ipcd.conf
+	else
+		install -d -o ipcd -g ipcd -m 0700 /var/lib/ipcd
+	fi
 	if [ -d /run/systemd/system ]; then systemctl daemon-reload; fi
 fi
 """

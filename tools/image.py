@@ -63,10 +63,10 @@ def contain(folder: str) -> bytes:
 
 
 def libraries(*programs: str) -> set[str]:
-    """The paths by which programs name what the system loads with them."""
+    """The paths by which programs name what the system loads with them, and not what whoever packs has preloaded."""
     found = set()
     for program in programs:
-        text = said("ldd", program)
+        text = said("env", "-u", "LD_PRELOAD", "-u", "LD_LIBRARY_PATH", "ldd", program)
         if "not found" in text:
             fail(f"{program}: {text}")
         found |= set(re.findall(r"(?m)(?:=> |^\s*)(/\S+) \(0x", text))

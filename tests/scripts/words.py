@@ -20,8 +20,10 @@ import sys
 import tempfile
 from pathlib import Path
 
-sys.path.insert(0, str(Path(__file__).resolve().parents[1] / "lib"))
+sys.dont_write_bytecode = True
+sys.path[:0] = [str(Path(__file__).resolve().parents[1] / name) for name in ("lib", "system")]
 
+from documents import replaced_words  # noqa: E402
 from pseudo_terminal import all_shown, open_terminal  # noqa: E402
 
 PROGRAM = os.path.abspath(sys.argv[1])
@@ -111,11 +113,15 @@ def refusals() -> None:
 
 
 def helps() -> None:
+    """Each command has its usage, in words of docs/STYLE.md."""
+    of_all = run("--help")[1].decode()
     for command in HELPED:
         status, output, errors = run(command, "--help")
         check((status, errors) == (0, b""), f"{command} --help: status {status}, {errors!r}")
         usage = f"\nUsage: ipcd {command} "
         check(usage in output.decode(), f"{command} --help: {output!r} is printed")
+        found = replaced_words().findall(of_all + output.decode())
+        check(found == [], f"{command} --help has words that docs/STYLE.md replaces: {found}")
 
 
 def version() -> None:

@@ -11,6 +11,7 @@
 #include <stdlib.h>
 #include <sys/mman.h>
 #include <sys/syscall.h>
+#include <sys/time.h>
 #include <time.h>
 #include <unistd.h>
 
@@ -43,5 +44,27 @@ int clock_gettime(clockid_t clock, struct timespec *time)
 		time->tv_nsec += 1000000000;
 		time->tv_sec--;
 	}
+	return 0;
+}
+
+/* The two older calls of the same clock. */
+time_t time(time_t *second)
+{
+	struct timespec now;
+	if (clock_gettime(CLOCK_REALTIME, &now))
+		return -1;
+	if (second)
+		*second = now.tv_sec;
+	return now.tv_sec;
+}
+
+int gettimeofday(struct timeval *time, void *zone)
+{
+	struct timespec now;
+	(void)zone;
+	if (clock_gettime(CLOCK_REALTIME, &now))
+		return -1;
+	if (time)
+		*time = (struct timeval){now.tv_sec, now.tv_nsec / 1000};
 	return 0;
 }

@@ -1,17 +1,19 @@
-"""What `make deb` packs: installed into a folder, used there, and purged; that it packs the same bytes again; and `make
-verify` of a program, a tarball and a package.
+"""What `make deb` packs: installed into a folder, used there, and purged; README.md's first session on the packages, in
+less than a minute; that the same bytes are packed again; and `make verify` of a program, a tarball and a package.
 
-    python3 tests/system/deb.py PROGRAM [lintian]
+    python3 tests/system/deb.py PROGRAM
 
 It works in a temporary folder. It needs git and dpkg: without one of these it says so, and refuses nothing. Without
-the clients in C it says what was left out. With `lintian` that judges the packages too, which takes a minute more.
-Maintainer scripts run, but not what they ask of systemd.
+the clients in C it says what was left out. Where lintian is, that judges the packages too, which takes a minute more.
+Where debootstrap is, and this is root, it makes a new system of Debian, in which apt installs the packages and nothing
+else; that takes two minutes more, and a network. Maintainer scripts run, but not what they ask of systemd.
 """
 
 from __future__ import annotations
 
 import os
 import shutil
+import signal
 import subprocess
 import sys
 import tempfile
@@ -20,6 +22,7 @@ from pathlib import Path
 
 sys.dont_write_bytecode = True
 
+import session as readme  # noqa: E402
 from install import PROGRAM, ROOT  # noqa: E402
 
 CLIENTS = (ROOT / "clients/c/out/ipcd-ask").exists()
@@ -27,6 +30,9 @@ NAMES = ["ipcd", "ipcd-run", "libipcd-dev", "libipcd0", "python3-ipcd"] if CLIEN
 LIBRARY = f"usr/lib/{os.uname().machine}-linux-gnu"
 SECOND = "1700000000"
 SERVING = "serving device, 1366 sectors, on socket, small limits\n"
+MIRROR = os.environ.get("MIRROR", "http://deb.debian.org/debian")
+# How long README.md's session may take on what the packages have.
+SESSION_SECONDS = 60
 
 
 def check(holds: bool, text: str) -> None:
@@ -34,11 +40,13 @@ def check(holds: bool, text: str) -> None:
         sys.exit(f"deb: {text}")
 
 
-def run(*words: str | Path, umask: int = 0o022, **more: str) -> subprocess.CompletedProcess[str]:
+def run(
+    *words: str | Path, umask: int = 0o022, seconds: int = 120, **more: str
+) -> subprocess.CompletedProcess[str]:
     """Runs a program apart from the make that runs this."""
     apart = {name: text for name, text in os.environ.items() if not name.startswith(("MAKE", "MFLAGS"))}
     apart["PATH"] += ":/usr/local/sbin:/usr/sbin:/sbin"
-    return subprocess.run(words, capture_output=True, text=True, env=apart | more, timeout=120, umask=umask)
+    return subprocess.run(words, capture_output=True, text=True, env=apart | more, timeout=seconds, umask=umask)
 
 
 def ends_well(*words: str | Path, **more: str) -> str:
@@ -66,8 +74,8 @@ def same_again(debs: list[Path]) -> None:
 
 
 def judge(debs: list[Path]) -> subprocess.Popen[str] | None:
-    """Starts lintian, if it is asked for."""
-    if sys.argv[2:] != ["lintian"]:
+    """Starts lintian, if it is here."""
+    if shutil.which("lintian") is None:
         return None
     pipes = dict.fromkeys(("stdout", "stderr"), subprocess.PIPE)
     return subprocess.Popen(["lintian", "--fail-on", "error", *debs], text=True, **pipes)
@@ -76,8 +84,8 @@ def judge(debs: list[Path]) -> subprocess.Popen[str] | None:
 def judged(judge: subprocess.Popen[str] | None) -> str:
     """lintian has no error."""
     if judge is None:
-        return "lintian was not asked for, so they were not judged"
-    said, faults = judge.communicate(timeout=120)
+        return "lintian is not here, so they were not judged"
+    said, faults = judge.communicate(timeout=600)
     errors = [line for line in said.splitlines() if line.startswith("E:")]
     check((judge.returncode, errors) == (0, []), f"lintian: {judge.returncode}, {errors}, {faults}")
     return "lintian has no error"
@@ -171,6 +179,8 @@ def installed(debs: list[Path]) -> None:
                  "usr/share/doc/ipcd/examples/alerts.yml"):  # fmt: skip
         check(name in here, f"{name} is not installed")
     session(root)
+    if CLIENTS:
+        on_packages(root)
     dpkg(root, "--purge", *NAMES)
     check(files(root) == before, f"a purge leaves {files(root) - before}")
     dpkg(root, "--install", debs[0])
@@ -180,6 +190,105 @@ def installed(debs: list[Path]) -> None:
     dpkg(root, "--purge", "ipcd")
     left = files(root) - before
     check(left == {"var", "var/lib", "var/lib/ipcd", "var/lib/ipcd/device"}, f"beside a device a purge leaves {left}")
+
+
+def first_session(path: str, words: tuple[str, ...], blocks: int) -> float:
+    """README.md's session as it is typed where the packages are installed: without its first two lines, and so many
+    blocks of it. Answers how long it took."""
+    steps = [step for block in readme.blocks((ROOT / "README.md").read_text()) for step in block]
+    begins = [at for at, (typed, _) in enumerate(steps) if typed == "ipcd format device"]
+    check(begins == [2] and steps[0][0].startswith("PATH=") and steps[1][0].startswith("make "), f"{steps[:3]}")
+    second = next(at for at, (typed, _) in enumerate(steps) if typed.startswith("export "))
+    steps = steps[2:] if blocks == 2 else [*steps[2:second], steps[-1]]
+    begin = time.monotonic()
+    readme.do("README.md", steps, path, words)
+    signal.alarm(0)
+    took = time.monotonic() - begin
+    check(took < SESSION_SECONDS, f"README.md's session takes {took:.0f} s on the packages")
+    return took
+
+
+def has_perl() -> bool:
+    try:
+        return subprocess.run(readme.NEEDS["IPC::Msg"], capture_output=True).returncode == 0
+    except FileNotFoundError:
+        return False
+
+
+def on_packages(root: Path) -> None:
+    """README.md's session, with nothing of the repository on the path; it leaves no file."""
+    os.mkdir("session")
+    os.chdir("session")
+    os.environ.pop("IPCD_SOCKET", None)
+    first_session(f"{root / 'usr/bin'}:{os.environ['PATH']}", ("bash",), 2 if has_perl() else 1)
+    check(os.listdir() == [], f"README.md's session leaves {os.listdir()}")
+    os.chdir("..")
+
+
+def codename() -> str:
+    """The release of Debian that this is, or nothing."""
+    fields = dict(line.split("=", 1) for line in Path("/etc/os-release").read_text().splitlines() if "=" in line)
+    return fields.get("VERSION_CODENAME", "") if fields.get("ID") == "debian" else ""
+
+
+def service() -> str:
+    """What a shell does as docs/OPERATIONS.md has it after an installation, and then in the place of systemd: it makes
+    the folder of the socket and starts the server as the user of the unit, and a client of root asks it."""
+    lines = (ROOT / "docs/OPERATIONS.md").read_text().splitlines()
+    first = next(at for at, line in enumerate(lines) if line.startswith("    apt install "))
+    steps = [line.strip() for line in lines[first + 1 : first + 4]]
+    check([line.split()[0] for line in steps] == ["ipcd", "chown", "sync"], f"{steps} follow the installation")
+    check(lines[first + 4].strip().startswith("systemctl enable "), f"{lines[first + 4]} is not the end of it")
+    start = "/usr/libexec/ipcd/ipcd-notify /usr/bin/ipcd serve /var/lib/ipcd/device /run/ipcd/socket"
+    steps += [
+        "stat -c '%U:%G %a' /var/lib/ipcd/device",
+        "install -d -o ipcd -g ipcd -m 0750 /run/ipcd",
+        f"runuser -u ipcd -- {start} > /root/served &",
+        "until grep -q '^serving ' /root/served; do sleep 0.1; done",
+        "ipcd-ask /run/ipcd/socket 'msgget 7 IPC_CREAT|0600'",
+    ]
+    return "set -e\n" + "\n".join(steps)
+
+
+def in_a_system(debs: list[Path]) -> str:
+    """A new system of Debian, in which apt installs the packages with what they depend on: README.md's session runs
+    there, so does the service, and a purge leaves nothing except the device. Says what was done."""
+    here = os.geteuid() == 0 and shutil.which("debootstrap") and shutil.which("unshare") and codename() and CLIENTS
+    if not here:
+        return "debootstrap or what it needs is not here, so no new system was made"
+    root = Path("system").resolve()
+    try:
+        made = run("debootstrap", "--variant=minbase", codename(), root, MIRROR, seconds=1200)
+        why = "" if made.returncode == 0 else f"{made.stdout.strip().splitlines()[-1:]}"
+    except subprocess.TimeoutExpired:
+        why = "it takes more than 20 minutes"
+    if why:
+        return f"debootstrap has made no system ({why}), so apt installed nothing"
+    enter = ("unshare", "--mount", "--pid", "--fork", "--kill-child", f"--mount-proc={root}/proc", "chroot", str(root))
+    apart = {"DEBIAN_FRONTEND": "noninteractive", "LC_ALL": "C", "HOME": "/root"}
+    apart["PATH"] = "/usr/sbin:/usr/bin:/sbin:/bin"
+    for deb in debs:
+        shutil.copy(deb, root / "root")
+    install = ["apt-get", "install", "-y", "--no-install-recommends", *(f"/root/{deb.name}" for deb in debs)]
+    ended = run(*enter, *install, seconds=1800, **apart)
+    check(ended.returncode == 0, f"apt: {ended}")
+    check((root / "usr/bin/ipcd-ask").exists(), "apt has not installed ipcd-ask")
+    took = first_session(apart["PATH"], (*enter, "sh", "-c", "cd /root && exec bash"), 1)
+    ended = run(*enter, "sh", "-c", service(), **apart)
+    check((ended.returncode, ended.stderr) == (0, ""), f"the service: {ended}")
+    check(ended.stdout.splitlines()[1:] == ["ipcd:ipcd 600", "1"], f"the service: {ended.stdout}")
+    for words in (["ipcdctl", "--version"], ["python3", "-c", "import ipcd.sysv_ipc, ipcd.aio"], ["dpkg", "--audit"]):
+        ended = run(*enter, *words, **apart)
+        check((ended.returncode, ended.stderr) == (0, ""), f"{words}: {ended}")
+    ended = run(*enter, "apt-get", "purge", "-y", *NAMES, seconds=600, **apart)
+    check(ended.returncode == 0, f"apt: {ended}")
+    # The packages themselves lie in the first folder; the second is in memory, and systemd removes what it made there.
+    # In the others apt and dpkg keep what they know of packages.
+    others = ("root/", "run/", "var/log/", "var/cache/", "var/lib/dpkg/", "var/lib/apt/")
+    left = [it for it in files(root) if "ipcd" in Path(it).name and not it.startswith(others)]
+    check(left == ["var/lib/ipcd"], f"a purge by apt leaves {left}")
+    check((root / "var/lib/ipcd/device").stat().st_size > 0, "a purge takes the device")
+    return f"apt installs and purges them in a new system, where the service runs and README.md's session, {took:.1f} s"
 
 
 def verifies(deb: Path) -> None:
@@ -209,8 +318,9 @@ def main() -> None:
     same_again(debs)
     installed(debs)
     verifies(debs[0])
+    system = in_a_system(debs)
     without = "" if CLIENTS else "; the clients in C are not built, so their packages were not made"
-    without = f"{judged(lintian)}{without}; {time.monotonic() - begin:.0f} s"
+    without = f"{judged(lintian)}; {system}{without}; {time.monotonic() - begin:.0f} s"
     print(f"deb: {len(debs)} packages, twice the same, installed, used and purged; {without}")
 
 

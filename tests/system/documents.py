@@ -1,6 +1,6 @@
 """The documents: whether each link and path that they name leads somewhere, whether manual pages and pictures are what
 tools/man.py and tools/pictures.py make, whether the pages are rendered without a warning, how many words there are, and
-whether the prose keeps to docs/STYLE.md.
+whether the prose keeps to docs/STYLE.md, and so do the texts that clients, examples and the Makefile print.
 
     python3 tests/system/documents.py
 
@@ -9,6 +9,7 @@ It needs groff to render a page: without groff it says so and refuses nothing. I
 
 from __future__ import annotations
 
+import ast
 import re
 import shutil
 import subprocess
@@ -43,6 +44,11 @@ MODEL, MODEL_WORDS = "docs/MODEL.md", 60
 STYLE, SENTENCE_WORDS, LINE_WORDS = "docs/STYLE.md", 45, 120
 SHORT_SENTENCES = ["README.md", "docs/OPERATIONS.md", "docs/PROTOCOL.md", "clients/*/*.md", *MANUALS]
 SHORT_LINES = ["docs/PROTOCOL.md"]
+# Files whose texts people read: strings, which they print, and of Python the docstrings, which help() shows; of the
+# others every line.
+SPOKEN = ["clients/python/ipcd/*.py", "examples/*.py", "clients/c/*.c"]
+READ = ["Makefile", "examples/*.sh", "contrib/*.yml", "contrib/*.json", "contrib/try"]
+C_STRING = re.compile(r'"((?:[^"\\\n]|\\.)*)"')
 
 
 def fail(text: str) -> None:
@@ -216,6 +222,25 @@ def replaced_words() -> re.Pattern[str]:
     return re.compile(r"\b(" + "|".join(re.escape(it) for it in found) + r")\b", re.IGNORECASE)
 
 
+def texts(file: Path) -> Iterator[str]:
+    """What a file that is no document shows to people."""
+    text = file.read_text()
+    if file.suffix == ".py":
+        constants = (it.value for it in ast.walk(ast.parse(text)) if isinstance(it, ast.Constant))
+        yield from (it for it in constants if isinstance(it, str))
+    elif file.suffix == ".c":
+        yield from C_STRING.findall("\n".join(it for it in text.splitlines() if not it.lstrip().startswith("//")))
+    else:
+        yield from text.splitlines()
+
+
+def spoken(file: Path) -> Iterator[str]:
+    """Each word of a text that STYLE.md replaces."""
+    for text in texts(file):
+        for word in replaced_words().findall(text):
+            yield f"'{word}', which {STYLE} replaces, in '{' '.join(text.split())[:60]}'"
+
+
 def style(page: Path) -> Iterator[str]:
     """What in a page is not as STYLE.md has it."""
     name = str(page.relative_to(ROOT))
@@ -240,11 +265,17 @@ def main() -> None:
         fail("these lead nowhere:\n" + "\n".join(wrong))
     pages += sorted(it for pattern in MANUALS for it in ROOT.glob(pattern))
     wrong = [f"{it.relative_to(ROOT)}: {what}" for it in pages for what in style(it)]
+    empty = [pattern for pattern in SPOKEN + READ if not any(ROOT.glob(pattern))]
+    if empty:
+        fail(f"no file is {' or '.join(empty)}")
+    shown = sorted(it for pattern in SPOKEN + READ for it in ROOT.glob(pattern))
+    wrong += [f"{it.relative_to(ROOT)}: {what}" for it in shown for what in spoken(it)]
     if wrong:
         fail(f"these are not as {STYLE} has it:\n" + "\n".join(wrong))
     made()
     words()
-    print(f"documents: {len(pages)} pages keep to {STYLE}, and their links and paths lead somewhere; {rendered()}")
+    keep = f"{len(pages)} pages and the texts of {len(shown)} files keep to {STYLE}"
+    print(f"documents: {keep}, and the links and paths of the pages lead somewhere; {rendered()}")
 
 
 if __name__ == "__main__":

@@ -114,7 +114,7 @@ def told() -> None:
         '1: mq_open flags 0102, mode 0600, attributes 0, maxmsg 0, msgsize 0, "/q" -> descriptor 0',
         "1: mq_notify descriptor 0, kind 2, cookie 77 -> done",
         '1: mq_send descriptor 0, deadline none, priority 0, "x" -> done',
-        "1: told without asking: descriptor 0, cookie 77",
+        "1: notification: descriptor 0, cookie 77",
         "1: opcode ff body 00000000 -> EPROTO",
         "1: the server ends the connection",
         "2: msgrcv queue 1, size 64, type 0 -> no reply",

@@ -1,11 +1,12 @@
-"""That what is packed follows from the commit and what is built alone: two copies of the tree, in other folders, by
-other users where this is root's, with another umask, time zone, language and home folder, build the clients in C and
-make a tarball, packages and an image of the same bytes.
+"""That what is packed follows from the commit and what is built alone: two copies of the tree, in other folders, on
+other days, by other users where this is root's, with another umask, time zone, language and home folder, build the
+clients in C and make a tarball, packages and an image of the same bytes.
 
     python3 tests/system/reproducible.py PROGRAM
 
-The program itself is built once, and is in both copies. It needs git, make and a C compiler; without git or a compiler
-it says so, and refuses nothing; packages are left out without dpkg-deb. It takes some ten seconds.
+The program itself is built once, and is in both copies. The other day is that of tests/sockets/step_clock.c. It needs
+git, make and a C compiler; without git or a compiler it says so, and refuses nothing; packages are left out without
+dpkg-deb. It takes some ten seconds.
 """
 
 from __future__ import annotations
@@ -13,6 +14,7 @@ from __future__ import annotations
 import hashlib
 import os
 import shutil
+import struct
 import subprocess
 import sys
 import tempfile
@@ -26,6 +28,8 @@ from install import PROGRAM, ROOT  # noqa: E402
 
 BUILT = "crates/ipcd/out/ipcd"
 NOBODY = 65534
+# How many seconds the clock of the second copy is ahead: 40 days and some hours.
+AHEAD = 40 * 86400 + 12345
 
 
 class Place(NamedTuple):
@@ -78,6 +82,21 @@ def made(place: Place, user: int, targets: list[str]) -> dict[str, str]:
     return {it.name: hashlib.sha256(it.read_bytes()).hexdigest() for it in sorted(out.iterdir())}
 
 
+def step_clock(place: Place) -> None:
+    """From now on what runs in this copy sees a clock that is ahead, with all that it starts."""
+    subprocess.run(["cc", "-shared", "-fPIC", "-o", "step_clock.so", ROOT / "tests/sockets/step_clock.c"], check=True)
+    Path("ahead").write_bytes(struct.pack("=q", 1000 * AHEAD))
+    place.settings.update(LD_PRELOAD=os.path.abspath("step_clock.so"), STEP_FILE=os.path.abspath("ahead"))
+
+
+def clocks_differ(users: list[int]) -> None:
+    seen = []
+    for place, user in zip(PLACES, users, strict=True):
+        run(place, user, "python3", "-c", "import time; open('../now', 'w').write(str(time.time()))")
+        seen.append(float(Path(place.folder, "now").read_text()))
+    check(abs(seen[1] - seen[0] - AHEAD) < 3600, f"{seen} are the times of the two copies")
+
+
 def has_git() -> bool:
     return subprocess.run(["git", "-C", ROOT, "rev-parse", "HEAD"], capture_output=True).returncode == 0
 
@@ -88,14 +107,16 @@ def main() -> None:
         return
     targets = ["dist", "image", *(["deb"] if shutil.which("dpkg-deb") else [])]
     users = [os.geteuid(), NOBODY if os.geteuid() == 0 else os.geteuid()]
+    step_clock(PLACES[1])
     with ThreadPoolExecutor(2) as pool:
         first, second = pool.map(made, PLACES, users, [targets, targets])
+    clocks_differ(users)
     wanted = 7 if "deb" in targets else 2
     check(len(first) == wanted, f"{list(first)} are made, and {wanted} are wanted")
     for name in first | second:
         check(first.get(name) == second.get(name), f"{name} has other bytes from another folder")
     by = ", by another user" if users[0] != users[1] else ""
-    print(f"reproducible: {', '.join(first)}: the same from another folder{by}")
+    print(f"reproducible: {', '.join(first)}: the same from another folder, on another day{by}")
 
 
 if __name__ == "__main__":

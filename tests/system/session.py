@@ -85,9 +85,10 @@ def has_what_it_needs(page: str, block: list[Step]) -> bool:
     return True
 
 
-def do(page: str, steps: list[Step], path: str) -> None:
+def do(page: str, steps: list[Step], path: str, words: tuple[str, ...] = ("bash",)) -> None:
+    """Types the lines into a shell that these words start."""
     shell = subprocess.Popen(
-        ["bash"],
+        words,
         stdin=subprocess.PIPE,
         stdout=subprocess.PIPE,
         stderr=subprocess.DEVNULL,

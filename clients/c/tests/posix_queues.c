@@ -33,6 +33,11 @@ static void opens(void)
     REFUSED(mq_open("/", O_RDONLY), ENOENT);
     REFUSED(mq_open("/a/b", O_RDONLY), EACCES);
     REFUSED(mq_open(longest, O_RDONLY), ENAMETOOLONG);
+    // With its slash a name has 255 bytes at most, as mq_overview(7) has it. The kernel takes one byte more.
+    longest[256] = 0;
+    REFUSED(mq_open(longest, O_RDONLY), is_on_kernel() ? ENOENT : ENAMETOOLONG);
+    longest[255] = 0;
+    REFUSED(mq_open(longest, O_RDONLY), ENOENT);
     REFUSED(mq_open("/ipcd_none", O_RDONLY), ENOENT);
     REFUSED(mq_unlink("/ipcd_none"), ENOENT);
     struct mq_attr attributes = {.mq_maxmsg = 0, .mq_msgsize = 8};

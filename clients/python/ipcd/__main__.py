@@ -40,37 +40,40 @@ def number(text: str) -> int:
 def parser() -> argparse.ArgumentParser:
     own = Path(sys.argv[0]).name
     prog = own if own == "ipcdctl" else "python3 -m ipcd"
-    words = argparse.ArgumentParser(prog=prog, description="Looks at a live server, and uses it.")
+    words = argparse.ArgumentParser(prog=prog, description="Shows and changes the objects of a running server.")
     words.add_argument("--version", action="version", version=f"ipcd {__version__}")
     words.add_argument("--socket", default=session.socket_path(), help="default: %(default)s")
     commands = words.add_subparsers(dest="command", required=True)
 
-    ls = commands.add_parser("ls", help="lists queues, segments and semaphore sets, and objects by their names")
+    ls = commands.add_parser("ls", help="lists queues, segments and semaphore sets, and objects whose names are given")
     ls.add_argument("-q", "--queues", action="store_true", help="message queues alone")
     ls.add_argument("-m", "--shmems", action="store_true", help="System V segments alone")
     ls.add_argument("-s", "--semaphores", action="store_true", help="semaphore sets alone")
     named(ls, KINDS, many=True)
-    ls.add_argument("--device", help="the objects of a device that no server has, by the program")
-    ls.add_argument("--program", default="ipcd", help="the program for --device, default: %(default)s")
-    watch = commands.add_parser("top", help="lists them again and again, with rates")
+    ls.add_argument("--device", help="lists a device, in use or not, with `ipcd list`")
+    ls.add_argument("--program", default="ipcd", help="the program that --device runs, default: %(default)s")
+    watch = commands.add_parser("top", help="lists them repeatedly, with waiting calls and rates")
     watch.add_argument("-d", "--delay", type=float, default=1.0, help="seconds between two pages")
     watch.add_argument("-n", "--iterations", type=int, help="how many pages")
     for command in (ls, watch):
-        command.add_argument("--upto", type=int, default=1024, help="tries identifiers 1 to N, default: 1024")
+        upto = {"default": 1024, "metavar": "N", "help": "tries identifiers 1 to N, default: %(default)s"}
+        command.add_argument("--upto", type=int, **upto)  # type: ignore[arg-type]
 
-    stat = commands.add_parser("stat", help="says all of one object, of a set each semaphore too")
+    stat = commands.add_parser("stat", help="shows one object, and each semaphore of a set")
     objects(stat, KINDS, SYSTEM_V, many=False)
     send = commands.add_parser("send", help="sends a text to a queue")
-    receive = commands.add_parser("receive", help="takes a message off a queue, and prints its text")
+    receive = commands.add_parser("receive", help="removes a message from a queue and prints its text")
     for command in (send, receive):
         objects(command, KINDS[:1], SYSTEM_V[:1], many=False)
         command.add_argument("--nowait", action="store_true", help="fail at once instead of waiting")
-        command.add_argument("--timeout", type=float, help="waits so many seconds at most")
-        command.add_argument("--type", type=int, default=int(command is send), help="of a System V message")
-    send.add_argument("--create", action="store_true", help="makes the queue, if there is none")
-    send.add_argument("-p", "--mode", type=lambda text: int(text, 8), default=0o644, help="of a new queue, octal")
-    send.add_argument("--priority", type=int, default=0, help="of a POSIX message")
-    send.add_argument("text", nargs="?", help="without it, standard input")
+        command.add_argument("--timeout", type=float, metavar="SECONDS", help="wait at most so long")
+    send.add_argument("--type", type=int, default=1, help="type of a System V message, default: %(default)s")
+    receive.add_argument("--type", type=int, default=0, help="type of a System V message, default: the first message")
+    send.add_argument("--create", action="store_true", help="makes the queue if there is none")
+    mode = "mode of a new queue, octal, default: 644"
+    send.add_argument("-p", "--mode", type=lambda text: int(text, 8), default=0o644, help=mode)
+    send.add_argument("--priority", type=int, default=0, help="priority of a POSIX message, default: %(default)s")
+    send.add_argument("text", nargs="?", help="the text; without it, standard input is sent")
     objects(commands.add_parser("rm", help="removes objects"), KINDS, SYSTEM_V, many=True)
     return words
 
@@ -239,7 +242,7 @@ def limit(given: argparse.Namespace) -> Optional[float]:
 
 
 def rm(connection: Connection, given: argparse.Namespace) -> int:
-    """Removes each, and goes on after one that is refused, as ipcrm(1) does."""
+    """Removes each, and continues after one that is refused, as ipcrm(1) does."""
     each: dict[str, tuple[Callable[[int], None], Callable[[int], int]]] = {
         "queue": (connection.msgctl_rmid, lambda key: connection.msgget(key, 0)),
         "shmem": (connection.shmctl_rmid, lambda key: connection.shmget(key, 0, 0)),

@@ -18,8 +18,8 @@ exception that broke a wait off, as KeyboardInterrupt does, the call still waits
 and `receive` gives its reply, which may be a message that came first.
 
 Semaphore sets have semget(2), a method for each command of semctl(2), and semop(2), which performs a
-list of operations whole or not at all, and waits until it can. A set of two semaphores is made, and
-given values; then one is taken off each. `semctl_getall` answers [0, 4] then, and [1, 5] once the
+list of operations whole or not at all, and waits until it can. This example makes a set of two semaphores,
+gives them values, and subtracts 1 from each. `semctl_getall` answers [0, 4] then, and [1, 5] once the
 connection has ended, in whatever way: SEM_UNDO gives back what a process has taken.
 
     gates = connection.semget(1234, 2, IPC_CREAT | 0o600)
@@ -37,14 +37,14 @@ to a full queue, or a receive from an empty one, that waits longer is a TimeoutE
     connection.mq_send(jobs, b"sweep", priority=5)
     priority, text = connection.mq_receive(jobs, 64, timeout=2.5)
 
-A process may be told once, by a notification, that a message has come to an empty queue. It comes
-unasked, maybe before the reply to a call, and is kept until `notification` hands it out.
+A process may ask for one notification when a message comes to an empty queue. The notification may
+come before the reply to a call, and is kept until `notification` returns it.
 
     connection.mq_notify(jobs, NOTIFY_FRAME, cookie=7)
     descriptor, cookie = connection.notification()
 
 Named semaphores and shared memory segments have names too, and sem_open(3) and shm_open(3) answer a
-descriptor. A wait at a value of 0 goes on after a post; `timeout` is as that of a POSIX queue. A new
+descriptor. A wait at a value of 0 ends after a post; `timeout` is as that of a POSIX queue. A new
 segment has no bytes until ftruncate(2) makes it longer; what it gains is 0.
 
     ready = connection.sem_open("/ready", O_CREAT, 0o600, value=0)

@@ -107,7 +107,7 @@ class Notifier:
             self._end(connection)
 
     def _one(self, connection: Connection) -> None:
-        """Does one work. If the connection ends meanwhile, who waits for the work is told so."""
+        """Does one work. If the connection ends meanwhile, whoever waits for the work gets a `ServerLost`."""
         os.read(self._reader, 1)
         work, done = self._works.get()
         try:
@@ -129,7 +129,7 @@ class Notifier:
                     threading.Thread(target=told, daemon=True).start()
 
     def _end(self, connection: Connection) -> None:
-        """The connection has ended: nobody is registered, and the next registration makes one anew."""
+        """The connection has ended: nobody is registered, and the next registration makes a new one."""
         connection.close()
         with self._lock:
             self.connection = None

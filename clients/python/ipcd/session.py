@@ -3,8 +3,8 @@
 A connection is one process of the server, and a process of the server has one call at a time. So there is
 one connection at first, and one more when a thread calls while each of the others waits. All are kept to the
 end of the process, and a child after a fork makes its own. The socket is that of IPCD_SOCKET, or else
-/run/ipcd/socket. User and group are the effective ones of the moment: after they have changed, calls go by another
-connection, but for those on an object that is open.
+/run/ipcd/socket. User and group are the effective ones of the moment: after they have changed, calls use another
+connection, except those on an object that is open.
 """
 
 from __future__ import annotations
@@ -210,7 +210,7 @@ def _settle(lane: Lane, keep: Optional[Keep]) -> None:
 
 
 def _drop_those_that_ended() -> None:
-    """After a restart of the server no connection is left, and the program is told so once."""
+    """After a restart of the server no connection is left, and the program gets one `ServerLost`."""
     with _change:
         for lane in [lane for lane in _lanes if not lane.busy and lane.connection.has_ended()]:
             lane.connection.close()

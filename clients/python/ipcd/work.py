@@ -11,9 +11,9 @@ done, and its place is free. With an exception, or if the worker or the server e
         with jobs.claim() as job:
             do(job.text)
 
-A claim is a lease: a semaphore that is set with SEM_UNDO, so the server itself takes it back at the end of its
-holder, and no time is measured. After an end of the server all leases are taken back, also those of workers that
-go on. So a job may be done twice, and never not at all, if its put has returned: doing it has to bear that.
+A claim is a lease: a semaphore that is set with SEM_UNDO. The server itself takes the lease back when its holder ends;
+no time is measured. After a restart of the server all leases are taken back, also those of workers that keep running.
+So a job whose put has returned is done at least once, and may be done twice: it has to be idempotent.
 """
 
 from __future__ import annotations
