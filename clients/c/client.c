@@ -20,6 +20,7 @@
 #include "handles.h"
 #include "mapped_segments.h"
 #include "memory.h"
+#include "own_queues.h"
 #include "places.h"
 #include "processes.h"
 
@@ -58,6 +59,7 @@ static void after_fork(void)
             link->wanted = 0;
         }
         forget_registrations(client);
+        forget_uses(client);
     }
     if (same_process != NULL)
         *same_process = 1;
@@ -671,6 +673,7 @@ void ipcd_disconnect(struct ipcd *connection)
     end_registrations(connection);
     tell_all_closed(connection);
     remove_places(connection);
+    close_own_queues(connection);
     for (size_t i = 0; i < PROCESSES_MOST; i++) {
         struct link *link = connection->links[i];
         if (link == NULL)

@@ -36,6 +36,14 @@ struct handle {
 
 struct registration;
 
+// A queue that is the kernel's, see own_queues.h.
+struct own_queue {
+    atomic_int use;           // how many calls are at the server, or what own_queues.c says
+    int file;                 // the descriptor, of which file it is
+    dev_t device;
+    ino_t inode;
+};
+
 // Objects with identifiers, and how many of each a client keeps in mind: as many as there may be.
 enum family { QUEUES, SETS, SEGMENTS, FAMILIES };
 enum { SEEN = 64 };
@@ -51,6 +59,7 @@ struct ipcd {
     struct handle handles[HANDLES];
     _Atomic(char *) places;   // of semaphores, a page each, or NULL if none was opened yet
     atomic_uchar states[SEMAPHORES]; // of these, see places.h
+    struct own_queue own_queues[DESCRIPTORS];
     struct registration *registrations;
     struct ipcd *mapper;      // or NULL: see mapped_segments.c
     atomic_uint seen[FAMILIES][SEEN]; // identifiers that were got, in no order; 0 in a place that is free

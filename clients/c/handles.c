@@ -9,6 +9,7 @@
 #include <unistd.h>
 
 #include "memory.h"
+#include "own_queues.h"
 #include "places.h"
 
 // Writes the request of an open and answers the server's descriptor, or -1.
@@ -96,7 +97,8 @@ static void tell_again(struct ipcd *client, size_t number, const struct handle *
     pid_t own = getpid();
     if (handle->teller == own)
         return;
-    uint32_t told = tell_open(client, handle->name, handle->length, place_of(client, number)->token);
+    uint64_t token = handle->kind == NAMED_SEMAPHORE ? place_of(client, number)->token : new_token();
+    uint32_t told = tell_open(client, handle->kind, handle->name, handle->length, token);
     lock_handles(client, &mask);
     struct handle *now = &client->handles[number];
     bool is_taken = now->generation == handle->generation && now->teller != own;
@@ -106,7 +108,7 @@ static void tell_again(struct ipcd *client, size_t number, const struct handle *
     }
     unlock_handles(client, &mask);
     if (!is_taken)
-        tell_closed(client, handle->name, handle->length, told);
+        tell_closed(client, handle->kind, handle->name, handle->length, told);
 }
 
 int open_again(struct link *link, size_t number, const struct handle *handle)
@@ -120,7 +122,7 @@ int open_again(struct link *link, size_t number, const struct handle *handle)
         errno = ENOENT;
         return -1;
     }
-    if (handle->kind == NAMED_SEMAPHORE)
+    if (handle->kind == NAMED_SEMAPHORE || handle->kind == POSIX_QUEUE)
         tell_again(link->client, number, handle);
     uint32_t flags = handle->access | (handle->nonblocking ? O_NONBLOCK : 0);
     struct wanted wanted = {.kind = handle->kind, .flags = flags, .shmid = handle->shmid};
@@ -221,6 +223,19 @@ int handle_of_name(struct ipcd *client, const char *name, size_t length, enum ki
     return found;
 }
 
+size_t handles_of_name(
+    struct ipcd *client, const char *name, size_t length, enum kind kind, uint16_t *numbers)
+{
+    sigset_t mask;
+    size_t count = 0;
+    lock_handles(client, &mask);
+    for (size_t i = 0; i < HANDLES; i++)
+        if (is_named(client, i, kind, name, length))
+            numbers[count++] = (uint16_t) i;
+    unlock_handles(client, &mask);
+    return count;
+}
+
 // Notes that an object was opened on a link. One that had its handle already is closed there once.
 static int note(struct ipcd *client, struct link *link, int number, struct handle named, long descriptor)
 {
@@ -265,12 +280,12 @@ static int open_new(struct ipcd *client, const char *name, size_t length, const 
 {
     struct link *link = begin(CLOSE);
     if (link == NULL) {
-        tell_closed(client, name, length, wanted->told);
+        tell_closed(client, wanted->kind, name, length, wanted->told);
         return -1;
     }
     long descriptor = open_on_link(link, name, length, wanted);
     if (descriptor < 0) {
-        tell_closed(client, name, length, wanted->told);
+        tell_closed(client, wanted->kind, name, length, wanted->told);
         return (int) end(link, -1);
     }
     struct handle named = {.is_open = true, .kind = wanted->kind, .opens = 1, .length = length};
@@ -294,7 +309,7 @@ static int open_new(struct ipcd *client, const char *name, size_t length, const 
         errno = refusal;
     }
     if (!is_new || number < 0)
-        tell_closed(client, name, length, wanted->told);
+        tell_closed(client, wanted->kind, name, length, wanted->told);
     return (int) end(link, noted < 0 ? -1 : number);
 }
 
@@ -320,13 +335,13 @@ static void begin_closing(struct ipcd *client, struct handle *handle)
 
 static void tell_closed_if_told(struct ipcd *client, const struct handle *handle)
 {
-    if (handle->kind == NAMED_SEMAPHORE && handle->told != 0 && handle->teller == getpid())
-        tell_closed(client, handle->name, handle->length, handle->told);
+    if (handle->told != 0 && handle->teller == getpid())
+        tell_closed(client, handle->kind, handle->name, handle->length, handle->told);
 }
 
 void tell_all_closed(struct ipcd *client)
 {
-    for (size_t i = DESCRIPTORS; i < HANDLES; i++)
+    for (size_t i = 0; i < HANDLES; i++)
         if (client->handles[i].is_open)
             tell_closed_if_told(client, &client->handles[i]);
 }
@@ -346,6 +361,9 @@ int close_handle(struct ipcd *client, size_t number, enum kind kind, int wrong)
             client->states[number - DESCRIPTORS] = NO_PLACE;
         if (!closed.is_own)
             begin_closing(client, handle);
+        // Before another queue has the number.
+        else if (kind == POSIX_QUEUE)
+            close_own_queue(client, number);
     }
     unlock_handles(client, &mask);
     if (!is_open) {
@@ -383,6 +401,33 @@ void leave_server(struct ipcd *client, size_t number)
     errno = saved;
 }
 
+bool leave_server_queue(struct ipcd *client, size_t number)
+{
+    sigset_t mask;
+    lock_handles(client, &mask);
+    struct handle *handle = &client->handles[number], left = *handle;
+    bool is_left = left.is_open && left.kind == POSIX_QUEUE && left.is_unlinked && !left.is_own;
+    if (is_left) {
+        handle->is_own = true;
+        handle->told = 0;
+        begin_closing(client, handle);
+    }
+    unlock_handles(client, &mask);
+    if (is_left)
+        tell_closed_if_told(client, &left);
+    return is_left;
+}
+
+void note_name_gone(struct ipcd *client, const char *name, size_t length, enum kind kind)
+{
+    sigset_t mask;
+    lock_handles(client, &mask);
+    for (size_t i = 0; i < HANDLES; i++)
+        if (is_named(client, i, kind, name, length))
+            client->handles[i].is_unlinked = true;
+    unlock_handles(client, &mask);
+}
+
 int unlink_name(struct ipcd *client, const char *given, enum kind kind, enum opcode opcode)
 {
     char name[NAME_ROOM];
@@ -395,11 +440,6 @@ int unlink_name(struct ipcd *client, const char *given, enum kind kind, enum opc
     put_bytes(link, name, (size_t) length);
     if (end_empty(link, ANSWERED_AT_ONCE) < 0)
         return -1;
-    sigset_t mask;
-    lock_handles(client, &mask);
-    for (size_t i = 0; i < HANDLES; i++)
-        if (is_named(client, i, kind, name, (size_t) length))
-            client->handles[i].is_unlinked = true;
-    unlock_handles(client, &mask);
+    note_name_gone(client, name, (size_t) length, kind);
     return 0;
 }

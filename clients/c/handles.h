@@ -15,8 +15,8 @@ struct wanted {
     int32_t maxmsg;
     int32_t msgsize;
     uint32_t shmid;           // of an attachment
-    uint64_t token;           // of a semaphore that is new to this process, and what was told of it: see places.h
-    uint32_t told;
+    uint64_t token;           // of a semaphore that is new to this process: see places.h
+    uint32_t told;            // what was told of that, or of a queue
 };
 
 // Opens an object by its name: the number of its handle, or -1. A semaphore that is open has its handle again.
@@ -36,14 +36,24 @@ HIDDEN ssize_t read_name(const char *name, enum kind kind, char *copy);
 // The number of a handle that is open on an object of this name, or -1.
 HIDDEN int handle_of_name(struct ipcd *client, const char *name, size_t length, enum kind kind);
 
-// Tells that no semaphore of a client is open any more.
+// The numbers of all those: how many they are.
+HIDDEN size_t handles_of_name(
+    struct ipcd *client, const char *name, size_t length, enum kind kind, uint16_t *numbers);
+
+// Tells that nothing of a client is open any more.
 HIDDEN void tell_all_closed(struct ipcd *client);
 
 // A handle is nothing more to the server, since the semaphore is the C library's from now on.
 HIDDEN void leave_server(struct ipcd *client, size_t number);
 
+// The same of a queue that is the kernel's: whether its handle was open.
+HIDDEN bool leave_server_queue(struct ipcd *client, size_t number);
+
 // Takes a name off an object: 0, or -1.
 HIDDEN int unlink_name(struct ipcd *client, const char *name, enum kind kind, enum opcode opcode);
+
+// Notes that a name was taken off an object.
+HIDDEN void note_name_gone(struct ipcd *client, const char *name, size_t length, enum kind kind);
 
 // Opens a handle, as a copy has it, on a link too, if it is not open there: 0, or -1; ENOENT if its name is gone.
 HIDDEN int open_again(struct link *link, size_t number, const struct handle *handle);

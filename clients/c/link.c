@@ -298,10 +298,10 @@ static bool was_asked(struct link *link)
     int waits = WAITS;
     if (atomic_compare_exchange_strong(&link->lending, &waits, NOT_LENT))
         return false;
-    while (link->lending != IS_ASKED)
+    // In a process that a handler has forked meanwhile nobody asks.
+    while (link->lending == IS_ASKING)
         sched_yield();
-    link->lending = NOT_LENT;
-    return true;
+    return atomic_exchange(&link->lending, NOT_LENT) == IS_ASKED;
 }
 
 static ssize_t is_lost(struct link *link, int error)

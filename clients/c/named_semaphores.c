@@ -22,7 +22,7 @@ static int open_named(struct ipcd *client, const char *given, struct wanted *wan
     ssize_t length = read_name(given, NAMED_SEMAPHORE, name);
     if (length >= 0 && handle_of_name(client, name, (size_t) length, NAMED_SEMAPHORE) < 0) {
         wanted->token = new_token();
-        wanted->told = tell_open(client, name, (size_t) length, wanted->token);
+        wanted->told = tell_open(client, NAMED_SEMAPHORE, name, (size_t) length, wanted->token);
     }
     return length < 0 ? -1 : open_handle(client, name, wanted);
 }

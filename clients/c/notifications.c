@@ -13,6 +13,7 @@
 #include "client.h"
 #include "handles.h"
 #include "memory.h"
+#include "own_queues.h"
 #include "processes.h"
 
 enum { NOTIFICATION = 14 };
@@ -104,6 +105,7 @@ static bool take_off(struct ipcd *client, struct registration *wanted)
     return false;
 }
 
+// Answers whether it was told, as not NULL, to who joins it.
 static void *read_notification(void *argument)
 {
     struct registration *it = argument;
@@ -121,14 +123,21 @@ static void *read_notification(void *argument)
         pthread_detach(pthread_self());
         free_registration(it);
     }
-    return NULL;
+    return is_told ? client : NULL;
 }
 
-// The server sees that this process ends, and closes: then the registration is gone.
+// The server sees that this process ends, and closes: then the registration is gone. Whether it was told before.
+static bool end_thread(struct registration *it)
+{
+    void *told;
+    shutdown(it->link->socket, SHUT_WR);
+    pthread_join(it->thread, &told);
+    return told != NULL;
+}
+
 static void end_one(struct registration *it)
 {
-    shutdown(it->link->socket, SHUT_WR);
-    pthread_join(it->thread, NULL);
+    end_thread(it);
     free_registration(it);
 }
 
@@ -161,6 +170,27 @@ void end_registration_of(struct ipcd *client, size_t number)
 void end_registrations(struct ipcd *client)
 {
     end_each(client, HANDLES, NULL);
+}
+
+// What the program gave for the attributes may be gone by now.
+void move_registration(struct ipcd *client, size_t number, mqd_t to)
+{
+    sigset_t mask;
+    lock_handles(client, &mask);
+    struct registration *it = client->registrations;
+    while (it != NULL && it->number != number)
+        it = it->next;
+    if (it != NULL)
+        take_off(client, it);
+    unlock_handles(client, &mask);
+    if (it == NULL)
+        return;
+    struct sigevent event = it->event;
+    if (event.sigev_notify == SIGEV_THREAD && event.sigev_notify_attributes != NULL)
+        event.sigev_notify_attributes = &it->attributes;
+    if (!end_thread(it))
+        system_queues()->notify(to, &event);
+    free_registration(it);
 }
 
 void forget_registrations(struct ipcd *client)
@@ -245,10 +275,8 @@ static int refusal_of(const struct sigevent *event)
     return event->sigev_notify == SIGEV_NONE ? 0 : EINVAL;
 }
 
-static int make_or_end(mqd_t mqdes, const struct sigevent *sevp)
+static int make_or_end(struct ipcd *client, size_t number, const struct sigevent *sevp)
 {
-    struct ipcd *client = current_client();
-    size_t number = handle_of(mqdes);
     struct handle handle;
     bool is_open = copy_handle(client, number, POSIX_QUEUE, &handle);
     int refusal = is_open ? refusal_of(sevp) : EBADF;
@@ -261,7 +289,7 @@ static int make_or_end(mqd_t mqdes, const struct sigevent *sevp)
         return 0;
     }
     // The connection that is there may have ended: then that is said first, as of each call.
-    if (ipcd_mq_getattr(mqdes, &(struct mq_attr){0}) < 0)
+    if (ipcd_mq_getattr(FIRST_DESCRIPTOR + (mqd_t) number, &(struct mq_attr){0}) < 0)
         return -1;
     int saved = errno;
     struct registration *made = make_registration(client, number, sevp);
@@ -279,8 +307,13 @@ static int make_or_end(mqd_t mqdes, const struct sigevent *sevp)
 
 int ipcd_mq_notify(mqd_t mqdes, const struct sigevent *sevp)
 {
+    struct ipcd *client = current_client();
+    size_t number = handle_of(mqdes);
     int cancellation = hold_cancellation();
-    int result = make_or_end(mqdes, sevp);
+    mqd_t own = enter_queue(client, number);
+    int result = own >= 0 ? system_queues()->notify(own, sevp) : make_or_end(client, number, sevp);
+    if (own < 0)
+        leave_queue(client, number);
     allow_cancellation(cancellation);
     return result;
 }

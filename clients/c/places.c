@@ -73,7 +73,7 @@ void remove_places(struct ipcd *client)
         give_back(client->places, SEMAPHORES * page());
 }
 
-static void pause_shortly(void)
+void pause_shortly(void)
 {
     int saved = errno, cancellation = hold_cancellation();
     nanosleep(&(struct timespec){.tv_nsec = 1000 * 1000}, NULL);
@@ -160,15 +160,20 @@ static uint64_t hash_of(const char *name, size_t length)
     return hash;
 }
 
-uint32_t tell_open(const struct ipcd *client, const char *name, size_t length, uint64_t token)
+static char entry_of(enum kind kind)
 {
-    return tell_semaphore(client->path, hash_of(name, length), token);
+    return kind == POSIX_QUEUE ? QUEUE_ENTRY : SEMAPHORE_ENTRY;
 }
 
-void tell_closed(const struct ipcd *client, const char *name, size_t length, uint32_t told)
+uint32_t tell_open(const struct ipcd *client, enum kind kind, const char *name, size_t length, uint64_t token)
+{
+    return tell_object(client->path, entry_of(kind), hash_of(name, length), token);
+}
+
+void tell_closed(const struct ipcd *client, enum kind kind, const char *name, size_t length, uint32_t told)
 {
     if (told != 0)
-        no_more_semaphore(client->path, hash_of(name, length), told);
+        no_more_object(client->path, entry_of(kind), hash_of(name, length), told);
 }
 
 bool is_open_elsewhere(struct ipcd *client, size_t number, const struct handle *handle)
@@ -176,5 +181,11 @@ bool is_open_elsewhere(struct ipcd *client, size_t number, const struct handle *
     // Who could not say that it is open has maybe not heard of others.
     if (handle->told == 0)
         return true;
-    return others_have_semaphore(client->path, hash_of(handle->name, handle->length), place_of(client, number)->token);
+    uint64_t hash = hash_of(handle->name, handle->length), token = place_of(client, number)->token;
+    return others_of_object(client->path, SEMAPHORE_ENTRY, hash, token) > 0;
+}
+
+size_t opens_of_queue(const struct ipcd *client, const char *name, size_t length)
+{
+    return others_of_object(client->path, QUEUE_ENTRY, hash_of(name, length), 0);
 }

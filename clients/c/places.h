@@ -39,13 +39,21 @@ HIDDEN int leave_place(struct place *place, int result);
 HIDDEN bool begin_change(struct place *place);
 HIDDEN bool end_change(struct place *place, bool is_own);
 
-// What processes tell each other in the folder SOCKET.pids: which have a semaphore open. Each entry has a number, 0 if
-// nothing could be told; those that share a place have one token.
-HIDDEN uint64_t new_token(void);
-HIDDEN uint32_t tell_open(const struct ipcd *client, const char *name, size_t length, uint64_t token);
-HIDDEN void tell_closed(const struct ipcd *client, const char *name, size_t length, uint32_t told);
+// Lets a moment pass, as while another thread changes an object. errno stays.
+HIDDEN void pause_shortly(void);
 
-// Whether a process has it open that does not share the place, or may have.
+// What processes tell each other in the folder SOCKET.pids: which have a semaphore or a queue open. Each entry has a
+// number, 0 if nothing could be told; those that share the place of a semaphore have one token.
+HIDDEN uint64_t new_token(void);
+HIDDEN uint32_t tell_open(
+    const struct ipcd *client, enum kind kind, const char *name, size_t length, uint64_t token);
+HIDDEN void tell_closed(
+    const struct ipcd *client, enum kind kind, const char *name, size_t length, uint32_t told);
+
+// Whether a process has a semaphore open that does not share the place, or may have.
 HIDDEN bool is_open_elsewhere(struct ipcd *client, size_t number, const struct handle *handle);
+
+// How many opens of a queue there are, by all processes.
+HIDDEN size_t opens_of_queue(const struct ipcd *client, const char *name, size_t length);
 
 #endif

@@ -9,11 +9,24 @@
 #include "client.h"
 #include "handles.h"
 #include "memory.h"
+#include "own_queues.h"
+#include "places.h"
 
 // Attributes that are beyond any limit stay so.
 static int32_t bounded(long attribute)
 {
     return attribute > INT_MAX ? INT_MAX : attribute < 0 ? 0 : (int32_t) attribute;
+}
+
+// It is told before it is open, so that a process which unlinks it then knows of this one.
+static int open_queue(struct ipcd *client, const char *given, struct wanted *wanted)
+{
+    char name[NAME_ROOM];
+    ssize_t length = read_name(given, POSIX_QUEUE, name);
+    if (length < 0)
+        return -1;
+    wanted->told = tell_open(client, POSIX_QUEUE, name, (size_t) length, new_token());
+    return open_handle(client, name, wanted);
 }
 
 mqd_t ipcd_mq_open(const char *name, int oflag, ...)
@@ -34,7 +47,7 @@ mqd_t ipcd_mq_open(const char *name, int oflag, ...)
         wanted.maxmsg = attributes == NULL ? 0 : bounded(attributes->mq_maxmsg);
         wanted.msgsize = attributes == NULL ? 0 : bounded(attributes->mq_msgsize);
     }
-    int number = open_handle(current_client(), name, &wanted);
+    int number = open_queue(current_client(), name, &wanted);
     return number < 0 ? -1 : FIRST_DESCRIPTOR + number;
 }
 
@@ -43,26 +56,27 @@ int ipcd_mq_close(mqd_t mqdes)
     return close_handle(current_client(), handle_of(mqdes), POSIX_QUEUE, EBADF);
 }
 
-int ipcd_mq_unlink(const char *name)
+static struct link *begin_on_queue(struct ipcd *client, size_t number, enum opcode opcode)
 {
-    return unlink_name(current_client(), name, POSIX_QUEUE, MQ_UNLINK);
+    return begin_on(client, number, POSIX_QUEUE, EBADF, opcode);
 }
 
-static struct link *begin_on_queue(mqd_t mqdes, enum opcode opcode)
+// A call that may wait at the server, and in which the thread may be cancelled.
+struct call {
+    struct ipcd *client;
+    size_t number;
+};
+
+static void leave_at_end(void *call)
 {
-    return begin_on(current_client(), handle_of(mqdes), POSIX_QUEUE, EBADF, opcode);
+    const struct call *it = call;
+    leave_queue(it->client, it->number);
 }
 
-int ipcd_mq_timedsend(mqd_t mqdes, const char *msg_ptr, size_t msg_len, unsigned int msg_prio,
-                      const struct timespec *abs_timeout)
+static int send_on_link(
+    const struct call *it, const char *msg_ptr, size_t msg_len, unsigned msg_prio, uint64_t deadline)
 {
-    uint64_t deadline;
-    int refusal = milliseconds(abs_timeout, &deadline);
-    if (refusal != 0) {
-        errno = refusal;
-        return -1;
-    }
-    struct link *link = begin_on_queue(mqdes, MQ_SEND);
+    struct link *link = begin_on_queue(it->client, it->number, MQ_SEND);
     if (link == NULL)
         return -1;
     put_u64(link, deadline);
@@ -75,25 +89,34 @@ int ipcd_mq_timedsend(mqd_t mqdes, const char *msg_ptr, size_t msg_len, unsigned
     return end_empty(link, RESTARTED);
 }
 
+int ipcd_mq_timedsend(mqd_t mqdes, const char *msg_ptr, size_t msg_len, unsigned int msg_prio,
+                      const struct timespec *abs_timeout)
+{
+    uint64_t deadline;
+    int result, refusal = milliseconds(abs_timeout, &deadline);
+    if (refusal != 0) {
+        errno = refusal;
+        return -1;
+    }
+    struct call call = {current_client(), handle_of(mqdes)};
+    mqd_t own = enter_queue(call.client, call.number);
+    if (own >= 0)
+        return system_queues()->timedsend(own, msg_ptr, msg_len, msg_prio, abs_timeout);
+    pthread_cleanup_push(leave_at_end, &call);
+    result = send_on_link(&call, msg_ptr, msg_len, msg_prio, deadline);
+    pthread_cleanup_pop(true);
+    return result;
+}
+
 int ipcd_mq_send(mqd_t mqdes, const char *msg_ptr, size_t msg_len, unsigned int msg_prio)
 {
     return ipcd_mq_timedsend(mqdes, msg_ptr, msg_len, msg_prio, NULL);
 }
 
-ssize_t ipcd_mq_timedreceive(mqd_t mqdes, char *msg_ptr, size_t msg_len, unsigned int *msg_prio,
-                             const struct timespec *abs_timeout)
+static ssize_t receive_on_link(
+    const struct call *it, char *msg_ptr, size_t msg_len, unsigned *msg_prio, uint64_t deadline)
 {
-    uint64_t deadline;
-    int refusal = milliseconds(abs_timeout, &deadline);
-    if (refusal == 0 && msg_prio != NULL && !is_writable(msg_prio, sizeof *msg_prio))
-        refusal = EFAULT;
-    if (refusal == 0 && msg_len > 0 && !is_writable(msg_ptr, 1))
-        refusal = EFAULT;
-    if (refusal != 0) {
-        errno = refusal;
-        return -1;
-    }
-    struct link *link = begin_on_queue(mqdes, MQ_RECEIVE);
+    struct link *link = begin_on_queue(it->client, it->number, MQ_RECEIVE);
     if (link == NULL)
         return -1;
     put_u64(link, deadline);
@@ -111,6 +134,30 @@ ssize_t ipcd_mq_timedreceive(mqd_t mqdes, char *msg_ptr, size_t msg_len, unsigne
     if (msg_prio != NULL)
         *msg_prio = read_u32(link->body);
     return end(link, size);
+}
+
+ssize_t ipcd_mq_timedreceive(mqd_t mqdes, char *msg_ptr, size_t msg_len, unsigned int *msg_prio,
+                             const struct timespec *abs_timeout)
+{
+    uint64_t deadline;
+    ssize_t size;
+    int refusal = milliseconds(abs_timeout, &deadline);
+    if (refusal == 0 && msg_prio != NULL && !is_writable(msg_prio, sizeof *msg_prio))
+        refusal = EFAULT;
+    if (refusal == 0 && msg_len > 0 && !is_writable(msg_ptr, 1))
+        refusal = EFAULT;
+    if (refusal != 0) {
+        errno = refusal;
+        return -1;
+    }
+    struct call call = {current_client(), handle_of(mqdes)};
+    mqd_t own = enter_queue(call.client, call.number);
+    if (own >= 0)
+        return system_queues()->timedreceive(own, msg_ptr, msg_len, msg_prio, abs_timeout);
+    pthread_cleanup_push(leave_at_end, &call);
+    size = receive_on_link(&call, msg_ptr, msg_len, msg_prio, deadline);
+    pthread_cleanup_pop(true);
+    return size;
 }
 
 ssize_t ipcd_mq_receive(mqd_t mqdes, char *msg_ptr, size_t msg_len, unsigned int *msg_prio)
@@ -139,8 +186,15 @@ int ipcd_mq_getattr(mqd_t mqdes, struct mq_attr *attr)
         errno = EFAULT;
         return -1;
     }
-    struct link *link = begin_on_queue(mqdes, MQ_GETATTR);
-    return link == NULL ? -1 : (int) end(link, read_attributes(link, attr));
+    struct ipcd *client = current_client();
+    size_t number = handle_of(mqdes);
+    mqd_t own = enter_queue(client, number);
+    if (own >= 0)
+        return system_queues()->getattr(own, attr);
+    struct link *link = begin_on_queue(client, number, MQ_GETATTR);
+    int result = link == NULL ? -1 : (int) end(link, read_attributes(link, attr));
+    leave_queue(client, number);
+    return result;
 }
 
 // Notes the flag of the queue that was set on this link. The handle may have been closed meanwhile.
@@ -153,6 +207,18 @@ static void note_nonblocking(struct link *link, size_t number, bool nonblocking)
     if (client->handles[number].generation == link->generations[number])
         client->handles[number].nonblocking = nonblocking;
     unlock_handles(client, &mask);
+}
+
+static int set_on_link(struct ipcd *client, size_t number, long flags, struct mq_attr *oldattr)
+{
+    struct link *link = begin_on_queue(client, number, MQ_SETATTR);
+    if (link == NULL)
+        return -1;
+    put_u32(link, (uint32_t) flags);
+    int result = read_attributes(link, oldattr);
+    if (result == 0)
+        note_nonblocking(link, number, flags != 0);
+    return (int) end(link, result);
 }
 
 int ipcd_mq_setattr(mqd_t mqdes, const struct mq_attr *newattr, struct mq_attr *oldattr)
@@ -168,12 +234,12 @@ int ipcd_mq_setattr(mqd_t mqdes, const struct mq_attr *newattr, struct mq_attr *
         errno = EINVAL;
         return -1;
     }
-    struct link *link = begin_on_queue(mqdes, MQ_SETATTR);
-    if (link == NULL)
-        return -1;
-    put_u32(link, (uint32_t) flags);
-    int result = read_attributes(link, oldattr);
-    if (result == 0)
-        note_nonblocking(link, handle_of(mqdes), flags != 0);
-    return (int) end(link, result);
+    struct ipcd *client = current_client();
+    size_t number = handle_of(mqdes);
+    mqd_t own = enter_queue(client, number);
+    if (own >= 0)
+        return system_queues()->setattr(own, newattr, oldattr);
+    int result = set_on_link(client, number, flags, oldattr);
+    leave_queue(client, number);
+    return result;
 }

@@ -7,6 +7,7 @@
 
 #include "again.h"
 #include "named_semaphores.h"
+#include "own_queues.h"
 #include "preload.h"
 
 mqd_t redirected_mq_open(const char *name, int oflag, ...) IN_PLACE_OF(mq_open);
@@ -35,8 +36,10 @@ int redirected_sem_clockwait(sem_t *sem, clockid_t clock, const struct timespec 
 int redirected_sem_post(sem_t *sem) IN_PLACE_OF(sem_post);
 int redirected_sem_getvalue(sem_t *sem, int *value) IN_PLACE_OF(sem_getvalue);
 
-// The C library's own calls of unnamed semaphores. A program whose library has none of a name does not call it.
+// The C library's own calls of unnamed semaphores, and of queues that are the kernel's. A program whose library has
+// none of a name does not call it.
 static struct system_semaphores own;
+static struct system_queues own_queues;
 
 static void find(void *place, const char *name)
 {
@@ -52,6 +55,13 @@ __attribute__((constructor)) static void find_own(void)
     find(&own.clockwait, "sem_clockwait");
     find(&own.post, "sem_post");
     find(&own.getvalue, "sem_getvalue");
+    find(&own_queues.open, "mq_open");
+    find(&own_queues.unlink, "mq_unlink");
+    find(&own_queues.timedsend, "mq_timedsend");
+    find(&own_queues.timedreceive, "mq_timedreceive");
+    find(&own_queues.getattr, "mq_getattr");
+    find(&own_queues.setattr, "mq_setattr");
+    find(&own_queues.notify, "mq_notify");
 }
 
 // Another library's constructor may call before that of this one.
@@ -69,6 +79,13 @@ const struct system_semaphores *system_semaphores(void)
     if (own.post == NULL)
         find_own();
     return &own;
+}
+
+const struct system_queues *system_queues(void)
+{
+    if (own.post == NULL)
+        find_own();
+    return &own_queues;
 }
 
 mqd_t redirected_mq_open(const char *name, int oflag, ...)

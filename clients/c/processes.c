@@ -1,9 +1,10 @@
 // Which process of the system is which of the server. The folder is SOCKET.pids, of mode 01777; an entry is a
 // symbolic link whose name is the server's number, and whose text is the system's number and when that process began.
 // It counts if the process is alive, began then, and is of the owner of the entry, who was its user at its HELLO; one
-// of root's counts whoever the process is now. Semaphores have entries there too: an `s` and the hash of its name,
-// the system's number of the process that has it open, and a number of the entry, with dots between; the text is as
-// above, then a token and the namespace in which the process has its number. An `m` begins what segment_files.c has.
+// of root's counts whoever the process is now. Named semaphores and POSIX queues have entries there too: an `s` or a
+// `q` and the hash of its name, the system's number of the process that has it open, and a number of the entry, with
+// dots between; the text is as above, then a token and the namespace in which the process has its number. An `m` begins
+// what segment_files.c has.
 #define _GNU_SOURCE
 #include "processes.h"
 
@@ -126,7 +127,7 @@ static void sweep(const char *socket)
         if (pid != 0 && named_by(path) == 0)
             unlink(path);
         snprintf(path, sizeof path, "%s.pids/%s", socket, entry->d_name);
-        if (entry->d_name[0] == 's')
+        if (entry->d_name[0] == SEMAPHORE_ENTRY || entry->d_name[0] == QUEUE_ENTRY)
             is_of_another(path, 0);
     }
     closedir(folder);
@@ -179,19 +180,20 @@ pid_t system_pid(const char *socket, uint32_t pid)
     return found == 0 ? (pid_t) pid : (pid_t) found;
 }
 
-static void name_semaphore(char *path, const char *socket, uint64_t hash, uint32_t number)
+static void name_object(char *path, const char *socket, char kind, uint64_t hash, uint32_t number)
 {
-    snprintf(path, LONGEST, "%s.pids/s%016llx.%ld.%u", socket, (unsigned long long) hash, (long) getpid(), number);
+    long pid = getpid();
+    snprintf(path, LONGEST, "%s.pids/%c%016llx.%ld.%u", socket, kind, (unsigned long long) hash, pid, number);
 }
 
-uint32_t tell_semaphore(const char *socket, uint64_t hash, uint64_t token)
+uint32_t tell_object(const char *socket, char kind, uint64_t hash, uint64_t token)
 {
     static atomic_uint last;
     int saved = errno;
     char path[LONGEST], text[128];
     uint32_t number = ++last;
     make_folder(socket);
-    name_semaphore(path, socket, hash, number);
+    name_object(path, socket, kind, hash, number);
     snprintf(text, sizeof text, "%ld %llu %llx %llu", (long) getpid(), beginning(getpid()), (unsigned long long) token,
              own_namespace());
     bool is_made = make_entry(path, text);
@@ -199,31 +201,31 @@ uint32_t tell_semaphore(const char *socket, uint64_t hash, uint64_t token)
     return is_made ? number : 0;
 }
 
-void no_more_semaphore(const char *socket, uint64_t hash, uint32_t number)
+void no_more_object(const char *socket, char kind, uint64_t hash, uint32_t number)
 {
     int saved = errno;
     char path[LONGEST];
-    name_semaphore(path, socket, hash, number);
+    name_object(path, socket, kind, hash, number);
     unlink(path);
     errno = saved;
 }
 
-bool others_have_semaphore(const char *socket, uint64_t hash, uint64_t token)
+size_t others_of_object(const char *socket, char kind, uint64_t hash, uint64_t token)
 {
     int saved = errno;
     char path[LONGEST + 256], begin[32];
-    snprintf(begin, sizeof begin, "s%016llx.", (unsigned long long) hash);
+    snprintf(begin, sizeof begin, "%c%016llx.", kind, (unsigned long long) hash);
     snprintf(path, sizeof path, "%s.pids", socket);
     DIR *folder = opendir(path);
-    bool found = folder == NULL;
-    for (struct dirent *entry; !found && (entry = readdir(folder)) != NULL;) {
+    size_t count = folder == NULL ? SIZE_MAX : 0;
+    for (struct dirent *entry; folder != NULL && (entry = readdir(folder)) != NULL;) {
         if (strncmp(entry->d_name, begin, strlen(begin)) != 0)
             continue;
         snprintf(path, sizeof path, "%s.pids/%s", socket, entry->d_name);
-        found = is_of_another(path, token);
+        count += is_of_another(path, token);
     }
     if (folder != NULL)
         closedir(folder);
     errno = saved;
-    return found;
+    return count;
 }

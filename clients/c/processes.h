@@ -2,7 +2,7 @@
 #ifndef IPCD_PROCESSES_H
 #define IPCD_PROCESSES_H
 
-#include <stdbool.h>
+#include <stddef.h>
 #include <stdint.h>
 #include <sys/types.h>
 
@@ -13,12 +13,16 @@ __attribute__((visibility("hidden"))) void no_more(const char *socket, uint32_t 
 // The system's number of a process of the server that is alive, else the server's number.
 __attribute__((visibility("hidden"))) pid_t system_pid(const char *socket, uint32_t pid);
 
-// Which processes have a named semaphore open: each says so by an entry, beside those above, of a hash of the name
-// and a token of its own. It has a number above 0, or 0 if it could not be made. They leave errno as it was.
-__attribute__((visibility("hidden"))) uint32_t tell_semaphore(const char *socket, uint64_t hash, uint64_t token);
-__attribute__((visibility("hidden"))) void no_more_semaphore(const char *socket, uint64_t hash, uint32_t number);
+// Which processes have an object open that has a name: each says so by an entry, beside those above, of a hash of the
+// name and a token. It has a number above 0, or 0 if it could not be made. They leave errno as it was.
+enum { SEMAPHORE_ENTRY = 's', QUEUE_ENTRY = 'q' };
+__attribute__((visibility("hidden"))) uint32_t tell_object(
+    const char *socket, char kind, uint64_t hash, uint64_t token);
+__attribute__((visibility("hidden"))) void no_more_object(
+    const char *socket, char kind, uint64_t hash, uint32_t number);
 
-// Whether there is, or may be, a process alive with such an entry and another token.
-__attribute__((visibility("hidden"))) bool others_have_semaphore(const char *socket, uint64_t hash, uint64_t token);
+// How many such entries there are with another token, of processes that are alive or may be.
+__attribute__((visibility("hidden"))) size_t others_of_object(
+    const char *socket, char kind, uint64_t hash, uint64_t token);
 
 #endif

@@ -661,13 +661,6 @@ static void is_not_cancelled(void)
     CHECK(pthread_join(waits, &result) == 0 && result == PTHREAD_CANCELED && number == 77);
 }
 
-static void find_none(void *unused)
-{
-    (void) unused;
-    REFUSED(mq_send(letters, "a", 1, 0), EBADF);
-    CHECK(mq_close(letters) == 0);
-}
-
 static void run_long(void *unused)
 {
     (void) unused;
@@ -675,13 +668,25 @@ static void run_long(void *unused)
     execl("/bin/sleep", "sleep", "20", (char *) NULL);
 }
 
-// Where a server differs from the kernel: a queue without a name is not a child's, and an exec adds adjustments.
+static void find_none(void *ends)
+{
+    char byte;
+    CHECK(read(*(int *) ends, &byte, 1) == 1);
+    REFUSED(mq_send(letters, "a", 1, 0), EBADF);
+    CHECK(mq_close(letters) == 0);
+}
+
+// Where a server differs from the kernel: a queue that is unlinked is not that of a child which was forked before and
+// has not used it, and an exec adds adjustments.
 static void differs(void)
 {
+    int ends[2];
     letters = mq_open("/ipcd_letters", O_RDWR | O_CREAT, 0600, NULL);
-    CHECK(letters != -1 && mq_unlink("/ipcd_letters") == 0);
-    ends_well(start(find_none, NULL));
-    CHECK(mq_send(letters, "a", 1, 0) == 0);
+    CHECK(letters != -1 && pipe(ends) == 0);
+    pid_t finds = start(find_none, ends);
+    CHECK(mq_unlink("/ipcd_letters") == 0 && write(ends[1], "u", 1) == 1);
+    ends_well(finds);
+    CHECK(mq_send(letters, "a", 1, 0) == 0 && mq_close(letters) == 0);
     CHECK(change(0, 1, 0) == 0);
     pid_t child = start(run_long, NULL);
     for (double began = now(); now() - began < 5 && semctl(set, 0, GETPID) != child;)

@@ -213,12 +213,11 @@ static void restarts(void)
         is_there_again();
         CHECK(get_value() == 0 && get_sem() == 0 && value == 0);
     }
-    // What had no name any more is gone, and nothing that is made under the name is it.
+    // Nothing that is made under the name of what has none any more is it.
     mqd_t other = mq_open("/ipcd_l", O_RDWR | O_CREAT, 0600, &attributes);
     CHECK(other != -1 && other != lost);
-    REFUSED(mq_send(lost, "l", 1, 0), EBADF);
-    REFUSED(mq_getattr(lost, &attributes), EBADF);
-    // Such a semaphore has become the C library's, and has been posted once.
+    // Such a queue has become the kernel's, and such a semaphore the C library's: one message is there, and one post.
+    CHECK(mq_receive(lost, text, 8, NULL) == 1 && text[0] == 'l' && mq_getattr(lost, &attributes) == 0);
     CHECK(sem_wait(lost_sem) == 0 && sem_getvalue(lost_sem, &value) == 0 && value == 0);
     CHECK(mq_close(lost) == 0 && sem_close(lost_sem) == 0);
     CHECK(mq_receive(full, text, 8, NULL) == 1 && text[0] == 'f');
