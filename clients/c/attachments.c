@@ -28,8 +28,10 @@ int ipcd_shmget(key_t key, size_t size, int shmflg)
     return noted(client, SEGMENTS, end_number(link));
 }
 
-static void read_record(const char *socket, const unsigned char *body, struct shmid_ds *record)
+static void read_record(const struct link *link, struct shmid_ds *record)
 {
+    const unsigned char *body = link->body;
+    const char *socket = link->client->path;
     memset(record, 0, sizeof *record);
     record->shm_perm.__key = (key_t) read_u32(body);
     record->shm_perm.uid = read_u32(body + 4);
@@ -40,8 +42,8 @@ static void read_record(const char *socket, const unsigned char *body, struct sh
     record->shm_atime = (time_t) (read_u64(body + 24) / 1000);
     record->shm_dtime = (time_t) (read_u64(body + 32) / 1000);
     record->shm_ctime = (time_t) (read_u64(body + 40) / 1000);
-    record->shm_cpid = system_pid(socket, read_u32(body + 48));
-    record->shm_lpid = system_pid(socket, read_u32(body + 52));
+    record->shm_cpid = system_pid(socket, &link->life, read_u32(body + 48));
+    record->shm_lpid = system_pid(socket, &link->life, read_u32(body + 52));
     record->shm_nattch = read_u32(body + 56);
     record->shm_segsz = read_u64(body + 60);
 }
@@ -58,7 +60,7 @@ static int stat_segment(int shmid, struct shmid_ds *buf)
         errno = EFAULT;
         return (int) end(link, -1);
     }
-    read_record(link->client->path, link->body, buf);
+    read_record(link, buf);
     return (int) end(link, 0);
 }
 

@@ -89,7 +89,7 @@ static void tell_no_more(const struct ipcd *client)
 {
     for (size_t i = 0; i < PROCESSES_MOST; i++)
         if (client->links[i] != NULL && client->links[i]->socket >= 0)
-            no_more(client->path, client->links[i]->pid);
+            no_more(client->path, &client->links[i]->life, client->links[i]->pid);
 }
 
 // What the process has told of itself is taken back, so that the folder stays small.
@@ -343,9 +343,12 @@ static int wake(struct link *link)
         }
     }
     if (link->socket < 0) {
+        // What was told of an earlier connection is of another life.
+        if (link->pids_come_again)
+            no_more(client->path, &link->life, link->pid);
         if (link_connect(link, client->path) < 0)
             return -1;
-        tell_process(client->path, link->pid);
+        tell_process(client->path, &link->life, link->pid);
         if (is_first && open_all_again(link) < 0)
             return -1;
     }
@@ -679,7 +682,7 @@ void ipcd_disconnect(struct ipcd *connection)
         if (link == NULL)
             continue;
         if (link->socket >= 0)
-            no_more(connection->path, link->pid);
+            no_more(connection->path, &link->life, link->pid);
         link_drop(link);
         give_back(link, sizeof *link);
     }

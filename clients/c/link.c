@@ -474,5 +474,6 @@ int link_connect(struct link *link, const char *path)
     }
     link->pid = read_u32(link->body);
     link->pids_come_again = done > 4;
+    link->life = link->pids_come_again ? life_of(link->socket) : (struct life){0, 0};
     return 0;
 }

@@ -8,6 +8,7 @@
 #include <stdint.h>
 #include <sys/types.h>
 
+#include "processes.h"
 #include "semaphore_values.h"
 #include "wire.h"
 
@@ -49,6 +50,7 @@ struct link {
     size_t placed;            // how many bytes of it are there
     uint32_t pid;             // the server's number of the process
     bool pids_come_again;     // after a restart of the server, as on a device of version 3
+    struct life life;         // of the server, if so
     uint32_t serial;
     uint32_t file_changes;    // when it was last seen that the socket is there
     uint32_t closings;        // how many handles were closed when it was last looked through

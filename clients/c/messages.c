@@ -93,8 +93,10 @@ ssize_t ipcd_msgrcv(int msqid, void *msgp, size_t msgsz, long msgtyp, int msgflg
     return end(link, size - 8);
 }
 
-static void read_record(const char *socket, const unsigned char *body, struct msqid_ds *record)
+static void read_record(const struct link *link, struct msqid_ds *record)
 {
+    const unsigned char *body = link->body;
+    const char *socket = link->client->path;
     memset(record, 0, sizeof *record);
     record->msg_perm.__key = (key_t) read_u32(body);
     record->msg_perm.uid = read_u32(body + 4);
@@ -105,8 +107,8 @@ static void read_record(const char *socket, const unsigned char *body, struct ms
     record->msg_stime = (time_t) (read_u64(body + 24) / 1000);
     record->msg_rtime = (time_t) (read_u64(body + 32) / 1000);
     record->msg_ctime = (time_t) (read_u64(body + 40) / 1000);
-    record->msg_lspid = system_pid(socket, read_u32(body + 48));
-    record->msg_lrpid = system_pid(socket, read_u32(body + 52));
+    record->msg_lspid = system_pid(socket, &link->life, read_u32(body + 48));
+    record->msg_lrpid = system_pid(socket, &link->life, read_u32(body + 52));
     record->msg_qbytes = read_u32(body + 56);
     record->msg_qnum = read_u32(body + 60);
     record->__msg_cbytes = read_u32(body + 64);
@@ -124,7 +126,7 @@ static int stat_queue(int msqid, struct msqid_ds *buf)
         errno = EFAULT;
         return (int) end(link, -1);
     }
-    read_record(link->client->path, link->body, buf);
+    read_record(link, buf);
     return (int) end(link, 0);
 }
 

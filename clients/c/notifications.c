@@ -30,7 +30,7 @@ struct registration {
 
 static void free_registration(struct registration *it)
 {
-    no_more(it->client->path, it->link->pid);
+    no_more(it->client->path, &it->link->life, it->link->pid);
     link_drop(it->link);
     give_back(it->link, sizeof *it->link);
     pthread_attr_destroy(&it->attributes);
@@ -210,7 +210,7 @@ static int connect_registration(struct registration *it)
     }
     if (link_connect(it->link, it->client->path) < 0)
         return -1;
-    tell_process(it->client->path, it->link->pid);
+    tell_process(it->client->path, &it->link->life, it->link->pid);
     if (open_again(it->link, it->number, &handle) < 0) {
         if (errno == ENOENT)
             errno = EBADF;

@@ -1,10 +1,11 @@
 // Which process of the system is which of the server. The folder is SOCKET.pids, of mode 01777; an entry is a
 // symbolic link whose name is the server's number, and whose text is the system's number and when that process began.
 // It counts if the process is alive, began then, and is of the owner of the entry, who was its user at its HELLO; one
-// of root's counts whoever the process is now. Named semaphores and POSIX queues have entries there too: an `s` or a
-// `q` and the hash of its name, the system's number of the process that has it open, and a number of the entry, with
-// dots between; the text is as above, then a token and the namespace in which the process has its number. An `m` begins
-// what segment_files.c has.
+// of root's counts whoever the process is now. Where numbers come again, the name has also the system's number of the
+// server and when that began, with dots between: no entry of an earlier life counts, or is in the way. Named semaphores
+// and POSIX queues have entries there too: an `s` or a `q` and the hash of its name, the system's number of the process
+// that has it open, and a number of the entry, with dots between; the text is as above, then a token and the namespace
+// in which the process has its number. An `m` begins what segment_files.c has.
 #define _GNU_SOURCE
 #include "processes.h"
 
@@ -17,14 +18,24 @@
 #include <stdio.h>
 #include <stdlib.h>
 #include <string.h>
+#include <sys/socket.h>
 #include <sys/stat.h>
 #include <unistd.h>
 
 enum { LONGEST = 320, SWEEP_EACH = 32 };
 
-static void name_entry(char *path, const char *socket, uint32_t pid)
+// Whether entries can be told from those of other lives.
+static bool is_known(const struct life *life)
 {
-    snprintf(path, LONGEST, "%s.pids/%u", socket, pid);
+    return life->server != 0 || life->began == 0;
+}
+
+static void name_entry(char *path, const char *socket, const struct life *life, uint32_t pid)
+{
+    if (life->server == 0)
+        snprintf(path, LONGEST, "%s.pids/%u", socket, pid);
+    else
+        snprintf(path, LONGEST, "%s.pids/%u.%ld.%llu", socket, pid, life->server, life->began);
 }
 
 // Reads a file of a process below /proc.
@@ -51,6 +62,26 @@ static unsigned long long beginning(long pid)
     for (int field = 2; at != NULL && field < 22; field++)
         at = strchr(at + 1, ' ');
     return at == NULL ? 0 : strtoull(at, NULL, 10);
+}
+
+// One of another namespace of processes has no number here, and one that is gone no beginning.
+struct life life_of(int socket)
+{
+    struct ucred peer = {.pid = 0};
+    socklen_t size = sizeof peer;
+    int saved = errno;
+    bool is_there = getsockopt(socket, SOL_SOCKET, SO_PEERCRED, &peer, &size) == 0 && peer.pid > 0;
+    unsigned long long began = is_there ? beginning(peer.pid) : 0;
+    errno = saved;
+    return began == 0 ? (struct life){0, 1} : (struct life){peer.pid, began};
+}
+
+// Whether an entry is of a life that has ended.
+static bool is_of_the_past(const char *name)
+{
+    unsigned pid;
+    struct life life;
+    return sscanf(name, "%u.%ld.%llu", &pid, &life.server, &life.began) == 3 && beginning(life.server) != life.began;
 }
 
 // Whether a process may act as this user: it is its real, effective or saved one. A process may go to and fro between
@@ -113,7 +144,7 @@ static bool is_of_another(const char *path, uint64_t token)
     return !is_dead;
 }
 
-// Removes the entries of processes that were killed, as far as they are the caller's.
+// Removes the entries of processes that were killed, and of earlier lives, as far as they are the caller's.
 static void sweep(const char *socket)
 {
     char path[LONGEST + 256];
@@ -122,11 +153,10 @@ static void sweep(const char *socket)
     if (folder == NULL)
         return;
     for (struct dirent *entry; (entry = readdir(folder)) != NULL;) {
-        uint32_t pid = (uint32_t) strtoul(entry->d_name, NULL, 10);
-        name_entry(path, socket, pid);
-        if (pid != 0 && named_by(path) == 0)
-            unlink(path);
         snprintf(path, sizeof path, "%s.pids/%s", socket, entry->d_name);
+        bool is_process = strtoul(entry->d_name, NULL, 10) != 0;
+        if (is_process && (named_by(path) == 0 || is_of_the_past(entry->d_name)))
+            unlink(path);
         if (entry->d_name[0] == SEMAPHORE_ENTRY || entry->d_name[0] == QUEUE_ENTRY)
             is_of_another(path, 0);
     }
@@ -147,35 +177,37 @@ static bool make_entry(const char *path, const char *text)
     return symlink(text, path) == 0 || (errno == EEXIST && unlink(path) == 0 && symlink(text, path) == 0);
 }
 
-void tell_process(const char *socket, uint32_t pid)
+void tell_process(const char *socket, const struct life *life, uint32_t pid)
 {
     int saved = errno;
     char path[LONGEST], text[64];
     make_folder(socket);
     snprintf(text, sizeof text, "%ld %llu", (long) getpid(), beginning(getpid()));
-    name_entry(path, socket, pid);
-    make_entry(path, text);
+    name_entry(path, socket, life, pid);
+    if (is_known(life))
+        make_entry(path, text);
     errno = saved;
 }
 
-void no_more(const char *socket, uint32_t pid)
+void no_more(const char *socket, const struct life *life, uint32_t pid)
 {
     int saved = errno;
     char path[LONGEST];
-    name_entry(path, socket, pid);
-    if (named_by(path) == getpid())
+    name_entry(path, socket, life, pid);
+    if (is_known(life) && named_by(path) == getpid())
         unlink(path);
-    if (pid % SWEEP_EACH == 0)
+    // The first of each life is one of them.
+    if (pid % SWEEP_EACH == 1)
         sweep(socket);
     errno = saved;
 }
 
-pid_t system_pid(const char *socket, uint32_t pid)
+pid_t system_pid(const char *socket, const struct life *life, uint32_t pid)
 {
     int saved = errno;
     char path[LONGEST];
-    name_entry(path, socket, pid);
-    long found = pid == 0 ? 0 : named_by(path);
+    name_entry(path, socket, life, pid);
+    long found = pid == 0 || !is_known(life) ? 0 : named_by(path);
     errno = saved;
     return found == 0 ? (pid_t) pid : (pid_t) found;
 }

@@ -37,15 +37,22 @@ static void note_operations(struct link *link, uint32_t semid, size_t nsops)
     }
 }
 
-// A call whose field beside the set is the number of a semaphore, and whose answer is a number.
-static int number_of(enum opcode opcode, int semid, int semnum)
+// A call begins whose field beside the set is the number of a semaphore.
+static struct link *begin_on_one(enum opcode opcode, int semid, int semnum)
 {
     struct link *link = begin(opcode);
     if (link == NULL)
-        return -1;
+        return NULL;
     put_u32(link, (uint32_t) semid);
     put_u32(link, (uint32_t) semnum);
-    return end_number(link);
+    return link;
+}
+
+// Such a call, whose answer is a number.
+static int number_of(enum opcode opcode, int semid, int semnum)
+{
+    struct link *link = begin_on_one(opcode, semid, semnum);
+    return link == NULL ? -1 : end_number(link);
 }
 
 // Whether a lost semop is known to have been done: 1 or 0; or -1, if there is no server. If its process has changed a
@@ -126,10 +133,15 @@ int ipcd_semop(int semid, struct sembuf *sops, size_t nsops)
 
 static int last_process(int semid, int semnum)
 {
-    int cancellation = hold_cancellation();
-    int pid = number_of(SEM_GETPID, semid, semnum);
-    if (pid >= 0)
-        pid = system_pid(current_client()->path, (uint32_t) pid);
+    int cancellation = hold_cancellation(), pid = -1;
+    struct link *link = begin_on_one(SEM_GETPID, semid, semnum);
+    if (link != NULL) {
+        const char *socket = link->client->path;
+        struct life life = link->life;
+        pid = end_number(link);
+        if (pid >= 0)
+            pid = system_pid(socket, &life, (uint32_t) pid);
+    }
     allow_cancellation(cancellation);
     return pid;
 }

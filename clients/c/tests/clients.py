@@ -877,6 +877,56 @@ def pids() -> None:
         os.remove("socket.pids")
 
 
+def pids_of_lives() -> None:
+    """On a device of version 3 the first process of each life of the server has the same number. What an earlier life's
+    has told of itself counts for no other, and keeps none from telling."""
+    device()
+    sectors = int(printed("format", "device", "--journal", "257").split()[1])
+    program, library = [RUN, str(OUT / "tests" / "pids")], str(OUT / "tests" / "library_pids")
+    os.mkdir("socket.pids")
+    os.chmod("socket.pids", 0o1777)
+    first = ["as=65534"] if os.geteuid() == 0 else []
+    second = ["as=65533"] if os.geteuid() == 0 else []
+    server = Server(sectors=sectors, prepare=by_anybody)
+    try:
+        with named(program, *first) as (process, said):
+            check(said == process.pid, f"{said} is the process, and not {process.pid}")
+            server.stop(signal.SIGKILL)
+            server = Server(sectors=sectors, prepare=by_anybody)
+            with Connection("socket") as connection:
+                check(connection.hello(0, 0) == 1, "it is not the first process")
+                connection.msgsnd(connection.msgget(0x69706371, 0), 1, b"y")
+                with named(program, "last") as (_, said):
+                    check(said == 1, f"{said} is said of one that has told nothing")
+            server.stop(signal.SIGKILL)
+            server = Server(sectors=sectors, prepare=by_anybody)
+            with named(program, *second) as (other, said):
+                check(said == other.pid, f"{said} is the process, and not {other.pid}")
+                check(process.poll() is None, "the first of them is not alive")
+        server.stop(signal.SIGKILL)
+        server = Server(sectors=sectors, prepare=by_anybody)
+        with named([library, "two"]) as (process, _):
+            server.stop(signal.SIGKILL)
+            server = Server(sectors=sectors, prepare=by_anybody)
+            with Connection("socket") as connection:
+                connection.hello(0, 0)
+                check(asks(process) == 2, "it does not come so far")
+                with named(program, "last") as (_, said):
+                    check(said == process.pid, f"{said} is the process, and not {process.pid}")
+            process.stdin.write("\n")
+            process.stdin.flush()
+            check(process.wait(SECONDS) == 0, f"it ends with {process.returncode}")
+        # Who ends first in a life removes what earlier ones have left.
+        server.stop(signal.SIGKILL)
+        server = Server(sectors=sectors, prepare=by_anybody)
+        with named(program, "last"):
+            pass
+        check(os.listdir("socket.pids") == [], f"there is left {os.listdir('socket.pids')}")
+        server.stop()
+    finally:
+        server.process.kill()
+
+
 @contextmanager
 def named(words: list[str], *more: str) -> Iterator[tuple[subprocess.Popen[str], int]]:
     """A program that has sent a message, and the number that it says of who has sent last."""
@@ -953,7 +1003,7 @@ TESTS = [exports, headers, built_otherwise, static_library, refuses_programs, in
          on_version_3,
          pieces, memcheck, sanitized, looks_inside, redirected_calls, loads, lists, check_counts, shared_memory,
          waits_for_a_server, takes_once, waits_for_its_turn, processes, drops_uid_0, unlinked, cannot_be_told,
-         pids, manual_pages, without_a_server, restarts, killed_in_each_call, false_servers]  # fmt: skip
+         pids, pids_of_lives, manual_pages, without_a_server, restarts, killed_in_each_call, false_servers]  # fmt: skip
 
 if __name__ == "__main__":
     with in_a_folder(600):
