@@ -8,7 +8,7 @@
 	bench bench-serve bench-clients bench-peers
 
 help:
-	@echo "make try    a first look, in about two minutes, with nothing proved: a message is sent, the machine stops, and the"
+	@echo "make try    a first look, in about 90 seconds, with nothing proved: a message is sent, the machine stops, and the"
 	@echo "            message is received; each frame in words and bytes"
 	@echo "make run    proves and builds what is needed, an hour or more the first time, and shows its progress; then it runs"
 	@echo "            examples/device.sh: a message outlives the program. It may be interrupted: proved crates stay proved,"

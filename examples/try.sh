@@ -5,7 +5,7 @@ here=$(realpath "$(dirname "$0")")
 folder=$(mktemp -d)
 trap 'rm -r "$folder"' EXIT
 
-echo "compiling the sources with checks, and without a proof: about two minutes"
+echo "compiling the sources with checks, and without a proof: about 90 seconds"
 echo "\$ ipcd replay --small < crash.script"
 cd "$here/../crates/ipcd"
 if ! rt try -- replay --small < "$here/crash.script" > "$folder/printed" 2> "$folder/said"; then

@@ -6,7 +6,8 @@ less than a minute; that the same bytes are packed again; and `make verify` of a
 It works in a temporary folder. It needs git and dpkg: without one of these it says so, and refuses nothing. Without
 the clients in C it says what was left out. Where lintian is, that judges the packages too, which takes a minute more.
 Where debootstrap is, and this is root, it makes a new system of Debian, in which apt installs the packages and nothing
-else; that takes two minutes more, and a network. Maintainer scripts run, but not what they ask of systemd.
+else; where systemd-nspawn is, that system is booted too, and the unit runs under systemd. That takes two minutes more,
+and a network. Otherwise maintainer scripts run, but not what they ask of systemd.
 """
 
 from __future__ import annotations
@@ -33,6 +34,30 @@ SERVING = "serving device, 1366 sectors, on socket, small limits\n"
 MIRROR = os.environ.get("MIRROR", "http://deb.debian.org/debian")
 # How long README.md's session may take on what the packages have.
 SESSION_SECONDS = 60
+# What root does under systemd, on the device of `service`, which has a queue: the unit is started, its server is killed,
+# and systemd starts another one.
+BOOTED = """\
+systemctl enable --now ipcd.service 2> /root/said; echo "start $?"
+systemctl show -p StatusText --value ipcd.service
+ipcd-ask /run/ipcd/socket 'msgget 7' 'msgsnd $ 5 kept'
+systemctl kill -s KILL --kill-whom=main ipcd.service
+until [ "$(systemctl show -p NRestarts --value ipcd.service)" = 1 ] && systemctl is-active -q ipcd.service; do
+	sleep 0.1
+done
+ipcd-ask /run/ipcd/socket 'msgget 7' 'msgrcv $ 64'
+systemctl disable --now ipcd.service 2> /root/said; echo "stop $?"
+"""
+# The unit that runs it and ends the system.
+TRIAL = """\
+[Unit]
+SuccessAction=poweroff-force
+FailureAction=poweroff-force
+[Service]
+Type=oneshot
+ExecStart=/bin/sh -c 'sh /root/booted.sh > /root/booted 2>&1'
+TimeoutStartSec=120
+"""
+ON_DEVICE = "serving /var/lib/ipcd/device, 252440 sectors, on /run/ipcd/socket, standard limits"
 
 
 def check(holds: bool, text: str) -> None:
@@ -243,11 +268,38 @@ def service() -> str:
     steps += [
         "stat -c '%U:%G %a' /var/lib/ipcd/device",
         "install -d -o ipcd -g ipcd -m 0750 /run/ipcd",
+        ": > /root/served",
         f"runuser -u ipcd -- {start} > /root/served &",
         "until grep -q '^serving ' /root/served; do sleep 0.1; done",
         "ipcd-ask /run/ipcd/socket 'msgget 7 IPC_CREAT|0600'",
     ]
     return "set -e\n" + "\n".join(steps)
+
+
+def boots() -> bool:
+    return shutil.which("systemd-nspawn") is not None
+
+
+def under_systemd(root: Path) -> str:
+    """Boots the system with the packages, and says what was done: a message survives a killed server of the unit."""
+    if not boots():
+        return "systemd-nspawn is not here, so the unit was not run"
+    (root / "root/booted.sh").write_text(BOOTED)
+    units = root / "etc/systemd/system"
+    (units / "trial.service").write_text(TRIAL)
+    (units / "multi-user.target.wants").mkdir(exist_ok=True)
+    (units / "multi-user.target.wants/trial.service").symlink_to("../trial.service")
+    words = ["--quiet", "--boot", "--register=no", "--keep-unit", "--private-network", f"--machine=ipcd-{os.getpid()}"]
+    try:
+        ended = run("systemd-nspawn", *words, "-D", root, seconds=300).stderr.strip()
+    except subprocess.TimeoutExpired:
+        ended = "it takes more than 5 minutes"
+    result = root / "root/booted"
+    if not result.exists():
+        return f"systemd-nspawn has booted no system ({ended[-100:]!r}), so the unit was not run"
+    wanted = ["start 0", ON_DEVICE, "1", "0", "1", "5 kept", "stop 0"]
+    check(result.read_text().splitlines() == wanted, f"under systemd: {result.read_text()}")
+    return "the unit runs under systemd"
 
 
 def in_a_system(debs: list[Path]) -> str:
@@ -258,7 +310,8 @@ def in_a_system(debs: list[Path]) -> str:
         return "debootstrap or what it needs is not here, so no new system was made"
     root = Path("system").resolve()
     try:
-        made = run("debootstrap", "--variant=minbase", codename(), root, MIRROR, seconds=1200)
+        more = ["--include=systemd,systemd-sysv,dbus"] if boots() else []
+        made = run("debootstrap", "--variant=minbase", *more, codename(), root, MIRROR, seconds=1200)
         why = "" if made.returncode == 0 else f"{made.stdout.strip().splitlines()[-1:]}"
     except subprocess.TimeoutExpired:
         why = "it takes more than 20 minutes"
@@ -271,6 +324,8 @@ def in_a_system(debs: list[Path]) -> str:
         shutil.copy(deb, root / "root")
     install = ["apt-get", "install", "-y", "--no-install-recommends", *(f"/root/{deb.name}" for deb in debs)]
     ended = run(*enter, *install, seconds=1800, **apart)
+    if ended.returncode and "to fetch" in ended.stderr:
+        return "apt has fetched nothing from the network, so it installed nothing"
     check(ended.returncode == 0, f"apt: {ended}")
     check((root / "usr/bin/ipcd-ask").exists(), "apt has not installed ipcd-ask")
     took = first_session(apart["PATH"], (*enter, "sh", "-c", "cd /root && exec bash"), 1)
@@ -280,6 +335,7 @@ def in_a_system(debs: list[Path]) -> str:
     for words in (["ipcdctl", "--version"], ["python3", "-c", "import ipcd.sysv_ipc, ipcd.aio"], ["dpkg", "--audit"]):
         ended = run(*enter, *words, **apart)
         check((ended.returncode, ended.stderr) == (0, ""), f"{words}: {ended}")
+    booted = under_systemd(root)
     ended = run(*enter, "apt-get", "purge", "-y", *NAMES, seconds=600, **apart)
     check(ended.returncode == 0, f"apt: {ended}")
     # The packages themselves lie in the first folder; the second is in memory, and systemd removes what it made there.
@@ -288,7 +344,8 @@ def in_a_system(debs: list[Path]) -> str:
     left = [it for it in files(root) if "ipcd" in Path(it).name and not it.startswith(others)]
     check(left == ["var/lib/ipcd"], f"a purge by apt leaves {left}")
     check((root / "var/lib/ipcd/device").stat().st_size > 0, "a purge takes the device")
-    return f"apt installs and purges them in a new system, where the service runs and README.md's session, {took:.1f} s"
+    session_runs = f"README.md's session takes {took:.1f} s"
+    return f"apt installs and purges them in a new system, where the server serves, {booted}, and {session_runs}"
 
 
 def verifies(deb: Path) -> None:

@@ -4,9 +4,10 @@ clients in C and make a tarball, packages and an image of the same bytes.
 
     python3 tests/system/reproducible.py PROGRAM
 
-The program itself is built once, and is in both copies. The other day is that of tests/sockets/step_clock.c. It needs
-git, make and a C compiler; without git or a compiler it says so, and refuses nothing; packages are left out without
-dpkg-deb. It takes some ten seconds.
+The program itself is built once, and is in both copies: this says of it only that it names no folder of whoever built
+it, and `make verify` compares it with one that was built elsewhere. The other day is that of tests/sockets/step_clock.c.
+It needs git, make and a C compiler; without git or a compiler it says so, and refuses nothing; packages are left out
+without dpkg-deb. It takes some ten seconds.
 """
 
 from __future__ import annotations
@@ -82,6 +83,12 @@ def made(place: Place, user: int, targets: list[str]) -> dict[str, str]:
     return {it.name: hashlib.sha256(it.read_bytes()).hexdigest() for it in sorted(out.iterdir())}
 
 
+def program_names_no_folder() -> None:
+    data = Path(PROGRAM).read_bytes()
+    named = [name for name in (str(ROOT), tempfile.gettempdir() + "/", "/home/", "/root/") if name.encode() in data]
+    check(named == [], f"the program names {named}")
+
+
 def step_clock(place: Place) -> None:
     """From now on what runs in this copy sees a clock that is ahead, with all that it starts."""
     subprocess.run(["cc", "-shared", "-fPIC", "-o", "step_clock.so", ROOT / "tests/sockets/step_clock.c"], check=True)
@@ -105,6 +112,7 @@ def main() -> None:
     if not has_git() or shutil.which(os.environ.get("CC", "cc")) is None:
         print("reproducible: there is no tree of git's or no C compiler, so nothing was packed")
         return
+    program_names_no_folder()
     targets = ["dist", "image", *(["deb"] if shutil.which("dpkg-deb") else [])]
     users = [os.geteuid(), NOBODY if os.geteuid() == 0 else os.geteuid()]
     step_clock(PLACES[1])

@@ -779,5 +779,5 @@ def main() -> None:
 
 
 if __name__ == "__main__":
-    with in_a_folder(170):
+    with in_a_folder(600):
         main()

@@ -93,5 +93,5 @@ def main() -> None:
 
 if __name__ == "__main__":
     os.environ["PYTHONDONTWRITEBYTECODE"] = "1"
-    with in_a_folder(170):
+    with in_a_folder(600):
         main()

@@ -226,7 +226,7 @@ def main() -> None:
 
 
 if __name__ == "__main__":
-    with in_a_folder(120):
+    with in_a_folder(600):
         main()
         os.remove("socket")
         sys.stdout.flush()

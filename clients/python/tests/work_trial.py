@@ -232,5 +232,5 @@ def main() -> None:
 
 if __name__ == "__main__":
     os.environ["PYTHONDONTWRITEBYTECODE"] = "1"
-    with in_a_folder(170 if SHARE > 1 else 600):
+    with in_a_folder(600):
         main()
