@@ -52,7 +52,7 @@ help:
 	@echo "            what it leaves, and of each public call that may need memory, by itself"
 	@echo "make trials scripts that are stopped at each call on their disk, with each choice of what a crash keeps, or of which"
 	@echo "            one call fails, openings and formats too: what opens is what was answered, or one line more; a stopped or"
-	@echo "            failing upgrade: what it leaves is of version 1 or 2, and has all that was there; devices with each byte"
+	@echo "            failing upgrade: what it leaves is of either version, with all that was there; devices with each byte"
 	@echo "            wrong; frames that are cut off or changed; as much of everything as the limits allow; and what one"
 	@echo "            release of requests of one moment writes"
 	@echo "make bench  CPU time of runs, lines, saves and ticks, peak memory, what a commit and a save write, commits a second"
@@ -130,8 +130,8 @@ memory: program
 
 # Each opening of each device that a stop leaves is stopped too, and each byte of a device is wrong once; of those the
 # gate has each tenth. What comes after a stop of an upgrade is stopped too, of each tenth stop, in the gate of each
-# hundredth. Requests of one moment, fed to a hub by hand, are one batch: two writes and two syncs for three replies, and
-# on a device of version 3 one write and one sync.
+# hundredth, and a tenth as often if the upgrade is to version 3. Requests of one moment, fed to a hub by hand, are one
+# batch: two writes and two syncs for three replies, and on a device of version 3 one write and one sync.
 TRIAL = crates/trials/out/trials
 EACH = 1
 TRIALS = $(TRIAL) stopped 1 < crates/trials/stdin && $(TRIAL) faulted 1 < crates/trials/stdin && \

@@ -1,10 +1,12 @@
-"""The upgrade of a device of version 1, stopped at each call on its disk, and with each call failing once.
+"""The upgrade of a device of version 1 to 2, and of that to 3, stopped at each call on its disk, and with each call
+failing once.
 
     python3 tests/devices/upgraded.py TRIALS N
 
-The device is the one that is kept as bytes (`old_device` of device_layout.py). `TRIALS upgraded N` upgrades it, and
-sends two clients' requests to it, and to each device that a stop or a fault leaves. What these have to be answered is
-made here, from the parts that upgrade.py has and from docs/PROTOCOL.md; the program compares it.
+The device is the one that is kept as bytes (`old_device` of device_layout.py). `TRIALS upgraded N` and
+`TRIALS upgraded-3 N` upgrade it, and send two clients' requests to it, and to each device that a stop or a fault
+leaves. What these have to be answered is made here, from the parts that upgrade.py has and from docs/PROTOCOL.md; the
+program compares it.
 """
 
 from __future__ import annotations
@@ -39,12 +41,19 @@ def words(*numbers: int) -> bytes:
 
 
 class Client:
-    """What a client asks, and what it has to be answered."""
+    """What a client asks, and what it has to be answered, by the version to which the device was upgraded."""
 
-    def __init__(self, number: int) -> None:
+    def __init__(self, number: int, version: int) -> None:
         self.number = number
+        # A restart leaves the next pid of version 2 as it was; in version 3 it is 1 again.
+        self.pid = number + (24 if version == 2 else 0)
+        self.version = version
         self.frames: list[bytes] = []
         self.answers: list[str] = []
+
+    def comes(self, *owner: int) -> None:
+        """A HELLO of this user and group. On version 3 it answers the version, too."""
+        self.asks(HELLO, words(*owner), words(self.pid) if self.version == 2 else words(self.pid, self.version))
 
     def asks(self, opcode: int, fields: bytes, body: bytes = b"", error: int = 0) -> None:
         serial = len(self.frames) + 1
@@ -62,7 +71,8 @@ def queues(client: Client) -> None:
         client.asks(MSGRCV, struct.pack(">IIIq", 1, IPC_NOWAIT, 64, 0), struct.pack(">q", mtype) + text)
     client.asks(MSGRCV, struct.pack(">IIIq", 1, IPC_NOWAIT, 64, 0), error=ENOMSG)
     client.asks(MSGSND, struct.pack(">IIq", 1, IPC_NOWAIT, 1) + b"new")
-    changed = NEW_QUEUE._replace(messages=((1, b"new"),), times=(CLOCK, CLOCK, NEW_QUEUE.times[2]), pids=(25, 25))
+    times, pids = (CLOCK, CLOCK, NEW_QUEUE.times[2]), (client.pid, client.pid)
+    changed = NEW_QUEUE._replace(messages=((1, b"new"),), times=times, pids=pids)
     client.asks(MSG_STAT, words(1), status_of(changed))
     client.asks(MSGGET, words(0, MAKE), error=ENOSPC)
     client.asks(MSG_RMID, words(3))
@@ -123,13 +133,13 @@ def semaphores(client: Client) -> None:
     client.asks(SEM_OPEN, words(O_CREAT, 0o600, 0) + b"/f", error=ENOSPC)
 
 
-def trial() -> bytes:
+def trial(version: int) -> bytes:
     """The lines of the clients, what has to be printed, and the device. The second one owns the semaphore."""
-    one, other = Client(1), Client(2)
-    one.asks(HELLO, words(1000, 100), words(25))
+    one, other = Client(1, version), Client(2, version)
+    one.comes(1000, 100)
     for asks in (queues, sets, posix_queues, segments):
         asks(one)
-    other.asks(HELLO, words(*SEM.owner), words(26))
+    other.comes(*SEM.owner)
     semaphores(other)
     script = [line for client in (one, other) for line in lines_of(client)]
     lines = (*script, "-", *one.answers, *other.answers, "-")
@@ -141,7 +151,13 @@ def lines_of(client: Client) -> tuple[str, str]:
 
 
 def main() -> None:
-    sys.exit(subprocess.run([PROGRAM, "upgraded", sys.argv[2]], input=trial(), timeout=600).returncode)
+    # The upgrade to version 3 writes zeros to each sector of the journal, so its stops leave twenty times as many
+    # devices.
+    for word, version, fewer in (("upgraded", 2, 1), ("upgraded-3", 3, 10)):
+        words = [PROGRAM, word, str(fewer * int(sys.argv[2]))]
+        status = subprocess.run(words, input=trial(version), timeout=1200).returncode
+        if status:
+            sys.exit(status)
 
 
 if __name__ == "__main__":

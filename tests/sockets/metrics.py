@@ -21,8 +21,9 @@ from inspect import Parameter, signature
 from pathlib import Path
 
 sys.dont_write_bytecode = True
-sys.path.insert(0, str(Path(__file__).resolve().parents[1] / "lib"))
+sys.path[:0] = [str(Path(__file__).resolve().parents[1] / name) for name in ("lib", "system")]
 
+from documents import replaced_words  # noqa: E402
 from server import TIMEOUT, Client, Worker, check, in_a_folder, is_refused, printed, process, run_tests, serving, until  # noqa: E402
 
 from client import IPC_CREAT, IPC_NOWAIT, IPC_PRIVATE, O_CREAT, O_RDWR, msgrcv_request, msgsnd_request
@@ -60,6 +61,7 @@ def parsed(text: str) -> Figures:
         if line.startswith("# HELP"):
             told = HELP.fullmatch(line)
             check(told is not None, f"{line!r} is no help")
+            check(replaced_words().search(line) is None, f"{line!r} has a word that docs/STYLE.md replaces")
             family = told[1]
             kind = TYPE.fullmatch(next(lines, ""))
             check(kind is not None and kind[1] == family and family not in types, f"{line!r} is followed by no type")

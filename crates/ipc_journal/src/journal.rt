@@ -52,6 +52,11 @@ impl Journal {
             → Holds form range epoch [] (D.medium disk.new).contents) }
         ensures clear { OnOk result (IsHonest (D.medium disk.old)
             → IsClear form range epoch 0 (D.medium disk.new).contents) }
+        // A crash at any moment of the call, also of one that fails: where a journal with a header has no batch, it has
+        // none while its sectors become those of one with tags.
+        ensures any_moment { form ≡ Form.Tagged → (other : ℕ) → 0 < other → IsHonest (D.medium disk.old)
+            → ((image : Image) → (D.medium disk.old).images_now image → Holds Form.Headed range other [] image)
+            → EachImageSince (D.medium disk.old) (D.medium disk.new) (Holds Form.Headed range other []) }
         ensures others { IsHonest (D.medium disk.old)
             → LeavesAlone (IsOutside range) (D.medium disk.old) (D.medium disk.new) }
         // Failures and counts.

@@ -14,7 +14,7 @@ ghost use Rattle.ipc_journal.specs.Matches.{IsKept};
 ghost use Rattle.ipc_journal.specs.Meanwhile.{Comes};
 ghost use Rattle.ipc_journal.specs.Tagged.{pieces_for, number_in, index_in, count_in, tagged_piece, tagged_bytes};
 ghost use Rattle.ipc_journal.specs.Tagged.{IsEnd, IsMixed, IsTagged, IsTaggedAt, StandsTagged};
-ghost use Rattle.ipc_journal.specs.declared.form.Form.TheVariants.{Tagged};
+ghost use Rattle.ipc_journal.specs.declared.form.Form.TheVariants.{Headed, Tagged};
 
 use crate::JournalError;
 use crate::form::pieces_for_len;
@@ -289,6 +289,9 @@ pub(crate) fn erase<D: SectorDisk>(disk: &mut D, range: Range) -> Result<(), Dis
     requires within { IsWithin range (D.size disk.old) }
     ensures erased { OnOk result (IsHonest (D.medium disk.old) → (i : ℕ) → i < range.count
         → sector_at (D.medium disk.new).contents (range.first + i) ≡ replicate 512 0) }
+    ensures headed { (epoch : ℕ) → 0 < epoch → IsHonest (D.medium disk.old)
+        → ((image : Image) → (D.medium disk.old).images_now image → Holds Headed range epoch [] image)
+        → EachImageSince (D.medium disk.old) (D.medium disk.new) (Holds Headed range epoch []) }
     ensures others { IsHonest (D.medium disk.old)
         → LeavesAlone (IsOutside range) (D.medium disk.old) (D.medium disk.new) }
     ensures same { IsSameDisk D.size D.medium disk.old disk.new }

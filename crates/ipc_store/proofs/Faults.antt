@@ -71,7 +71,7 @@ passed-device r went fault was and = (
 
 -- ---- an upgrade that meets the fault of a load
 
-open-device : (fault : OpenError) → of_open_error fault ≡ upgrades.Device → fault ≡ errors.Device
+pub open-device : (fault : OpenError) → of_open_error fault ≡ upgrades.Device → fault ≡ errors.Device
 open-device errors.Device is = refl
 open-device errors.NotFormatted is = cc
 open-device (errors.Version found) is = cc

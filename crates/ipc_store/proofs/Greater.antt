@@ -1,14 +1,17 @@
--- A sound state in which no call waits is sound under limits of version 2 none of which is less; and a restart leaves no
--- call waiting.
-use Rattle.std.proofs.Common.{◌≡◌, ◌+◌, ◌*◌, ◌≤◌, ℕ, List, [], ◌∷◌, refl, ap, subst, sym, arith}
+-- A sound state in which no call waits is sound under limits none of which is less, if it has no more than those of
+-- version 3 allow; and a restart leaves no call waiting, and no adjustment.
+use Rattle.std.proofs.Common.{◌≡◌, ◌+◌, ◌*◌, ◌≤◌, ◌<◌, ℕ, List, [], ◌∷◌, get_or, refl, ap, subst, sym, ◌∙◌, arith}
 use Rattle.std.specs.FinMap as fin
-use Rattle.std.specs.Prelude.{All, None, Some, nat_le, if◌then◌else◌, length}
+use Rattle.std.specs.Prelude.{All, None, Some, Option, Bool, true, false, not, nat_le, if◌then◌else◌, length}
 use Rattle.std.proofs.lemmas.List.Elements.{All-nil, All-weaker}
+use Rattle.std.proofs.lemmas.List.Folds.{list_all_at}
+use Rattle.std.specs.List.{list_all}
 use Rattle.std.proofs.lemmas.Nat.{mul-le}
 use Rattle.ipc_limits.specs.declared.limits.Limits.{Limits}
-use Rattle.ipc_limits.specs.Limits.{exceeds, if_of_three}
+use Rattle.ipc_limits.specs.Limits.{exceeds, if_of_three, message_limit, queue_bytes_limit}
 use Rattle.ipc_base.specs.Table.{keys_of, EachValue}
 use Rattle.ipc_base.proofs.CallerLemmas.{rising-weaker}
+use Rattle.ipc_keys.specs.declared.check.NameKind.{NameKind}
 use Rattle.ipc_keys.specs.declared.check.NameKind.TheVariants as names
 use Rattle.posix_mq.specs.Queue.{Queue as Mq}
 use Rattle.sysv_msg.specs.Queue.{Queue, PlainMessage}
@@ -21,22 +24,90 @@ use Rattle.ipc_state.specs.Numbered.{Numbered, AreNumbered}
 use Rattle.sem_undo.specs.Undo.{Undo}
 use Rattle.ipc_state.specs.Sound.{AreFew, AreSound, AreSoundDescriptors, AreSoundProcesses, AreSoundTogether, HasSoundParts, IsSoundContent}
 use Rattle.ipc_state.specs.Sound.{IsSoundMessage, IsSoundMq, IsSoundMsgQueue, most_of}
-use Rattle.ipc_state.specs.State.{State, mq_bytes, objects_in, restart}
+use Rattle.ipc_state.specs.Keyed.{KeyedEntry}
+use Rattle.ipc_state.specs.declared.objects.Entry.{Entry}
+use Rattle.ipc_state.specs.State.{State, mq_bytes, named_of, objects_in, restart}
 use Rattle.ipc_state.specs.Waiting.{PlainWaiting, IsSoundWaiting}
 use Rattle.ipc_engine.specs.Sound.{HasToWait, IsSound}
 use Rattle.ipc_image.proofs.CallerLemmas.{EachAtLeast}
 use Rattle.ipc_image.specs.Format.{format}
 use Rattle.ipc_image.specs.Sizes.{sectors, process_sectors, object_sectors, area_of}
+use Rattle.ipc_store.specs.Larger.{exceeded_field, has_few_adjustments_in, has_few_bytes_in, has_few_messages_in}
 
 -- a restart leaves no call waiting
 pub restart-waits : (limits : Limits) (s : State) → (restart limits s).wait ≡ []
 restart-waits limits s = refl
 
--- version 2 has no limit of version 3
-no-limit : (m : Limits) (most : ℕ) → m.version ≡ 2 → if_of_three m most ≡ None
-no-limit m most two = ap (λ (v : ℕ). if nat_le 3 v then Some most else None) two
+-- what a negation and a test without an answer say
+not-true : (a : Bool) → not a ≡ true → a ≡ false
+not-true true is = cc
+not-true false is = refl
 
-module _ (l m : Limits) (le : EachAtLeast m l) (two : m.version ≡ 2) where
+if-none : (a : Bool) (n : ℕ) (r : Option ℕ) → (if a then r else Some n) ≡ None → (a ≡ true) × (r ≡ None)
+if-none true n r is = (refl, is)
+if-none false n r is = cc
+
+-- it leaves no adjustment
+pub restart-undo : (limits : Limits) (s : State) → (restart limits s).undo ≡ []
+restart-undo limits s = refl
+
+-- an object has no more parts than the limits of version 3 allow
+abbrev HasFew : Limits → (kind : ObjectKind) → Content kind → Type 0
+HasFew m kinds.MsgQueue q = exceeds (length q.messages) (message_limit m) ≡ false
+HasFew m kinds.Semset s = Unit {0}
+HasFew m kinds.Shm x = Unit {0}
+HasFew m (kinds.Named kind) x = Unit {0}
+
+-- a state has no more than they allow
+pub record IsFew (m : Limits) (s : State) : Type 0 where
+  pub messages : All (λ e. HasFew m kinds.MsgQueue e.1.object) s.msg.entries
+  pub adjustments : EachValue (AreFew m) s.undo
+  pub bytes : exceeds (mq_bytes s.mq) (queue_bytes_limit m) ≡ false
+
+module _ (m : Limits) (two : m.version ≡ 2) where
+  -- version 2 has no limit of version 3
+  no-limit : (most : ℕ) → if_of_three m most ≡ None
+  no-limit most = ap (λ (v : ℕ). if nat_le 3 v then Some most else None) two
+
+  few : (undo : List (ℕ × Undo)) → EachValue (AreFew m) undo
+  few [] = tt
+  few (e ∷ undo) = (ap (exceeds (fin.len e.1)) (no-limit m.semume), few undo)
+
+  each-few : (entries : List (ℕ × KeyedEntry Queue)) → All (λ e. HasFew m kinds.MsgQueue e.1.object) entries
+  each-few entries = λ k d lt. ap (exceeds (length (get_or entries k d).1.object.messages)) (no-limit m.msgqlen)
+
+  pub few-of-two : (s : State) → IsFew m s
+  few-of-two s = record {
+    messages = each-few s.msg.entries;
+    adjustments = few s.undo;
+    bytes = ap (exceeds (mq_bytes s.mq)) (no-limit m.queue_bytes);
+  }
+
+-- no field is exceeded by a state that has no adjustment
+module _ (m : Limits) where
+  -- a test that all pass is passed by each
+  passed-by : {X : Type 0} (p : X → Bool) (xs : List X) (k : ℕ) (d : X) → k < length xs → list_all p xs ≡ true → (b : Bool) → p (get_or xs k d) ≡ b
+      → b ≡ true
+  passed-by p xs k d lt all true is = refl
+  passed-by p xs k d lt all false is = let bad : true ≡ false = sym all ∙ list_all_at p xs k d lt is in cc
+
+  from-messages : (entries : List (ℕ × KeyedEntry Queue)) → has_few_messages_in m entries ≡ true
+      → All (λ e. HasFew m kinds.MsgQueue e.1.object) entries
+  from-messages entries is = λ k d lt.
+      not-true (exceeds (length (get_or entries k d).1.object.messages) (message_limit m))
+      (passed-by (λ e. not (exceeds (length e.1.object.messages) (message_limit m))) entries k d lt is _ refl)
+
+  pub few-of-three : (s : State) → s.undo ≡ [] → exceeded_field m s ≡ None → IsFew m s
+  few-of-three s none is =
+      let messages = if-none (has_few_messages_in m s.msg.entries) 19 _ is in
+      let adjustments = if-none (has_few_adjustments_in m s.undo) 20 _ messages.1 in
+      record {
+        messages = from-messages s.msg.entries messages.0;
+        adjustments = subst (λ (undo : List (ℕ × Undo)). EachValue (AreFew m) undo) (sym none) tt;
+        bytes = not-true _ (if-none (has_few_bytes_in m s.mq.entries) 21 None adjustments.1).0;
+      }
+
+module _ (l m : Limits) (le : EachAtLeast m l) where
   most : (kind : ObjectKind) → most_of l kind ≤ most_of m kind
   most kinds.MsgQueue = le.msgmni
   most kinds.Semset = le.semmni
@@ -50,11 +121,11 @@ module _ (l m : Limits) (le : EachAtLeast m l) (two : m.version ≡ 2) where
   message : (x : PlainMessage) → IsSoundMessage l x → IsSoundMessage m x
   message x h = record { above = h.above; short = omega (arith, h.short, le.msgmax) }
 
-  msg_queue : (q : Queue) → IsSoundMsgQueue l q → IsSoundMsgQueue m q
-  msg_queue q h = record {
+  msg_queue : (q : Queue) → HasFew m kinds.MsgQueue q → IsSoundMsgQueue l q → IsSoundMsgQueue m q
+  msg_queue q few h = record {
     bytes = omega (arith, h.bytes, le.msgmnb);
     count = omega (arith, h.count, le.msgmnb);
-    limit = ap (exceeds (length q.messages)) (no-limit m m.msgqlen two);
+    limit = few;
     qbytes = omega (arith, h.qbytes, le.msgmnb);
     messages = All-weaker (IsSoundMessage l) (IsSoundMessage m) message q.messages h.messages;
   }
@@ -67,44 +138,61 @@ module _ (l m : Limits) (le : EachAtLeast m l) (two : m.version ≡ 2) where
     messages = h.messages;
   }
 
-  content : (kind : ObjectKind) (x : Content kind) → IsSoundContent l kind x → IsSoundContent m kind x
-  content kinds.MsgQueue q h = msg_queue q h
-  content kinds.Semset s h = record { some = h.some; few = omega (arith, h.few, le.semmsl); values = h.values }
-  content kinds.Shm x h = (h.0, omega (arith, h.1, le.shmmax))
-  content (kinds.Named names.Mq) q h = mq q h
-  content (kinds.Named names.Psem) value h = h
-  content (kinds.Named names.Pshm) x h = tt
+  content : (kind : ObjectKind) (x : Content kind) → HasFew m kind x → IsSoundContent l kind x → IsSoundContent m kind x
+  content kinds.MsgQueue q few h = msg_queue q few h
+  content kinds.Semset s few h = record { some = h.some; few = omega (arith, h.few, le.semmsl); values = h.values }
+  content kinds.Shm x few h = (h.0, omega (arith, h.1, le.shmmax))
+  content (kinds.Named names.Mq) q few h = mq q h
+  content (kinds.Named names.Psem) value few h = h
+  content (kinds.Named names.Pshm) x few h = tt
 
   -- ---- those of a kind
 
-  together : (processes : List (ℕ × Process)) (kind : ObjectKind) (o : Those kind)
+  -- what those of a kind have together
+  abbrev HasFewTogether : (kind : ObjectKind) → Those kind → Type 0
+  HasFewTogether kinds.MsgQueue o = Unit {0}
+  HasFewTogether kinds.Semset o = Unit {0}
+  HasFewTogether kinds.Shm o = Unit {0}
+  HasFewTogether (kinds.Named names.Mq) o = exceeds (mq_bytes o) (queue_bytes_limit m) ≡ false
+  HasFewTogether (kinds.Named names.Psem) o = Unit {0}
+  HasFewTogether (kinds.Named names.Pshm) o = Unit {0}
+
+  together : (processes : List (ℕ × Process)) (kind : ObjectKind) (o : Those kind) → HasFewTogether kind o
       → AreSoundTogether l processes kind o → AreSoundTogether m processes kind o
-  together processes kinds.MsgQueue o h = tt
-  together processes kinds.Semset o h = omega (arith, h, le.semmns)
-  together processes kinds.Shm o h = omega (arith, h, le.shmall)
-  together processes (kinds.Named names.Mq) o h =
-      record { registered = h.registered; bytes = ap (exceeds (mq_bytes o)) (no-limit m m.queue_bytes two) }
-  together processes (kinds.Named names.Psem) o h = tt
-  together processes (kinds.Named names.Pshm) o h = omega (arith, h, le.segment_bytes)
+  together processes kinds.MsgQueue o few h = tt
+  together processes kinds.Semset o few h = omega (arith, h, le.semmns)
+  together processes kinds.Shm o few h = omega (arith, h, le.shmall)
+  together processes (kinds.Named names.Mq) o few h = record { registered = h.registered; bytes = few }
+  together processes (kinds.Named names.Psem) o few h = tt
+  together processes (kinds.Named names.Pshm) o few h = omega (arith, h, le.segment_bytes)
 
   numbered : {X : Type 0} (few more : ℕ) (o : Numbered X) → few ≤ more → AreNumbered few o → AreNumbered more o
   numbered few more o less h = record { numbers = h.numbers; next = h.next; count = omega (arith, h.count, less) }
 
-  bound : (kind : ObjectKind) (o : Those kind) → AreBound (same_bound kind) (no_bound kind) (most_of l kind) (IsSoundContent l kind) o
+  each : (kind : ObjectKind) {B : Type 0} (entries : List (ℕ × Entry B (Content kind))) → All (λ e. HasFew m kind e.1.object) entries
+      → All (λ e. IsSoundContent l kind e.1.object) entries → All (λ e. IsSoundContent m kind e.1.object) entries
+  each kind entries has h = λ k d lt. content kind (get_or entries k d).1.object (has k d lt) (h k d lt)
+
+  bound : (kind : ObjectKind) (o : Those kind) → All (λ e. HasFew m kind e.1.object) o.entries
+      → AreBound (same_bound kind) (no_bound kind) (most_of l kind) (IsSoundContent l kind) o
       → AreBound (same_bound kind) (no_bound kind) (most_of m kind) (IsSoundContent m kind) o
-  bound kind o h = record {
+  bound kind o few h = record {
     numbered = numbered (most_of l kind) (most_of m kind) o (most kind) h.numbered;
     bounds = h.bounds;
     modes = h.modes;
-    each = All-weaker (λ e. IsSoundContent l kind e.1.object) (λ e. IsSoundContent m kind e.1.object) (λ e. content kind e.1.object)
-        o.entries h.each;
+    each = each kind o.entries few h.each;
   }
 
-  objects : (processes : List (ℕ × Process)) (kind : ObjectKind) (o : Those kind) → AreSound l processes kind o → AreSound m processes kind o
-  objects processes kind o h = record {
-    held = record { bound = bound kind o h.held.bound; forms = h.held.forms; stay = h.held.stay };
-    together = together processes kind o h.together;
+  objects : (processes : List (ℕ × Process)) (kind : ObjectKind) (o : Those kind) → All (λ e. HasFew m kind e.1.object) o.entries → HasFewTogether kind o
+      → AreSound l processes kind o → AreSound m processes kind o
+  objects processes kind o few all h = record {
+    held = record { bound = bound kind o few h.held.bound; forms = h.held.forms; stay = h.held.stay };
+    together = together processes kind o all h.together;
   }
+
+  -- a kind of which no object has a limit of version 3
+  unlimited : {X : Type 0} (entries : List X) → All (λ (e : X). Unit {0}) entries
+  unlimited entries = λ k d lt. tt
 
   -- ---- processes
 
@@ -121,26 +209,28 @@ module _ (l m : Limits) (le : EachAtLeast m l) (two : m.version ≡ 2) where
         processes.entries h.descriptors;
   }
 
-  few : (undo : List (ℕ × Undo)) → EachValue (AreFew m) undo
-  few [] = tt
-  few (e ∷ undo) = (ap (exceeds (fin.len e.1)) (no-limit m m.semume two), few undo)
-
   -- ---- the state
 
-  parts : (s : State) → s.wait ≡ [] → HasSoundParts l s → HasSoundParts m s
-  parts s none h = record {
+  parts : (s : State) → s.wait ≡ [] → IsFew m s → HasSoundParts l s → HasSoundParts m s
+  parts s none few h = record {
     processes = process (objects_in s) s.processes h.processes;
     wait = rw none (record { pids = tt; few = omega arith; each = All-nil IsSoundWaiting });
-    undo = record { pids = h.undo.pids; each = h.undo.each; kept = h.undo.kept; few = few s.undo };
-    msg = objects s.processes.entries kinds.MsgQueue s.msg h.msg;
-    semset = objects s.processes.entries kinds.Semset s.semset h.semset;
-    shm = objects s.processes.entries kinds.Shm s.shm h.shm;
-    named = λ kind. objects s.processes.entries (kinds.Named kind) _ (h.named kind);
+    undo = record { pids = h.undo.pids; each = h.undo.each; kept = h.undo.kept; few = few.adjustments };
+    msg = objects s.processes.entries kinds.MsgQueue s.msg few.messages tt h.msg;
+    semset = objects s.processes.entries kinds.Semset s.semset (unlimited s.semset.entries) tt h.semset;
+    shm = objects s.processes.entries kinds.Shm s.shm (unlimited s.shm.entries) tt h.shm;
+    named = λ kind. named s few h kind;
   }
+    where
+      named : (s : State) → IsFew m s → HasSoundParts l s → (kind : NameKind)
+          → AreSound m s.processes.entries (kinds.Named kind) (named_of s kind)
+      named s few h names.Mq = objects s.processes.entries (kinds.Named names.Mq) s.mq (unlimited s.mq.entries) few.bytes (h.named names.Mq)
+      named s few h names.Psem = objects s.processes.entries (kinds.Named names.Psem) s.psem (unlimited s.psem.entries) tt (h.named names.Psem)
+      named s few h names.Pshm = objects s.processes.entries (kinds.Named names.Pshm) s.pshm (unlimited s.pshm.entries) tt (h.named names.Pshm)
 
-pub sound-greater : (l m : Limits) (s : State) → EachAtLeast m l → m.version ≡ 2 → s.wait ≡ [] → IsSound l s → IsSound m s
-sound-greater l m s le two none h = record {
-  parts = parts l m le two s none h.parts;
+pub sound-greater : (l m : Limits) (s : State) → EachAtLeast m l → s.wait ≡ [] → IsFew m s → IsSound l s → IsSound m s
+sound-greater l m s le none few h = record {
+  parts = parts l m le s none few h.parts;
   waits = subst (λ (calls : List PlainWaiting). All (HasToWait m s) calls) (sym none) (All-nil (HasToWait m s));
 }
 

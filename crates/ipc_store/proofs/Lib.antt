@@ -21,3 +21,6 @@ mod Growing
 mod Greater
 mod Upgrading
 mod Upgrades
+mod Enlarging
+mod Enlargements
+mod LargerRefusals

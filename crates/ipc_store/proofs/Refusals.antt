@@ -64,8 +64,8 @@ module _ (limits : Limits) (size : ℕ) (image : Image) (checked : AreOf format 
   damage-upgrade may (errors.Damaged sector) is = (checked, inr (may, is))
   damage-upgrade may errors.NoMemory is = tt
 
-  pub room-upgrade : (own : Limits) → IsDeviceIn format_one own image → (error : UpgradeError) → IsRoomRefusal limits own size error
-      → IsUpgradeRefusal limits size image error
+  pub room-upgrade : (own : Limits) → IsDeviceIn format_one own image → (error : UpgradeError)
+      → IsRoomRefusal limits own (need_of limits) size error → IsUpgradeRefusal limits size image error
   room-upgrade own device (upgrades.BadLimits bad) is = inr (checked, own, device, is)
   room-upgrade own device (upgrades.TooSmall need) is = (checked, is.0, is.1, own, device, is.2)
   room-upgrade own device upgrades.NotFormatted is = absurd is
@@ -75,26 +75,26 @@ module _ (limits : Limits) (size : ℕ) (image : Image) (checked : AreOf format 
   room-upgrade own device upgrades.NoMemory is = absurd is
 
 -- the room is too small for what is asked for
-pub small-room : (limits own : Limits) (size : ℕ) (error : UpgradeError) (need : ℕ) → error ≡ upgrades.TooSmall need
-    → IsRoomRefusal limits own size error → (need ≡ need_of limits) × (size < need)
-small-room limits own size (upgrades.TooSmall n) need e is =
-    let same : n ≡ need = cc in subst (λ (k : ℕ). (k ≡ need_of limits) × (size < k)) same (is.0, is.1)
-small-room limits own size (upgrades.BadLimits bad) need e is = cc
-small-room limits own size upgrades.NotFormatted need e is = absurd is
-small-room limits own size (upgrades.Version found) need e is = absurd is
-small-room limits own size (upgrades.Damaged sector) need e is = absurd is
-small-room limits own size upgrades.Device need e is = absurd is
-small-room limits own size upgrades.NoMemory need e is = absurd is
+pub small-room : (limits own : Limits) (least size : ℕ) (error : UpgradeError) (need : ℕ) → error ≡ upgrades.TooSmall need
+    → IsRoomRefusal limits own least size error → (need ≡ least) × (size < need)
+small-room limits own least size (upgrades.TooSmall n) need e is =
+    let same : n ≡ need = cc in subst (λ (k : ℕ). (k ≡ least) × (size < k)) same (is.0, is.1)
+small-room limits own least size (upgrades.BadLimits bad) need e is = cc
+small-room limits own least size upgrades.NotFormatted need e is = absurd is
+small-room limits own least size (upgrades.Version found) need e is = absurd is
+small-room limits own least size (upgrades.Damaged sector) need e is = absurd is
+small-room limits own least size upgrades.Device need e is = absurd is
+small-room limits own least size upgrades.NoMemory need e is = absurd is
 
 -- the disk does not fail in a comparison
-pub no-device : (limits own : Limits) (size : ℕ) (error : UpgradeError) → error ≡ upgrades.Device → IsRoomRefusal limits own size error → ⊥
-no-device limits own size (upgrades.TooSmall n) e is = cc
-no-device limits own size (upgrades.BadLimits bad) e is = cc
-no-device limits own size upgrades.NotFormatted e is = is
-no-device limits own size (upgrades.Version found) e is = is
-no-device limits own size (upgrades.Damaged sector) e is = is
-no-device limits own size upgrades.Device e is = is
-no-device limits own size upgrades.NoMemory e is = is
+pub no-device : (limits own : Limits) (least size : ℕ) (error : UpgradeError) → error ≡ upgrades.Device → IsRoomRefusal limits own least size error → ⊥
+no-device limits own least size (upgrades.TooSmall n) e is = cc
+no-device limits own least size (upgrades.BadLimits bad) e is = cc
+no-device limits own least size upgrades.NotFormatted e is = is
+no-device limits own least size (upgrades.Version found) e is = is
+no-device limits own least size (upgrades.Damaged sector) e is = is
+no-device limits own least size upgrades.Device e is = is
+no-device limits own least size upgrades.NoMemory e is = is
 
 -- an error of an open is never about room
 pub no-room : (fault : OpenError) (need : ℕ) → of_open_error fault ≡ upgrades.TooSmall need → ⊥

@@ -1,5 +1,5 @@
 -- What an upgrade leaves: the old objects under the old root and the new ones under the new, beside each other.
-use Rattle.std.proofs.Common.{◌≡◌, inl, ℕ, ◌+◌, List, [], length, refl, sym, ap, subst, ◌∙◌, arith}
+use Rattle.std.proofs.Common.{◌≡◌, inl, ℕ, ◌+◌, ◌<◌, List, [], length, refl, sym, ap, subst, ◌∙◌, arith}
 use Rattle.std.specs.Prelude.{map, nat_le, if◌then◌else◌}
 use Rattle.ipc_limits.specs.declared.limits.Limits.{Limits}
 use Rattle.ipc_base.specs.Objects.{PlainObjects}
@@ -16,20 +16,21 @@ use Rattle.ipc_journal.proofs.CallerLemmas.{Holds-turned}
 use Rattle.ipc_state.specs.State.{State, next_pid_after, restart}
 use Rattle.ipc_engine.specs.Event.{PlainEvent}
 use Rattle.ipc_image.specs.declared.format.Format.{Format}
-use Rattle.ipc_image.specs.Format.{device_form, format, format_one}
+use Rattle.ipc_image.specs.Format.{device_form, format, format_one, objects_first, IsFormat}
 use Rattle.ipc_image.specs.Saved.{StandForState, StandForStateIn}
 use Rattle.ipc_image.specs.Superblock.{sectors_in}
+use Rattle.ipc_image.proofs.CallerLemmas.{form-placed}
 use Rattle.ipc_store.specs.Batch.{batch_bytes}
 use Rattle.ipc_store.specs.Image.{journal_form, journal_range, layout_in, objects_range, named_sectors, HasBatches, IsDeviceIn, LeadToBy, StandsForIn}
 use Rattle.ipc_store.specs.Relations.Format.{IsPrepared}
-use Rattle.ipc_store.specs.Relations.Upgrade.{HasOld}
+use Rattle.ipc_store.specs.Relations.Upgrade.{HasOld, HasOldIn}
 use Rattle.ipc_store.proofs.Devices.{IsDeviceIn-same, journal-same}
 
 -- an image that has the pieces stands for the state
-pub old-stands : (own : Limits) (epoch : ℕ) (objects : PlainObjects) (batches : List (List PlainEvent)) (base s : State) (image : Image)
-    → HasOld own epoch objects batches image → StandForStateIn format_one own base objects
-    → LeadToBy format_one.batch own base batches s → StandsForIn format_one own s image
-old-stands own epoch objects batches base s image old stand leads = record {
+pub old-stands : (form : Format) (own : Limits) (epoch : ℕ) (objects : PlainObjects) (batches : List (List PlainEvent)) (base s : State) (image : Image)
+    → HasOldIn form own epoch objects batches image → StandForStateIn form own base objects
+    → LeadToBy form.batch own base batches s → StandsForIn form own s image
+old-stands form own epoch objects batches base s image old stand leads = record {
   epoch = epoch;
   base = base;
   kept = record { device = old.device; objects = objects; there = old.there; stand = stand };
@@ -38,44 +39,45 @@ old-stands own epoch objects batches base s image old stand leads = record {
   leads = leads;
 }
 
-module _ (own : Limits) (epoch : ℕ) (objects : PlainObjects) (batches : List (List PlainEvent)) (layout : Layout)
-    (first : layout.range.first ≡ 260) (root : layout.root ≡ 2) where
+module _ (form : Format) (known : IsFormat form) (own : Limits) (epoch : ℕ) (objects : PlainObjects) (batches : List (List PlainEvent)) (layout : Layout)
+    (first : layout.range.first ≡ objects_first form) (root : (0 < layout.root) × (layout.root < 3)) where
   -- the superblock and the journal are none of the checkpoint's sectors
   superblock-elsewhere : IsElsewhere layout 0
   superblock-elsewhere = (λ is. absurd (omega (arith, is, root)), inl (omega (arith, first)))
 
-  journal-elsewhere : (i : ℕ) → IsInside (journal_range format_one) i → IsElsewhere layout i
+  journal-elsewhere : (i : ℕ) → IsInside (journal_range form) i → IsElsewhere layout i
   journal-elsewhere i inside = (λ is. absurd (omega (arith, is, root, inside.0)), inl (omega (arith, first, inside.1)))
 
   -- a device with these batches, of so many sectors
   abbrev HasOthers : ℕ → Image → Type 0
-  HasOthers sectors image = IsDeviceIn format_one own image × HasBatches format_one epoch batches image × (named_sectors image ≡ sectors)
+  HasOthers sectors image = IsDeviceIn form own image × HasBatches form epoch batches image × (named_sectors image ≡ sectors)
 
   others-same : (sectors : ℕ) (a b : Image) → SameAt (IsElsewhere layout) a b → HasOthers sectors a → HasOthers sectors b
   others-same sectors a b same has = (
-    IsDeviceIn-same format_one (IsElsewhere layout) own a b superblock-elsewhere same has.0,
-    journal-same format_one (omega arith) (IsElsewhere layout) epoch batches a b journal-elsewhere same has.1,
+    IsDeviceIn-same form (IsElsewhere layout) own a b superblock-elsewhere same has.0,
+    journal-same form (form-placed form known).some (IsElsewhere layout) epoch batches a b journal-elsewhere same has.1,
     ap sectors_in (sym (sector_at-same (IsElsewhere layout) a b 0 same superblock-elsewhere)) ∙ has.2,
   )
 
   -- at every moment of a save under the new root the old objects are there, and the rest as it was
-  pub old-stays : (old new : Medium) → IsDurable old → HasOld own epoch objects batches old.contents
-      → ((i : ℕ) → IsInside (objects_range format_one (named_sectors old.contents)) i → IsInside layout.range i)
-      → LeavesAlone (IsElsewhere layout) old new → StaysSaved layout.range 1 epoch objects old new
-      → EachImageSince old new (HasOld own epoch objects batches)
+  pub old-stays : (old new : Medium) → IsDurable old → HasOldIn form own epoch objects batches old.contents
+      → ((i : ℕ) → IsInside (objects_range form (named_sectors old.contents)) i → IsInside layout.range i)
+      → LeavesAlone (IsElsewhere layout) old new → StaysSaved layout.range form.root epoch objects old new
+      → EachImageSince old new (HasOldIn form own epoch objects batches)
   old-stays old new durable has within alone saved =
       let n : ℕ = named_sectors old.contents in
-      let narrow : Range = objects_range format_one n in
+      let narrow : Range = objects_range form n in
       let others : EachImageSince old new (HasOthers n) =
       LeavesAlone-keeps (IsElsewhere layout) old new (HasOthers n) alone
       (λ image now. subst (HasOthers n) (sym (durable image now)) (has.device, has.journal, refl)) (others-same n) in
-      let there : EachImageSince old new (HeapHolds narrow 1 epoch objects) =
-      saved narrow within (λ image now. subst (HeapHolds narrow 1 epoch objects) (sym (durable image now)) has.there) in
-      EachImageSince-weaken old new (λ image. HasOthers n image × HeapHolds narrow 1 epoch objects image) (HasOld own epoch objects batches)
-      (EachImageSince-both old new (HasOthers n) (HeapHolds narrow 1 epoch objects) others there)
+      let there : EachImageSince old new (HeapHolds narrow form.root epoch objects) =
+      saved narrow within (λ image now. subst (HeapHolds narrow form.root epoch objects) (sym (durable image now)) has.there) in
+      EachImageSince-weaken old new (λ image. HasOthers n image × HeapHolds narrow form.root epoch objects image)
+      (HasOldIn form own epoch objects batches)
+      (EachImageSince-both old new (HasOthers n) (HeapHolds narrow form.root epoch objects) others there)
       (λ image both. record {
         device = both.0.0;
-        there = subst (λ (k : ℕ). HeapHolds (objects_range format_one k) 1 epoch objects image) (sym both.0.2) both.1;
+        there = subst (λ (k : ℕ). HeapHolds (objects_range form k) form.root epoch objects image) (sym both.0.2) both.1;
         journal = both.0.1;
       })
 

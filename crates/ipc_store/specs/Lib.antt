@@ -2,6 +2,8 @@
 pub mod Batch
 pub mod Image
 pub mod Histories
+pub mod Enlargements
+pub mod Larger
 pub mod Lives
 pub mod Look
 pub mod Meanwhile

@@ -11,6 +11,8 @@ ghost use Rattle.ipc_store.specs.Histories.{History, Past, past_of, reopened, Ke
 ghost use Rattle.ipc_image.specs.Format.{device_form};
 ghost use Rattle.ipc_journal.specs.declared.form.Form.TheVariants.{Headed};
 ghost use Rattle.ipc_store.specs.Image.{journal_form, StandsFor};
+ghost use Rattle.ipc_store.specs.Enlargements.{RestsOnTheWay, StoppedEnlargements};
+ghost use Rattle.ipc_store.specs.Larger.{IsEnlarged};
 ghost use Rattle.ipc_store.specs.Lives.{IsLeft, StoppedOpens, StandsAfter, Rests, Found};
 ghost use Rattle.ipc_store.specs.Meanwhile.{GoesOn, IsRead, StaysReadable};
 ghost use Rattle.ipc_store.specs.Relations.Matches.{StoreMatches};
@@ -18,6 +20,7 @@ ghost use Rattle.ipc_store.specs.Upgrade.{IsUpgraded, RestsOldOrNew, StoppedUpgr
 ghost use Rattle.ipc_store.specs.View.{StoreView};
 
 use ipc_disk::SectorDisk;
+use ipc_engine::restart_twice_is_once;
 
 /// A batch says which events it holds: two lists of events with the same bytes are the same list.
 pub fn a_batch_is_of_one_list()
@@ -99,3 +102,17 @@ pub fn an_upgrade_keeps_the_state<D: SectorDisk>()
         → IsUpgraded limits (D.medium disk) (D.medium new)
         → StandsAfter (record { limits = limits; base = restart limits s; events = [] }) (D.medium new) }
 {}
+
+/// A device of version 2 stays one that stands for its state, or for that state after a restart, or becomes one of
+/// version 3 that stands for it after a restart, whatever number of upgrades to version 3 are stopped; after one that
+/// is not, the law over lives begins with that state.
+pub fn an_upgrade_to_version_three_keeps_the_state<D: SectorDisk>()
+    ensures rests { (own limits : Limits) (s : State) (left disk : D) → limits.version ≡ 3
+        → RestsOnTheWay own limits s (D.medium left) → StoppedEnlargements D.medium limits left disk
+        → RestsOnTheWay own limits s (D.medium disk) }
+    ensures stands { (own limits : Limits) (s : State) (disk new : D) → limits.version ≡ 3
+        → RestsOnTheWay own limits s (D.medium disk) → IsEnlarged limits (D.medium disk) (D.medium new)
+        → StandsAfter (record { limits = limits; base = restart limits s; events = [] }) (D.medium new) }
+{
+    restart_twice_is_once();
+}

@@ -12,6 +12,9 @@
 //! - How a device is made: `src/format.rt`, `specs/Relations/Format.antt`, `proofs/Formatting.antt`
 //! - How a device of version 1 is upgraded: `src/upgrade.rt`, `specs/Upgrade.antt`, `specs/Relations/Upgrade.antt`,
 //!   `proofs/Upgrading.antt`, `proofs/Upgrades.antt`
+//! - How a device of version 2 becomes one of version 3: `src/larger.rt`, `src/exceeding.rt`, `specs/Larger.antt`,
+//!   `specs/Relations/Larger.antt`, `proofs/Enlarging.antt`, `proofs/LargerRefusals.antt`; after stopped upgrades:
+//!   `specs/Enlargements.antt`, `proofs/Enlargements.antt`
 //! - How a device is made of a machine's state: `src/copying.rt`
 //! - What is counted: `src/tally.rt`
 //! - How a device in use is looked at: `src/looking.rt`, `specs/Look.antt`; what is there for that while a store goes
@@ -60,6 +63,18 @@
 //!   before any call on the disk, and leaves it as it is (`checked`). What each error says of the disk is one relation,
 //!   which also has the order of the tests (`refused`, `small`; `IsUpgradeRefusal` of `specs/Refusals.antt`). If it is
 //!   not refused by the disk, it has written nothing (`unwritten`).
+//! - `Store::upgrade_large` makes a device of version 2 one of version 3 with a journal of 257 sectors, where it lies.
+//!   It saves the state after a restart in version 2, writes it beside that in the objects of version 3, clears the
+//!   journal, and then writes the superblock. During the call each image is one of before, or stands in version 2,
+//!   under the limits of its superblock, for the state for which the disk stood or for that state after a restart, or
+//!   in version 3, under the limits of the upgrade, for that state after a restart (`any_moment`, `EnlargesTo` of
+//!   `specs/Larger.antt`). Once it is Ok each image stands for the latter (`ok`, `IsEnlarged`), and a crash leaves what
+//!   is read (`durable`). What each error says of the disk is one relation, which also has the order of the tests
+//!   (`refused`; `IsLargerRefusal` of `specs/Refusals.antt`): the limits of version 3 on messages, adjustments and
+//!   bytes of queues come last, with the first field that the state after a restart exceeds (`exceeded_field`). If
+//!   limits and room are right and none is exceeded, a disk that stands for a state in version 2 is refused by the
+//!   disk, for want of memory, or because it has not two epochs more (`refusals`). Before other errors than the disk's
+//!   and that of memory nothing is written (`unwritten`).
 //! - `Store::step` takes the machine's step (`state`, `outcomes`) and adds the event to those that wait (`matches`,
 //!   `records`, `waiting`). What a save has to write grows by no more than what the event changes (`only`). It makes no
 //!   call on the disk (`disk`). It wants room in the batch for the event's record and a connected process. It is
@@ -96,7 +111,9 @@
 //!   (`an_open_finds_what_stands_there`). Between opens that are stopped the disk may grow, or begin to
 //!   (`StoppedOpens`). A device of version 1 that stands for a state stays one, or becomes one of version 2 that stands
 //!   for it after a restart, over any number of upgrades that are stopped, and of growths; after one that is Ok the law
-//!   over lives begins with that state (`an_upgrade_keeps_the_state`).
+//!   over lives begins with that state (`an_upgrade_keeps_the_state`). So it is of a device of version 2 and upgrades
+//!   to version 3, but that it may also stand in version 2 for the state after a restart
+//!   (`an_upgrade_to_version_three_keeps_the_state`).
 //! - `look` gives the machine that a disk stands for, without a restart (`ok`). A disk that stands for a state is
 //!   refused for a failed read or for want of memory alone (`refusals`), and what it is refused for is as of an open
 //!   (`refused`). It makes no write and no sync, and what is read stays (`alone`, `specs/Look.antt`). That is said of a
@@ -119,10 +136,13 @@
 //!   clause.
 #![tactic(auto)]
 
+mod anew;
 mod batch;
 mod copying;
+mod exceeding;
 mod fault;
 mod format;
+mod larger;
 mod laws;
 mod loading;
 mod looking;
@@ -139,6 +159,7 @@ pub use laws::{
     a_batch_is_of_one_list, a_look_is_of_one_image, a_stop_leaves_what_was_acknowledged,
     a_store_goes_on, an_image_stands_for_one_state, an_open_finds_what_stands_there,
     an_open_finds_what_was_acknowledged, an_upgrade_keeps_the_state,
+    an_upgrade_to_version_three_keeps_the_state,
 };
 pub use looking::look;
 pub use opening::Unopened;

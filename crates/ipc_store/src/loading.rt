@@ -13,7 +13,7 @@ ghost use Rattle.ipc_disk.specs.Range.{IsWithin};
 ghost use Rattle.ipc_disk.specs.Standing.{sector_at};
 ghost use Rattle.ipc_journal.specs.View.{form_of, range_of, epoch_of};
 ghost use Rattle.ipc_state.specs.State.{State};
-ghost use Rattle.ipc_image.specs.Format.{device_form, format_one, objects_first, IsFormat};
+ghost use Rattle.ipc_image.specs.Format.{device_form, format, format_one, objects_first, IsFormat};
 ghost use Rattle.ipc_image.specs.Saved.{StandForStateIn};
 ghost use Rattle.ipc_image.specs.Sizes.{need_in};
 ghost use Rattle.ipc_image.specs.Superblock.{AreOf};
@@ -25,7 +25,8 @@ ghost use Rattle.ipc_store.specs.Image.{IsDeviceIn, HasBaseIn, LeadToBy};
 ghost use Rattle.ipc_store.specs.Image.{form_at, HasBatches, StandsFor};
 ghost use Rattle.ipc_store.specs.Refusals.{IsRefusal};
 ghost use Rattle.ipc_store.specs.Relations.Loading.{HasNoBase, IsDamage, IsFoundDamaged, IsObjectDamage};
-ghost use Rattle.ipc_store.specs.Relations.Loading.{form_for, IsAfter, IsLoaded, IsSuperblockRefusal, OnlySyncs};
+ghost use Rattle.ipc_store.specs.Relations.Loading.{form_for, IsAfter, IsLoaded, IsNamedIn, IsSuperblockRefusal};
+ghost use Rattle.ipc_store.specs.Relations.Loading.{OnlySyncs};
 ghost use Rattle.ipc_store.specs.Relations.Matches.{AreOnDisk};
 ghost use Rattle.ipc_store.specs.declared.places.Versions.TheVariants as Versions;
 
@@ -52,10 +53,10 @@ pub(crate) fn load_superblock<D: SectorDisk>(
     ensures form { IfOk result (λ found. IsHonest (D.medium disk.old)
         → found.0 ≡ form_for versions (sector_at (D.medium disk.old).contents 0)) }
     ensures device { IfOk result (λ found. IsHonest (D.medium disk.old)
-        → IsDeviceIn found.0 found.1.limits (D.medium disk.old).contents
-        × (found.1.sectors ≡ named_sectors (D.medium disk.old).contents)) }
+        → IsNamedIn found.0 found.1 (D.medium disk.old).contents) }
     ensures limits { IfOk result (λ found. AreOf found.0 found.1.limits) }
     ensures old { IfOk result (λ found. versions ≡ Versions.One → found.0 ≡ format_one) }
+    ensures two { IfOk result (λ found. versions ≡ Versions.Two → found.0 ≡ format) }
     ensures opened { IfOk result (λ found. versions ≡ Versions.Opened → found.0 ≡ device_form found.1.limits) }
     ensures room { IfOk result (λ found. need_in found.0 found.1.limits ≤ found.1.sectors) }
     ensures there { IfOk result (λ found. found.1.sectors ≤ D.size disk.old) }
@@ -218,6 +219,39 @@ pub(crate) fn read_all<D: SectorDisk>(
     ensures reads { OnlyReads D.size D.medium D.counts (IsErrOf result OpenError.Device) disk.old disk.new }
 {
     let (form, superblock) = load_superblock(Versions::Opened, disk)?;
+    read_named(alloc, disk, form, superblock, room)
+}
+
+/// Reads what stands on a device of this form with this superblock, after the superblock.
+pub(crate) fn read_named<D: SectorDisk>(
+    alloc: Global,
+    disk: &mut D,
+    form: Format,
+    superblock: Superblock,
+    room: &mut [u8],
+) -> Result<(Checkpoint, Journal, Engine), OpenError>
+    requires form { form ≡ device_form superblock.limits }
+    requires of { AreOf form superblock.limits }
+    requires own_room { need_in form superblock.limits ≤ superblock.sectors }
+    requires there { superblock.sectors ≤ D.size disk.old }
+    requires room { length room.old ≡ most_bytes }
+    ensures on_disk { IfOk result (λ found. AreOnDisk (D.size disk.new) found.2.limits found.0 found.1) }
+    ensures limits { IfOk result (λ found. found.2.limits ≡ superblock.limits) }
+    ensures spare { IfOk result (λ found. HasSpare found.0) }
+    ensures stands { IfOk result (λ found. IsHonest (D.medium disk.old)
+        → IsNamedIn form superblock (D.medium disk.old).contents
+        → StandsFor found.2.limits found.2.state (D.medium disk.old).contents) }
+    ensures loaded { IfOk result (λ found. IsHonest (D.medium disk.old) → IsDurable (D.medium disk.old)
+        → IsNamedIn form superblock (D.medium disk.old).contents
+        → IsLoaded (D.medium disk.new) found.2 found.0 found.1) }
+    ensures room { length room.new ≡ most_bytes }
+    // Refusals.
+    ensures refused { IfErr result (IsDamage (λ sector. IsHonest (D.medium disk.old)
+        → IsNamedIn form superblock (D.medium disk.old).contents
+        → IsFoundDamaged form (D.medium disk.old).contents sector)) }
+    // It only reads.
+    ensures reads { OnlyReads D.size D.medium D.counts (IsErrOf result OpenError.Device) disk.old disk.new }
+{
     let (checkpoint, mut engine) = load_base(alloc, disk, form, superblock)?;
     let journal = load_journal(disk, form, &checkpoint, &mut engine, room)?;
     Ok((checkpoint, journal, engine))

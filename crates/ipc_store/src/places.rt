@@ -9,7 +9,7 @@ ghost use Rattle.ipc_store.specs.Relations.Loading.{form_for};
 use ipc_checkpoint::Layout;
 use ipc_disk::Range;
 use ipc_engine::Engine;
-use ipc_image::{FORMAT_ONE, Format, JOURNAL, area};
+use ipc_image::{FORMAT, FORMAT_ONE, Format, JOURNAL, area};
 use ipc_journal::Form;
 use ipc_limits::Limits;
 
@@ -19,8 +19,10 @@ pub(crate) const FIRST_EPOCH: u64 = 1;
 /// Which devices are read.
 #[derive(Clone, Copy)]
 pub(crate) enum Versions {
-    /// Those of version 1, which are upgraded.
+    /// Those of version 1, which become ones of version 2.
     One,
+    /// Those of version 2, which become ones of version 3.
+    Two,
     /// Those that are opened.
     Opened,
 }
@@ -33,6 +35,7 @@ impl Versions {
     {
         match self {
             Versions::One => FORMAT_ONE,
+            Versions::Two => FORMAT,
             Versions::Opened => Format::named(sector),
         }
     }

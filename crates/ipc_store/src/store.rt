@@ -2,7 +2,7 @@
 
 ghost use Rattle.std.specs.Prelude.{◌≡◌, ◌⊎◌, ◌<◌, ◌+◌, ◌-◌, ◌^◌, ◌↔◌, ◌++◌, ◌∷◌, ◌≢◌, ◌||◌, [], List};
 ghost use Rattle.std.specs.Prelude.{length, true, false, IsOk, IsTrue, Ok, Err, OnOk, OnErr};
-ghost use Rattle.ipc_checkpoint.specs.View.{HasSpare};
+ghost use Rattle.ipc_checkpoint.specs.View.{epoch_of, HasSpare};
 ghost use Rattle.ipc_disk.specs.Calls.{IsSameDisk, CountsFaultIf};
 ghost use Rattle.ipc_disk.specs.Counts.{counted, with_calls};
 ghost use Rattle.ipc_disk.specs.Medium.{Image, IsDurable, IsHonest};
@@ -131,6 +131,13 @@ impl<D: SectorDisk> Store<D> {
         ensures { result.now ≡ self.now.disk }
     {
         &self.disk
+    }
+
+    /// The epoch of the objects that are saved.
+    pub(crate) fn epoch(&self) -> u64
+        ensures { result ≡ epoch_of self.now.checkpoint }
+    {
+        self.checkpoint.epoch()
     }
 
     /// How many sectors the batches of its journal take.

@@ -197,7 +197,8 @@ fn read_limits<D: SectorDisk>(disk: &mut D, limits: &Limits) -> Result<Superbloc
 {
     disk.sync()?;
     let (_, superblock) = load_superblock(Versions::One, disk)?;
-    test_room(limits, &superblock.limits, disk.sectors())?;
+    let need = need(FORMAT, limits);
+    test_room(limits, &superblock.limits, need, disk.sectors())?;
     Ok(superblock)
 }
 
@@ -236,16 +237,19 @@ fn read_state<D: SectorDisk>(
     Ok((checkpoint, engine))
 }
 
-// Whether these limits are none below the device's own, and the disk has room for them.
-fn test_room(limits: &Limits, own: &Limits, sectors: u32) -> Result<(), UpgradeError>
-    requires { AreOf format limits.now }
-    ensures ok { OnOk result (AreAtLeast limits.now own.now × (need_of limits.now ≤ sectors)) }
-    ensures refused { IfErr result (IsRoomRefusal limits.now own.now sectors) }
+/// Whether these limits are none below the device's own, and the disk has the sectors that they need.
+pub(crate) fn test_room(
+    limits: &Limits,
+    own: &Limits,
+    need: u32,
+    sectors: u32,
+) -> Result<(), UpgradeError>
+    ensures ok { OnOk result (AreAtLeast limits.now own.now × (need ≤ sectors)) }
+    ensures refused { IfErr result (IsRoomRefusal limits.now own.now need sectors) }
 {
     if let Some(field) = first_below(limits, own) {
         return Err(UpgradeError::BadLimits(BadLimits { field }));
     }
-    let need = need(FORMAT, limits);
     if sectors < need {
         return Err(UpgradeError::TooSmall { need });
     }

@@ -246,7 +246,7 @@ fn write_device<D: SectorDisk, W: Write>(
         w,
         "ipcd_commits_total",
         Kind::Counter,
-        "Commits: events that were made to last at once.",
+        "Commits: events that became durable at once.",
         tally.commits,
     )?;
     write_one(

@@ -4,13 +4,15 @@
 //!     trials stopped N < SCRIPT    stops the script at each call on its disk, its formats, and each N-th opening
 //!     trials faulted N < SCRIPT    lets each call on its disk fail once, and each of the openings after each N-th line
 //!     trials stopped-3 N, faulted-3 N, batch-3   the same on a device of version 3, with a journal of 8 sectors
-//!     trials upgraded N < TEXT     upgrades and opens a device of version 1, stopped at each call on its disk, as is
-//!                                  what comes after each N-th stop, and with each call failing once
+//!     trials upgraded N < TEXT     upgrades a device of version 1 to 2, and opens it, stopped at each call on its
+//!                                  disk, as is what comes after each N-th stop, and with each call failing once
+//!     trials upgraded-3 N < TEXT   the same of the device of version 2 that this becomes, and the upgrade to 3
 //!     trials batch                 feeds a hub requests of one moment, and counts what one release writes of them
 //!     trials script < SCRIPT       runs the script in memory, under small limits but 16 processes
 //!
 //! In the first two a script is followed by a line `-` and by a probe: lines whose answers tell what a device holds. In
-//! `upgraded` a probe comes first, a line `-`, what it has to answer, another line `-`, and the bytes of the device.
+//! `upgraded` and `upgraded-3` a probe comes first, a line `-`, what it has to answer, another line `-`, and the bytes
+//! of the device of version 1.
 #![tactic(auto)]
 
 ghost use Rattle.std.specs.Prelude.{◌<◌, IfOk};
@@ -95,7 +97,8 @@ fn with_number(rt: &(impl Input + Print + AllocGlobal), word: &str, every: u64) 
             rt,
             faulted(alloc, limits_of_three(), text.as_slice(), every as usize),
         ),
-        "upgraded" => print(rt, upgraded(alloc, text.as_slice(), every)),
+        "upgraded" => print(rt, upgraded(alloc, 2, text.as_slice(), every)),
+        "upgraded-3" => print(rt, upgraded(alloc, 3, text.as_slice(), every)),
         _ => Err(Fault::Usage),
     }
 }

@@ -1,6 +1,6 @@
-//! The upgrade of a device of version 1, and the opening after it: stopped at each call on the disk, with each choice
-//! of the unsynced sectors that a crash keeps, and with one call that fails. What that leaves is upgraded, if it is of
-//! version 1 still, and opened; then its clients find what they have to find.
+//! The upgrade of a device, from version 1 to 2 or from 2 to 3, and the opening after it: stopped at each call on the
+//! disk, with each choice of the unsynced sectors that a crash keeps, and with one call that fails. What that leaves is
+//! upgraded, if it is of the old version still, and opened; then its clients find what they have to find.
 
 ghost use Rattle.std.specs.Prelude.{◌<◌};
 
@@ -15,23 +15,24 @@ use ipc_limits::Limits;
 use ipc_store::Store;
 use std::alloc::Global;
 
-/// The bytes of a device of version 1, a probe, and what that has to answer once the device is upgraded.
+/// The bytes of a device of version 1, the version of which it becomes one, a probe, and what that has to answer then.
 #[derive(Clone, Copy)]
 struct Old<'a> {
     alloc: Global,
+    version: u32,
     image: &'a [u8],
     probe: &'a [u8],
     wanted: &'a [u8],
 }
 
-/// Upgrades that end early, or in the opening after them: how many devices of version 1 and of version 2 they left.
-/// What comes after each N-th of these stops is stopped too: how often.
+/// Upgrades that end early, or in the opening after them: how many devices of the old version and of the new one they
+/// left. What comes after each N-th of these stops is stopped too: how often.
 #[derive(Clone, Copy)]
 struct Upgrades<'a> {
     old: Old<'a>,
     every: u64,
-    ones: u64,
-    twos: u64,
+    olds: u64,
+    news: u64,
     again: u64,
     ghost some: { 0 < every },
 }
@@ -43,15 +44,16 @@ struct Again<'a> {
     stop: (u64, u64),
 }
 
-/// Upgrades the device of a text, in which a probe comes first, a line `-`, what the probe has to answer, and another
-/// line `-`.
-pub(crate) fn upgraded(alloc: Global, text: &[u8], every: u64) -> Result<Told, Fault>
+/// Upgrades the device of a text to this version, 2 or 3. In the text a probe comes first, a line `-`, what the probe
+/// has to answer, and another line `-`.
+pub(crate) fn upgraded(alloc: Global, version: u32, text: &[u8], every: u64) -> Result<Told, Fault>
     requires { 0 < every }
 {
     let (probe, rest) = parts_of(alloc, text)?;
     let (wanted, image) = parts_of(alloc, rest)?;
     let old = Old {
         alloc,
+        version,
         image,
         probe,
         wanted,
@@ -62,21 +64,32 @@ pub(crate) fn upgraded(alloc: Global, text: &[u8], every: u64) -> Result<Told, F
     let faults = fail_each(&mut failed, 0, false)?;
     let faults = faults.saturating_add(fail_each(&mut failed, 0, true)?);
     let words =
-        "# stops of an upgrade and the opening after it left # devices of version 1 and # of version 2\n\
+        "# stops of an upgrade to version # and the opening after it left # devices of the old version and # of the \
+        new one\n\
         # stops of what comes after these left the same\n\
-        # faults of an upgrade and the opening left # devices of version 1 and # of version 2";
+        # faults of an upgrade and the opening left # devices of the old version and # of the new one";
     let Upgrades {
-        ones,
-        twos,
+        olds,
+        news,
         again,
         ..
     } = stopped;
-    let numbers = [stops, ones, twos, again, faults, failed.ones, failed.twos];
+    let version = u64::from(version);
+    let numbers = [
+        stops,
+        version,
+        olds,
+        news,
+        again,
+        faults,
+        failed.olds,
+        failed.news,
+    ];
     Ok(Told::new(words, &numbers))
 }
 
-/// A device of version 1 in memory, on a disk with room for one of version 2.
-pub(crate) fn old_disk(alloc: Global, image: &[u8]) -> Result<MemoryDisk, Fault> {
+/// A device of the version before this one in memory, made of one of version 1, on a disk with room for the upgrade.
+fn old_disk(alloc: Global, version: u32, image: &[u8]) -> Result<MemoryDisk, Fault> {
     let Ok(sectors) = u32::try_from(sectors_for_len(image.len())) else {
         return Err(Fault::Input);
     };
@@ -87,23 +100,34 @@ pub(crate) fn old_disk(alloc: Global, image: &[u8]) -> Result<MemoryDisk, Fault>
         return Err(Fault::Unready);
     };
     disk.grow(need)?;
+    if version == 2 {
+        return Ok(disk);
+    }
+    let (outcome, disk) = upgrade(alloc, 2, disk);
+    outcome?;
     Ok(disk)
 }
 
-/// Upgrades the device of a disk, which comes back, to small limits.
-pub(crate) fn upgrade<D: SectorDisk>(alloc: Global, disk: D) -> (Result<(), Fault>, D) {
-    match Store::upgrade(alloc, disk, &Limits::small()) {
+/// Upgrades the device of a disk, which comes back, to this version, under small limits.
+fn upgrade<D: SectorDisk>(alloc: Global, version: u32, disk: D) -> (Result<(), Fault>, D) {
+    let upgraded = if version == 2 {
+        Store::upgrade(alloc, disk, &Limits::small())
+    } else {
+        Store::upgrade_large(alloc, disk, &Limits::small_of_three())
+    };
+    match upgraded {
         Ok(disk) => (Ok(()), disk),
         Err(unupgraded) => (Err(Fault::from(unupgraded.error)), unupgraded.disk),
     }
 }
 
-/// Upgrades a device, unless it is of version 2 already, and runs a script on it. Whether it was of version 2.
-fn go_on<D: SectorDisk>(alloc: Global, disk: D, script: &[u8]) -> (bool, Ran<D>) {
-    match upgrade(alloc, disk) {
-        (Ok(()), disk) => (false, run(alloc, disk, script)),
-        (Err(Fault::Version(2)), disk) => (true, run(alloc, disk, script)),
-        (Err(fault), disk) => {
+/// Upgrades a device, unless it is of this version already, and runs a script on it. Whether it was of this version.
+fn go_on<D: SectorDisk>(alloc: Global, version: u32, disk: D, script: &[u8]) -> (bool, Ran<D>) {
+    let (outcome, disk) = upgrade(alloc, version, disk);
+    match outcome {
+        Ok(()) => (false, run(alloc, disk, script)),
+        Err(Fault::Version(found)) if found == version => (true, run(alloc, disk, script)),
+        Err(fault) => {
             let output = Vec::new(alloc);
             let outcome = Err(fault);
             (
@@ -121,14 +145,14 @@ fn go_on<D: SectorDisk>(alloc: Global, disk: D, script: &[u8]) -> (bool, Ran<D>)
 impl Old<'_> {
     /// The device on a disk that is stopped after so many calls.
     fn fuse(&self, calls: u64, keep: u64) -> Result<FuseDisk, Fault> {
-        let disk = old_disk(self.alloc, self.image)?;
+        let disk = old_disk(self.alloc, self.version, self.image)?;
         Ok(FuseDisk::new(disk, calls, keep))
     }
 
     /// Goes on with a device until it is stopped. How many sectors are not synced then, and whether what a crash leaves
-    /// is of version 2; None if it is not stopped.
+    /// is of the new version; None if it is not stopped.
     fn stop(&self, fuse: FuseDisk) -> Result<Option<(u32, bool)>, Fault> {
-        let (_, ran) = go_on(self.alloc, fuse, &[]);
+        let (_, ran) = go_on(self.alloc, self.version, fuse, &[]);
         let unsynced = ran.disk.unsynced();
         let is_new = self.is_new(ran.disk.crash())?;
         match ran.outcome {
@@ -138,9 +162,9 @@ impl Old<'_> {
         }
     }
 
-    /// Whether a device that is left is of version 2. It answers as it has to, once it is upgraded.
+    /// Whether a device that is left is of the new version. It answers as it has to, once it is upgraded.
     fn is_new(&self, disk: MemoryDisk) -> Result<bool, Fault> {
-        let (is_new, ran) = go_on(self.alloc, disk, self.probe);
+        let (is_new, ran) = go_on(self.alloc, self.version, disk, self.probe);
         ran.outcome?;
         if ran.output.as_slice() == self.wanted {
             Ok(is_new)
@@ -157,8 +181,8 @@ impl Upgrades<'_> {
         Upgrades {
             old,
             every,
-            ones: 0,
-            twos: 0,
+            olds: 0,
+            news: 0,
             again: 0,
         }
     }
@@ -166,9 +190,9 @@ impl Upgrades<'_> {
     /// Counts a device that is left.
     fn count(&mut self, is_new: bool) {
         if is_new {
-            self.twos = self.twos.saturating_add(1);
+            self.news = self.news.saturating_add(1);
         } else {
-            self.ones = self.ones.saturating_add(1);
+            self.olds = self.olds.saturating_add(1);
         }
     }
 }
@@ -186,7 +210,7 @@ impl Stops for Upgrades<'_> {
             return Ok(None);
         };
         self.count(is_new);
-        if self.ones.saturating_add(self.twos) % self.every == 0 {
+        if self.olds.saturating_add(self.news) % self.every == 0 {
             let stop = (calls, keep);
             self.again = self
                 .again
@@ -199,7 +223,7 @@ impl Stops for Upgrades<'_> {
 impl Stops for Again<'_> {
     fn stop(&mut self, more: u64, other: u64) -> Result<Option<u32>, Fault> {
         let Again { old, stop } = *self;
-        let (_, left) = go_on(old.alloc, old.fuse(stop.0, stop.1)?, &[]);
+        let (_, left) = go_on(old.alloc, old.version, old.fuse(stop.0, stop.1)?, &[]);
         match old.stop(FuseDisk::new(left.disk.crash(), more, other)) {
             Ok(stop) => Ok(stop.map(|(unsynced, _)| unsynced)),
             Err(_) => {
@@ -214,9 +238,14 @@ impl Stops for Again<'_> {
 
 impl Fails for Upgrades<'_> {
     fn fail(&mut self, at: u64, done: bool) -> Result<bool, Fault> {
-        let Old { alloc, image, .. } = self.old;
-        let disk = OnceDisk::new(old_disk(alloc, image)?, at, done);
-        let (_, ran) = go_on(alloc, disk, &[]);
+        let Old {
+            alloc,
+            version,
+            image,
+            ..
+        } = self.old;
+        let disk = OnceDisk::new(old_disk(alloc, version, image)?, at, done);
+        let (_, ran) = go_on(alloc, version, disk, &[]);
         let has_failed = ran.disk.has_failed();
         match (
             ran.outcome,

@@ -12,9 +12,10 @@ use Rattle.ipc_disk.specs.Medium.{Image, Medium, IsDurable, IsHonest, Stays}
 use Rattle.ipc_engine.specs.Changes.{IsTracked}
 use Rattle.ipc_engine.specs.Engine.{Machine}
 use Rattle.ipc_engine.specs.Event.{PlainEvent}
-use Rattle.ipc_image.specs.Format.{device_form, format_one}
+use Rattle.ipc_image.specs.Format.{device_form, format, format_one}
 use Rattle.ipc_image.specs.Superblock.{named_form}
 use Rattle.ipc_image.specs.declared.format.Format.{Format}
+use Rattle.ipc_image.specs.declared.superblock.Superblock.{Superblock}
 use Rattle.ipc_image.specs.Saved.{StandForStateIn}
 use Rattle.ipc_journal.specs.declared.journal.Journal.{Journal}
 use Rattle.ipc_journal.specs.Journal.{sectors_of}
@@ -23,15 +24,21 @@ use Rattle.ipc_state.specs.State.{State}
 use Rattle.ipc_store.specs.Batch.{batch_bytes}
 use Rattle.ipc_store.specs.declared.places.Versions.{Versions}
 use Rattle.ipc_store.specs.Image.{journal_form, journal_range, layout_of, named_sectors, HasBatches, IsDevice, LeadTo}
-use Rattle.ipc_store.specs.Image.{HasBaseIn, HasVersionBut, IsDamagedIn, IsFirstFaultIn, IsNotFormatted}
+use Rattle.ipc_store.specs.Image.{HasBaseIn, HasVersionBut, IsDamagedIn, IsDeviceIn, IsFirstFaultIn, IsNotFormatted}
 use Rattle.ipc_store.specs.Refusals.{IsNoSuperblock}
 use Rattle.ipc_store.specs.declared.fault.OpenError.{OpenError}
 use Rattle.ipc_store.specs.declared.fault.OpenError.TheVariants as errors
 
--- the form of a device that is read, if it is of version 1, or if it is opened
+-- the form of a device that is read, if it is of version 1, of version 2, or if it is opened
 abbrev pub form_for : Versions → List ℕ → Format
 form_for Versions.One sector = format_one
+form_for Versions.Two sector = format
 form_for Versions.Opened sector = named_form sector
+
+-- the superblock is that of the image, which is a device of this form
+abbrev pub IsNamedIn : Format → Superblock → Image → Type 0
+IsNamedIn form superblock image =
+    IsDeviceIn form superblock.limits image × (superblock.sectors ≡ named_sectors image)
 
 -- the journal has these batches, as a value that was read
 abbrev pub IsAfter : Journal → List (List PlainEvent) → Type 0

@@ -13,11 +13,12 @@ use Rattle.ipc_engine.specs.Event.{PlainEvent}
 use Rattle.ipc_image.specs.Format.{format, format_one}
 use Rattle.ipc_image.specs.Greater.{AreAtLeast, at_least}
 use Rattle.ipc_image.specs.Saved.{StandForStateIn}
-use Rattle.ipc_image.specs.Sizes.{need_of}
+use Rattle.ipc_image.specs.declared.format.Format.{Format}
 use Rattle.ipc_image.specs.declared.superblock.Superblock.{Superblock}
 use Rattle.ipc_store.specs.declared.fault.UpgradeError.{UpgradeError}
 use Rattle.ipc_store.specs.declared.fault.UpgradeError.TheVariants as errors
-use Rattle.ipc_store.specs.Image.{layout_in, named_sectors, HasBatches, HasObjectsIn, IsDeviceIn, LeadToBy}
+use Rattle.ipc_store.specs.Image.{layout_in, HasBatches, HasObjectsIn, IsDeviceIn, LeadToBy}
+use Rattle.ipc_store.specs.Relations.Loading.{IsNamedIn}
 
 -- where the objects of the version before are read once more, and where those of today are written: on all of the disk,
 -- with the old root
@@ -26,22 +27,25 @@ whole_layout limits sectors = record (layout_in format limits sectors) { root = 
 
 -- the superblock is that of the image, which is a device of the old version
 abbrev pub IsNamed : Superblock → Image → Type 0
-IsNamed superblock image =
-    IsDeviceIn format_one superblock.limits image × (superblock.sectors ≡ named_sectors image)
+IsNamed = IsNamedIn format_one
 
--- what an error says of the limits beside the device's own, and of the room for them on so many sectors
-abbrev pub IsRoomRefusal : Limits → Limits → ℕ → UpgradeError → Type 0
-IsRoomRefusal limits own sectors (errors.BadLimits bad) = position is_not (at_least limits own) ≡ Some bad.field
-IsRoomRefusal limits own sectors (errors.TooSmall need) =
-    (need ≡ need_of limits) × (sectors < need) × AreAtLeast limits own
-IsRoomRefusal limits own sectors error = ⊥
+-- what an error says of the limits beside the device's own, and of the sectors that they need, of which the disk has
+-- so many
+abbrev pub IsRoomRefusal : Limits → Limits → ℕ → ℕ → UpgradeError → Type 0
+IsRoomRefusal limits own least sectors (errors.BadLimits bad) = position is_not (at_least limits own) ≡ Some bad.field
+IsRoomRefusal limits own least sectors (errors.TooSmall need) =
+    (need ≡ least) × (sectors < need) × AreAtLeast limits own
+IsRoomRefusal limits own least sectors error = ⊥
 
--- An image stands for this state in the old version, piece by piece: it is a device, and has these objects and batches.
-pub record HasOld (own : Limits) (epoch : ℕ) (objects : PlainObjects) (batches : List (List PlainEvent)) (image : Image)
-    : Type 0 where
-  pub device : IsDeviceIn format_one own image
-  pub there : HasObjectsIn format_one own epoch objects image
-  pub journal : HasBatches format_one epoch batches image
+-- An image stands for this state in an old version, piece by piece: it is a device, and has these objects and batches.
+pub record HasOldIn (form : Format) (own : Limits) (epoch : ℕ) (objects : PlainObjects)
+    (batches : List (List PlainEvent)) (image : Image) : Type 0 where
+  pub device : IsDeviceIn form own image
+  pub there : HasObjectsIn form own epoch objects image
+  pub journal : HasBatches form epoch batches image
+
+abbrev pub HasOld : Limits → ℕ → PlainObjects → List (List PlainEvent) → Image → Type 0
+HasOld = HasOldIn format_one
 
 -- A crash now leaves what is read, which stands for a state in the old version. The machine is in the state after a
 -- restart, and knows what is otherwise there than in the objects that are saved.

@@ -29,6 +29,9 @@ returns-in-Ok-clause-form g c = named g (goal.at.returns-in-Ok-clause-form g c).
 pub returns-in-Ok-clause-old : goal.returns-in-Ok-clause-old
 returns-in-Ok-clause-old g c = λ one. c.form-form.ensures.is ∙ ap (λ (v : Versions). form_for v c.read.new.into) one
 
+pub returns-in-Ok-clause-two : goal.returns-in-Ok-clause-two
+returns-in-Ok-clause-two g c = λ two. c.form-form.ensures.is ∙ ap (λ (v : Versions). form_for v c.read.new.into) two
+
 pub returns-in-Ok-clause-opened : goal.returns-in-Ok-clause-opened
 returns-in-Ok-clause-opened g c = λ opened.
     let is : c.form-form.result ≡ named_form c.read.new.into = c.form-form.ensures.is ∙ ap (λ (v : Versions). form_for v c.read.new.into) opened in

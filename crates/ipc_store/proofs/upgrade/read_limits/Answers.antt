@@ -80,14 +80,15 @@ returns-in_err-test_room-clause-refused g c =
     let size = c.sectors.ensures ∙ c.load_superblock.ensures.reads.same.sectors ∙ c.sync.ensures.call.sectors in
     room-upgrade limits _ (g.D.SectorDisk.medium c.args.disk.now).contents c.requires own
     (device g (goal.at.returns-in_err-test_room-clause-refused g c).In_ok-superblock honest).0 error
-    (subst (λ (n : ℕ). IsRoomRefusal limits own n error) size c.in_err-test_room.ensures.refused))
+    (subst (λ (n : ℕ). IsRoomRefusal limits own n (g.D.SectorDisk.size c.args.disk.now) error) c.need-need.ensures.exact
+    (subst (λ (n : ℕ). IsRoomRefusal limits own c.need-need.result n error) size c.in_err-test_room.ensures.refused)))
 
 pub returns-in_err-test_room-clause-small : goal.returns-in_err-test_room-clause-small
 returns-in_err-test_room-clause-small g c = λ need is.
     let e = passed_on c.from_residual-in_err-test_room.result c.in_err-test_room.field-0.0 (errors.TooSmall need)
     c.from_residual-in_err-test_room.ensures.1 is in
-    let small = small-room c.args.limits.now c.in_ok-superblock.superblock.limits _ c.in_err-test_room.field-0.0 need e c.in_err-test_room.ensures.refused in
-    (small.0, omega (arith, small.1, c.sectors.ensures, c.load_superblock.ensures.reads.same.sectors, c.sync.ensures.call.sectors))
+    let small = small-room c.args.limits.now c.in_ok-superblock.superblock.limits _ _ c.in_err-test_room.field-0.0 need e c.in_err-test_room.ensures.refused in
+    (small.0 ∙ c.need-need.ensures.exact, omega (arith, small.1, c.sectors.ensures, c.load_superblock.ensures.reads.same.sectors, c.sync.ensures.call.sectors))
 
 -- ---- what was done on the disk
 
@@ -112,7 +113,7 @@ returns-in_err-superblock-clause-reads g c =
 pub returns-in_err-test_room-clause-reads : goal.returns-in_err-test_room-clause-reads
 returns-in_err-test_room-clause-reads g c =
     OnlySyncs-never
-    (λ is. no-device c.args.limits.now c.in_ok-superblock.superblock.limits _ c.in_err-test_room.field-0.0
+    (λ is. no-device c.args.limits.now c.in_ok-superblock.superblock.limits _ _ c.in_err-test_room.field-0.0
     (passed_on c.from_residual-in_err-test_room.result c.in_err-test_room.field-0.0 errors.Device c.from_residual-in_err-test_room.ensures.1 is)
     c.in_err-test_room.ensures.refused)
     (syncs g (goal.at.returns-in_err-test_room-clause-reads g c).In_ok-superblock)

@@ -25,7 +25,7 @@ use Rattle.ipc_store.specs.Refusals.{IsOldDamage}
 use Rattle.ipc_store.specs.Relations.Upgrade.{whole_layout, HasOld, IsNamed}
 use Rattle.ipc_store.proofs.Devices.{has-spare}
 use Rattle.ipc_store.proofs.Faults.{ok-device, passed-device}
-use Rattle.ipc_store.proofs.Greater.{area-greater, restart-waits, sound-greater}
+use Rattle.ipc_store.proofs.Greater.{area-greater, few-of-two, restart-waits, sound-greater}
 use Rattle.ipc_store.proofs.Loaded.{OnlyReads-never, stays-durable}
 use Rattle.ipc_store.proofs.Opened.{base-damaged}
 use Rattle.ipc_store.proofs.Refusals.{damage-map, passed}
@@ -229,8 +229,8 @@ returns-clause-sound g c =
     let limits : Limits = c.args.limits.now in
     let engine = c.go_through_journal.new.engine in
     let after = c.in_ok-go_through_journal.ensures.restarted in
-    sound-greater own limits engine.state (each-at-least limits own c.requires.greater) c.requires.of.version
-    (ap (λ (s : State). s.wait) after.1 ∙ restart-waits c.in_ok-checkpoint.engine.limits after.0)
+    sound-greater own limits engine.state (each-at-least limits own c.requires.greater)
+    (ap (λ (s : State). s.wait) after.1 ∙ restart-waits c.in_ok-checkpoint.engine.limits after.0) (few-of-two limits c.requires.of.version engine.state)
     (subst (λ (l : Limits). IsSound l engine.state) (c.go_through_journal.ensures.limits ∙ c.in_ok-checkpoint.ensures.limits)
     c.in_ok-go_through_journal.ensures.sound)
 

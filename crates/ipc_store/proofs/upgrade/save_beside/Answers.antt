@@ -14,7 +14,7 @@ use Rattle.ipc_heap.specs.Matches.{StaysSaved}
 use Rattle.ipc_image.specs.Changed.{differs_in}
 use Rattle.ipc_image.specs.Format.{format, format_one}
 use Rattle.ipc_image.specs.Saved.{saved}
-use Rattle.ipc_image.proofs.CallerLemmas.{old-others-there}
+use Rattle.ipc_image.proofs.CallerLemmas.{old-others-there, one-known}
 use Rattle.ipc_store.specs.Relations.Upgrade.{HasOld, IsReadOld}
 use Rattle.ipc_store.proofs.Upgrading.{old-stays}
 use Rattle.ipc_store.proofs.upgrade.save_beside.Given.{Over}
@@ -48,8 +48,8 @@ old-kept g c old =
     subst (λ (v : CheckpointView). StaysSaved (layout_of v).range 1 (epoch_of v) old.objects medium new) c.set_next_root.ensures
     (c.save.ensures.kept format_one.root old.objects (saved-under g c old)
     (λ same. absurd (omega (arith, same, ap (λ v. v.heap.next_root) c.set_next_root.ensures)))) in
-    old-stays c.args.engine.now.limits (epoch_of c.args.checkpoint) old.objects old.batches layout
-    (ap (λ (r : Range). r.first) c.requires.range) refl medium new old.durable old.old
+    old-stays format_one one-known c.args.engine.now.limits (epoch_of c.args.checkpoint) old.objects old.batches layout
+    (ap (λ (r : Range). r.first) c.requires.range) (omega arith, omega arith) medium new old.durable old.old
     (λ i inside. subst (λ (r : Range). IsInside r i) (sym c.requires.range) (inside.0, omega (arith, inside.1, old.old.device.whole, size)))
     alone kept
 

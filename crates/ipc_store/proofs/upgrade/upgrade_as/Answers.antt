@@ -38,7 +38,8 @@ module _ (g : Over) (c : After-write_new g) (honest : IsHonest (g.D.SectorDisk.m
   stood : StandsForIn format_one machine.limits read.state old.contents
   stood =
       subst (StandsForIn format_one machine.limits read.state) ((c.read_old.ensures.reads.stays honest).contents honest)
-      (old-stands machine.limits (epoch_of c.in-Ok.found.0) read.objects read.batches read.base read.state mid.contents read.old read.stand read.leads)
+      (old-stands format_one machine.limits (epoch_of c.in-Ok.found.0) read.objects read.batches read.base read.state mid.contents read.old read.stand
+      read.leads)
 
   -- a restart is the same in both versions
   restarted : machine.state ≡ restart c.args.limits.now read.state

@@ -35,7 +35,7 @@ saved-stands : (g : Over) (c : After-save_beside g) (old : IsReadOld (g.D.Sector
 saved-stands g c old =
     EachImageSince-weaken _ _ (HasOld c.args.engine.now.limits (epoch_of c.args.checkpoint) old.objects old.batches) _
     (c.save_beside.ensures.any_moment old)
-    (λ image has. inl (old-stands c.args.engine.now.limits (epoch_of c.args.checkpoint) old.objects old.batches old.base old.state image has
+    (λ image has. inl (old-stands format_one c.args.engine.now.limits (epoch_of c.args.checkpoint) old.objects old.batches old.base old.state image has
     old.stand old.leads))
 
 -- each image then is all but the superblock of the new device

@@ -1,5 +1,5 @@
 -- Sectors of zeros are of no epoch.
-use Rattle.std.proofs.Common.{◌≡◌, ℕ, ◌+◌, ◌<◌, [], replicate, sym, subst, ap, arith}
+use Rattle.std.proofs.Common.{◌≡◌, ℕ, ◌+◌, ◌<◌, [], replicate, sym, subst, ap, ◌∙◌, arith}
 use Rattle.std.proofs.lemmas.Result.{on_ok_weaker}
 use Rattle.ipc_disk.specs.declared.range.Range.{Range}
 use Rattle.ipc_disk.specs.Medium.{Image}
@@ -7,7 +7,7 @@ use Rattle.ipc_disk.specs.Standing.{sector_at}
 use Rattle.ipc_journal.specs.Batch.{epoch_in}
 use Rattle.ipc_journal.specs.Journal.{Holds, IsClear, IsOlder}
 use Rattle.ipc_journal.specs.declared.form.Form.{Form}
-use Rattle.ipc_journal.specs.declared.form.Form.TheVariants.{Tagged}
+use Rattle.ipc_journal.specs.declared.form.Form.TheVariants.{Headed, Tagged}
 use Rattle.ipc_journal.proofs.CallerLemmas.{Holds-older, IsClear-older}
 use Rattle.ipc_journal.proofs.Cleared.{epoch_in-zeros}
 use Rattle.ipc_journal.proofs.journal.Journal.create.Goals as goal
@@ -33,3 +33,10 @@ returns-in-Tagged-clause-clear g c =
     subst (λ (f : Form). IsClear f c.args.range c.args.epoch 0 image) (sym c.in-Tagged.is)
     (IsClear-older Tagged c.args.range c.args.epoch 0 image (older c.args.range c.args.epoch image c.requires.later (erased honest))))
     c.erase.ensures.erased
+
+pub returns-in-Headed-clause-any_moment : goal.returns-in-Headed-clause-any_moment
+returns-in-Headed-clause-any_moment g c = λ tagged.
+    let not : Headed ≡ Tagged = sym c.in-Headed.is ∙ tagged in cc
+
+pub returns-in-Tagged-clause-any_moment : goal.returns-in-Tagged-clause-any_moment
+returns-in-Tagged-clause-any_moment g c = λ tagged. c.erase.ensures.headed

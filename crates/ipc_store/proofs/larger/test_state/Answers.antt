@@ -1,0 +1,1 @@
+-- Each test, and what it says.
