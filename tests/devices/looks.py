@@ -22,7 +22,7 @@ sys.dont_write_bytecode = True
 sys.path.insert(0, str(Path(__file__).resolve().parents[1] / "lib"))
 
 from server import PROGRAM, SECTORS, SECTORS_OF_THREE, Client, Server, Worker, check, in_a_folder, killed  # noqa: E402
-from server import printed, process, run, run_tests, serving  # noqa: E402
+from server import printed, process, run, run_tests, serving, until  # noqa: E402
 
 from client import IPC_CREAT, IPC_PRIVATE, O_CREAT, msgrcv_request, msgsnd_request, sem_post_request
 
@@ -169,6 +169,9 @@ def kills(made: Made = TWO) -> None:
         server = Server(sectors=made.sectors)
         writer = Writer()
         writer.start()
+        # Before its first step there may be no queue yet. A server that answers none fails here.
+        until(lambda: writer.answered > 0 or writer.failure is not None, "no step of the writer is answered")
+        writer.look()
         time.sleep(0.1)
         with subprocess.Popen([PROGRAM, "list", "device"], stdout=subprocess.DEVNULL) as look:
             time.sleep(0.002)
