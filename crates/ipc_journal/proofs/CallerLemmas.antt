@@ -1,6 +1,6 @@
 -- What the crates above cite of a journal: which batches stand on a disk, that a journal stays what it is over a turn,
 -- over reads, and over calls that leave its sectors alone, and what is read of one that grows.
-use Rattle.std.specs.Prelude.{◌≡◌, ℕ, ◌+◌, ◌-◌, ◌^◌, ◌<◌, ◌≤◌, List, [], ◌∷◌, ◌++◌, length, take, drop, refl}
+use Rattle.std.specs.Prelude.{◌≡◌, ◌⊎◌, ℕ, ◌+◌, ◌-◌, ◌^◌, ◌<◌, ◌≤◌, List, [], ◌∷◌, ◌++◌, length, take, drop, refl}
 use Rattle.std.proofs.Common.{inl, inr, sym, ◌∙◌, ap, subst, arith}
 use Rattle.std.proofs.lemmas.List.{append-nil, append_assoc}
 use Rattle.std.proofs.lemmas.Bool.{cases_lt}
@@ -10,7 +10,7 @@ use Rattle.ipc_disk.specs.declared.range.Range.{Range}
 use Rattle.ipc_disk.specs.Medium.{Image, Medium, IsHonest, Stays}
 use Rattle.ipc_disk.specs.Range.{IsInside}
 use Rattle.ipc_disk.specs.Since.{EachImageSince, LeavesAlone, SameAt}
-use Rattle.ipc_disk.specs.Standing.{sectors_for, sector_at, piece, StandsAt}
+use Rattle.ipc_disk.specs.Standing.{sector_at, piece, StandsAt}
 use Rattle.ipc_disk.proofs.CallerLemmas.{EachImageSince-join, EachImageSince-now, EachImageSince-weaken, LeavesAlone-keeps}
 use Rattle.ipc_disk.proofs.CallerLemmas.{sector_at-same, stands-same, StandsAt-front}
 use Rattle.ipc_journal.specs.declared.form.Form.{Form}
@@ -18,12 +18,12 @@ use Rattle.ipc_journal.specs.declared.form.Form.TheVariants.{Headed, Tagged}
 use Rattle.ipc_journal.specs.declared.journal.Journal.{Journal}
 use Rattle.ipc_journal.specs.Batch.{epoch_in, length_in, IsBatch}
 use Rattle.ipc_journal.specs.Headed.{header_bytes, used_in, Counts}
-use Rattle.ipc_journal.specs.Tagged.{pieces_for, StandsTagged}
+use Rattle.ipc_journal.specs.Tagged.{pieces_for, tagged_piece, IsTagged, StandsTagged}
 use Rattle.ipc_journal.specs.Journal.{head, sector_of, sectors_in, sectors_of, IsAt, Fill, Stand, EndsAt, Holds, IsOlder, IsClear}
 use Rattle.ipc_journal.specs.Journal.{HasBadHeader, HasLater, HasMore, IsNext}
 use Rattle.ipc_journal.specs.View.{form_of, range_of, epoch_of, used_of, count_of}
-use Rattle.ipc_journal.specs.Matches.{HoldsOneMoreOrNot, JournalMatches, KeepsSectors}
-use Rattle.ipc_journal.specs.Meanwhile.{Comes, ComesInOrder, IsReadFrom, KeepsBatches}
+use Rattle.ipc_journal.specs.Matches.{HoldsOneMoreOrNot, IsKept, JournalMatches, KeepsSectors}
+use Rattle.ipc_journal.specs.Meanwhile.{Comes, ComesInOrder, HoldsAlone, IsPartOf, IsReadFrom, KeepsBatches}
 use Rattle.ipc_journal.proofs.Headers.{Counts-header, Counts-one, Counts-same, epoch_in-header, used_in-header}
 use Rattle.ipc_journal.proofs.Tags.{IsWhole-same, StandsTagged-same, IsEnd-same, tagged-same, tagged-front}
 
@@ -239,7 +239,7 @@ IsClear-older Headed range epoch used image older = tt
 IsClear-older Tagged range epoch used image older = λ i low high. older i high
 
 -- each sector of tagged batches is of their epoch
-tagged-epoch : (range : Range) (epoch place before : ℕ) (batches : List (List ℕ)) (image : Image) → Fill Tagged range epoch place before batches image
+pub tagged-epoch : (range : Range) (epoch place before : ℕ) (batches : List (List ℕ)) (image : Image) → Fill Tagged range epoch place before batches image
     → (i : ℕ) → place ≤ i → i < place + sectors_of Tagged batches → epoch_in (sector_at image (range.first + i)) ≡ epoch
 tagged-epoch range epoch place before [] image fill i low high = absurd (omega (arith, low, high))
 tagged-epoch range epoch place before (batch ∷ batches) image fill i low high =
@@ -472,30 +472,56 @@ JournalMatches-turned old new batches medium form range lt used count at = recor
 -- ---- a journal that is read while it grows
 
 -- a sector that was read is that of an image in which these batches stand from a place on
-record Source (range : Range) (epoch place before : ℕ) (batches : List (List ℕ)) (read : Image) (i : ℕ) : Type 0 where
+record Source (form : Form) (range : Range) (epoch place before : ℕ) (batches : List (List ℕ)) (read : Image) (i : ℕ) : Type 0 where
   later : Image
-  fill : Fill Headed range epoch place before batches later
+  fill : Fill form range epoch place before batches later
   same : sector_at read i ≡ sector_at later i
 
-Fill-read : (range : Range) (epoch place before : ℕ) (batches : List (List ℕ)) (first read : Image) → Fill Headed range epoch place before batches first
-    → ((i : ℕ) → range.first + 1 + place ≤ i → i < range.first + 1 + place + sectors_of Headed batches → Source range epoch place before batches read i)
-    → Fill Headed range epoch place before batches read
-Fill-read range epoch place before [] first read fill from = tt
-Fill-read range epoch place before (batch ∷ batches) first read fill from = (
+IsAt-read : (form : Form) (range : Range) (epoch place before : ℕ) (batch : List ℕ) (more : List (List ℕ)) (read : Image) → IsBatch batch
+    → ((i : ℕ) → sector_of form range place ≤ i → i < sector_of form range place + sectors_in form (length batch)
+    → Source form range epoch place before (batch ∷ more) read i) → IsAt form range epoch place before batch read
+IsAt-read Headed range epoch place before batch more read is from = λ i lt.
+    let source = from (sector_of Headed range place + i) (omega arith) (omega (arith, lt)) in
+    ap (λ (s : List ℕ). take (length (piece i batch)) s) source.same ∙ source.fill.1 i lt
+IsAt-read Tagged range epoch place before batch more read is from =
+    let first = from (sector_of Tagged range place) (omega arith) (omega (arith, sectors_in-some Tagged batch is)) in (
+      record {
+        some = first.fill.1.0.some;
+        within = first.fill.1.0.within;
+        each = λ i lt. let source = from (range.first + place + i) (omega arith) (omega (arith, lt)) in
+            subst (IsTagged epoch (before + 1) i (pieces_for (length batch))) (sym source.same) (source.fill.1.0.each i lt);
+      },
+      λ i lt. let source = from (sector_of Tagged range place + i) (omega arith) (omega (arith, lt)) in
+          ap (λ (s : List ℕ). take (length (tagged_piece i batch)) (drop 16 s)) source.same ∙ source.fill.1.1 i lt,
+    )
+
+Fill-read : (form : Form) (range : Range) (epoch place before : ℕ) (batches : List (List ℕ)) (first read : Image)
+    → Fill form range epoch place before batches first
+    → ((i : ℕ) → sector_of form range place ≤ i → i < sector_of form range place + sectors_of form batches
+    → Source form range epoch place before batches read i) → Fill form range epoch place before batches read
+Fill-read form range epoch place before [] first read fill from = tt
+Fill-read form range epoch place before (batch ∷ batches) first read fill from = (
   fill.0,
-  λ i lt. let source = from (range.first + 1 + place + i) (omega arith) (omega (arith, lt)) in
-      ap (λ (s : List ℕ). take (length (piece i batch)) s) source.same ∙ source.fill.1 i lt,
-  Fill-read range epoch (place + sectors_for (length batch)) (before + 1) batches first read fill.2
+  IsAt-read form range epoch place before batch batches read fill.0 (λ i low high. from i low (omega (arith, high))),
+  Fill-read form range epoch (place + sectors_in form (length batch)) (before + 1) batches first read fill.2
       (λ i low high. let source = from i (omega (arith, low)) (omega (arith, high)) in
       record { later = source.later; fill = source.fill.2; same = source.same }),
 )
+
+-- batches that stand in each image of which a sector was read stand in what was read
+pub Stand-read : (form : Form) (range : Range) (epoch : ℕ) (batches : List (List ℕ)) (first read : Image) → Stand form range epoch batches first
+    → ((i : ℕ) → (later : Image) × Stand form range epoch batches later × (sector_at read i ≡ sector_at later i))
+    → Stand form range epoch batches read
+Stand-read form range epoch batches first read stand from =
+    Fill-read form range epoch 0 0 batches first read stand
+    (λ i low high. let source = from i in record { later = source.0; fill = source.1; same = source.2 })
 
 -- what the header counts when it is read is read whole
 pub Holds-read : (range : Range) (epoch : ℕ) (batches : List (List ℕ)) (first read : Image) → Holds Headed range epoch batches first
     → IsReadFrom range epoch first read → Holds Headed range epoch batches read
 Holds-read range epoch batches first read holds is =
     record {
-      stand = Fill-read range epoch 0 0 batches first read holds.stand
+      stand = Fill-read Headed range epoch 0 0 batches first read holds.stand
           (λ i low high. let from = is.body i (omega (arith, low)) (within holds.ends i low high) in
           record { later = from.0; fill = from.1 batches holds; same = from.2 });
       ends = Counts-same range epoch (sectors_of Headed batches) first read (sym is.header) holds.ends;
@@ -557,27 +583,52 @@ pub ComesInOrder-moment : {D : Type 0} (medium : D → Medium) (journal : Journa
 ComesInOrder-moment medium journal batches batch old new =
     Comes-moment medium (form_of journal) (range_of journal) (epoch_of journal) batches batch old new
 
+-- of two images with the same batches, in the same sectors and with nothing after them, each is a part of the other
+IsPartOf-alike : (range : Range) (epoch : ℕ) (batches : List (List ℕ)) (whole image : Image) → HoldsAlone range epoch batches image
+    → KeepsSectors Tagged range epoch image whole → IsPartOf range epoch whole image
+IsPartOf-alike range epoch batches whole image alone keeps i lt = elim (cases_lt i (sectors_of Tagged batches)) [
+  | inl less ↦ inr (sym (keeps i lt (tagged-epoch range epoch 0 0 batches image alone.holds.stand i (omega arith) (omega (arith, less)))))
+  | inr le ↦ inl (alone.clear i le lt)
+]
+
+-- so is one with the same sectors
+IsPartOf-as : (range : Range) (epoch : ℕ) (whole a b : Image) → ((j : ℕ) → IsInside range j → sector_at a j ≡ sector_at b j)
+    → IsPartOf range epoch whole a → IsPartOf range epoch whole b
+IsPartOf-as range epoch whole a b same part i lt =
+    subst (λ (s : List ℕ). (epoch_in s < epoch) ⊎ (s ≡ sector_at whole (range.first + i))) (same (range.first + i) (omega arith, omega (arith, lt)))
+    (part i lt)
+
 -- no batch comes while calls leave the journal's sectors alone
 Comes-alone : {D : Type 0} (medium : D → Medium) (form : Form) (range : Range) (epoch : ℕ) (batches : List (List ℕ)) (batch : List ℕ) (old new : D)
     (places : ℕ → Type 0) → ((i : ℕ) → IsInside range i → places i) → LeavesAlone places (medium old) (medium new)
-    → EachImageSince (medium old) (medium new) (Holds form range epoch batches)
-    → ((a b : Image) → (medium old).images_now a → (medium old).images_now b → KeepsSectors form range epoch a b)
+    → EachImageSince (medium old) (medium new) (Holds form range epoch batches) → IsKept form range epoch batches (medium old)
     → Comes medium form range epoch batches batch old new
-Comes-alone medium Headed range epoch batches batch old new places inside run same alike = inl same
-Comes-alone medium Tagged range epoch batches batch old new places inside run same alike = (
-  EachImageSince-weaken (medium old) (medium new) _ _ same (λ image holds. inl holds),
-  λ earlier now. EachImageSince-weaken (medium old) (medium new) _ (KeepsSectors Tagged range epoch earlier) run.images
-      (λ image from i lt is.
-      sym (sector_at-same places from.0 image (range.first + i) from.2 (inside (range.first + i) (omega arith, omega (arith, lt))))
-      ∙ alike earlier from.0 now from.1 i lt is),
-)
+Comes-alone medium Headed range epoch batches batch old new places inside run same kept = inl same
+Comes-alone medium Tagged range epoch batches batch old new places inside run same kept =
+    let whole : Image = (medium old).contents in
+    let as_it : (a b : Image) → SameAt places a b → (j : ℕ) → IsInside range j → sector_at a j ≡ sector_at b j =
+    λ a b alike j here. sector_at-same places a b j alike (inside j here) in
+    let alone : (image : Image) → (medium old).images_now image → HoldsAlone range epoch batches image =
+    λ image now. record { holds = kept.images image now; clear = kept.clear image now } in (
+      EachImageSince-weaken (medium old) (medium new) _ _ same (λ image holds. inl holds),
+      λ earlier now. EachImageSince-weaken (medium old) (medium new) _ (KeepsSectors Tagged range epoch earlier) run.images
+          (λ image from i lt is.
+          sym (as_it from.0 image from.2 (range.first + i) (omega arith, omega (arith, lt))) ∙ kept.alike earlier from.0 now from.1 i lt is),
+      record {
+        whole = whole;
+        holds = inl (alone whole kept.honest.reads);
+        each = EachImageSince-weaken (medium old) (medium new) _ (IsPartOf range epoch whole) run.images
+            (λ image from. IsPartOf-as range epoch whole from.0 image (as_it from.0 image from.2)
+            (IsPartOf-alike range epoch batches whole from.0 (alone from.0 from.1) (kept.alike from.0 whole from.1 kept.honest.reads)));
+      },
+    )
 
 pub ComesInOrder-alone : {D : Type 0} (medium : D → Medium) (places : ℕ → Type 0) (journal : Journal) (batches : List (List ℕ)) (batch : List ℕ) (old new : D)
     → 0 < (range_of journal).count → ((i : ℕ) → IsInside (range_of journal) i → places i) → LeavesAlone places (medium old) (medium new)
     → JournalMatches journal batches (medium old) → ComesInOrder medium journal batches batch old new
 ComesInOrder-alone medium places journal batches batch old new some inside run at =
     Comes-alone medium (form_of journal) (range_of journal) (epoch_of journal) batches batch old new places inside run
-    (EachImageSince-alone places journal batches (medium old) (medium new) some inside run at) at.kept.alike
+    (EachImageSince-alone places journal batches (medium old) (medium new) some inside run at) at.kept
 
 -- and it keeps the batches of before
 pub KeepsBatches-append : (journal : Journal) (batches : List (List ℕ)) (batch : List ℕ) (old : Medium) → JournalMatches journal batches old

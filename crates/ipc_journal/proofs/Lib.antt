@@ -3,5 +3,6 @@ pub mod CallerLemmas
 mod Cleared
 mod Headers
 mod Mixed
+mod Parts
 mod TagPieces
 mod Tags

@@ -1,6 +1,6 @@
 -- A tagged batch is appended: an image in which each of its sectors is as it was, or written, holds the batches of
 -- before, with the new one if all of them are written. The old sectors are of earlier epochs, so that no batch has one.
-use Rattle.std.proofs.Common.{◌≡◌, ◌⊎◌, inl, inr, ⊎_elim, ℕ, zero, suc, ◌+◌, ◌^◌, ◌<◌, ◌≤◌, List, [], ◌∷◌, ◌++◌, length, sym, ◌∙◌, ap, subst, arith}
+use Rattle.std.proofs.Common.{◌≡◌, ◌⊎◌, inl, inr, ⊎_elim, ℕ, zero, suc, ◌+◌, ◌-◌, ◌^◌, ◌<◌, ◌≤◌, List, [], ◌∷◌, ◌++◌, length, sym, ◌∙◌, ap, subst, arith}
 use Rattle.std.proofs.lemmas.Bool.{cases_lt}
 use borrow.Author.Count.{below_more}
 use Rattle.ipc_disk.specs.declared.range.Range.{Range}
@@ -12,12 +12,13 @@ use Rattle.ipc_journal.specs.declared.form.Form.TheVariants.{Tagged}
 use Rattle.ipc_journal.specs.Batch.{epoch_in, IsBatch}
 use Rattle.ipc_journal.specs.Journal.{sectors_of, Holds, IsAt, IsClear, Stand}
 use Rattle.ipc_journal.specs.Matches.{HoldsOneMoreOrNot, KeepsSectors}
+use Rattle.ipc_journal.specs.Meanwhile.{IsPartOf}
 use Rattle.ipc_journal.specs.Tagged.{pieces_for, tagged_bytes, tagged_piece, IsMixed, IsTagged, IsTaggedAt, StandsTagged}
 use Rattle.ipc_journal.proofs.CallerLemmas.{Fill-push, Fill-same, sectors_of-push}
 use Rattle.ipc_journal.proofs.Tags.{IsTagged-bytes, StandsTagged-written}
 
 -- each of so many has B, or one of them has A
-all_or_one : (A B : ℕ → Type 0) (n : ℕ) → ((i : ℕ) → i < n → A i ⊎ B i) → ((i : ℕ) → i < n → B i) ⊎ ((i : ℕ) × (i < n) × A i)
+pub all_or_one : (A B : ℕ → Type 0) (n : ℕ) → ((i : ℕ) → i < n → A i ⊎ B i) → ((i : ℕ) → i < n → B i) ⊎ ((i : ℕ) × (i < n) × A i)
 all_or_one A B zero each = inl (λ i lt. absurd (omega (arith, lt)))
 all_or_one A B (suc n) each = ⊎_elim
     (λ all. ⊎_elim (λ a. inr (n, omega arith, a)) (λ b. inl (λ i lt. below_more B n all b i (omega (arith, lt)))) (each n (omega arith)))
@@ -133,4 +134,21 @@ module _ (range : Range) (epoch : ℕ) (batches : List (List ℕ)) (batch : List
   keeps earlier clear_then kept i lt here = elim (cases_lt i used) [
     | inl less ↦ sym (outside (range.first + i) (inl (omega (arith, less)))) ∙ kept i lt here
     | inr le ↦ absurd (omega (arith, clear_then i le lt, here))
+  ]
+
+  -- and is a part of one in which all of them are written, and which has the sectors of before
+  pub part-of : (whole : Image) → IsTaggedAt at epoch (length batches + 1) batch whole
+      → ((i : ℕ) → i < used → sector_at old (range.first + i) ≡ sector_at whole (range.first + i)) → IsPartOf range epoch whole image
+  part-of whole all same i lt = elim (cases_lt i used) [
+    | inl less ↦ inr (sym (outside (range.first + i) (inl (omega (arith, less)))) ∙ same i less)
+    | inr le ↦ elim (cases_lt i (used + count)) [
+      | inl less ↦
+          let j : ℕ = i - used in
+          let place : at + j ≡ range.first + i = omega (arith, le) in
+          subst (λ (n : ℕ). (epoch_in (sector_at image n) < epoch) ⊎ (sector_at image n ≡ sector_at whole n)) place (⊎_elim
+          (λ kept. inl (old-older j (omega (arith, le, less)) kept))
+          (λ new. inr (new ∙ sym (all j (omega (arith, le, less)))))
+          (mixed.inside j (omega (arith, le, less))))
+      | inr more ↦ inl (IsClear-after i more lt)
+    ]
   ]

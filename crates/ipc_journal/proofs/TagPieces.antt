@@ -1,5 +1,5 @@
 -- The bytes of a batch as the pieces in its sectors: what is written of them so far, and what is read.
-use Rattle.std.proofs.Common.{◌≡◌, ◌⊎◌, ⊎_elim, ℕ, ◌+◌, ◌*◌, ◌<◌}
+use Rattle.std.proofs.Common.{◌≡◌, ◌⊎◌, ⊎_elim, ℕ, zero, suc, ◌+◌, ◌*◌, ◌<◌}
 use Rattle.std.proofs.Common.{◌≤◌, List, [], ◌++◌, length, take, drop, sym, ◌∙◌}
 use Rattle.std.proofs.Common.{ap, subst, arith}
 use Rattle.std.specs.Prelude.{slice_set}
@@ -117,3 +117,28 @@ pieces_none n at bytes image short below =
     let none : tagged_piece n bytes ≡ [] = ap (take 496) (drop_all (496 * n) bytes short) in
     below_more P n below
     (subst (λ (p : List ℕ). take (length p) (drop 16 (sector_at image (at + n))) ≡ p) (sym none) refl)
+
+-- so many sectors of a batch put into an image
+pub put-tagged : (n at epoch number : ℕ) (bytes : List ℕ) → Image → Image
+put-tagged zero at epoch number bytes image = image
+put-tagged (suc n) at epoch number bytes image =
+    slice_set (put-tagged n at epoch number bytes image) (at + n) (tagged_bytes epoch number n (pieces_for (length bytes)) (tagged_piece n bytes))
+
+module _ (at epoch number : ℕ) (bytes : List ℕ) (image : Image) (room : at + pieces_for (length bytes) ≤ length image) where
+  -- the others are as they were
+  pub put-mixed : (n : ℕ) → n ≤ pieces_for (length bytes) → IsMixed at epoch number bytes image (put-tagged n at epoch number bytes image)
+  unfolding put-tagged
+  put-mixed zero le = IsMixed-start at epoch number bytes image
+  put-mixed (suc n) le =
+      let so_far = put-mixed n (omega (arith, le)) in
+      IsMixed-set at epoch number n bytes image (put-tagged n at epoch number bytes image) (omega (arith, le)) (omega (arith, so_far.outside.count, room, le))
+      so_far
+
+  -- and these are written
+  pub put-written : (n : ℕ) → n ≤ pieces_for (length bytes) → WrittenBelow n at epoch number bytes (put-tagged n at epoch number bytes image)
+  unfolding put-tagged
+  put-written zero le = λ i lt. absurd (omega (arith, lt))
+  put-written (suc n) le =
+      let more = written_more n at epoch number bytes (put-tagged n at epoch number bytes image)
+      (omega (arith, (put-mixed n (omega (arith, le))).outside.count, room, le)) (put-written n (omega (arith, le))) in
+      λ i lt. more i (omega (arith, lt))

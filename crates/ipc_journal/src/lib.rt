@@ -43,6 +43,9 @@
 //!   - an image holds one list of batches at an epoch, and no two (`an_image_is_one_journal`).
 //!   - who reads the header, and then each sector of the body in an image in which the batches of that header stand,
 //!     has read those batches (`a_journal_that_grows_is_read_whole`).
+//!   - who reads tagged sectors, each in an image that is a part of one in which all batches stand that come, has read
+//!     some of these, from the first on, and all that stand in each of those images
+//!     (`tagged_batches_are_read_from_the_first_on`). `append` says of its images that they are such parts.
 #![tactic(auto)]
 
 mod error;
@@ -56,5 +59,8 @@ mod tagged;
 pub use error::JournalError;
 pub use form::Form;
 pub use journal::Journal;
-pub use laws::{a_journal_that_grows_is_read_whole, an_image_is_one_journal};
+pub use laws::{
+    a_journal_that_grows_is_read_whole, an_image_is_one_journal,
+    tagged_batches_are_read_from_the_first_on,
+};
 pub use reader::Reader;

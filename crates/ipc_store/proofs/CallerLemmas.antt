@@ -30,7 +30,7 @@ use Rattle.ipc_store.specs.Relations.Matches.{StoreMatches}
 use Rattle.ipc_store.proofs.Committing as committing
 use Rattle.ipc_store.proofs.Devices.{device-form}
 use Rattle.ipc_store.proofs.Lives as lives
-pub use Rattle.ipc_store.proofs.Meanwhile.{read-same}
+pub use Rattle.ipc_store.proofs.Meanwhile.{parts-same, read-same}
 
 -- if there is an event, there is a byte
 no_records : (e : PlainEvent) (events : List PlainEvent) → [] ≡ records_of (e ∷ events) → ⊥

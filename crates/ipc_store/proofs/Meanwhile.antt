@@ -1,7 +1,10 @@
 -- What one finds who reads a device while a store goes on.
-use Rattle.std.proofs.Common.{◌≡◌, ◌⊎◌, inl, inr, ⊎_elim, ℕ, List, ◌++◌, length, map, refl, sym, ap, subst, ◌∙◌, arith}
-use Rattle.std.specs.Prelude.{Contains}
-use Rattle.std.proofs.lemmas.List.Elements.{All-contains}
+use Rattle.std.proofs.Common.{◌≡◌, ◌⊎◌, inl, inr, ⊎_elim, ℕ, ◌+◌, ◌<◌, List, ◌++◌, length, map, take, drop, refl, sym, ap, subst, ◌∙◌, arith}
+use Rattle.std.proofs.Common.{take-append-drop}
+use Rattle.std.specs.Prelude.{All, Contains}
+use Rattle.std.proofs.lemmas.List.{append_cancel_left, map-append, take-map, take_at}
+use Rattle.std.proofs.lemmas.List.Concat.{flat_map-append}
+use Rattle.std.proofs.lemmas.List.Elements.{All-contains, All-take}
 use Rattle.byteorder.specs.Endian.{big_bytes}
 use Rattle.ipc_limits.specs.declared.limits.Limits.{Limits}
 use Rattle.ipc_base.specs.Objects.{PlainObjects}
@@ -20,26 +23,30 @@ use Rattle.ipc_disk.proofs.CallerLemmas.{EachImageSince-both, EachImageSince-wea
 use Rattle.ipc_heap.specs.Heap.{Allocation, HoldsIn, used}
 use Rattle.ipc_heap.specs.Meanwhile.{IsUsedIn, KeepsUsed}
 use Rattle.ipc_heap.proofs.CallerLemmas.{EachLater-start, HoldsIn-one, HoldsIn-sectors}
-use Rattle.ipc_journal.specs.Journal.{Holds}
+use Rattle.ipc_journal.specs.Batch.{epoch_in as journal_epoch}
+use Rattle.ipc_journal.specs.Journal.{Holds, Stand}
 use Rattle.ipc_journal.specs.Matches.{HoldsOneMoreOrNot, JournalMatches}
-use Rattle.ipc_journal.specs.Meanwhile.{ComesInOrder, IsReadFrom, KeepsBatches}
+use Rattle.ipc_journal.specs.Meanwhile.{ComesInOrder, IsPartOf, IsReadFrom, KeepsBatches}
 use Rattle.ipc_journal.specs.declared.journal.Journal.{Journal}
 use Rattle.ipc_journal.specs.View.{form_of, epoch_of, range_of}
 use Rattle.ipc_journal.specs.declared.form.Form.{Form}
-use Rattle.ipc_journal.specs.declared.form.Form.TheVariants.{Headed}
+use Rattle.ipc_journal.specs.declared.form.Form.TheVariants.{Headed, Tagged}
 use Rattle.ipc_journal.proofs.CallerLemmas.{ComesInOrder-alone, ComesInOrder-moment, Holds-read}
-use Rattle.ipc_journal.proofs.CallerLemmas.{KeepsBatches-append, KeepsBatches-refl, KeepsBatches-same, KeepsBatches-then}
+use Rattle.ipc_journal.proofs.CallerLemmas.{KeepsBatches-append, KeepsBatches-refl, KeepsBatches-same, KeepsBatches-stand, KeepsBatches-then, Stand-read}
 use Rattle.ipc_state.specs.State.{State}
 use Rattle.ipc_engine.specs.Event.{PlainEvent}
+use Rattle.ipc_engine.specs.Step.{run}
 use Rattle.ipc_image.specs.declared.format.Format.{Format}
 use Rattle.ipc_image.specs.Format.{device_form}
 use Rattle.ipc_image.specs.Superblock.{IsSuperblockIn, sectors_in, named_form}
-use Rattle.ipc_store.specs.Batch.{batch_bytes}
-use Rattle.ipc_store.specs.Image.{HasBatches, StandsFor, epoch_at, form_at, journal_form, journal_range, layout_of, named_sectors, objects_range}
-use Rattle.ipc_store.specs.Meanwhile.{GoesOn, HasOneRoot, IsNeeded, IsOfSameSave, IsRead, StaysReadable}
+use Rattle.ipc_store.specs.Batch.{batch_bytes, AreBatchOf}
+use Rattle.ipc_store.specs.Image.{AreFor, events_of}
+use Rattle.ipc_store.specs.Image.{HasBase, HasBatches, StandsFor, epoch_at, form_at, journal_form, journal_range, layout_of, named_sectors, objects_range}
+use Rattle.ipc_store.specs.Meanwhile.{GoesOn, HasOneRoot, IsNeeded, IsOfSameSave, IsRead, IsReadInParts, StaysReadable}
 use Rattle.ipc_store.specs.Relations.Matches.{StoreMatches}
 use Rattle.ipc_store.specs.View.{StoreView}
 use Rattle.ipc_store.proofs.Committing.{bytes-are}
+use Rattle.ipc_store.proofs.Histories.{AreFor-first, LeadTo-many}
 use Rattle.ipc_store.proofs.Devices.{IsPlace, IsPlace-since, batches-now, device-form, first-elsewhere, journal-outside, journal-same, journal-some, placed-at}
 
 -- where the objects of an image lie
@@ -144,6 +151,30 @@ read-same image =
       };
     }
 
+pub parts-same : (image : Image) → IsReadInParts image image image
+parts-same image = record { count = refl; each = λ i. (image, (inl (same-refl image), refl), λ j lt. inr refl, refl) }
+
+-- where an image has the superblock of another, and its objects, it is of the same save
+base-read : (limits : Limits) (epoch : ℕ) (base : State) (image read : Image) (kept : HasBase limits epoch base image)
+    → length read ≡ length image → sector_at image 0 ≡ sector_at read 0
+    → HoldsIn (objects_range (device_form limits) (named_sectors image)) (device_form limits).root epoch kept.there.allocation kept.objects read
+    → HasBase limits epoch base read
+base-read limits epoch base image read kept count sector there =
+    let d = device_form limits in
+    let named : named_sectors image ≡ named_sectors read = ap sectors_in sector in
+    record {
+      device = record {
+        superblock = subst (λ (l : List ℕ). IsSuperblockIn d (sectors_in l) limits l) sector kept.device.superblock;
+        whole = omega (arith, kept.device.whole, count, named);
+      };
+      objects = kept.objects;
+      there = record {
+        allocation = kept.there.allocation;
+        there = subst (λ (k : ℕ). HoldsIn (objects_range d k) d.root epoch kept.there.allocation kept.objects read) named there;
+      };
+      stand = kept.stand;
+    }
+
 module _ (first seen read : Image) (is : IsRead first seen read) where
   seen-same : IsOfSameSave first seen
   seen-same = same-root first seen is.one_root
@@ -164,7 +195,6 @@ module _ (first seen read : Image) (is : IsRead first seen read) where
       let R : Range = objects_range d n in
       let sector : sector_at seen 0 ≡ sector_at read 0 = read-sector 0 (inl refl) in
       let from-seen : named_sectors seen ≡ n = ap sectors_in (sym (same-sector first seen seen-same 0 (inl refl))) in
-      let from-read : named_sectors read ≡ n = ap sectors_in (sym sector) ∙ from-seen in
       let root : sector_at seen d.root ≡ sector_at read d.root = read-sector d.root (inr (inl (ap (λ (f : Format). f.root) named-first))) in
       let used-here : (epoch : ℕ) (has : Allocation) (objects : PlainObjects) → HoldsIn R d.root epoch has objects first → (i : ℕ) → Contains (used has) i
       → IsNeeded first i =
@@ -191,18 +221,8 @@ module _ (first seen read : Image) (is : IsRead first seen read) where
       record {
         epoch = stands.epoch;
         base = stands.base;
-        kept = record {
-          device = record {
-            superblock = subst (λ (l : List ℕ). IsSuperblockIn d (sectors_in l) limits l) sector stands.kept.device.superblock;
-            whole = omega (arith, stands.kept.device.whole, is.count, seen-same.needed.count, ap sectors_in sector);
-          };
-          objects = stands.kept.objects;
-          there = record {
-            allocation = a;
-            there = subst (λ (k : ℕ). HoldsIn (objects_range d k) d.root stands.epoch a stands.kept.objects read) (sym from-read) reads;
-          };
-          stand = stands.kept.stand;
-        };
+        kept = base-read limits stands.epoch stands.base seen read stands.kept (is.count ∙ seen-same.needed.count) sector
+            (subst (λ (k : ℕ). HoldsIn (objects_range d k) d.root stands.epoch a stands.kept.objects read) (sym from-seen) reads);
         batches = stands.batches;
         journal = subst (λ (f : Form). Holds f (journal_range d) stands.epoch (map batch_bytes stands.batches) read) (sym headed)
             (Holds-read (journal_range d) stands.epoch (map batch_bytes stands.batches) seen read journal
@@ -210,6 +230,115 @@ module _ (first seen read : Image) (is : IsRead first seen read) where
             (subst (λ (f : Format). IsReadFrom (journal_range f) (epoch_at seen) seen read) (sym named-first) is.journal)));
         leads = stands.leads;
       }
+
+module _ (first whole read : Image) (is : IsReadInParts first whole read) where
+  -- what is needed is as it is in the first image
+  part-sector : (i : ℕ) → IsNeeded first i → sector_at first i ≡ sector_at read i
+  part-sector i need = let from = is.each i in same-sector first from.0 (same-root first from.0 from.1) i need ∙ sym from.3
+
+  -- what was read is a part of what comes
+  part-read : (limits : Limits) (epoch : ℕ) → device_form limits ≡ form_at first → epoch_at first ≡ epoch
+      → IsPartOf (journal_range (device_form limits)) epoch whole read
+  part-read limits epoch form current i lt =
+      let range = journal_range (device_form limits) in
+      let from = is.each (range.first + i) in
+      let part : IsPartOf range epoch whole from.0 =
+      subst (λ (e : ℕ). IsPartOf range e whole from.0) current
+      (subst (λ (f : Format). IsPartOf (journal_range f) (epoch_at first) whole from.0) (sym form) from.2) in
+      subst (λ (l : List ℕ). (journal_epoch l < epoch) ⊎ (l ≡ sector_at whole (range.first + i))) (sym from.3) (part i lt)
+
+  -- the batches of the first image stand in it
+  stand-read : (limits : Limits) (epoch : ℕ) (batches : List (List ℕ)) → device_form limits ≡ form_at first → epoch_at first ≡ epoch
+      → Holds (journal_form (device_form limits)) (journal_range (device_form limits)) epoch batches first
+      → Stand (journal_form (device_form limits)) (journal_range (device_form limits)) epoch batches read
+  stand-read limits epoch batches form current holds =
+      let range = journal_range (device_form limits) in
+      Stand-read (journal_form (device_form limits)) range epoch batches first read holds.stand
+      (λ j. let from = is.each j in
+      let keeps = (same-root first from.0 from.1).journal in
+      let kept : KeepsBatches (journal_form (device_form limits)) range epoch first from.0 =
+      subst (λ (e : ℕ). KeepsBatches (journal_form (device_form limits)) range e first from.0) current
+      (subst (λ (f : Format). KeepsBatches (journal_form f) (journal_range f) (epoch_at first) first from.0) (sym form) keeps) in
+      (from.0, KeepsBatches-stand (journal_form (device_form limits)) range epoch first from.0 kept batches holds, from.3))
+
+-- where the bytes of batches go on so, those of the first ones are these
+firsts : (before more : List (List PlainEvent)) (kept rest : List (List ℕ))
+    → map batch_bytes (before ++ more) ≡ map batch_bytes before ++ (kept ++ rest)
+    → map batch_bytes before ++ kept ≡ map batch_bytes (before ++ take (length kept) more)
+firsts before more kept rest same =
+    let bytes : map batch_bytes more ≡ kept ++ rest =
+    append_cancel_left (map batch_bytes before) (map batch_bytes more) (kept ++ rest) (sym (map-append batch_bytes before more) ∙ same) in
+    let first : kept ≡ map batch_bytes (take (length kept) more) =
+    sym (take_at kept rest (length kept) refl) ∙ ap (take (length kept)) (sym bytes) ∙ take-map batch_bytes (length kept) more in
+    ap (λ (l : List (List ℕ)). map batch_bytes before ++ l) first ∙ sym (map-append batch_bytes before (take (length kept) more))
+
+-- batches are the first ones of them, and the others
+first-and-rest : (n : ℕ) (batches : List (List PlainEvent)) → batches ≡ take n batches ++ drop n batches
+first-and-rest n batches = sym (take-append-drop n batches)
+
+-- the events of the first batches come first
+events-first : (n : ℕ) (batches : List (List PlainEvent)) → events_of batches ≡ events_of (take n batches) ++ events_of (drop n batches)
+events-first n batches =
+    ap (λ (l : List (List PlainEvent)). events_of l) (first-and-rest n batches)
+    ∙ flat_map-append (λ (es : List PlainEvent). es) (take n batches) (drop n batches)
+
+-- what was read stands for the state after some of the batches that come, from the first on
+pub read-in-parts : (limits : Limits) (was : State) (first whole read : Image) (more : List (List PlainEvent))
+    → ((earlier batches : List (List ℕ)) → Holds Tagged (journal_range (device_form limits)) (epoch_at first) batches whole
+    → IsPartOf (journal_range (device_form limits)) (epoch_at first) whole read
+    → Stand Tagged (journal_range (device_form limits)) (epoch_at first) earlier read
+    → (kept : List (List ℕ)) × (rest : List (List ℕ)) × (batches ≡ earlier ++ (kept ++ rest))
+    × Holds Tagged (journal_range (device_form limits)) (epoch_at first) (earlier ++ kept) read)
+    → journal_form (device_form limits) ≡ Tagged → (began : StandsFor limits was first)
+    → HasBatches (device_form limits) began.epoch (began.batches ++ more) whole
+    → All (AreBatchOf (device_form limits).batch) more → AreFor limits was (events_of more) → IsReadInParts first whole read
+    → (kept : List (List PlainEvent)) × (rest : List (List PlainEvent)) × (more ≡ kept ++ rest)
+    × StandsFor limits (run limits was (events_of kept)).state read
+read-in-parts limits was first whole read more law tagged began holds each named is =
+    let d = device_form limits in
+    let range = journal_range d in
+    let form : d ≡ form_at first = device-form limits first began.kept.device in
+    let current : epoch_at first ≡ began.epoch =
+    ap (λ (f : Format). epoch_in (sector_at first f.root)) (sym form) ∙ began.kept.there.there.current in
+    let needs : (i : ℕ) → IsUsedIn (objects_range d (named_sectors first)) d.root first i → IsNeeded first i =
+    λ i u. inr (inr (subst (λ (f : Format). IsUsedIn (objects_range f (named_sectors first)) f.root first i) form u)) in
+    let root : sector_at first d.root ≡ sector_at read d.root =
+    part-sector first whole read is d.root (inr (inl (ap (λ (f : Format). f.root) form))) in
+    let objects : HoldsIn (objects_range d (named_sectors first)) d.root began.epoch began.kept.there.allocation began.kept.objects read =
+    HoldsIn-sectors first read (objects_range d (named_sectors first)) d.root began.epoch began.kept.there.allocation began.kept.objects root
+    (λ i here. part-sector first whole read is i (needs i (record {
+      epoch = began.epoch;
+      has = began.kept.there.allocation;
+      objects = began.kept.objects;
+      there = began.kept.there.there;
+      is = here;
+    }))) began.kept.there.there in
+    let come : Holds Tagged range (epoch_at first) (map batch_bytes (began.batches ++ more)) whole =
+    subst (λ (e : ℕ). Holds Tagged range e (map batch_bytes (began.batches ++ more)) whole) (sym current)
+    (subst (λ (f : Form). Holds f range began.epoch (map batch_bytes (began.batches ++ more)) whole) tagged holds) in
+    let stand : Stand Tagged range (epoch_at first) (map batch_bytes began.batches) read =
+    subst (λ (e : ℕ). Stand Tagged range e (map batch_bytes began.batches) read) (sym current)
+    (subst (λ (f : Form). Stand f range began.epoch (map batch_bytes began.batches) read) tagged
+    (stand-read first whole read is limits began.epoch (map batch_bytes began.batches) form current began.journal)) in
+    let found = law (map batch_bytes began.batches) (map batch_bytes (began.batches ++ more)) come
+    (part-read first whole read is limits (epoch_at first) form refl) stand in
+    let n : ℕ = length found.0 in (
+      take n more,
+      drop n more,
+      first-and-rest n more,
+      record {
+        epoch = began.epoch;
+        base = began.base;
+        kept = base-read limits began.epoch began.base first read began.kept is.count (part-sector first whole read is 0 (inl refl)) objects;
+        batches = began.batches ++ take n more;
+        journal = subst (λ (f : Form). Holds f range began.epoch (map batch_bytes (began.batches ++ take n more)) read) (sym tagged)
+            (subst (λ (e : ℕ). Holds Tagged range e (map batch_bytes (began.batches ++ take n more)) read) current
+            (subst (λ (l : List (List ℕ)). Holds Tagged range (epoch_at first) l read) (firsts began.batches more found.0 found.1 found.2) found.3));
+        leads = LeadTo-many d.batch limits began.base began.batches (take n more) was began.leads (All-take (AreBatchOf d.batch) n more each)
+            (AreFor-first limits was (events_of (take n more)) (events_of (drop n more))
+            (subst (λ (es : List PlainEvent). AreFor limits was es) (events-first n more) named));
+      },
+    )
 
 -- ---- while what stands after the batches is cleared
 

@@ -34,13 +34,9 @@ use Rattle.ipc_store.specs.Image.{HasBatchesThere, HasLaterAfter, HasNoBatchAfte
 use Rattle.ipc_store.specs.Relations.Replay.{AreRecords, Replays, IsBadAt, IsGoodUpTo}
 use Rattle.ipc_store.proofs.Accepting.{records-more}
 use Rattle.ipc_store.proofs.Committing.{is_batch}
-use Rattle.ipc_store.proofs.Histories.{AreFor-parts, LeadTo-start, LeadTo-more}
+use Rattle.ipc_store.proofs.Histories.{AreFor-first, AreFor-parts, LeadTo-start, LeadTo-more}
 
 -- ---- events in parts
-
-AreFor-first : (limits : Limits) (s : State) (xs ys : List PlainEvent) → AreFor limits s (xs ++ ys) → AreFor limits s xs
-AreFor-first limits s [] ys all = tt
-AreFor-first limits s (x ∷ xs) ys all = (all.0, AreFor-first limits (step limits s x).state xs ys all.1)
 
 AreFor-next : (limits : Limits) (s : State) (xs ys : List PlainEvent) → AreFor limits s (xs ++ ys) → AreFor limits (run limits s xs).state ys
 AreFor-next limits s [] ys all = all

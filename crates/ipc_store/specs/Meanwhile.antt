@@ -7,7 +7,7 @@ use Rattle.ipc_disk.specs.Range.{IsOutside}
 use Rattle.ipc_disk.specs.Since.{SameAt}
 use Rattle.ipc_disk.specs.Standing.{sector_at}
 use Rattle.ipc_heap.specs.Meanwhile.{IsUsedIn}
-use Rattle.ipc_journal.specs.Meanwhile.{ComesInOrder, IsReadFrom, KeepsBatches}
+use Rattle.ipc_journal.specs.Meanwhile.{ComesInOrder, IsPartOf, IsReadFrom, KeepsBatches}
 use Rattle.ipc_state.specs.State.{State}
 use Rattle.ipc_engine.specs.Event.{PlainEvent}
 use Rattle.ipc_store.specs.Batch.{batch_bytes}
@@ -39,7 +39,7 @@ abbrev pub GoesOn : Image → Image → Type 0
 GoesOn earlier later = IsOfSameSave earlier later ⊎ IsOfLaterSave earlier later
 
 -- Who reads the disk of a store while it makes a call finds images that go on from those of before, and if what waits
--- joins the journal, its batch stands before a header counts it.
+-- joins the journal, its batch stands before a header counts it, or each image has a part of its tagged sectors.
 pub record StaysReadable {D : Type 0} (medium : D → Medium) (store : StoreView D) (new : D) : Type 0 where
   pub goes_on : (base : State) (pending : List PlainEvent) → StoreMatches (medium store.disk) store base pending
       → EachLater GoesOn (medium store.disk) (medium new)
@@ -62,3 +62,10 @@ pub record IsRead (first seen read : Image) : Type 0 where
       → (later : Image) × HasOneRoot first later × (sector_at read i ≡ sector_at later i)
   pub one_root : HasOneRoot first seen
   pub journal : IsReadFrom (journal_range (form_at first)) (epoch_at seen) seen read
+
+-- Sectors of a device with a tagged journal that were read one after another: each as some image has it that goes on
+-- from the first one under the same root, and that is a part of what comes meanwhile.
+pub record IsReadInParts (first whole read : Image) : Type 0 where
+  pub count : length read ≡ length first
+  pub each : (i : ℕ) → (later : Image) × HasOneRoot first later
+      × IsPartOf (journal_range (form_at first)) (epoch_at first) whole later × (sector_at read i ≡ sector_at later i)

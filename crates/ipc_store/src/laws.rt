@@ -1,26 +1,28 @@
 //! What follows from the definitions alone, and from what the calls on a store promise.
 
-ghost use Rattle.std.specs.Prelude.{◌≡◌, ◌<◌, ◌^◌, ◌++◌, List, [], length};
+ghost use Rattle.std.specs.Prelude.{◌≡◌, ◌<◌, ◌^◌, ◌++◌, List, [], length, All};
 ghost use Rattle.ipc_limits.specs.declared.limits.Limits.{Limits};
 ghost use Rattle.ipc_checkpoint.specs.Meanwhile.{EachLater};
 ghost use Rattle.ipc_disk.specs.Medium.{Image, IsDurable};
 ghost use Rattle.ipc_state.specs.State.{State, restart};
 ghost use Rattle.ipc_engine.specs.Event.{PlainEvent};
-ghost use Rattle.ipc_store.specs.Batch.{batch_bytes, AreBatch};
+ghost use Rattle.ipc_engine.specs.Step.{run};
+ghost use Rattle.ipc_store.specs.Batch.{batch_bytes, AreBatch, AreBatchOf};
 ghost use Rattle.ipc_store.specs.Histories.{History, Past, past_of, reopened, Keeps, Takes, OpensOn};
 ghost use Rattle.ipc_image.specs.Format.{device_form};
-ghost use Rattle.ipc_journal.specs.declared.form.Form.TheVariants.{Headed};
-ghost use Rattle.ipc_store.specs.Image.{journal_form, StandsFor};
+ghost use Rattle.ipc_journal.specs.declared.form.Form.TheVariants.{Headed, Tagged};
+ghost use Rattle.ipc_store.specs.Image.{events_of, journal_form, AreFor, HasBatches, StandsFor};
 ghost use Rattle.ipc_store.specs.Enlargements.{RestsOnTheWay, StoppedEnlargements};
 ghost use Rattle.ipc_store.specs.Larger.{IsEnlarged};
 ghost use Rattle.ipc_store.specs.Lives.{IsLeft, StoppedOpens, StandsAfter, Rests, Found};
-ghost use Rattle.ipc_store.specs.Meanwhile.{GoesOn, IsRead, StaysReadable};
+ghost use Rattle.ipc_store.specs.Meanwhile.{GoesOn, IsRead, IsReadInParts, StaysReadable};
 ghost use Rattle.ipc_store.specs.Relations.Matches.{StoreMatches};
 ghost use Rattle.ipc_store.specs.Upgrade.{IsUpgraded, RestsOldOrNew, StoppedUpgrades};
 ghost use Rattle.ipc_store.specs.View.{StoreView};
 
 use ipc_disk::SectorDisk;
 use ipc_engine::restart_twice_is_once;
+use ipc_journal::tagged_batches_are_read_from_the_first_on;
 
 /// A batch says which events it holds: two lists of events with the same bytes are the same list.
 pub fn a_batch_is_of_one_list()
@@ -64,13 +66,23 @@ pub fn an_open_finds_what_stands_there<D: SectorDisk>()
         → Keeps (D.medium opened.disk) opened (reopened past) }
 {}
 
-/// What is read of a device while its server goes on, objects first, then the header of the journal and then its body,
-/// stands for the state for which the device stood when that header was read.
+/// What is read of a device while its server goes on, objects first, then the journal. With a header, which is read
+/// before the body, it stands for the state for which the device stood when that header was read. With tagged sectors
+/// it stands for the state after some of the batches that come meanwhile, from the first on.
 pub fn a_look_is_of_one_image()
-    ensures { (limits : Limits) (was s : State) (first seen read : Image)
+    ensures headed { (limits : Limits) (was s : State) (first seen read : Image)
         → journal_form (device_form limits) ≡ Headed → StandsFor limits was first
         → StandsFor limits s seen → IsRead first seen read → StandsFor limits s read }
-{}
+    ensures tagged { (limits : Limits) (was : State) (first whole read : Image) (more : List (List PlainEvent))
+        → journal_form (device_form limits) ≡ Tagged → (began : StandsFor limits was first)
+        → HasBatches (device_form limits) began.epoch (began.batches ++ more) whole
+        → All (AreBatchOf (device_form limits).batch) more → AreFor limits was (events_of more)
+        → IsReadInParts first whole read
+        → (kept : List (List PlainEvent)) × (rest : List (List PlainEvent)) × (more ≡ kept ++ rest)
+        × StandsFor limits (run limits was (events_of kept)).state read }
+{
+    tagged_batches_are_read_from_the_first_on();
+}
 
 /// Each image of a call on a store goes on from what was read before, if all of that was synced, and so does each image
 /// of any calls that the history of the store has. What goes on over some calls, and then over others, has gone on over

@@ -122,11 +122,15 @@
 //!   calls that the history of a store has keep too (`Moves` `later`): whoever reads the disk in such a call finds
 //!   images that go on from those of before, with the same superblock and root, the same sectors of objects and table,
 //!   and the batches that there were, or more after them; or else the root is of a later epoch. And the sectors of a
-//!   batch stand before a header counts it (`StaysReadable` of `specs/Meanwhile.antt`). The law, of a journal with a
-//!   header: sectors that were read one after another, each as some image has it that goes on from the first one under
-//!   the same root, the header of the journal before its body, stand for the state for which the device stood when that
-//!   header was read (`a_look_is_of_one_image`). Each image of a call goes on from what was read before it, if all of
-//!   that was synced, and what goes on over some calls, and then over others, has gone on over all of them
+//!   batch stand before a header counts it, or, with tagged sectors, each image has a part of them and no others
+//!   (`StaysReadable` of `specs/Meanwhile.antt`). The law is of sectors that were read one after another, each as some
+//!   image has it that goes on from the first one under the same root. With a header that was read before the body of
+//!   the journal, they stand for the state for which the device stood when that header was read. With tagged sectors,
+//!   if each of those images is a part of what comes, they stand for the state after some of the batches that come
+//!   meanwhile, from the first on, and so for no earlier state than that of the first image (`a_look_is_of_one_image`
+//!   `headed`, `tagged`). An open clears sectors that a torn batch has left, so the law says nothing of a tagged
+//!   journal that is read before and after an open. Each image of a call goes on from what was read before it, if all
+//!   of that was synced, and what goes on over some calls, and then over others, has gone on over all of them
 //!   (`a_store_goes_on`). No clause says that a look reads in this order, nor that between two equal roots there was no
 //!   other, since epochs only rise: the code of `look` does the one, and both are tested (docs/PROMISES.md). Of a
 //!   format or an upgrade meanwhile the law does not speak.

@@ -10,7 +10,7 @@ ghost use Rattle.ipc_image.specs.Format.{format, format_one};
 ghost use Rattle.ipc_state.specs.State.{State, restart};
 ghost use Rattle.ipc_store.specs.Image.{as_of, own_limits, StandsFor, StandsForIn};
 ghost use Rattle.ipc_store.specs.Lives.{StandsAfter};
-ghost use Rattle.ipc_store.specs.Meanwhile.{IsRead};
+ghost use Rattle.ipc_store.specs.Meanwhile.{IsRead, IsReadInParts};
 ghost use Rattle.ipc_store.specs.View.{StoreView};
 ghost use Rattle.ipc_hub.specs.Clients.{Clients};
 ghost use Rattle.ipc_hub.specs.Lives.{HasHistory, Life, Lives, Seen};
@@ -82,7 +82,7 @@ pub fn one_life_after_an_upgrade(
 /// A look at a new device in memory: what it reads while nobody writes is such as the law of looks asks for.
 pub fn one_look(alloc: Global, limits: &Limits, sectors: u32) -> Option<Engine>
     ensures { IfSome result (λ engine. (image : Image) × StandsFor engine.limits engine.state image
-        × IsRead image image image) }
+        × IsRead image image image × IsReadInParts image image image) }
 {
     disks_in_memory_are_honest();
     let mut disk = new_device(alloc, limits, sectors)?;
