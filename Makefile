@@ -35,7 +35,7 @@ help:
 	@echo "            'make install' puts where, what 'make try' shows; and the documents: links, paths, manual pages,"
 	@echo "            pictures and style"
 	@echo "make serves the program as a server, three minutes once built: dozens of clients, crashes under load, what ends a"
-	@echo "            connection, what docs/OPERATIONS.md tells operators, readiness for systemd, containers; 'list', 'backup'"
+	@echo "            connection, what docs/OPERATIONS.md tells operators, readiness for systemd, containers, clusters; 'list', 'backup'"
 	@echo "            and 'check' of its device; the sessions of README.md; the examples serve.sh (a message outlives a crash), users.sh"
 	@echo "            (two users of a queue), worker.sh (two wait for jobs), lock.sh (the holder of a lock is killed) and"
 	@echo "            notify.sh (a message notifies a client); dozens of waiting calls; how late deadlines are, and an idle"
@@ -167,7 +167,7 @@ SERVES = python3 tests/sockets/serve.py crates/ipcd/out/ipcd && python3 tests/sy
 	python3 tests/devices/looks.py crates/ipcd/out/ipcd && python3 tests/devices/backups.py crates/ipcd/out/ipcd && \
 	python3 tests/devices/check.py crates/ipcd/out/ipcd && python3 tests/sockets/metrics.py crates/ipcd/out/ipcd && \
 	python3 tests/sockets/figures.py crates/ipcd/out/ipcd && \
-	python3 tests/system/container.py crates/ipcd/out/ipcd && \
+	python3 tests/system/container.py crates/ipcd/out/ipcd && python3 tests/system/cluster.py crates/ipcd/out/ipcd && \
 	python3 tests/system/session.py crates/ipcd/out/ipcd && python3 tests/system/shown_bytes.py crates/ipcd/out/ipcd && \
 	sh examples/serve.sh crates/ipcd/out/ipcd && \
 	sh examples/users.sh crates/ipcd/out/ipcd && sh examples/worker.sh crates/ipcd/out/ipcd && \
