@@ -38,7 +38,7 @@ MOST = 6
 # Crates of which some mutants have no record yet. Each mutant of any other crate has one.
 UNTRIED = set(
     "ipc_checkpoint ipc_command ipc_engine ipc_heap ipc_hub ipc_image ipc_script ipc_server ipc_state "
-    "ipc_store ipc_wire ipcd posix_calls posix_mq premises sem_undo sysv_calls sysv_msg sysv_sem trials".split()
+    "ipc_store ipc_wire ipcd posix_calls premises sysv_calls trials".split()
 )
 # Seconds after which a check has no verdict.
 LIMIT = 1200
