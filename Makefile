@@ -5,7 +5,7 @@
 # tests the clients in Python all the same; its memcheck needs valgrind.
 
 .PHONY: help try run test edits imports runs serves clients memory trials program install dist deb image verify peers \
-	bench bench-serve bench-clients bench-peers
+	bench bench-serve bench-clients bench-peers chaos
 
 help:
 	@echo "make try    a first look, in about 90 seconds, with nothing proved: a message is sent, the machine stops, and the"
@@ -55,6 +55,10 @@ help:
 	@echo "            failing upgrade: what it leaves is of either version, with all that was there; devices with each byte"
 	@echo "            wrong; frames that are cut off or changed; as much of everything as the limits allow; and what one"
 	@echo "            release of requests of one moment writes"
+	@echo "make chaos  random clients over all calls, while servers and clients are killed, power and disks fail and clocks are"
+	@echo "            stepped; a judge finds an order of the calls that explains each answer, and has to find out three"
+	@echo "            wrong programs first. Three minutes, with a C compiler; no part of 'make test'. 'make chaos SEED=1"
+	@echo "            SECONDS=60 TURNS=5' has more. docs/CHAOS.md says what was found"
 	@echo "make bench  CPU time of runs, lines, saves and ticks, peak memory, what a commit and a save write, commits a second"
 	@echo "            on a file beside the same bare writes and syncs, messages of deep queues, as ratios, and an upgrade of a"
 	@echo "            full device. It ends with an error if calls that wait on other queues or a deep queue add more to a"
@@ -211,6 +215,14 @@ test: imports
 # tests/edits.record, of which `make test` says whether it is of today's sources.
 edits:
 	@python3 tests/edits.py $(CRATE)
+
+# TURNS of a run of SECONDS on a device of each kind. What was found is in docs/CHAOS.md.
+SEED = random
+SECONDS = 20
+TURNS = 1
+
+chaos: program
+	@python3 tests/chaos/chaos.py $(BUILT) $(SEED) $(SECONDS) $(TURNS)
 
 # Twenty groups of runs of each script, and turns of commits on a file. It needs awk and Python, and for the turns a C
 # compiler. A bar that is missed ends it only when all is measured.
