@@ -42,6 +42,7 @@ static _Thread_local char thread;
 
 // A page that the system clears in a forked process, however it was forked.
 static atomic_int *same_process;
+static atomic_int memory_of;
 
 static void after_fork(void)
 {
@@ -63,6 +64,7 @@ static void after_fork(void)
     }
     if (same_process != NULL)
         *same_process = 1;
+    memory_of = getpid();
     renew_mappings();
 }
 
@@ -75,6 +77,7 @@ static void be_child(void)
 __attribute__((constructor)) static void prepare(void)
 {
     pthread_atfork(hold_mappings, let_mappings, be_child);
+    memory_of = getpid();
     size_t size = (size_t) sysconf(_SC_PAGESIZE);
     void *page = mmap(NULL, size, PROT_READ | PROT_WRITE, MAP_PRIVATE | MAP_ANONYMOUS, -1, 0);
     if (page == MAP_FAILED)
@@ -176,6 +179,12 @@ struct ipcd *current_client(void)
     if (!has_path)
         set_path_once();
     return &of_process;
+}
+
+bool has_own_memory(void)
+{
+    current_client();
+    return memory_of == getpid();
 }
 
 static bool try_take(struct link *link)

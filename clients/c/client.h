@@ -61,6 +61,9 @@ struct ipcd {
     atomic_uchar states[SEMAPHORES]; // of these, see places.h
     struct own_queue own_queues[DESCRIPTORS];
     struct registration *registrations;
+    atomic_uint registered;   // how many those are
+    uint32_t asked;           // the last serial of an INTERRUPT to one of them
+    atomic_uint news;         // how many frames came to them: whoever waits for one sleeps on it
     struct ipcd *mapper;      // or NULL: see mapped_segments.c
     atomic_uint seen[FAMILIES][SEEN]; // identifiers that were got, in no order; 0 in a place that is free
     char path[256];           // is written before another thread knows of the client
@@ -73,6 +76,9 @@ static inline size_t handle_of(int descriptor)
 }
 
 HIDDEN struct ipcd *current_client(void);
+
+// Whether this process has the memory, and not its parent, which waits until a child of vfork(2) is gone.
+HIDDEN bool has_own_memory(void);
 
 // Ends the call that waits of a thread, if there is one and its thread may be cancelled.
 HIDDEN void ask_thread(pthread_t wanted);

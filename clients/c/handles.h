@@ -71,4 +71,7 @@ HIDDEN int close_on_idle_links(struct ipcd *client);
 HIDDEN void end_registration_of(struct ipcd *client, size_t number);
 HIDDEN void end_registrations(struct ipcd *client);
 
+// After a message was sent: waits until a notification of it, if this process has registered with the queue, has come.
+HIDDEN void await_registration(struct ipcd *client, size_t number);
+
 #endif

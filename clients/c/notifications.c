@@ -1,6 +1,8 @@
 // Notifications of mq_notify(3): each registration is a process of the server with a thread that reads its frame.
 #define _GNU_SOURCE
 #include <errno.h>
+#include <limits.h>
+#include <linux/futex.h>
 #include <mqueue.h>
 #include <sched.h>
 #include <stdlib.h>
@@ -16,7 +18,7 @@
 #include "own_queues.h"
 #include "processes.h"
 
-enum { NOTIFICATION = 14 };
+enum { NOTIFICATION = 14, ANSWER = 6 };
 
 struct registration {
     struct registration *next;
@@ -24,6 +26,7 @@ struct registration {
     size_t number;            // of the handle that registered
     pthread_t thread;
     struct link *link;
+    uint32_t asked, answered; // serials of the last INTERRUPT that was sent to it, and of the last answer
     struct sigevent event;
     pthread_attr_t attributes; // of the thread of a function
 };
@@ -100,9 +103,32 @@ static bool take_off(struct ipcd *client, struct registration *wanted)
         if (*at != wanted)
             continue;
         *at = wanted->next;
+        client->registered--;
         return true;
     }
     return false;
+}
+
+// Whoever waits for an answer sees that there is one, or that none comes.
+static void tell_news(struct ipcd *client)
+{
+    client->news++;
+    syscall(SYS_futex, &client->news, FUTEX_WAKE_PRIVATE, INT_MAX, NULL, NULL, 0);
+}
+
+// Reads the answers to INTERRUPTs, up to another frame: its size, or -1.
+static ssize_t read_answers(struct registration *it, unsigned char *frame, size_t most)
+{
+    for (;;) {
+        ssize_t size = link_next_frame(it->link, frame, most);
+        sigset_t mask;
+        if (size != ANSWER || read_u32(frame) == 0 || read_u16(frame + 4) != 0)
+            return size;
+        lock_handles(it->client, &mask);
+        it->answered = read_u32(frame);
+        unlock_handles(it->client, &mask);
+        tell_news(it->client);
+    }
 }
 
 // Answers whether it was told, as not NULL, to who joins it.
@@ -111,14 +137,16 @@ static void *read_notification(void *argument)
     struct registration *it = argument;
     struct ipcd *client = it->client;
     unsigned char frame[NOTIFICATION];
-    ssize_t size = link_next_frame(it->link, frame, sizeof frame);
+    ssize_t size = read_answers(it, frame, sizeof frame);
     bool is_told = size == NOTIFICATION && read_u32(frame) == 0 && read_u16(frame + 4) == 0;
     sigset_t mask;
+    // Before it is off the list: then a send has seen it.
+    if (is_told)
+        deliver(it);
     lock_handles(client, &mask);
     bool is_mine = take_off(client, it);
     unlock_handles(client, &mask);
-    if (is_told)
-        deliver(it);
+    tell_news(client);
     if (is_mine) {
         pthread_detach(pthread_self());
         free_registration(it);
@@ -193,11 +221,63 @@ void move_registration(struct ipcd *client, size_t number, mqd_t to)
     free_registration(it);
 }
 
+// Sends an INTERRUPT over the connection of a registration with a queue, by any handle of this process: its serial, or
+// 0. What the server has sent there before comes before the answer.
+static uint32_t ask_registration(struct ipcd *client, size_t number)
+{
+    unsigned char frame[REQUEST_HEAD];
+    uint32_t serial = 0;
+    sigset_t mask;
+    lock_handles(client, &mask);
+    const char *name = client->handles[number].name;
+    struct registration *it = client->registrations;
+    while (it != NULL && it->number != number && strcmp(client->handles[it->number].name, name) != 0)
+        it = it->next;
+    if (it != NULL) {
+        client->asked += client->asked == UINT32_MAX ? 2 : 1;
+        it->asked = client->asked;
+        write_number(frame, sizeof frame - 4, 4);
+        write_number(frame + 4, it->asked, 4);
+        frame[REQUEST_HEAD - 1] = INTERRUPT;
+        bool is_sent = send(it->link->socket, frame, sizeof frame, MSG_NOSIGNAL) == sizeof frame;
+        serial = is_sent ? it->asked : 0;
+    }
+    unlock_handles(client, &mask);
+    return serial;
+}
+
+// Whether one that was asked is on the list, and the answer has not come.
+static bool is_unanswered(struct ipcd *client, uint32_t serial)
+{
+    sigset_t mask;
+    bool found = false;
+    lock_handles(client, &mask);
+    for (const struct registration *it = client->registrations; it != NULL && !found; it = it->next)
+        found = it->answered < serial && serial <= it->asked;
+    unlock_handles(client, &mask);
+    return found;
+}
+
+void await_registration(struct ipcd *client, size_t number)
+{
+    int saved = errno, cancellation = hold_cancellation();
+    uint32_t serial = number < DESCRIPTORS ? ask_registration(client, number) : 0;
+    while (serial != 0) {
+        unsigned before = client->news;
+        if (!is_unanswered(client, serial))
+            break;
+        syscall(SYS_futex, &client->news, FUTEX_WAIT_PRIVATE, before, NULL, NULL, 0);
+    }
+    allow_cancellation(cancellation);
+    errno = saved;
+}
+
 void forget_registrations(struct ipcd *client)
 {
     for (struct registration *it = client->registrations; it != NULL; it = it->next)
         link_drop(it->link);
     client->registrations = NULL;
+    client->registered = 0;
 }
 
 // Connects, opens the queue and registers: 0, or -1.
@@ -230,6 +310,7 @@ static int start_thread(struct registration *it)
     int error = pthread_create(&it->thread, NULL, read_notification, it);
     if (error == 0) {
         it->next = it->client->registrations;
+        it->client->registered++;
         it->client->registrations = it;
     }
     unlock_handles(it->client, &mask);

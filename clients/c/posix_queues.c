@@ -105,6 +105,8 @@ int ipcd_mq_timedsend(mqd_t mqdes, const char *msg_ptr, size_t msg_len, unsigned
     pthread_cleanup_push(leave_at_end, &call);
     result = send_on_link(&call, msg_ptr, msg_len, msg_prio, deadline);
     pthread_cleanup_pop(true);
+    if (result == 0 && call.client->registered > 0)
+        await_registration(call.client, call.number);
     return result;
 }
 

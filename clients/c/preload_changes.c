@@ -2,6 +2,8 @@
 // it is known.
 #define _GNU_SOURCE
 #include <dlfcn.h>
+#include <limits.h>
+#include <linux/close_range.h>
 #include <pthread.h>
 #include <signal.h>
 #include <stddef.h>
@@ -13,6 +15,7 @@
 #include "changes.h"
 #include "memory.h"
 #include "preload.h"
+#include "queue_files.h"
 
 int heard_close(int fd) IN_PLACE_OF(close);
 int heard_dup2(int from, int to) IN_PLACE_OF(dup2);
@@ -105,25 +108,39 @@ static void be_ready(void)
 
 int heard_close(int fd)
 {
-    return files_changed(own.close != NULL ? own.close(fd) : (int) syscall(SYS_close, fd));
+    mqd_t queue = forget_queue_file(fd);
+    int result = files_changed(own.close != NULL ? own.close(fd) : (int) syscall(SYS_close, fd));
+    return close_queue(queue, result);
+}
+
+// A descriptor is another file's now. If it was a queue's, that is closed.
+static int is_replaced(int fd)
+{
+    close_queues((unsigned) fd, (unsigned) fd);
+    return fd;
 }
 
 int heard_dup2(int from, int to)
 {
     be_ready();
-    return files_changed(own.dup2(from, to));
+    int result = files_changed(own.dup2(from, to));
+    return from == to || result < 0 ? result : is_replaced(to);
 }
 
 int heard_dup3(int from, int to, int flags)
 {
     be_ready();
-    return files_changed(own.dup3(from, to, flags));
+    int result = files_changed(own.dup3(from, to, flags));
+    return result < 0 ? result : is_replaced(to);
 }
 
 int heard_close_range(unsigned first, unsigned last, int flags)
 {
     be_ready();
-    return files_changed(own.close_range(first, last, flags));
+    int result = files_changed(own.close_range(first, last, flags));
+    if (result == 0 && !(flags & CLOSE_RANGE_CLOEXEC))
+        close_queues(first, last);
+    return result;
 }
 
 void heard_closefrom(int first)
@@ -131,6 +148,7 @@ void heard_closefrom(int first)
     be_ready();
     own.closefrom(first);
     files_changed(0);
+    close_queues(first < 0 ? 0 : (unsigned) first, UINT_MAX);
 }
 
 int heard_setuid(uid_t user)

@@ -4,11 +4,13 @@
 #include <errno.h>
 #include <fcntl.h>
 #include <stdarg.h>
+#include <unistd.h>
 
 #include "again.h"
 #include "named_semaphores.h"
 #include "own_queues.h"
 #include "preload.h"
+#include "queue_files.h"
 
 mqd_t redirected_mq_open(const char *name, int oflag, ...) IN_PLACE_OF(mq_open);
 mqd_t redirected_mq_open_2(const char *name, int oflag) IN_PLACE_OF(__mq_open_2);
@@ -88,22 +90,41 @@ const struct system_queues *system_queues(void)
     return &own_queues;
 }
 
+static mqd_t open_queue(const char *name, int oflag, mode_t mode, struct mq_attr *attributes)
+{
+    SERVED(mqd_t, ipcd_mq_open(name, oflag, mode, attributes), -1);
+}
+
+// The descriptor comes first: a queue is not made if there is none.
+static mqd_t open_file(const char *name, int oflag, mode_t mode, struct mq_attr *attributes)
+{
+    int file = make_queue_file();
+    mqd_t queue = file < 0 ? -1 : open_queue(name, oflag, mode, attributes);
+    if (queue >= 0)
+        return have_queue_file(file, queue);
+    int error = errno;
+    if (file >= 0)
+        close(file);
+    errno = error;
+    return -1;
+}
+
 mqd_t redirected_mq_open(const char *name, int oflag, ...)
 {
     if (!(oflag & O_CREAT))
-        SERVED(mqd_t, ipcd_mq_open(name, oflag), -1);
+        return open_file(name, oflag, 0, NULL);
     va_list rest;
     va_start(rest, oflag);
     mode_t mode = va_arg(rest, mode_t);
     struct mq_attr *attributes = va_arg(rest, struct mq_attr *);
     va_end(rest);
-    SERVED(mqd_t, ipcd_mq_open(name, oflag, mode, attributes), -1);
+    return open_file(name, oflag, mode, attributes);
 }
 
 mqd_t redirected_mq_open_2(const char *name, int oflag)
 {
     if (!(oflag & O_CREAT))
-        SERVED(mqd_t, ipcd_mq_open(name, oflag), -1);
+        return open_file(name, oflag, 0, NULL);
     errno = EINVAL;
     return -1;
 }
@@ -111,7 +132,10 @@ mqd_t redirected_mq_open_2(const char *name, int oflag)
 int redirected_mq_close(mqd_t mqdes)
 {
     struct attempts attempts = begin_attempts();
-    int result = ipcd_mq_close(mqdes);
+    mqd_t queue = forget_queue_file(mqdes);
+    if (queue >= 0)
+        close(mqdes);
+    int result = ipcd_mq_close(queue);
     // It is closed also if the connection has ended.
     return result < 0 && is_made_again(&attempts) ? 0 : result;
 }
@@ -123,38 +147,52 @@ int redirected_mq_unlink(const char *name)
 
 int redirected_mq_send(mqd_t mqdes, const char *text, size_t size, unsigned int priority)
 {
+    if (!find_queue(&mqdes))
+        return -1;
     SERVED(int, ipcd_mq_send(mqdes, text, size, priority), -1);
 }
 
 int redirected_mq_timedsend(mqd_t mqdes, const char *text, size_t size, unsigned int priority,
                             const struct timespec *deadline)
 {
+    if (!find_queue(&mqdes))
+        return -1;
     SERVED(int, ipcd_mq_timedsend(mqdes, text, size, priority, deadline), -1);
 }
 
 ssize_t redirected_mq_receive(mqd_t mqdes, char *text, size_t size, unsigned int *priority)
 {
+    if (!find_queue(&mqdes))
+        return -1;
     SERVED(ssize_t, ipcd_mq_receive(mqdes, text, size, priority), -1);
 }
 
 ssize_t redirected_mq_timedreceive(mqd_t mqdes, char *text, size_t size, unsigned int *priority,
                                    const struct timespec *deadline)
 {
+    if (!find_queue(&mqdes))
+        return -1;
     SERVED(ssize_t, ipcd_mq_timedreceive(mqdes, text, size, priority, deadline), -1);
 }
 
 int redirected_mq_getattr(mqd_t mqdes, struct mq_attr *attributes)
 {
+    if (!find_queue(&mqdes))
+        return -1;
     SERVED(int, ipcd_mq_getattr(mqdes, attributes), -1);
 }
 
 int redirected_mq_setattr(mqd_t mqdes, const struct mq_attr *wanted, struct mq_attr *before)
 {
+    if (!find_queue(&mqdes))
+        return -1;
     SERVED(int, ipcd_mq_setattr(mqdes, wanted, before), -1);
 }
 
 int redirected_mq_notify(mqd_t mqdes, const struct sigevent *event)
 {
+    if (!find_queue(&mqdes))
+        return -1;
     SERVED(int, ipcd_mq_notify(mqdes, event), -1);
 }
 

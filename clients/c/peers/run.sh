@@ -130,7 +130,7 @@ all() {
     has_stress="command -v stress-ng"
     compare "stress-ng --msg" stress-ng "$has_stress" "" sh -c "$stress_words" sh --msg 1 --msg-ops 1000
     compare "stress-ng --sem-sysv" stress-ng "$has_stress" "" sh -c "$stress_words" sh --sem-sysv 1 --sem-sysv-ops 500
-    compare "stress-ng --mq" stress-ng "$has_stress" "mq read failed" sh -c "$stress_words" sh --mq 1 --mq-ops 500
+    compare "stress-ng --mq" stress-ng "$has_stress" "" sh -c "$stress_words" sh --mq 1 --mq-ops 500
     echo "peers: not run: PostgreSQL, which maps its segments, and stress-ng --sem, whose semaphores are unnamed"
     echo "peers: $passed the same, $failed differ, $skipped skipped"
     [ "$failed" = 0 ] && { [ "$passed" -gt 0 ] || [ -n "$only_installed" ]; }

@@ -99,7 +99,7 @@ def all_end_well(lines: list[list[str]], **environment: str) -> None:
 
 def kernel_agrees() -> None:
     """What the tests want is what the kernel and the C library do."""
-    all_end_well([[str(OUT / "tests" / name)] for name in [*reversed(CALLS), "attachments"]], ON_KERNEL="1")
+    all_end_well([[str(OUT / "tests" / name)] for name in [*reversed(CALLS), "attachments", "polls"]], ON_KERNEL="1")
     for name in PROCESSES:
         if name not in NOT_ON_KERNEL and (name != "users" or os.geteuid() == 0):
             ends_well(str(OUT / "tests" / "processes"), name, ON_KERNEL="1")
@@ -161,7 +161,7 @@ def looks_inside() -> None:
 def redirected_calls() -> None:
     device()
     with serving(prepare=by_anybody):
-        all_end_well([[RUN, str(OUT / "tests" / name)] for name in reversed(CALLS)])
+        all_end_well([[RUN, str(OUT / "tests" / name)] for name in [*reversed(CALLS), "polls"]])
         # Segments of System V stay the kernel's, and that is said.
         says_so(str(OUT / "tests" / "attachments"), call="shmget")
         with Connection("socket") as connection:
@@ -471,6 +471,13 @@ def around_restarts(words: list[str]) -> int:
         server.process.kill()
 
 
+def polls_over_a_restart() -> None:
+    """The server is killed while a program waits for nothing: a wait ends, and the next call hears why, or waits."""
+    program = str(OUT / "tests" / "polls")
+    for words in ([RUN, program, "restart"], [RUN, "--wait", "30", program, "restart"]):
+        check(around_restarts(words) == 1, "it does not ask")
+
+
 def killed_in_each_call() -> None:
     """No process of a client is left at the server: 64 others find room."""
     device()
@@ -586,7 +593,8 @@ def exports() -> None:
     heard = """
         close closefrom close_range dup2 dup3 setuid seteuid setreuid setresuid setgid setegid
         setregid setresgid sigaction siginterrupt signal bsd_signal ssignal sigset dlopen dlmopen dlsym
-        pthread_cancel msync munmap
+        pthread_cancel msync munmap poll __poll_chk ppoll __ppoll_chk select pselect epoll_ctl epoll_wait
+        epoll_pwait epoll_pwait2 read __read_chk fcntl fcntl64
     """.split()
     calls = names_of(preload) - set(heard)
     check(len(calls) == 33 and names_of(preload) >= set(heard), f"{names_of(preload)}")
@@ -607,6 +615,8 @@ def exports() -> None:
     table = (HERE.parents[2] / "docs/COMPATIBILITY.md").read_text()
     page = (HERE.parent / "libipcd.3").read_text()
     for name in [*prefixed, *heard, *(LEFT - {"__shm_get_name"})]:
+        # What a fortified program calls, and another one with offsets of 64 bits, is the same call.
+        name = name.removeprefix("__").removesuffix("_chk").removesuffix("64")
         check(re.search(rf"\b{name}\b", table) is not None, f"COMPATIBILITY.md has no {name}")
     check(all(name in page for name in names), "libipcd(3) does not have each name")
     for file, soname in ((preload, "libipcd-preload.so"), (library, "libipcd.so.0")):
@@ -971,12 +981,17 @@ class Dribble:
         threading.Thread(target=self._accept, daemon=True).start()
 
     def _accept(self) -> None:
+        count = 0
         while True:
             client, _ = self._listening.accept()
             server = socket.socket(socket.AF_UNIX, socket.SOCK_STREAM)
             server.connect("socket")
-            for ends in ((client, server), (server, client)):
-                threading.Thread(target=self._hand_on, args=ends, daemon=True).start()
+            threading.Thread(target=self._hand_on, args=(client, server), daemon=True).start()
+            threading.Thread(target=self._answer, args=(server, client, count), daemon=True).start()
+            count += 1
+
+    def _answer(self, server: socket.socket, client: socket.socket, count: int) -> None:
+        self._hand_on(server, client)
 
     def _hand_on(self, source: socket.socket, sink: socket.socket) -> None:
         sizes = random.Random(1)
@@ -990,6 +1005,27 @@ class Dribble:
                 end.shutdown(socket.SHUT_RDWR)
 
 
+class LateNews(Dribble):
+    """The same, and all that comes from the server on a connection that is not the first comes late."""
+
+    def _answer(self, server: socket.socket, client: socket.socket, count: int) -> None:
+        with suppress(OSError):
+            while data := server.recv(65536):
+                time.sleep(0.01 if count > 0 else 0)
+                client.sendall(data)
+        client.close()
+
+
+def notifies_before_it_answers() -> None:
+    """mq_send waits for the notification of its own process, however late that comes over its connection."""
+    for words in ([RUN, str(OUT / "tests/posix_queues")], [str(OUT / "tests/library_posix_queues")]):
+        device()
+        with serving(prepare=by_anybody):
+            LateNews()
+            ends_well(*words, IPCD_SOCKET=os.path.abspath("dribble"))
+        os.remove("dribble")
+
+
 def pieces() -> None:
     """Frames come in pieces, of some bytes or parts of a body, and answers are the same."""
     device()
@@ -1000,10 +1036,11 @@ def pieces() -> None:
 
 
 TESTS = [exports, headers, built_otherwise, static_library, refuses_programs, installs, kernel_agrees, library_calls,
-         on_version_3,
+         on_version_3, notifies_before_it_answers,
          pieces, memcheck, sanitized, looks_inside, redirected_calls, loads, lists, check_counts, shared_memory,
          waits_for_a_server, takes_once, waits_for_its_turn, processes, drops_uid_0, unlinked, cannot_be_told,
-         pids, pids_of_lives, manual_pages, without_a_server, restarts, killed_in_each_call, false_servers]  # fmt: skip
+         pids, pids_of_lives, manual_pages, without_a_server, restarts, polls_over_a_restart,
+         killed_in_each_call, false_servers]  # fmt: skip
 
 if __name__ == "__main__":
     with in_a_folder(600):
