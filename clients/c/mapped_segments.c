@@ -4,189 +4,37 @@
 // msync(2) and munmap(2) if they are redirected, and ten times a second. So whoever takes a lock after a crash finds
 // what was written before it was given.
 //
-// A file has the bytes, then as many as the server has them, and a page with what all processes share. A client has
-// another one within, its mapper, by whose connection bytes go: no error that the program has to hear is spent on them.
+// A file has the bytes, then as many as the server has them, and a page with what all processes share.
 #define _GNU_SOURCE
 #include "mapped_segments.h"
 
 #include <errno.h>
-#include <linux/futex.h>
 #include <string.h>
 #include <sys/mman.h>
 #include <sys/shm.h>
-#include <sys/syscall.h>
 #include <unistd.h>
 
 #include "info.h"
+#include "mapper.h"
 #include "memory.h"
-#include "segment_files.h"
-
-enum { PERIOD = 100 * 1000 * 1000, PATIENT = 2, TRIES = 3 };
+#include "named_segments.h"
+#include "write_back.h"
 
 struct mapping {
     struct ipcd *mapper;      // NULL if the place is free
-    struct shared *shared;
+    struct kept kept;         // of which the bytes begin all of the file, as this library has it
     _Atomic(char *) address;  // where the program has it, or NULL if it has unmapped it
-    unsigned char *file;      // where this library has all of the file
-    size_t size;              // of the segment
     int shmid;
-    int attachment;
     bool is_written;          // it may be: attached without SHM_RDONLY, and still the server's
 };
 
-// Whoever has the lock blocks all signals.
-static pthread_mutex_t lock = PTHREAD_MUTEX_INITIALIZER;
 static struct mapping mappings[DESCRIPTORS];
-static bool has_thread;
-static atomic_uint has_begun; // the thread
-static bool is_held;          // around a fork
-static sigset_t mask_at_fork;
-
-atomic_uint mapped_segments;
-
-struct held {
-    sigset_t mask;
-    struct ipcd *used;
-    int cancellation, saved_errno;
-};
-
-static struct held hold(void)
-{
-    struct held held = {.saved_errno = errno};
-    sigset_t all_signals;
-    sigfillset(&all_signals);
-    // In a process that was forked the lock is a new one from then on.
-    current_client();
-    held.cancellation = hold_cancellation();
-    pthread_sigmask(SIG_BLOCK, &all_signals, &held.mask);
-    pthread_mutex_lock(&lock);
-    held.used = ipcd_use(NULL);
-    return held;
-}
-
-// errno is as it was, unless the result is negative.
-static int let(const struct held *held, int result)
-{
-    int error = errno;
-    ipcd_use(held->used);
-    pthread_mutex_unlock(&lock);
-    pthread_sigmask(SIG_SETMASK, &held->mask, NULL);
-    allow_cancellation(held->cancellation);
-    errno = result < 0 ? error : held->saved_errno;
-    return result;
-}
-
-static size_t pages_of(size_t size)
-{
-    size_t page = (size_t) sysconf(_SC_PAGESIZE);
-    return (size + page - 1) / page * page;
-}
-
-// The mapper has lost its connection, as at a restart of the server: what was asked is asked once more.
-static bool is_asked_again(int *tries)
-{
-    return errno == ECONNRESET && ++*tries < TRIES;
-}
-
-static ssize_t read_piece(const struct mapping *it, void *piece, size_t size, size_t offset)
-{
-    int tries = 0;
-    ssize_t done;
-    do
-        done = ipcd_shmread(it->attachment, piece, size, (off_t) offset);
-    while (done < 0 && is_asked_again(&tries));
-    return done;
-}
-
-static ssize_t write_piece(const struct mapping *it, const void *piece, size_t size, size_t offset)
-{
-    int tries = 0;
-    ssize_t done;
-    do
-        done = ipcd_shmwrite(it->attachment, piece, size, (off_t) offset);
-    while (done < 0 && is_asked_again(&tries));
-    return done;
-}
-
-// A process that was killed leaves the lock. One that was stopped keeps it, and is not waited for, as one is whose
-// writes are answered. What it writes later is written again.
-static bool lock_file(struct shared *shared)
-{
-    unsigned before;
-    int error;
-    do {
-        struct timespec end;
-        clock_gettime(CLOCK_REALTIME, &end);
-        end.tv_sec += PATIENT;
-        before = shared->answers;
-        error = pthread_mutex_timedlock(&shared->lock, &end);
-    } while (error == ETIMEDOUT && shared->answers != before);
-    if (error == EOWNERDEAD)
-        pthread_mutex_consistent(&shared->lock);
-    return error == 0 || error == EOWNERDEAD;
-}
-
-// Takes what the server has where nobody has written since it was known. It differs if clients have written it by
-// requests, or if another device is served. Where a write has got no answer the bytes of the file count.
-static int fill(const struct mapping *it)
-{
-    unsigned char piece[COMPARED], *known = it->file + pages_of(it->size);
-    for (size_t at = 0; at < it->size; at += COMPARED) {
-        size_t size = it->size - at < COMPARED ? it->size - at : COMPARED;
-        if (read_piece(it, piece, size, at) < 0)
-            return -1;
-        it->shared->answers++;
-        if (memcmp(known + at, piece, size) == 0)
-            continue;
-        if (it->shared->unanswered[at / COMPARED] == 0 && memcmp(it->file + at, known + at, size) == 0)
-            memcpy(it->file + at, piece, size);
-        memcpy(known + at, piece, size);
-    }
-    it->shared->is_filled = true;
-    return 0;
-}
-
 // Nobody else has it attached, as far as the server knows: then nobody keeps the file equal to it.
 static int fill_if_first(const struct mapping *it, const struct shmid_ds *record)
 {
-    bool is_locked = lock_file(it->shared);
-    int result = !it->shared->is_filled || record->shm_nattch <= 1 ? fill(it) : 0, error = errno;
-    if (is_locked)
-        pthread_mutex_unlock(&it->shared->lock);
-    errno = error;
-    return result;
-}
-
-// Writes a piece that may differ from what the server has. While no answer has come the server may have it or not, so
-// it is written again, also if the program has written back what was there before: a number says of which write that
-// is. If another process has written the piece meanwhile, which does not wait for one that was stopped, nobody knows
-// whose write came last.
-static int write_change(const struct mapping *it, size_t at, size_t size)
-{
-    unsigned char piece[COMPARED], *known = it->file + pages_of(it->size);
-    atomic_uint *unanswered = &it->shared->unanswered[at / COMPARED];
-    // An odd one, so not 0.
-    unsigned number = 2 * ++it->shared->writes + 1, expected = number;
-    *unanswered = number;
-    memcpy(piece, it->file + at, size);
-    if (write_piece(it, piece, size, at) < 0)
-        return -1;
-    it->shared->answers++;
-    memcpy(known + at, piece, size);
-    if (!atomic_compare_exchange_strong(unanswered, &expected, 0))
-        *unanswered = number;
-    return 0;
-}
-
-static int write_changes(const struct mapping *it)
-{
-    const unsigned char *known = it->file + pages_of(it->size);
-    int result = 0;
-    for (size_t at = 0; result == 0 && at < it->size; at += COMPARED) {
-        size_t size = it->size - at < COMPARED ? it->size - at : COMPARED;
-        if (it->shared->unanswered[at / COMPARED] != 0 || memcmp(it->file + at, known + at, size) != 0)
-            result = write_change(it, at, size);
-    }
+    bool is_locked = lock_shared(it->kept.shared);
+    int result = !it->kept.shared->is_filled || record->shm_nattch <= 1 ? fill(&it->kept) : 0;
+    unlock_shared(it->kept.shared, is_locked);
     return result;
 }
 
@@ -196,93 +44,22 @@ static int write_mapping(struct mapping *it)
     if (it->mapper == NULL || !it->is_written)
         return 0;
     ipcd_use(it->mapper);
-    bool is_locked = lock_file(it->shared);
-    int result = write_changes(it), error = errno;
-    if (is_locked)
-        pthread_mutex_unlock(&it->shared->lock);
-    if (result < 0 && (error == EBADF || error == EACCES)) {
+    bool is_locked = lock_shared(it->kept.shared);
+    int result = write_changes(&it->kept);
+    unlock_shared(it->kept.shared, is_locked);
+    if (result < 0 && (errno == EBADF || errno == EACCES)) {
         it->is_written = false;
         return 0;
     }
-    errno = error;
     return result;
 }
 
-static int write_each(void)
+int write_attached(void)
 {
     int result = 0;
     for (size_t i = 0; result == 0 && i < DESCRIPTORS; i++)
         result = write_mapping(&mappings[i]);
     return result;
-}
-
-int write_mapped_back(void)
-{
-    struct held held = hold();
-    return let(&held, write_each());
-}
-
-static void *write_now_and_then(void *none)
-{
-    sigset_t all_signals;
-    sigfillset(&all_signals);
-    pthread_sigmask(SIG_BLOCK, &all_signals, NULL);
-    has_begun = 1;
-    syscall(SYS_futex, &has_begun, FUTEX_WAKE_PRIVATE, 1, NULL, NULL, 0);
-    for (;;) {
-        nanosleep(&(struct timespec){.tv_nsec = PERIOD}, NULL);
-        struct held held = hold();
-        bool is_needed = mapped_segments > 0;
-        write_each();
-        has_thread = is_needed;
-        let(&held, 0);
-        if (!is_needed)
-            return none;
-    }
-}
-
-// The lock is held, or the process has one thread. What is mapped while a thread begins, as by a sanitizer, is there
-// before the program goes on: it could come to where the program wants its next segment.
-static void have_a_thread(void)
-{
-    pthread_t thread;
-    int saved = errno;
-    if (has_thread || mapped_segments == 0)
-        return;
-    has_begun = 0;
-    has_thread = pthread_create(&thread, NULL, write_now_and_then, NULL) == 0;
-    if (has_thread)
-        pthread_detach(thread);
-    while (has_thread && !has_begun)
-        syscall(SYS_futex, &has_begun, FUTEX_WAIT_PRIVATE, 0, NULL, NULL, 0);
-    errno = saved;
-}
-
-void hold_mappings(void)
-{
-    sigset_t all_signals, mask;
-    sigfillset(&all_signals);
-    pthread_sigmask(SIG_BLOCK, &all_signals, &mask);
-    pthread_mutex_lock(&lock);
-    mask_at_fork = mask;
-    is_held = true;
-}
-
-void let_mappings(void)
-{
-    sigset_t mask = mask_at_fork;
-    is_held = false;
-    pthread_mutex_unlock(&lock);
-    pthread_sigmask(SIG_SETMASK, &mask, NULL);
-}
-
-void renew_mappings(void)
-{
-    // However it was forked: by fork(2) it has the lock, by another call nobody has it any more.
-    if (!is_held)
-        lock = (pthread_mutex_t) PTHREAD_MUTEX_INITIALIZER;
-    has_thread = false;
-    have_a_thread();
 }
 
 // Where the program wants a segment. What was free from there on is taken, so that nothing that this library maps
@@ -328,11 +105,11 @@ static void give_room_back(const struct place *place)
 // Maps a file where the program wants it: 0, or -1.
 static int map_for_program(struct mapping *it, int file, struct place *place)
 {
-    size_t length = pages_of(it->size);
+    size_t length = pages_of(it->kept.size);
     int protection = it->is_written ? PROT_READ | PROT_WRITE : PROT_READ;
     int fixed = place->wanted == NULL ? 0 : MAP_FIXED;
     bool has_room = fixed == 0 || place->replaces || place->taken >= length;
-    void *made = has_room ? mmap(place->wanted, it->size, protection, MAP_SHARED | fixed, file, 0) : MAP_FAILED;
+    void *made = has_room ? mmap(place->wanted, it->kept.size, protection, MAP_SHARED | fixed, file, 0) : MAP_FAILED;
     if (made == MAP_FAILED) {
         errno = fixed == 0 ? ENOMEM : EINVAL;
         return -1;
@@ -348,13 +125,14 @@ static int map_file(struct mapping *it, int file, size_t length, struct place *p
 {
     if (map_for_program(it, file, place) < 0)
         return -1;
-    it->file = mmap(NULL, length, PROT_READ | PROT_WRITE, MAP_SHARED, file, 0);
-    if (it->file == MAP_FAILED) {
-        give_back(it->address, it->size);
+    it->kept.bytes = mmap(NULL, length, PROT_READ | PROT_WRITE, MAP_SHARED, file, 0);
+    if (it->kept.bytes == MAP_FAILED) {
+        give_back(it->address, it->kept.size);
         errno = ENOMEM;
         return -1;
     }
-    it->shared = (struct shared *) (it->file + 2 * pages_of(it->size));
+    it->kept.known = it->kept.bytes + pages_of(it->kept.size);
+    it->kept.shared = (struct shared *) (it->kept.bytes + 2 * pages_of(it->kept.size));
     return 0;
 }
 
@@ -366,8 +144,8 @@ static size_t length_of(size_t size)
 static void unmap(struct mapping *it)
 {
     if (it->address != NULL)
-        give_back(it->address, it->size);
-    give_back(it->file, length_of(it->size));
+        give_back(it->address, it->kept.size);
+    give_back(it->kept.bytes, length_of(it->kept.size));
     it->address = NULL;
     it->mapper = NULL;
     mapped_segments--;
@@ -392,16 +170,16 @@ static int attach(int shmid, int flags, struct shmid_ds *record)
 static int map_segment(struct mapping *it, struct place *place, int flags)
 {
     struct shmid_ds record;
-    it->attachment = attach(it->shmid, flags, &record);
-    if (it->attachment < 0)
+    it->kept.number = attach(it->shmid, flags, &record);
+    if (it->kept.number < 0)
         return -1;
-    it->size = record.shm_segsz;
+    it->kept.size = record.shm_segsz;
     it->is_written = !(flags & SHM_RDONLY);
     // No server has a greater one.
-    bool has_flags = it->size <= SHMMAX;
+    bool has_flags = it->kept.size <= SHMMAX;
     errno = ENOMEM;
-    int file = has_flags ? open_file(it->mapper, it->shmid, length_of(it->size)) : -1;
-    int result = file < 0 ? -1 : map_file(it, file, length_of(it->size), place);
+    int file = has_flags ? open_file(it->mapper, it->shmid, length_of(it->kept.size)) : -1;
+    int result = file < 0 ? -1 : map_file(it, file, length_of(it->kept.size), place);
     if (file >= 0)
         close(file);
     if (result == 0)
@@ -412,7 +190,7 @@ static int map_segment(struct mapping *it, struct place *place, int flags)
     }
     int error = errno;
     if (result < 0)
-        ipcd_shmdetach(it->attachment);
+        ipcd_shmdetach(it->kept.number);
     errno = error;
     return result;
 }
@@ -429,11 +207,11 @@ static struct mapping *free_mapping(void)
 // The segment is detached, also if its connection has ended meanwhile.
 static void leave(struct mapping *it)
 {
-    bool is_removed = it->shared->is_removed;
+    bool is_removed = it->kept.shared->is_removed;
     struct ipcd *mapper = it->mapper;
     ipcd_use(mapper);
     unmap(it);
-    ipcd_shmdetach(it->attachment);
+    ipcd_shmdetach(it->kept.number);
     if (is_removed)
         forget_file(mapper, it->shmid);
 }
@@ -469,9 +247,7 @@ void *ipcd_shmat(int shmid, const void *shmaddr, int shmflg)
     struct ipcd *client = current_client();
     struct held held = hold();
     take_room(&place);
-    if (client->mapper == NULL)
-        client->mapper = ipcd_connect(client->path);
-    struct mapping *kept = client->mapper == NULL ? NULL : free_mapping();
+    struct mapping *kept = mapper_of(client) == NULL ? NULL : free_mapping();
     struct mapping made = {.mapper = client->mapper, .shmid = shmid};
     if (kept != NULL) {
         ipcd_use(client->mapper);
@@ -503,13 +279,13 @@ int ipcd_shmdt(const void *shmaddr)
 static bool is_within(const struct mapping *it, const char *from, const char *to)
 {
     const char *address = it->address;
-    return address != NULL && address >= from && address + pages_of(it->size) <= to;
+    return address != NULL && address >= from && address + pages_of(it->kept.size) <= to;
 }
 
 static bool overlaps(const struct mapping *it, const char *from, const char *to)
 {
     const char *address = it->address;
-    return address != NULL && address < to && address + it->size > from;
+    return address != NULL && address < to && address + it->kept.size > from;
 }
 
 static bool overlaps_any(const char *from, const char *to)
@@ -542,7 +318,7 @@ int unmap_range(void *address, size_t length, int (*kernels)(void *, size_t))
 int write_range(const void *address, size_t length)
 {
     const char *from = address;
-    return overlaps_any(from, from + length) ? write_back() : 0;
+    return overlaps_any(from, from + length) || overlaps_named(from, from + length) ? write_back() : 0;
 }
 
 void unmap_all(struct ipcd *client)
@@ -553,6 +329,8 @@ void unmap_all(struct ipcd *client)
             write_mapping(&mappings[i]);
             leave(&mappings[i]);
         }
+    if (client->mapper != NULL)
+        leave_all(client->mapper);
     ipcd_use(NULL);
     ipcd_disconnect(client->mapper);
     client->mapper = NULL;

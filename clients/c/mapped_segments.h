@@ -1,4 +1,4 @@
-// Segments of System V that a program maps, shmat(2) and shmdt(2): see mapped_segments.c.
+// Segments that a program maps: those of System V, see mapped_segments.c; those of shm_open(3), see named_segments.c.
 #ifndef IPCD_MAPPED_SEGMENTS_H
 #define IPCD_MAPPED_SEGMENTS_H
 
@@ -7,6 +7,8 @@
 // How many segments are mapped now, by all clients of the process.
 extern atomic_uint mapped_segments HIDDEN;
 
+// What was written into each that is attached, and then of both kinds: 0, or -1. For the first the lock is held.
+HIDDEN int write_attached(void);
 HIDDEN int write_mapped_back(void);
 
 // What was written into mapped segments, by whomever, is the server's: 0, or -1 with an error of the connection. Else

@@ -152,7 +152,7 @@ uint64_t new_token(void)
 }
 
 // The name of an entry has no room for that of a semaphore. If two have one hash, both stay the server's.
-static uint64_t hash_of(const char *name, size_t length)
+uint64_t hash_of(const char *name, size_t length)
 {
     uint64_t hash = 14695981039346656037u;
     for (size_t i = 0; i < length; i++)

@@ -45,6 +45,7 @@ HIDDEN void pause_shortly(void);
 // What processes tell each other in the folder SOCKET.pids: which have a semaphore or a queue open. Each entry has a
 // number, 0 if nothing could be told; those that share the place of a semaphore have one token.
 HIDDEN uint64_t new_token(void);
+HIDDEN uint64_t hash_of(const char *name, size_t length);
 HIDDEN uint32_t tell_open(
     const struct ipcd *client, enum kind kind, const char *name, size_t length, uint64_t token);
 HIDDEN void tell_closed(

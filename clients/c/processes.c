@@ -5,7 +5,8 @@
 // server and when that began, with dots between: no entry of an earlier life counts, or is in the way. Named semaphores
 // and POSIX queues have entries there too: an `s` or a `q` and the hash of its name, the system's number of the process
 // that has it open, and a number of the entry, with dots between; the text is as above, then a token and the namespace
-// in which the process has its number. An `m` begins what segment_files.c has.
+// in which the process has its number. An `m` begins what segment_files.c has,
+// an `n` and a `k` what named_files.c has.
 #define _GNU_SOURCE
 #include "processes.h"
 

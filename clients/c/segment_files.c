@@ -15,10 +15,9 @@
 
 #include "memory.h"
 
-enum { ROOM = 640, BOOT = 36 };
+enum { ROOM = 640 };
 
-// The system's boot, as far as it can be read.
-static void name_boot(char *text)
+void name_boot(char *text)
 {
     int file = open("/proc/sys/kernel/random/boot_id", O_RDONLY | O_CLOEXEC);
     ssize_t size = file < 0 ? 0 : read(file, text, BOOT);
@@ -60,7 +59,7 @@ static void sweep(const struct ipcd *client)
         closedir(folder);
 }
 
-static void prepare(struct shared *shared)
+void prepare_shared(struct shared *shared)
 {
     pthread_mutexattr_t attributes;
     pthread_mutexattr_init(&attributes);
@@ -87,7 +86,7 @@ static int make_file(const char *path, size_t length)
     close(file);
     int result = -1;
     if (shared != MAP_FAILED) {
-        prepare(shared);
+        prepare_shared(shared);
         give_back(shared, page);
         result = link(other, path) == 0 || errno == EEXIST ? 0 : -1;
     }

@@ -583,7 +583,7 @@ def names_of(library: Path) -> set[str]:
 
 
 # What the C library has of these calls, and the library that is preloaded leaves to it.
-LEFT = {"sem_init", "sem_destroy", "shm_unlink", "__shm_get_name"}
+LEFT = {"sem_init", "sem_destroy", "__shm_get_name"}
 
 
 def exports() -> None:
@@ -594,10 +594,11 @@ def exports() -> None:
         close closefrom close_range dup2 dup3 setuid seteuid setreuid setresuid setgid setegid
         setregid setresgid sigaction siginterrupt signal bsd_signal ssignal sigset dlopen dlmopen dlsym
         pthread_cancel msync munmap poll __poll_chk ppoll __ppoll_chk select pselect epoll_ctl epoll_wait
-        epoll_pwait epoll_pwait2 read __read_chk fcntl fcntl64
+        epoll_pwait epoll_pwait2 read __read_chk fcntl fcntl64 mmap mmap64 ftruncate ftruncate64
+        posix_fallocate posix_fallocate64 fstat fstat64
     """.split()
     calls = names_of(preload) - set(heard)
-    check(len(calls) == 33 and names_of(preload) >= set(heard), f"{names_of(preload)}")
+    check(len(calls) == 34 and names_of(preload) >= set(heard), f"{names_of(preload)}")
     own = {name for it in c_library(preload) for name in names_of(it)}
     kinds = r"_*(msg(get|snd|rcv|ctl)|sem(get|op|timedop|ctl)|shm(get|at|dt|ctl)|mq_|sem_|shm_)"
     wanted = {name for name in own if re.match(kinds, name)}

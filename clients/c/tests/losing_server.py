@@ -9,7 +9,7 @@ import threading
 from collections.abc import Callable
 from contextlib import suppress
 
-SEMOP, ATTACHED_WRITE = 0x15, 0x4D
+SEMOP, SHM_WRITE, ATTACHED_WRITE = 0x15, 0x40, 0x4D
 # Of the fields, up to the first operation: the set, the limit of time, and the number of the semaphore.
 BEFORE_CHANGE = 14
 
@@ -19,8 +19,8 @@ def takes(opcode: int, fields: bytes) -> bool:
 
 
 def writes(opcode: int, fields: bytes) -> bool:
-    """Into a segment that is attached."""
-    return opcode == ATTACHED_WRITE
+    """Into a segment that is mapped."""
+    return opcode in (SHM_WRITE, ATTACHED_WRITE)
 
 
 class LosingServer:

@@ -1,4 +1,5 @@
-"""Segments of System V that programs map: as the kernel has them, over crashes of programs, server and machine.
+"""Segments that programs map, of System V and of shm_open(3): as the kernel has them, over crashes of programs, server
+and machine.
 
     python3 clients/c/tests/mapped.py PROGRAM [TEST]...
 """
@@ -12,7 +13,7 @@ import signal
 import subprocess
 import time
 from collections.abc import Iterator
-from contextlib import contextmanager
+from contextlib import contextmanager, suppress
 from pathlib import Path
 
 from clients import OUT, RUN, SECONDS, WANTED, all_end_well, by_anybody, device, ends_well, says, with_socket
@@ -22,7 +23,10 @@ from server import Connection, Server, check, in_a_folder, printed, run_tests, s
 KEY, SIZE, PAGE = 0x69706352, 10000, 4096
 PARTS = "shared address rounded holes replaces inherited read_only threads children handlers".split()
 MAPPED, LIBRARY = [RUN, "--segments", str(OUT / "tests/mapped")], [str(OUT / "tests/library_mapped")]
-EACH = (MAPPED, LIBRARY)
+# The same parts, as far as they can be, with segments of shm_open(3).
+NAMED = [RUN, "--segments", str(OUT / "tests/mapped_named")]
+NAMED_PARTS = "read_only threads children handlers".split()
+EACH, ALL, REDIRECTED = (MAPPED, LIBRARY), (MAPPED, LIBRARY, NAMED), (MAPPED, NAMED)
 # Where the programs write their text.
 PLACE = SIZE - 100
 
@@ -41,6 +45,23 @@ def as_the_kernel() -> None:
         ends_well(*LIBRARY, "connection")
         ends_well(RUN, "--segments", str(OUT / "tests/attachments"))
         check(os.listdir("socket.pids") == [], f"there is left {os.listdir('socket.pids')}")
+
+
+def named_as_the_kernel() -> None:
+    """Segments of shm_open do the same."""
+    program, parts = str(OUT / "tests/named"), str(OUT / "tests/mapped_named")
+    ends_well(program, ON_KERNEL="1")
+    for part in NAMED_PARTS:
+        ends_well(parts, part)
+    device()
+    with serving(prepare=by_anybody):
+        ends_well(RUN, "--segments", program, "most")
+        for part in NAMED_PARTS:
+            ends_well(*NAMED, part)
+        check(os.listdir("socket.pids") == [], f"there is left {os.listdir('socket.pids')}")
+        # Nothing of it is the kernel's.
+        ends_well(*NAMED, "exit", "kept")
+        check(not os.path.exists("/dev/shm/ipcd_mapped"), "it is the kernel's")
 
 
 def sanitized() -> None:
@@ -64,6 +85,8 @@ def at_server(offset: int, length: int) -> bytes:
     """What the server has of the segment."""
     with Connection("socket") as connection:
         connection.hello(0, 0)
+        with suppress(FileNotFoundError):
+            return connection.shm_read(connection.shm_open("/ipcd_mapped", os.O_RDONLY), offset, length)
         return connection.attached_read(connection.shmat(connection.shmget(KEY, 0, 0)), offset, length)
 
 
@@ -83,8 +106,8 @@ def program(*words: str, errors: int | None = None, socket: str | None = None) -
         it.communicate()
 
 
-def dies(word: str, text: str) -> None:
-    it = subprocess.run([*MAPPED, word, text], env=with_socket(), timeout=SECONDS)
+def dies(words: list[str], word: str, text: str) -> None:
+    it = subprocess.run([*words, word, text], env=with_socket(), timeout=SECONDS)
     check(it.returncode == -signal.SIGKILL, "it does not die")
 
 
@@ -96,13 +119,13 @@ def needs_the_folder() -> None:
     device()
     os.mkdir("socket.pids", 0o755)
     with serving(prepare=by_anybody):
-        for words in EACH:
+        for words in (*EACH, [RUN, "--segments", str(OUT / "tests/named")]):
             ends_well(*words, "no_folder")
 
 
 def is_written_back() -> None:
     """At exit, at shmdt, at msync and munmap, and soon if a program only goes on."""
-    for words in EACH:
+    for words in ALL:
         device()
         with serving(prepare=by_anybody):
             ends_well(*words, "exit", "at exit")
@@ -113,10 +136,9 @@ def is_written_back() -> None:
                     if word == "stay":
                         until(lambda text=text: has(text), "it is not written while the program stays")
                     check(has(text), f"it is not there after {word}")
-    with serving(prepare=by_anybody):
-        for word in ("sync", "unmap"):
-            dies(word, word)
-            check(has(word), f"it is not there after {word}")
+            for word in ("sync", "unmap") if words in REDIRECTED else ():
+                dies(words, word, word)
+                check(has(word), f"it is not there after {word}")
 
 
 class Servers:
@@ -142,7 +164,7 @@ class Servers:
 
 def outlives_a_machine() -> None:
     """After a crash of the machine nothing is mapped, and the bytes are the server's."""
-    for words in EACH:
+    for words in ALL:
         device()
         with Servers():
             ends_well(*words, "exit", "kept")
@@ -153,17 +175,18 @@ def outlives_a_machine() -> None:
 
 def what_a_killed_program_wrote() -> None:
     """It is there for whoever attaches the segment next, as on the kernel, and is written back then."""
-    device()
-    with serving(prepare=by_anybody):
-        for word in ("leave", "exec"):
-            ends_well(*MAPPED, word, word)
-            ends_well(*MAPPED, "find", word)
-        dies("die", "killed")
-        ends_well(*MAPPED, "find", "killed")
-        # Who has it read-only does not write.
-        check(not has("killed"), "it is written by one who has only read it")
-        with program(*MAPPED, "stay", "killed"):
-            until(lambda: has("killed"), "nobody writes what was left")
+    for words in REDIRECTED:
+        device()
+        with serving(prepare=by_anybody):
+            for word in ("leave", "exec"):
+                ends_well(*words, word, word)
+                ends_well(*words, "find", word)
+            dies(words, "die", "killed")
+            # Who has it read-only does not write. A descriptor of shm_open is one to write, here.
+            ends_well(*words, "find", "killed")
+            check(words == NAMED or not has("killed"), "it is written by one who has only read it")
+            with program(*words, "stay", "killed"):
+                until(lambda: has("killed"), "nobody writes what was left")
 
 
 def requests_are_seen() -> None:
@@ -177,7 +200,7 @@ def requests_are_seen() -> None:
             connection.attached_write(attachment, PLACE, b"asked\0\0")
         ends_well(*MAPPED, "find", "asked")
         # What a killed program has left of the same piece counts for more.
-        dies("die", "killed")
+        dies(MAPPED, "die", "killed")
         with Connection("socket") as connection:
             connection.hello(0, 0)
             attachment = connection.shmat(connection.shmget(KEY, 0, 0))
@@ -195,10 +218,77 @@ def requests_are_seen() -> None:
         ends_well(*MAPPED, "find", "")
 
 
+def requests_into_named_segments() -> None:
+    """The same of segments of shm_open(3): what is written by requests, what is cut by them, and another device."""
+    device()
+    with serving(prepare=by_anybody):
+        ends_well(*NAMED, "exit", "mapped")
+        with Connection("socket") as connection:
+            connection.hello(0, 0)
+            segment = connection.shm_open("/ipcd_mapped", os.O_RDWR)
+            connection.shm_write(segment, PLACE, b"asked\0\0")
+        ends_well(*NAMED, "find", "asked")
+        dies(NAMED, "die", "killed")
+        with Connection("socket") as connection:
+            connection.hello(0, 0)
+            segment = connection.shm_open("/ipcd_mapped", os.O_RDWR)
+            connection.shm_write(segment, PLACE - 100, b"asked")
+        ends_well(*NAMED, "find", "killed")
+        with Connection("socket") as connection:
+            connection.hello(0, 0)
+            segment = connection.shm_open("/ipcd_mapped", os.O_RDWR)
+            for length in (PLACE, SIZE):
+                connection.ftruncate(segment, length)
+        ends_well(*NAMED, "find", "")
+        ends_well(*NAMED, "exit", "of this device")
+        # A segment that is new is not that of before, by whomever that was removed.
+        with Connection("socket") as connection:
+            connection.hello(0, 0)
+            connection.shm_unlink("/ipcd_mapped")
+        ends_well(*NAMED, "find", "")
+        with program(*NAMED, "stay", "of the first") as it, Connection("socket") as connection:
+            check(it.stdout.readline() == "written\n", "it does not come so far")
+            connection.hello(0, 0)
+            connection.shm_unlink("/ipcd_mapped")
+            ends_well(*NAMED, "find", "")
+        ends_well(*NAMED, "exit", "of this device")
+    os.remove("device")
+    printed("format", "device")
+    with serving(prepare=by_anybody):
+        ends_well(*NAMED, "find", "")
+
+
+def named_at_server(offset: int, length: int) -> bytes:
+    with Connection("socket") as connection:
+        connection.hello(0, 0)
+        return connection.shm_read(connection.shm_open("/ipcd_named", os.O_RDONLY), offset, length)
+
+
+def cuts_are_known() -> None:
+    """What was cut away is the server's no more, also if the same bytes are written again."""
+    device()
+    with serving(prepare=by_anybody):
+        ends_well(RUN, "--segments", str(OUT / "tests/named"), "written_again")
+        check(named_at_server(0, 200) == named_at_server(SIZE - 200, 200) == b"x" * 200, "a byte is not there")
+
+
+def a_name_is_anothers() -> None:
+    """After a restart nothing is written into the new segment of a name by who has the one of before."""
+    device()
+    with Servers() as servers, program(RUN, "--segments", str(OUT / "tests/named"), "restart") as it:
+        check(it.stdout.readline() == "kill it now\n", "it does not come so far")
+        check(named_at_server(0, 4) == b"new\0", "the new one is not there")
+        servers.restart()
+        it.stdin.write("\n")
+        it.stdin.flush()
+        check(it.wait(SECONDS) == 0, "it does not end well")
+        check(named_at_server(0, 4) == b"new\0", "it was written into by who has another")
+
+
 def a_lock_comes_after_its_bytes() -> None:
     """Whoever takes a lock after a crash finds all that was written before it was given."""
     chance = random.Random(5)
-    for words in EACH * 2:
+    for words in ALL * 2:
         device()
         with Servers() as servers, program(*words, "counts_on", errors=subprocess.DEVNULL) as it:
             said = it.stdout.readline()
@@ -215,8 +305,13 @@ def a_lock_comes_after_its_bytes() -> None:
 
 def goes_on_over_restarts() -> None:
     """A program that waits for the server finds all that it has counted, whatever was killed."""
-    device()
-    with Servers() as servers, program(RUN, "--wait", "30", *MAPPED[1:], "counts_on") as it:
+    for words in REDIRECTED:
+        device()
+        counts_on_over_restarts(words)
+
+
+def counts_on_over_restarts(words: list[str]) -> None:
+    with Servers() as servers, program(RUN, "--wait", "30", *words[1:], "counts_on") as it:
         began = restarted = time.monotonic()
 
         def next_number() -> int:
@@ -240,7 +335,7 @@ def goes_on_over_restarts() -> None:
 
 def hears_of_a_restart_once() -> None:
     """The end of the connection by which bytes go is no error of a call."""
-    for words in EACH:
+    for words in ALL:
         device()
         with Servers() as servers, program(*words, "hears_once") as it:
             check(it.stdout.readline() == "kill it now\n", "it does not come so far")
@@ -256,7 +351,7 @@ def hears_of_a_restart_once() -> None:
 
 def is_removed_meanwhile() -> None:
     """After a restart of the server a segment that was removed while attached is gone; its bytes are the program's."""
-    for words in EACH:
+    for words in ALL:
         device()
         with Servers() as servers, program(*words, "outlives") as it:
             check(it.stdout.readline() == "kill it now\n", "it does not come so far")
@@ -273,7 +368,7 @@ def answers_are_lost() -> None:
     def server_has(byte: bytes) -> bool:
         return at_server(0, 1) == byte
 
-    for words, is_killed in [(words, is_killed) for words in EACH for is_killed in (False, True)]:
+    for words, is_killed in [(words, is_killed) for words in ALL for is_killed in (False, True)]:
         device()
         with serving(prepare=by_anybody), LosingServer(True, writes) as losing:
             with program(*words, "changes_back", socket=losing.path) as it:
@@ -307,11 +402,13 @@ def of_the_kernel() -> None:
     with serving(prepare=by_anybody):
         line = "shared memory (shmget) stays the kernel's, and outlives no crash of the machine"
         says(RUN, str(OUT / "tests/mapped"), "shared", line=line)
+        ends_well(RUN, "--segments", "--strict", str(OUT / "tests/named"))
         ends_well(RUN, "--segments", "--strict", str(OUT / "tests/mapped"), "shared")
 
 
-TESTS = [as_the_kernel, sanitized, needs_the_folder, is_written_back, outlives_a_machine, what_a_killed_program_wrote,
-         requests_are_seen, a_lock_comes_after_its_bytes, goes_on_over_restarts, hears_of_a_restart_once,
+TESTS = [as_the_kernel, named_as_the_kernel, sanitized, needs_the_folder, is_written_back, outlives_a_machine,
+         what_a_killed_program_wrote, requests_are_seen, requests_into_named_segments, cuts_are_known,
+         a_name_is_anothers, a_lock_comes_after_its_bytes, goes_on_over_restarts, hears_of_a_restart_once,
          is_removed_meanwhile, answers_are_lost, of_the_kernel]  # fmt: skip
 
 if __name__ == "__main__":
