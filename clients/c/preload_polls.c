@@ -1,5 +1,5 @@
-// Calls that wait for descriptors: poll(2), select(2), epoll_wait(2) and their kin. If POSIX queues are among these, the
-// server is asked how they are, at first and then after longer and longer slices of the system's wait.
+// Calls that wait for descriptors: poll(2), select(2), epoll_wait(2) and their kin. If POSIX queues are among these,
+// the server is asked how they are, at first and then after longer and longer slices of the system's wait.
 #define _GNU_SOURCE
 #include <dlfcn.h>
 #include <errno.h>

@@ -14,7 +14,7 @@ only_installed=$2
 run=$here/../out/ipcd-run
 work=$(mktemp -d)
 packages="perl fakeroot python3-sysv-ipc stress-ng php-cli util-linux dmsetup libipc-sharelite-perl
-    libipc-shareable-perl python3-pyqt5"
+    libipc-shareable-perl python3-pyqt5 python3-numpy python3-svipc libmm14 lua5.3 lua-posix rt-tests bonnie++ jackd2"
 passed=0 failed=0 skipped=0
 server='' apart='' options=''
 
@@ -102,6 +102,19 @@ stress_words='stress-ng --verify --oomable --no-rand-seed --metrics-brief "$@" 2
     grep -E -i "fail|error|unexpected|passed|successful" |
     sed -e "s/^stress-ng: //; s/\[[0-9]*\]//; s/in .*//; s/  */ /g"'
 
+# What it measures differs from run to run.
+measured='"$@" 2>&1 | sed -e "s/[0-9][0-9]*/N/g; s/  */ /g"'
+
+# Two programs wait for each other by a semaphore, before each kind of work.
+bonnie_words='user=$(id -un) && mkdir files && bonnie++ -u "$user" -p 2 2>/dev/null
+    works() { bonnie++ -u "$user" -q -d files -s 0 -n 1:0:0:1 -m m -y s 2>/dev/null | cut -d, -f 1-3; }
+    works & works; wait; bonnie++ -u "$user" -p -1 2>/dev/null; rm -r files'
+
+# A server without a sound card, and its clients. It says much that differs from run to run.
+jack_words='HOME=$PWD; export HOME; jackd --no-realtime -d dummy -r 8000 -p 256 >jackd 2>&1 & jackd=$!
+    tries=50; until jack_lsp >/dev/null 2>&1 || [ "$((tries -= 1))" = 0 ]; do sleep 0.2; done
+    jack_lsp -c -p && kill "$jackd" && wait "$jackd"; echo "$?"; grep -c "JACK server starting" jackd'
+
 all() {
     install_all
     # The kernel's objects of a namespace of their own, where that may be made.
@@ -117,6 +130,16 @@ all() {
         perl "$here/shareable.pl"
     compare "QSharedMemory, with --segments" python3-pyqt5 "/usr/bin/python3 -c 'import PyQt5.QtCore'" "" \
         /usr/bin/python3 "$here/qshared.py"
+    compare "multiprocessing.shared_memory, with --segments" python3 \
+        "python3 -c 'import multiprocessing.shared_memory'" "" python3 "$here/shared_memory.py"
+    compare "OSSP mm, with --segments" libmm14 "python3 -c 'import ctypes; ctypes.CDLL(\"libmm.so.14\")'" "" \
+        python3 "$here/mm.py"
+    compare "svipc, with --segments" python3-svipc "/usr/bin/python3 -c 'import numpy, svipc'" "" \
+        /usr/bin/python3 "$here/svipc.py"
+    compare "svsematest --fork, with --segments" rt-tests "command -v svsematest" "" \
+        sh -c "$measured" sh svsematest --fork -q -l 20 -i 2000
+    compare "stress-ng --shm, with --segments" stress-ng "command -v stress-ng" "" \
+        sh -c "$stress_words" sh --shm 1 --shm-objs 1 --shm-bytes 1M --shm-ops 3
     options=''
     compare "sysv_ipc" python3-sysv-ipc "/usr/bin/python3 -c 'import sysv_ipc'" "^new qbytes" \
         /usr/bin/python3 "$here/sysv.py"
@@ -127,6 +150,14 @@ all() {
     compare "ipcmk, ipcrm" util-linux "command -v ipcmk && command -v ipcrm" "" sh -c "$ipcrm_words"
     compare "dmsetup udevcookies" dmsetup "command -v dmsetup" "no call lists" dmsetup udevcookies
     compare "multiprocessing" python3 "python3 -c 'import multiprocessing.synchronize'" "" python3 "$here/forked.py"
+    compare "posix.sys.msg of Lua" lua-posix "lua5.3 -e 'require \"posix.sys.msg\"'" "" lua5.3 "$here/queue.lua"
+    compare "svsematest" rt-tests "command -v svsematest" "" sh -c "$measured" sh svsematest -q -l 20 -i 2000
+    compare "pmqtest" rt-tests "command -v pmqtest" "" sh -c "$measured" sh pmqtest -q -l 20 -i 2000
+    compare "pmqtest with a limit of time" rt-tests "command -v pmqtest" "" \
+        sh -c "$measured" sh pmqtest -q -l 20 -i 2000 -T 1
+    compare "bonnie++ -p, -y" bonnie++ "command -v bonnie++" "" sh -c "$bonnie_words"
+    compare "jackd -d dummy, jack_lsp" jackd2 "command -v jackd && command -v jack_lsp" "stays the kernel's" \
+        sh -c "$jack_words"
     has_stress="command -v stress-ng"
     compare "stress-ng --msg" stress-ng "$has_stress" "" sh -c "$stress_words" sh --msg 1 --msg-ops 1000
     compare "stress-ng --sem-sysv" stress-ng "$has_stress" "" sh -c "$stress_words" sh --sem-sysv 1 --sem-sysv-ops 500
