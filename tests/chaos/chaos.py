@@ -5,8 +5,8 @@ stepped; and a judge of what the clients saw, which knows nothing of the program
 
 First the judge has to find each fault of histories that were made by hand (tests/chaos/known.py), and of three wrong
 programs: one that replies before its commit, one whose syncs do nothing, and one that leaves out each third. Then it
-judges so many runs of so many seconds, 1 of 20 if none are given, on a device of each kind. docs/CHAOS.md has what it can
-see and what it cannot. The seed, which is printed, makes the calls and the faults; how they fall together is the
+judges so many runs of so many seconds, 1 of 20 if none are given, on a device of each kind. docs/CHAOS.md has what it
+can see and what it cannot. The seed, which is printed, makes the calls and the faults; how they fall together is the
 system's. Without a C compiler it says so, and tests nothing but the judge. It takes three minutes.
 """
 

@@ -128,10 +128,12 @@ class Host:
     def explain(self, how: Plan) -> None:
         """A server that ended by itself did so as the plan had it."""
         status, said = self.process.returncode, Path("said").read_text().strip()
-        expected = {"stop": (-signal.SIGKILL, ""), "fail": (1, "ipcd: device fault"), "memory": (1, "ipcd: no memory")}
+        expected = {"stop": [(-signal.SIGKILL, "")], "fail": [(1, "ipcd: device fault")]}
+        # Where memory of the device itself is refused, the device has failed.
+        expected["memory"] = [(1, "ipcd: no memory"), (1, "ipcd: device fault")]
         clock = [line for line in said.splitlines() if "the device's clock is" in line]
         rest = "\n".join(line for line in said.splitlines() if line not in clock)
-        if (status, rest) != expected.get(how.how):
+        if (status, rest) not in expected.get(how.how, []):
             raise Refused(f"life {self.counts.lives}, {how}: the server ended with status {status} and {said!r}")
 
     def step(self) -> None:

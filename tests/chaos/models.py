@@ -19,7 +19,7 @@ MSGMNB, SEMVMX, SEM_VALUE_MAX = 65536, 32767, 2**31 - 1
 # A number that the call has to answer, and one that was answered to nobody.
 NEW, UNKNOWN = "new", -1
 # The calls that may be answered ENOMEM, by their names here.
-MAY_NEED = {"get", "snd", "op", "open", "send", "truncate", "at"}
+MAY_NEED = {"get", "snd", "op", "open", "send", "truncate"}
 
 
 class Op(NamedTuple):
