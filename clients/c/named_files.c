@@ -15,7 +15,8 @@
 #include "memory.h"
 #include "places.h"
 
-enum { ROOM = 640, OUT_OF_THE_WAY = 200 };
+// Milliseconds, and where the numbers of descriptors begin: programs count on low ones.
+enum { ROOM = 640, PATIENT = 2000, OUT_OF_THE_WAY = 200 };
 
 static size_t page(void)
 {
@@ -62,13 +63,10 @@ int lock_folder(const struct ipcd *client)
     char path[ROOM];
     snprintf(path, sizeof path, "%s.pids", client->path);
     int folder = move_away(open(path, O_RDONLY | O_DIRECTORY | O_CLOEXEC));
-    if (folder >= 0 && flock(folder, LOCK_EX) == 0)
-        return folder;
-    int error = errno;
-    if (folder >= 0)
-        close(folder);
-    errno = error;
-    return -1;
+    // A process that is stopped keeps the lock, and is not waited for longer.
+    for (int i = 0; i < PATIENT && folder >= 0 && flock(folder, LOCK_EX | LOCK_NB) < 0; i++)
+        pause_shortly();
+    return folder;
 }
 
 // It has its lock when it has its name, and so on: the folder is locked.
@@ -119,7 +117,11 @@ static bool map_shared(struct named_files *files, const char *name)
 // The bytes: a file for all who may enter the folder. A page past its end is there as soon as it is longer.
 static bool open_and_map_bytes(struct named_files *files, const char *path)
 {
-    files->file = move_away(open(path, O_RDWR | O_CREAT | O_CLOEXEC | O_NOFOLLOW, 0600));
+    // With O_CREAT the system may refuse another user's, though it is there.
+    int file = open(path, O_RDWR | O_CLOEXEC | O_NOFOLLOW);
+    if (file < 0 && errno == ENOENT)
+        file = open(path, O_RDWR | O_CREAT | O_EXCL | O_CLOEXEC | O_NOFOLLOW, 0600);
+    files->file = move_away(file);
     struct stat status;
     if (files->file < 0 || fstat(files->file, &status) < 0)
         return false;
@@ -200,7 +202,7 @@ int open_named_files(const struct ipcd *client, const char *name, bool is_new, s
         return -1;
     }
     files->is_first = flock(files->lock, LOCK_EX | LOCK_NB) == 0;
-    flock(files->lock, LOCK_SH);
+    flock(files->lock, LOCK_SH | LOCK_NB);
     return 0;
 }
 

@@ -16,7 +16,8 @@ struct named_files {
     bool is_first;            // nobody else has it
 };
 
-// While it is held no other process opens or removes files: a descriptor, which is closed, or -1.
+// While it is held no other process opens or removes files, except one that has waited for it for 2 s: a descriptor,
+// which is closed, or -1.
 HIDDEN int lock_folder(const struct ipcd *client);
 
 // Opens the files of a segment: 0, or -1. Those of a segment that is new are made anew. And a descriptor of the bytes for

@@ -11,6 +11,7 @@ import random
 import shutil
 import signal
 import subprocess
+import sys
 import time
 from collections.abc import Iterator
 from contextlib import contextmanager, suppress
@@ -27,6 +28,24 @@ MAPPED, LIBRARY = [RUN, "--segments", str(OUT / "tests/mapped")], [str(OUT / "te
 NAMED = [RUN, "--segments", str(OUT / "tests/mapped_named")]
 NAMED_PARTS = "read_only threads children handlers".split()
 EACH, ALL, REDIRECTED = (MAPPED, LIBRARY), (MAPPED, LIBRARY, NAMED), (MAPPED, NAMED)
+# One process opens a segment and sends its descriptor to another program, which writes.
+TAKES = """
+import mmap, os, socket, sys
+there = socket.socket(fileno=int(sys.argv[1]))
+_, (fd,), _, _ = socket.recv_fds(there, 1, 1)
+memory = mmap.mmap(fd, 10000)
+memory[:5] = b"given"
+os._exit(0)
+"""
+GIVES = f"""
+import _posixshmem, os, socket, subprocess, sys
+here, there = socket.socketpair()
+fd = _posixshmem.shm_open("/ipcd_named", os.O_RDWR)
+words = [sys.executable, "-c", {TAKES!r}, str(there.fileno())]
+other = subprocess.Popen(words, pass_fds=[there.fileno()])
+socket.send_fds(here, [b"s"], [fd])
+print("given" if other.wait() == 0 else "it ends badly")
+"""
 # Where the programs write their text.
 PLACE = SIZE - 100
 
@@ -56,6 +75,11 @@ def named_as_the_kernel() -> None:
     device()
     with serving(prepare=by_anybody):
         ends_well(RUN, "--segments", program, "most")
+        if os.geteuid() == 0:
+            ends_well(program, "users", ON_KERNEL="1")
+            ends_well(RUN, "--segments", program, "users")
+        else:
+            print("mapped: users are not tried, since this is not uid 0")
         for part in NAMED_PARTS:
             ends_well(*NAMED, part)
         check(os.listdir("socket.pids") == [], f"there is left {os.listdir('socket.pids')}")
@@ -272,6 +296,29 @@ def cuts_are_known() -> None:
         check(named_at_server(0, 200) == named_at_server(SIZE - 200, 200) == b"x" * 200, "a byte is not there")
 
 
+def named_differs() -> None:
+    """Of a file that became longer by a write the segment has as many bytes as before, after a crash of the machine."""
+    device()
+    with Servers():
+        ends_well(RUN, "--segments", str(OUT / "tests/named"), "differs")
+    shutil.rmtree("socket.pids")
+    with serving(prepare=by_anybody):
+        check(named_at_server(0, 5) == b"kept\0", "what was mapped is not there")
+        with Connection("socket") as connection:
+            connection.hello(0, 0)
+            length = connection.shm_stat(connection.shm_open("/ipcd_named", os.O_RDONLY)).length
+            check(length == SIZE, f"it has {length} bytes")
+        descriptor_is_given()
+
+
+def descriptor_is_given() -> None:
+    """A process that has got a descriptor from another one maps the same bytes. Who has opened it writes them back."""
+    words = [RUN, "--segments", sys.executable, "-c", GIVES]
+    ended = subprocess.run(words, env=with_socket(), capture_output=True, text=True, timeout=SECONDS)
+    check((ended.returncode, ended.stdout, ended.stderr) == (0, "given\n", ""), f"{ended}")
+    check(named_at_server(0, 5) == b"given", "it is not written back")
+
+
 def a_name_is_anothers() -> None:
     """After a restart nothing is written into the new segment of a name by who has the one of before."""
     device()
@@ -407,7 +454,7 @@ def of_the_kernel() -> None:
 
 
 TESTS = [as_the_kernel, named_as_the_kernel, sanitized, needs_the_folder, is_written_back, outlives_a_machine,
-         what_a_killed_program_wrote, requests_are_seen, requests_into_named_segments, cuts_are_known,
+         what_a_killed_program_wrote, requests_are_seen, requests_into_named_segments, cuts_are_known, named_differs,
          a_name_is_anothers, a_lock_comes_after_its_bytes, goes_on_over_restarts, hears_of_a_restart_once,
          is_removed_meanwhile, answers_are_lost, of_the_kernel]  # fmt: skip
 

@@ -10,6 +10,7 @@
 enum { SIZE = 10000, PAGE = 4096 };
 
 static struct stat status;
+static const char *program;
 
 static int opened(int flags)
 {
@@ -277,6 +278,53 @@ static void is_anothers_after_a_restart(void)
     pause_for(0.3);
 }
 
+// Where a server differs from the kernel: a write past the end makes the file longer, and not the segment. A mapping
+// that was moved counts to the end, and so does the thread that writes back.
+static void differs(void)
+{
+    int fd = made();
+    CHECK(ftruncate(fd, SIZE) == 0);
+    char *address = mapped(fd, SIZE);
+    strcpy(address, "kept");
+    CHECK(pwrite(fd, "more", 5, 2 * SIZE) == 5 && length_of(fd) == 2 * SIZE + 5);
+    address = mremap(address, SIZE, 100 * SIZE, MREMAP_MAYMOVE);
+    CHECK(address != MAP_FAILED && munmap(address, 100 * SIZE) == 0 && close(fd) == 0);
+    pause_for(0.3);
+    CHECK(access("/proc/self/task", F_OK) == 0 && stat("/proc/self/task", &status) == 0 && status.st_nlink == 4);
+}
+
+// Another user may map what the mode lets it, and write it back; and may not remove it.
+static void is_of_users(void)
+{
+    umask(0);
+    shm_unlink("/ipcd_named");
+    int fd = shm_open("/ipcd_named", O_RDWR | O_CREAT, 0666), other;
+    CHECK(fd >= 0 && ftruncate(fd, SIZE) == 0);
+    pid_t child = fork();
+    if (child == 0) {
+        alarm(60);
+        CHECK(close(fd) == 0 && setgid(65534) == 0 && setuid(65534) == 0);
+        execl(program, program, "as_user", NULL);
+        _exit(1);
+    }
+    ends_well(child);
+    char *address = mapped(fd, SIZE);
+    CHECK(strcmp(address, "nobody") == 0 && munmap(address, SIZE) == 0 && close(fd) == 0);
+    CHECK(shm_unlink("/ipcd_named") == 0 && (other = made()) >= 0 && close(other) == 0);
+    CHECK(shm_unlink("/ipcd_named") == 0);
+}
+
+static void is_as_user(void)
+{
+    int fd = opened(O_RDWR | O_CREAT);
+    CHECK(length_of(fd) == SIZE && status.st_uid == 0 && (status.st_mode & 0777) == 0666);
+    char *address = mapped(fd, SIZE);
+    strcpy(address, "nobody");
+    CHECK(msync(address, SIZE, MS_SYNC) == 0);
+    REFUSED(shm_unlink("/ipcd_named"), EACCES);
+    REFUSED(shm_open("/ipcd_named", O_RDWR | O_CREAT | O_EXCL, 0666), EEXIST);
+}
+
 // Another user may not write the folder: then nothing is made at the server either.
 static void has_no_folder(void)
 {
@@ -287,9 +335,11 @@ static void has_no_folder(void)
 
 int main(int words, char **word)
 {
-    static void (*const parts[])(void) = {has_no_folder, is_written_again, is_anothers_after_a_restart};
-    static const char *const names[] = {"no_folder", "written_again", "restart"};
+    static void (*const parts[])(void) = {has_no_folder, is_written_again, is_anothers_after_a_restart, differs,
+                                           is_of_users, is_as_user};
+    static const char *const names[] = {"no_folder", "written_again", "restart", "differs", "users", "as_user"};
     alarm(60);
+    program = word[0];
     for (size_t i = 0; words > 1 && i < sizeof parts / sizeof *parts; i++)
         if (strcmp(word[1], names[i]) == 0) {
             parts[i]();

@@ -5,8 +5,10 @@
 #include <mqueue.h>
 #include <poll.h>
 #include <sys/epoll.h>
+#include <sys/ioctl.h>
 #include <sys/resource.h>
 #include <sys/select.h>
+#include <sys/syscall.h>
 #include <sys/time.h>
 
 #include "check.h"
@@ -15,6 +17,7 @@ enum { ROOM = 3, SIZE = 8 };
 
 static char buffer[SIZE];
 static mqd_t queue;
+static const char *program;
 
 static mqd_t make_queue(int flags)
 {
@@ -453,6 +456,46 @@ static void needs_a_descriptor(void)
     REFUSED(mq_open("/ipcd_polls", O_RDWR), ENOENT);
 }
 
+// What the next program has, if the descriptor is not closed by an exec.
+static void is_no_queue(int fd)
+{
+    struct mq_attr attributes;
+    CHECK(fcntl(fd, F_GETFD) == 0);
+    REFUSED(mq_getattr(fd, &attributes), EBADF);
+}
+
+// Where a server differs from the kernel: copies of a descriptor are no queue's, waits that nobody hears of have old
+// news, and EPOLLET is more than edges.
+static void differs(void)
+{
+    struct mq_attr attributes;
+    struct epoll_event event;
+    int yes = 1;
+    make_queue(O_NONBLOCK);
+    int copy = dup(queue), epoll = watching(EPOLLIN | EPOLLET);
+    REFUSED(mq_getattr(copy, &attributes), EBADF);
+    CHECK(close(copy) == 0 && mq_getattr(queue, &attributes) == 0);
+    is_sent();
+    struct pollfd entry = {queue, POLLIN, 0};
+    CHECK(syscall(SYS_ppoll, &entry, 1, time_of(100), NULL, 0) == 0);
+    for (int i = 0; i < 3; i++)
+        CHECK(epoll_wait(epoll, &event, 1, 1000) == 1);
+    CHECK(mq_setattr(queue, &(struct mq_attr){0}, NULL) == 0 && ioctl(queue, FIONBIO, &yes) == 0);
+    CHECK(mq_getattr(queue, &attributes) == 0 && attributes.mq_flags == 0);
+    pid_t child = fork();
+    if (child == 0) {
+        char number[12];
+        snprintf(number, sizeof number, "%d", queue);
+        CHECK(fcntl(queue, F_SETFD, 0) == 0);
+        execl(program, program, "no_queue", number, NULL);
+        _exit(1);
+    }
+    ends_well(child);
+    CHECK(close(epoll) == 0);
+    comes();
+    remove_queue();
+}
+
 // The server is restarted while nobody asks it: a wait ends, and the next call hears why, once.
 static void outlives_the_server(void)
 {
@@ -476,8 +519,13 @@ static void outlives_the_server(void)
 int main(int count, char **words)
 {
     alarm(60);
+    program = words[0];
     if (count > 1 && strcmp(words[1], "restart") == 0) {
         outlives_the_server();
+        return 0;
+    }
+    if (count > 2 && strcmp(words[1], "no_queue") == 0) {
+        is_no_queue(atoi(words[2]));
         return 0;
     }
     shows_its_state();
@@ -491,5 +539,7 @@ int main(int count, char **words)
     is_inherited();
     is_unlinked();
     needs_a_descriptor();
+    if (!is_on_kernel())
+        differs();
     return 0;
 }
