@@ -13,6 +13,7 @@
  * its writes and syncs with error E: a write has then put down the first half of its sectors.
  *
  * With POWER_SLOW=N a sync takes N microseconds more, in which a kill may come, and requests that share the next one.
+ * Of a program that is `early` this time passes before the writes that were held back.
  *
  * POWER_WRONG makes a wrong program of a right one:
  *   early    writes are held back, and reach the device only when the program waits for its next turn
@@ -133,10 +134,17 @@ static int forget(void)
 	return ftruncate(log_file, 0);
 }
 
+static void wait_slowly(void)
+{
+	if (slow)
+		usleep((useconds_t)slow);
+}
+
 /* What was held back reaches the device now, and is synced. */
 static void let_through(void)
 {
 	int file = -1;
+	wait_slowly();
 	while (held_first) {
 		struct held *one = held_first;
 		file = one->file;
@@ -185,8 +193,8 @@ static int sync_of(int file, long number)
 		return (int)syscall(number, file);
 	if (is_last('s'))
 		stop();
-	if (slow)
-		usleep((useconds_t)slow);
+	if (wrong != EARLY)
+		wait_slowly();
 	if (++device_calls == refused_call) {
 		errno = refused_error;
 		return -1;
