@@ -49,8 +49,8 @@ TIMEOUT = 20
 LIMITS = SMALL._replace(processes=16)
 
 # The requests that may be answered ENOMEM: HELLO, msgget, msgsnd, semget, semop, mq_open, mq_send, sem_open, shm_open,
-# ftruncate, shmget and shmat.
-MAY_NEED = {0x01, 0x0A, 0x0B, 0x14, 0x15, 0x28, 0x2A, 0x32, 0x3C, 0x3E, 0x46, 0x47}
+# ftruncate and shmget.
+MAY_NEED = {0x01, 0x0A, 0x0B, 0x14, 0x15, 0x28, 0x2A, 0x32, 0x3C, 0x3E, 0x46}
 ENOMEM = re.compile("([0-9]+) 00000006([0-9a-f]{8})000c")
 
 # What the script leaves.
