@@ -340,8 +340,9 @@ def main() -> None:
         namespaces()
         find_wrong_ones()
         for version, rounds in ((3, ROUNDS), (2, max(3, ROUNDS // 5))):
-            if tried(SEED, Kind(version), rounds) != "as promised":
-                sys.exit("mirror: what was answered on one host is not what the other has")
+            verdict = tried(SEED, Kind(version), rounds)
+            if verdict != "as promised":
+                sys.exit(f"mirror: not as promised: {verdict}")
     finally:
         for name in (NEAR, FAR):
             subprocess.run(["ip", "netns", "del", name], capture_output=True)
