@@ -73,6 +73,13 @@ def has_ended(pid: int) -> bool:
         return True
 
 
+def names_the_device(process: Path) -> bool:
+    try:
+        return own()["device"] in (process / "cmdline").read_text()
+    except OSError:
+        return False
+
+
 def new_device() -> None:
     subprocess.run(["./ipcd", "format", "device", "--small"], check=True, stdout=subprocess.DEVNULL, timeout=TIMEOUT)
     shutil.chown("device", USER)
@@ -137,6 +144,8 @@ def stops_what_does_not_end() -> None:
     os.kill(pid, signal.SIGSTOP)
     act("stop", SUCCESS)
     check(has_ended(pid), "it runs")
+    left = [it for it in Path("/proc").glob("[0-9]*") if names_the_device(it)]
+    check(not left, f"these processes are left: {left}")
 
 
 def sees_a_socket_that_is_gone() -> None:
@@ -199,8 +208,8 @@ def by_the_framework() -> None:
 
 
 def main() -> None:
-    if os.getuid() != 0 or shutil.which("runuser") is None:
-        print("cluster: it needs uid 0 and runuser, so the agent for Pacemaker is not tested")
+    if os.getuid() != 0 or shutil.which("setpriv") is None:
+        print("cluster: it needs uid 0 and setpriv, so the agent for Pacemaker is not tested")
         return
     with in_a_folder(240):
         os.chmod(".", 0o755)
