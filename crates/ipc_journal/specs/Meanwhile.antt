@@ -28,8 +28,8 @@ pub record IsReadFrom (range : Range) (epoch : ℕ) (first read : Image) : Type 
       × ((batches : List (List ℕ)) → Holds Headed range epoch batches first → Stand Headed range epoch batches later)
       × (sector_at read i ≡ sector_at later i)
 
--- Each tagged sector of the image is as it is in the whole one, or is of an earlier epoch: of what the whole one has, it
--- may lack sectors.
+-- Each tagged sector of the image is as it is in the whole one, or is of an earlier epoch: it may lack sectors of what
+-- the whole one has.
 abbrev pub IsPartOf : Range → ℕ → Image → Image → Type 0
 IsPartOf range epoch whole image = (i : ℕ) → i < range.count
     → (epoch_in (sector_at image (range.first + i)) < epoch)
