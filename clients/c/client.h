@@ -27,7 +27,7 @@ struct handle {
     uint32_t access;
     uint32_t shmid;           // of an attachment
     bool nonblocking;
-    unsigned opens;           // how many times sem_open answered it
+    unsigned opens;           // how many times sem_open answered it, or how many descriptors a queue has
     uint32_t told;            // of which entry of which process it was told that it is open; 0 if of none
     pid_t teller;
     size_t length;

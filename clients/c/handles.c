@@ -370,6 +370,9 @@ int close_handle(struct ipcd *client, size_t number, enum kind kind, int wrong)
         errno = wrong;
         return -1;
     }
+    // Each close of a descriptor ends the registration with its queue.
+    if (!is_last && kind == POSIX_QUEUE)
+        ipcd_mq_notify(FIRST_DESCRIPTOR + (mqd_t) number, NULL);
     if (!is_last || closed.is_own)
         return 0;
     int cancellation = hold_cancellation();
@@ -378,6 +381,17 @@ int close_handle(struct ipcd *client, size_t number, enum kind kind, int wrong)
     int result = close_on_idle_links(client);
     allow_cancellation(cancellation);
     return result;
+}
+
+bool open_once_more(struct ipcd *client, size_t number)
+{
+    sigset_t mask;
+    lock_handles(client, &mask);
+    struct handle *handle = &client->handles[number];
+    bool is_open = handle->is_open && handle->kind == POSIX_QUEUE;
+    handle->opens += is_open;
+    unlock_handles(client, &mask);
+    return is_open;
 }
 
 void leave_server(struct ipcd *client, size_t number)

@@ -28,6 +28,9 @@ HIDDEN int attach_handle(struct ipcd *client, const struct wanted *wanted);
 // Closes a handle: 0, or -1 with `wrong` if it is not open as this, or ECONNRESET; then it is closed too.
 HIDDEN int close_handle(struct ipcd *client, size_t number, enum kind kind, int wrong);
 
+// Opens a handle of a queue once more, so that it is closed once more: whether it is open.
+HIDDEN bool open_once_more(struct ipcd *client, size_t number);
+
 // Copies a name, as far as a frame has room, and a byte 0: how many bytes the name has, or -1 with EFAULT. The C
 // library takes names of semaphores and segments with any number of slashes before them, also none, as with one.
 enum { NAME_ROOM = PIECE_MOST + 2 };

@@ -18,6 +18,7 @@
 #include "queue_files.h"
 
 int heard_close(int fd) IN_PLACE_OF(close);
+int heard_dup(int from) IN_PLACE_OF(dup);
 int heard_dup2(int from, int to) IN_PLACE_OF(dup2);
 int heard_dup3(int from, int to, int flags) IN_PLACE_OF(dup3);
 int heard_close_range(unsigned first, unsigned last, int flags) IN_PLACE_OF(close_range);
@@ -40,6 +41,7 @@ sighandler_t heard_sigset(int number, sighandler_t handler) IN_PLACE_OF(sigset);
 
 static struct {
     int (*close)(int);
+    int (*dup)(int);
     int (*dup2)(int, int);
     int (*dup3)(int, int, int);
     int (*close_range)(unsigned, unsigned, int);
@@ -67,6 +69,7 @@ static void find(void *place, const char *name)
 __attribute__((constructor)) static void find_own(void)
 {
     find(&own.close, "close");
+    find(&own.dup, "dup");
     find(&own.dup2, "dup2");
     find(&own.dup3, "dup3");
     find(&own.close_range, "close_range");
@@ -120,17 +123,36 @@ static int is_replaced(int fd)
     return fd;
 }
 
+int heard_dup(int from)
+{
+    be_ready();
+    int place = place_to_copy(from), room = place < 0 ? -1 : begin_copy(place);
+    if (place < 0)
+        return own.dup(from);
+    return room < 0 ? -1 : end_copy(room, own.dup(from));
+}
+
 int heard_dup2(int from, int to)
 {
     be_ready();
+    int place = from == to ? -1 : place_to_copy(from), room = place < 0 ? -1 : begin_copy(place);
+    if (place >= 0 && room < 0)
+        return -1;
     int result = files_changed(own.dup2(from, to));
+    if (room >= 0)
+        return end_copy(room, result);
     return from == to || result < 0 ? result : is_replaced(to);
 }
 
 int heard_dup3(int from, int to, int flags)
 {
     be_ready();
+    int place = from == to ? -1 : place_to_copy(from), room = place < 0 ? -1 : begin_copy(place);
+    if (place >= 0 && room < 0)
+        return -1;
     int result = files_changed(own.dup3(from, to, flags));
+    if (room >= 0)
+        return end_copy(room, result);
     return result < 0 ? result : is_replaced(to);
 }
 

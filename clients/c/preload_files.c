@@ -1,4 +1,4 @@
-// Calls on the descriptor of a POSIX queue as on that of a file: read(2), and fcntl(2) of its flags. Of other
+// Calls on the descriptor of a POSIX queue as on that of a file: read(2), and fcntl(2) of its flags and of copies. Of other
 // descriptors they are the C library's own.
 #define _GNU_SOURCE
 #include <dlfcn.h>
@@ -60,12 +60,23 @@ ssize_t redirected_read_chk(int fd, void *bytes, size_t size, size_t room)
     return redirected_read(fd, bytes, size);
 }
 
+static int call_own(int fd, int what, void *value)
+{
+    return own.fcntl != NULL ? own.fcntl(fd, what, value) : (int) syscall(SYS_fcntl, fd, what, value);
+}
+
 static int call_fcntl(int fd, int what, void *value)
 {
-    int place = what == F_GETFL || what == F_SETFL ? queue_place(fd) : -1;
-    if (place >= 0)
-        return what == F_GETFL ? flags_of_queue(place) : set_flags_of_queue(place, (long) value);
-    return own.fcntl != NULL ? own.fcntl(fd, what, value) : (int) syscall(SYS_fcntl, fd, what, value);
+    if (what == F_GETFL || what == F_SETFL) {
+        int place = queue_place(fd);
+        if (place >= 0)
+            return what == F_GETFL ? flags_of_queue(place) : set_flags_of_queue(place, (long) value);
+    } else if (what == F_DUPFD || what == F_DUPFD_CLOEXEC) {
+        int place = place_to_copy(fd), room = place < 0 ? -1 : begin_copy(place);
+        if (place >= 0)
+            return room < 0 ? -1 : end_copy(room, call_own(fd, what, value));
+    }
+    return call_own(fd, what, value);
 }
 
 int redirected_fcntl(int fd, int what, ...)

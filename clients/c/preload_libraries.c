@@ -37,9 +37,9 @@ static _Atomic(void *) self;
 // What it has, as preload.map has it, in the order of strcmp.
 static const char *const names[] = {
     "__mq_open_2", "__poll_chk", "__ppoll_chk", "__read_chk", "bsd_signal", "close", "close_range", "closefrom",
-    "dlmopen", "dlopen", "dlsym", "dup2", "dup3", "epoll_ctl", "epoll_pwait", "epoll_pwait2", "epoll_wait", "fcntl",
-    "fcntl64", "fstat", "fstat64", "ftruncate", "ftruncate64", "mmap", "mmap64", "mq_close", "mq_getattr", "mq_notify",
-    "mq_open", "mq_receive", "mq_send", "mq_setattr", "mq_timedreceive", "mq_timedsend", "mq_unlink", "msgctl",
+    "dlmopen", "dlopen", "dlsym", "dup", "dup2", "dup3", "epoll_ctl", "epoll_pwait", "epoll_pwait2", "epoll_wait",
+    "fcntl", "fcntl64", "fstat", "fstat64", "ftruncate", "ftruncate64", "mmap", "mmap64", "mq_close", "mq_getattr",
+    "mq_notify", "mq_open", "mq_receive", "mq_send", "mq_setattr", "mq_timedreceive", "mq_timedsend", "mq_unlink", "msgctl",
     "msgget", "msgrcv", "msgsnd", "msync", "munmap", "poll", "posix_fallocate", "posix_fallocate64", "ppoll",
     "pselect", "pthread_cancel", "read", "select", "sem_clockwait", "sem_close", "sem_getvalue", "sem_open",
     "sem_post", "sem_timedwait", "sem_trywait", "sem_unlink", "sem_wait", "semctl", "semget", "semop", "semtimedop",

@@ -17,6 +17,11 @@ extern atomic_uint queue_files HIDDEN;
 HIDDEN int make_queue_file(void);
 HIDDEN mqd_t have_queue_file(int file, mqd_t queue);
 
+// Before and after the system makes a copy of a descriptor of the queue of a place: has room for it, -1 with errno; and
+// it is of the queue too, or, if there is no copy, there is none. Both are of a room.
+HIDDEN int begin_copy(int place);
+HIDDEN int end_copy(int room, int copy);
+
 // The place of a descriptor, or -1 if it is of no queue.
 HIDDEN int place_of_queue_file(int file);
 
@@ -26,11 +31,19 @@ static inline int queue_place(int file)
     return queue_files == 0 ? -1 : place_of_queue_file(file);
 }
 
+// The place of a descriptor that is to be copied, or -1 if the copy is of no queue: a child of vfork(2) has its own.
+static inline int place_to_copy(int file)
+{
+    int place = queue_place(file);
+    return place >= 0 && has_own_memory() ? place : -1;
+}
+
 // Puts libipcd's number in place of a descriptor: -1, which each call refuses, if it is of no queue. False with errno,
 // if a wait has had an error of the connection that the program has to hear.
 HIDDEN bool find_queue(mqd_t *mqdes);
 
-// Before and after the system closes a descriptor: libipcd's number, or -1 if it was of no queue, and closing that.
+// Before and after the system closes a descriptor: libipcd's number, or -1 if it was of no queue, and closing that. The
+// queue is closed with its last descriptor.
 HIDDEN mqd_t forget_queue_file(int file);
 HIDDEN int close_queue(mqd_t queue, int result);
 

@@ -14,9 +14,10 @@ only_installed=$2
 run=$here/../out/ipcd-run
 work=$(mktemp -d)
 packages="perl fakeroot python3-sysv-ipc stress-ng php-cli util-linux dmsetup libipc-sharelite-perl
-    libipc-shareable-perl python3-pyqt5 python3-numpy python3-svipc libmm14 lua5.3 lua-posix rt-tests bonnie++ jackd2"
+    libipc-shareable-perl python3-pyqt5 python3-numpy python3-svipc libmm14 lua5.3 lua-posix rt-tests bonnie++ jackd2
+    uwsgi-core uwsgi-plugin-python3 libpython3.11-testsuite"
 passed=0 failed=0 skipped=0
-server='' apart='' options=''
+server='' apart='' options='' patience=120
 
 finish() {
     [ -z "$server" ] || kill "$server" 2>/dev/null
@@ -65,9 +66,9 @@ compare() {
         skipped=$((skipped + 1))
         return
     fi
-    (cd "$work" && timeout 120 $apart "$@"; echo "status $?") >"$work/kernel" 2>&1
+    (cd "$work" && timeout "$patience" $apart "$@"; echo "status $?") >"$work/kernel" 2>&1
     before=$(next_process)
-    (cd "$work" && timeout 120 $apart "$run" --socket "$work/socket" $options "$@"; echo "status $?") >"$work/ipcd" 2>&1
+    (cd "$work" && timeout "$patience" $apart "$run" --socket "$work/socket" $options "$@"; echo "status $?") >"$work/ipcd" 2>&1
     came=$(($(next_process) - before - 1))
     : >"$work/differs"
     if [ -n "$known" ]; then
@@ -87,6 +88,21 @@ compare() {
         echo "peers: $name ($(version "$package")): differs"
         diff "$work/kernel" "$work/ipcd" || true
     fi
+}
+
+# CPython's own tests: they take some half an hour together, so with `installed` they are not run.
+suites() {
+    if [ -n "$only_installed" ]; then
+        echo "peers: CPython's suites of multiprocessing and concurrent.futures: skipped, they take half an hour"
+        skipped=$((skipped + 1))
+        return
+    fi
+    patience=1200 options=--segments
+    for suite in multiprocessing_fork multiprocessing_spawn multiprocessing_forkserver concurrent_futures; do
+        compare "test_$suite, with --segments" libpython3.11-testsuite "/usr/bin/python3 -c 'import test.test_$suite'" \
+            "" /usr/bin/python3 "$here/suite.py" "test.test_$suite"
+    done
+    patience=120 options=''
 }
 
 # A daemon that keeps what a chown would have done, and talks to each program by message queues.
@@ -158,6 +174,8 @@ all() {
     compare "bonnie++ -p, -y" bonnie++ "command -v bonnie++" "" sh -c "$bonnie_words"
     compare "jackd -d dummy, jack_lsp" jackd2 "command -v jackd && command -v jack_lsp" "stays the kernel's" \
         sh -c "$jack_words"
+    compare "uWSGI with its locks" uwsgi-core "command -v uwsgi_python3" "" /usr/bin/python3 "$here/counted.py"
+    suites
     has_stress="command -v stress-ng"
     compare "stress-ng --msg" stress-ng "$has_stress" "" sh -c "$stress_words" sh --msg 1 --msg-ops 1000
     compare "stress-ng --sem-sysv" stress-ng "$has_stress" "" sh -c "$stress_words" sh --sem-sysv 1 --sem-sysv-ops 500

@@ -591,7 +591,7 @@ def exports() -> None:
     prefix, and both no more. They need the C library alone."""
     preload, library = OUT / "libipcd-preload.so", OUT / "libipcd.so.0"
     heard = """
-        close closefrom close_range dup2 dup3 setuid seteuid setreuid setresuid setgid setegid
+        close closefrom close_range dup dup2 dup3 setuid seteuid setreuid setresuid setgid setegid
         setregid setresgid sigaction siginterrupt signal bsd_signal ssignal sigset dlopen dlmopen dlsym
         pthread_cancel msync munmap poll __poll_chk ppoll __ppoll_chk select pselect epoll_ctl epoll_wait
         epoll_pwait epoll_pwait2 read __read_chk fcntl fcntl64 mmap mmap64 ftruncate ftruncate64

@@ -442,6 +442,118 @@ static void is_unlinked(void)
     CHECK(close(epoll) == 0 && mq_close(queue) == 0);
 }
 
+// Each way to copy a descriptor.
+static int copied(int way, int file)
+{
+    int to = dup(0);
+    CHECK(to >= 0);
+    if (way == 0 || way > 2)
+        CHECK(close(to) == 0);
+    int copy = way == 0 ? dup(file) : way == 1 ? dup2(file, to) : way == 2 ? dup3(file, to, O_CLOEXEC)
+        : fcntl(file, way == 3 ? F_DUPFD : F_DUPFD_CLOEXEC, to);
+    CHECK(copy == to && fcntl(copy, F_GETFD) == (way == 2 || way == 4 ? FD_CLOEXEC : 0));
+    return copy;
+}
+
+// A copy is of the same queue, with its flags and what it waits for, also after the first was closed. The last that is
+// closed closes the queue.
+static void is_copied(void)
+{
+    struct mq_attr attributes;
+    for (int way = 0; way < 5; way++) {
+        int first = make_queue(0), copy = copied(way, queue), third = copied(way, copy);
+        CHECK(flags_of(copy) == O_RDWR && fcntl(copy, F_SETFL, O_NONBLOCK) == 0);
+        CHECK(flags_of(first) == (O_RDWR | O_NONBLOCK));
+        REFUSED(mq_receive(first, buffer, sizeof buffer, NULL), EAGAIN);
+        is_sent();
+        CHECK(found(copy) == (POLLIN | POLLOUT) && found(third) == (POLLIN | POLLOUT));
+        CHECK(mq_receive(copy, buffer, sizeof buffer, NULL) == 1 && found(first) == POLLOUT);
+        CHECK(way % 2 == 0 ? close(first) == 0 : mq_close(first) == 0);
+        REFUSED(mq_getattr(first, &attributes), EBADF);
+        queue = copy;
+        int epoll = watching(EPOLLIN);
+        struct epoll_event event;
+        CHECK(mq_send(third, "a", 1, 0) == 0 && epoll_wait(epoll, &event, 1, 0) == 1);
+        comes();
+        CHECK(epoll_wait(epoll, &event, 1, 0) == 0 && close(epoll) == 0);
+        CHECK(close(copy) == 0 && mq_getattr(third, &attributes) == 0 && attributes.mq_curmsgs == 0);
+        pid_t child = fork();
+        if (child == 0) {
+            CHECK(mq_send(third, "a", 1, 0) == 0 && close(third) == 0);
+            REFUSED(mq_getattr(third, &attributes), EBADF);
+            _exit(0);
+        }
+        ends_well(child);
+        CHECK(mq_receive(third, buffer, sizeof buffer, NULL) == 1);
+        queue = third;
+        remove_queue();
+        REFUSED(mq_getattr(third, &attributes), EBADF);
+        REFUSED(close(third), EBADF);
+    }
+}
+
+// Copies take the places of others, and of each other.
+static void replaces(void)
+{
+    struct mq_attr attributes;
+    int first = make_queue(0), copy = dup(queue), other = mq_open("/ipcd_polls", O_RDONLY);
+    CHECK(copy >= 0 && other >= 0 && dup2(copy, other) == other && flags_of(other) == O_RDWR);
+    is_sent();
+    CHECK(mq_receive(other, buffer, sizeof buffer, NULL) == 1);
+    CHECK(dup2(copy, first) == first && dup2(first, copy) == copy && dup2(copy, copy) == copy);
+    CHECK(dup2(0, copy) == copy);
+    REFUSED(mq_getattr(copy, &attributes), EBADF);
+    CHECK(close(copy) == 0);
+    REFUSED(dup3(first, first, 0), EINVAL);
+    REFUSED(fcntl(first, F_DUPFD, -1), EINVAL);
+    REFUSED(dup2(first, -1), EBADF);
+    // What was refused has not opened it once more.
+    CHECK(close_range((unsigned) other, (unsigned) other, 0) == 0 && mq_close(first) == 0);
+    REFUSED(mq_getattr(first, &attributes), EBADF);
+    // A child of vfork(2) has its own copy: it is none here.
+    make_queue(0);
+    int lowest = dup(0);
+    CHECK(close(lowest) == 0);
+    pid_t child = vfork();
+    if (child == 0)
+        _exit(dup(queue) == lowest && close(lowest) == 0 ? 0 : 1);
+    ends_well(child);
+    REFUSED(mq_getattr(lowest, &attributes), EBADF);
+    is_sent();
+    comes();
+    remove_queue();
+    // As often as a process may have them, so none is left open.
+    for (int i = 0; i < 200; i++) {
+        make_queue(0);
+        CHECK((copy = dup(queue)) >= 0 && close(queue) == 0 && close(copy) == 0);
+        REFUSED(mq_getattr(copy, &attributes), EBADF);
+    }
+    mq_unlink("/ipcd_polls");
+}
+
+// The close of a copy ends the registration of the process, as that of each descriptor does.
+static void ends_a_registration(bool is_unlinked)
+{
+    struct sigevent event = {.sigev_notify = SIGEV_NONE};
+    make_queue(0);
+    int copy = dup(queue);
+    CHECK(copy >= 0 && (!is_unlinked || mq_unlink("/ipcd_polls") == 0));
+    CHECK(mq_notify(queue, &event) == 0);
+    REFUSED(mq_notify(copy, &event), EBUSY);
+    CHECK(close(copy) == 0 && mq_notify(queue, &event) == 0);
+    is_sent();
+    CHECK(mq_notify(queue, &event) == 0 && mq_notify(queue, NULL) == 0);
+    comes();
+    copy = dup(queue);
+    CHECK(close(queue) == 0);
+    queue = copy;
+    is_sent();
+    comes();
+    CHECK(mq_close(copy) == 0);
+    REFUSED(mq_send(copy, "a", 1, 0), EBADF);
+    mq_unlink("/ipcd_polls");
+}
+
 // Without a descriptor no queue is made.
 static void needs_a_descriptor(void)
 {
@@ -464,7 +576,7 @@ static void is_no_queue(int fd)
     REFUSED(mq_getattr(fd, &attributes), EBADF);
 }
 
-// Where a server differs from the kernel: copies of a descriptor are no queue's, waits that nobody hears of have old
+// Where a server differs from the kernel: there are at most 64 copies of descriptors, waits that nobody hears of have old
 // news, and EPOLLET is more than edges.
 static void differs(void)
 {
@@ -472,9 +584,14 @@ static void differs(void)
     struct epoll_event event;
     int yes = 1;
     make_queue(O_NONBLOCK);
-    int copy = dup(queue), epoll = watching(EPOLLIN | EPOLLET);
-    REFUSED(mq_getattr(copy, &attributes), EBADF);
-    CHECK(close(copy) == 0 && mq_getattr(queue, &attributes) == 0);
+    int copies[64], epoll = watching(EPOLLIN | EPOLLET);
+    for (int i = 0; i < 64; i++)
+        CHECK((copies[i] = dup(queue)) >= 0);
+    REFUSED(dup(queue), EMFILE);
+    REFUSED(dup2(queue, copies[0]), EMFILE);
+    REFUSED(fcntl(queue, F_DUPFD, 0), EMFILE);
+    for (int i = 0; i < 64; i++)
+        CHECK(mq_getattr(copies[i], &attributes) == 0 && close(copies[i]) == 0);
     is_sent();
     struct pollfd entry = {queue, POLLIN, 0};
     CHECK(syscall(SYS_ppoll, &entry, 1, time_of(100), NULL, 0) == 0);
@@ -538,6 +655,10 @@ int main(int count, char **words)
     is_closed();
     is_inherited();
     is_unlinked();
+    is_copied();
+    replaces();
+    ends_a_registration(false);
+    ends_a_registration(true);
     needs_a_descriptor();
     if (!is_on_kernel())
         differs();
