@@ -5,7 +5,7 @@
 # tests the clients in Python all the same; its memcheck needs valgrind.
 
 .PHONY: help try run test edits imports runs serves clients memory trials program install dist deb image verify peers \
-	bench bench-serve bench-clients bench-peers chaos power mirror
+	bench bench-serve bench-clients bench-peers chaos power mirror volume
 
 help:
 	@echo "make try    a first look, in about 90 seconds, with nothing proved: a message is sent, the machine stops, and the"
@@ -60,12 +60,16 @@ help:
 	@echo "            wrong programs first. Three minutes, with a C compiler; no part of 'make test'. 'make chaos SEED=1"
 	@echo "            SECONDS=60 TURNS=5' has more. docs/CHAOS.md says what was found"
 	@echo "make power  the program in a virtual machine whose power fails, again and again, on ext4, xfs and btrfs, each with"
-	@echo "            three disks: what was answered is there at the next boot; file systems and disks that lie are found out."
-	@echo "            20 boots, 'make power N=200' more, some 15 seconds each. It needs qemu, busybox, mkfs of each, cpio, a C"
+	@echo "            three disks: what was answered is there at the next boot. File systems and disks that lie, a program"
+	@echo "            that replies before its commit and one whose syncs do nothing have to be found out first. 20 boots,"
+	@echo "            'make power N=200' more, some ten seconds each. It needs qemu, busybox, mkfs of each, cpio, a C"
 	@echo "            compiler, and a kernel with modules, below KERNEL=FOLDER if not here; no part of 'make test'"
 	@echo "make mirror a device on two hosts, which are network namespaces: the one that serves is killed or cut off under load,"
 	@echo "            and the other takes over; what was answered on the one is there on the other. Six rounds, 'make mirror"
 	@echo "            N=30' more, some seven seconds each. It needs uid 0, ip, FUSE and qemu-storage-daemon; no part of 'make test'"
+	@echo "make volume a device on a volume of GlusterFS that three such hosts keep: the one that serves fails, another takes"
+	@echo "            over. Three rounds, 'make volume N=30' more, some 40 seconds each. It needs uid 0, ip, FUSE and glusterd;"
+	@echo "            no part of 'make test'"
 	@echo "make bench  CPU time of runs, lines, saves and ticks, peak memory, what a commit and a save write, commits a second"
 	@echo "            on a file beside the same bare writes and syncs, messages of deep queues, as ratios, and an upgrade of a"
 	@echo "            full device. It ends with an error if calls that wait on other queues or a deep queue add more to a"
@@ -231,17 +235,21 @@ TURNS = 1
 chaos: program
 	@python3 tests/chaos/chaos.py $(BUILT) $(SEED) $(SECONDS) $(TURNS)
 
-# N boots, spread over file systems and disks. What was seen is in docs/OPERATIONS.md.
+# N boots, spread over file systems and disks. What was seen is in docs/CHAOS.md.
 N = 20
 KERNEL ?= /
 
 power: program
 	@KERNEL=$(KERNEL) python3 tests/power/power.py $(BUILT) $(N) $(SEED)
 
-# N rounds, each a failure of the host that serves and a takeover. What was seen is in docs/OPERATIONS.md.
+# N rounds, each a failure of the host that serves and a takeover. What was seen is in docs/CHAOS.md.
 mirror: N = 6
 mirror: program
 	@python3 tests/mirror/mirror.py $(BUILT) $(N) $(SEED)
+
+volume: N = 3
+volume: program
+	@python3 tests/mirror/volume.py $(BUILT) $(N) $(SEED)
 
 # Twenty groups of runs of each script, and turns of commits on a file. It needs awk and Python, and for the turns a C
 # compiler. A bar that is missed ends it only when all is measured.

@@ -58,7 +58,7 @@ def libraries_of(program: Path) -> list[Path]:
     return [Path(it) for it in re.findall(r"(/\S+) \(0x", ended.stdout)]
 
 
-def pack(folder: Path, program: Path, sender: Path, modules: Path) -> Path:
+def pack(folder: Path, program: Path, sender: Path, library: Path, modules: Path) -> Path:
     """The first file system of the machine, in memory."""
     root = folder / "root"
     for name in ("bin", "dev", "proc", "sys", "run", "mnt", "modules"):
@@ -66,6 +66,7 @@ def pack(folder: Path, program: Path, sender: Path, modules: Path) -> Path:
     shutil.copy(shutil.which("busybox"), root / "bin/busybox")
     shutil.copy(program, root / "bin/ipcd")
     shutil.copy(sender, root / "bin/sender")
+    shutil.copy(library, root / "power.so")
     shutil.copy(HERE / "init.sh", root / "init")
     os.chmod(root / "init", 0o755)
     for library in libraries_of(program):

@@ -24,7 +24,7 @@ ACK, REP_INFO, UNSUPPORTED = 1, 3, 0x80000001
 FLAGS = 1 | 4 | 8
 EINVAL = 22
 # How many seconds a flush takes: the power may fail meanwhile.
-SLOW = 0.01
+SLOW = 0.03
 
 
 class Gone(Exception):

@@ -1,10 +1,11 @@
 /* A client that sends numbered messages, and says on standard output which were answered.
  *
- *     sender SOCKET FIRST
+ *     sender SOCKET FIRST MOST
  *
- * It first takes what a queue has, and prints `found N` for each message and `drained`; then it sends the numbers from
- * FIRST on, four at a time, and prints `sent N` when N is answered, until the queue is full. docs/PROTOCOL.md has the
- * frames.
+ * It first takes what a queue has, and prints `found N` for each message and `drained`. Then it sends the numbers from
+ * FIRST on, four at a time, and prints `sent N` when N is answered. When the queue has MOST messages, it prints
+ * `taking`, takes four, and prints `took N` of each that it was given. What it prints has left the machine before its
+ * next request. docs/PROTOCOL.md has the frames.
  */
 #include <stdint.h>
 #include <stdio.h>
@@ -12,10 +13,11 @@
 #include <string.h>
 #include <sys/socket.h>
 #include <sys/un.h>
+#include <termios.h>
 #include <unistd.h>
 
 enum { HELLO = 0x01, MSGGET = 0x0a, MSGSND = 0x0b, MSGRCV = 0x0c, NOWAIT = 0x800, CREATE = 0x200 | 0600 };
-enum { ENOMSG_NUMBER = 42, EAGAIN_NUMBER = 11, AHEAD = 4, TAKEN = 40, TEXT = 56 };
+enum { ENOMSG_NUMBER = 42, AHEAD = 4, TAKEN = 40, TEXT = 16 };
 
 static int server;
 static unsigned char answer[256];
@@ -96,13 +98,25 @@ static uint32_t queue_of(uint32_t key)
 	return get(answer + 6, 4);
 }
 
+static void ask_for_one(uint32_t queue)
+{
+	unsigned char frame[64];
+	ask(frame, put(put(put(put(put(frame + 8, MSGRCV, 1), queue, 4), NOWAIT, 4), TEXT, 4), 0, 8), 3);
+}
+
+/* What was printed leaves the machine. */
+static void print_all(void)
+{
+	fflush(stdout);
+	tcdrain(STDOUT_FILENO);
+}
+
 /* Takes all messages, some at a time. */
 static void drain(uint32_t queue)
 {
-	unsigned char frame[64];
 	for (uint32_t error = 0; !error;) {
 		for (int i = 0; i < TAKEN; i++)
-			ask(frame, put(put(put(put(put(frame + 8, MSGRCV, 1), queue, 4), NOWAIT, 4), 64, 4), 0, 8), 3);
+			ask_for_one(queue);
 		for (int i = 0; i < TAKEN; i++) {
 			uint32_t this = reply();
 			if (!this)
@@ -113,36 +127,53 @@ static void drain(uint32_t queue)
 		}
 	}
 	printf("drained\n");
+	print_all();
 }
 
-static void send_number(uint32_t queue, unsigned long number)
+static void send_some(uint32_t queue, unsigned long number)
 {
-	unsigned char frame[128], *end = put(put(put(put(frame + 8, MSGSND, 1), queue, 4), NOWAIT, 4), 1, 8);
-	memset(end, 0, TEXT);
-	snprintf((char *)end, TEXT, "%lu", number);
-	ask(frame, end + TEXT, 4);
+	for (unsigned long i = 0; i < AHEAD; i++) {
+		unsigned char frame[64], *end = put(put(put(put(frame + 8, MSGSND, 1), queue, 4), NOWAIT, 4), 1, 8);
+		memset(end, 0, TEXT);
+		snprintf((char *)end, TEXT, "%lu", number + i);
+		ask(frame, end + TEXT, 4);
+	}
+	for (unsigned long i = 0; i < AHEAD; i++) {
+		if (reply())
+			fails("msgsnd");
+		printf("sent %lu\n", number + i);
+	}
+	print_all();
+}
+
+static void take_some(uint32_t queue)
+{
+	printf("taking\n");
+	print_all();
+	for (int i = 0; i < AHEAD; i++)
+		ask_for_one(queue);
+	for (int i = 0; i < AHEAD; i++) {
+		if (reply())
+			fails("msgrcv");
+		printf("took %s\n", (char *)answer + 14);
+	}
+	print_all();
 }
 
 int main(int count, char **words)
 {
-	if (count != 3)
-		fails("it needs a socket and a number");
-	setvbuf(stdout, NULL, _IOLBF, 0);
+	if (count != 4)
+		fails("it needs a socket and two numbers");
+	unsigned long number = strtoul(words[2], NULL, 10), most = strtoul(words[3], NULL, 10);
 	begin(words[1]);
 	uint32_t queue = queue_of(77);
 	drain(queue);
-	for (unsigned long number = strtoul(words[2], NULL, 10);; number += AHEAD) {
-		for (unsigned long i = 0; i < AHEAD; i++)
-			send_number(queue, number + i);
-		for (unsigned long i = 0; i < AHEAD; i++) {
-			uint32_t error = reply();
-			if (error == EAGAIN_NUMBER) {
-				printf("full\n");
-				pause();
-			}
-			if (error)
-				fails("msgsnd");
-			printf("sent %lu\n", number + i);
+	for (unsigned long held = 0;; number += AHEAD) {
+		send_some(queue, number);
+		held += AHEAD;
+		if (held >= most) {
+			take_some(queue);
+			held -= AHEAD;
 		}
 	}
 }
