@@ -6,19 +6,21 @@ use Rattle.ipc_base.proofs.CallerLemmas.{choice, is_some-append, value_at-withou
 use Rattle.ipc_base.specs.declared.identity.Cred.{Cred}
 use Rattle.ipc_limits.specs.declared.limits.Limits.{Limits}
 use Rattle.ipc_wire.specs.Request.{PlainRequest}
-use Rattle.ipc_engine.specs.Event.{PlainEvent, PlainOutcome, Connect, Call, Interrupt, Tick, Exit, Restart}
+use Rattle.ipc_engine.specs.Event.{PlainEvent, PlainOutcome, Connect, Call, Interrupt, Tick, Exit, Restart, moment_of}
 use Rattle.ipc_state.specs.Sound.{FitsBody}
 use Rattle.ipc_engine.specs.Engine.{IsForProcess, HasRequest}
+use Rattle.ipc_engine.specs.Idle.{IsAnsweredAlone, answer, is_accepted, recorded}
 use Rattle.ipc_engine.specs.Sound.{IsSound, HasToWait}
 use Rattle.ipc_state.specs.Numbered.{Numbered, entry_of}
 use Rattle.ipc_state.specs.State.{State, start, has_all_processes, is_process, exit, restart}
 use Rattle.ipc_state.specs.declared.processes.Process.{Process}
-use Rattle.ipc_engine.specs.Step.{Step, asked, settle, step, due, run}
+use Rattle.ipc_engine.specs.Step.{Step, asked, settle, silent, step, due, run}
 use Rattle.ipc_state.proofs.CallerLemmas.{same-connected, start-sound as start-parts}
 use Rattle.ipc_engine.specs.Bytes.{IsGreeted, allowed, asked_count, asks, bytes_to, most_owed, owed, replies_to, unanswered}
 use Rattle.ipc_engine.proofs.Settled.{settle-kept}
 use Rattle.ipc_engine.proofs.Soundness as soundness
 use Rattle.ipc_engine.proofs.Answered as answered
+use Rattle.ipc_engine.proofs.Idle as idle
 use Rattle.ipc_engine.proofs.Waiting.{asked-keeps, interrupt-keeps}
 -- the requests of calls that wait are short
 pub use Rattle.ipc_engine.proofs.WaitingRequests.{waiting-requests}
@@ -103,3 +105,31 @@ exit-stays limits s gone moment pid apart is =
     same-connected (exit (due moment s).state gone) (settle limits (exit (due moment s).state gone)).state pid
     (settle-kept limits (exit (due moment s).state gone)).0
     ∙ (ap is_some (value_at-without s.processes.entries gone pid apart) ∙ is)
+
+-- ---- idle events
+
+-- the state after an event is that after the events that are recorded of it
+pub recorded-run : (limits : Limits) (s : State) (e : PlainEvent) → (run limits s (recorded limits s e)).state ≡ (answer limits s e).state
+recorded-run = idle.recorded-run
+
+-- beside the state after its step it has another clock at most
+pub answer-clock : (limits : Limits) (s : State) (e : PlainEvent) → IsSound limits s
+    → (let t : State = record (step limits s e).state { clock = (answer limits s e).state.clock } in t) ≡ (answer limits s e).state
+answer-clock = idle.answer-clock
+
+-- what is not accepted is answered to who asks alone
+pub idle-alone : (limits : Limits) (s : State) (e : PlainEvent) → IsSound limits s → is_accepted limits s e ≡ false
+    → IsAnsweredAlone e (step limits s e).outcomes
+idle-alone = idle.idle-alone
+
+-- an exit and a restart are accepted
+pub exit-accepted : (limits : Limits) (s : State) (pid moment : ℕ) → is_accepted limits s (Exit pid moment) ≡ true
+exit-accepted = idle.exit-accepted
+
+pub restart-accepted : (limits : Limits) (s : State) → is_accepted limits s Restart ≡ true
+restart-accepted = idle.restart-accepted
+
+-- after an event a tick at its moment does nothing and says nothing
+pub second-tick : (limits : Limits) (s : State) (e : PlainEvent) → e ≢ Restart
+    → answer limits (answer limits s e).state (Tick (moment_of e)) ≡ silent (answer limits s e).state
+second-tick limits s e other = idle.second-tick limits s e

@@ -8,6 +8,10 @@ pub mod Soundness
 pub mod Answered
 pub mod Early
 pub mod Waiting
+mod Looks
+mod Idle
+mod Asked
+mod Answering
 pub mod CallerLemmas
 pub mod Going
 mod Buffers

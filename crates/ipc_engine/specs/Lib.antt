@@ -1,5 +1,6 @@
 pub mod Event
 pub mod Step
+pub mod Idle
 pub mod Does
 pub mod Bytes
 pub mod View

@@ -2,7 +2,7 @@
 
 ghost use Rattle.std.specs.Prelude.{◌≡◌, ◌+◌, ◌*◌, ◌<◌, ◌≤◌, ◌++◌, ◌&&◌, ◌||◌, true, false, if◌then◌else◌};
 ghost use Rattle.std.specs.Prelude.{Some, None};
-ghost use Rattle.std.specs.Prelude.{length, map, vec_capacity};
+ghost use Rattle.std.specs.Prelude.{length, map, not, vec_capacity};
 ghost use Rattle.std.specs.Result.{is_ok};
 ghost use Rattle.ipc_wait.specs.Waits.{waiting_call_of};
 ghost use Rattle.ipc_wire.specs.Request.{plain_kind};
@@ -18,6 +18,7 @@ ghost use Rattle.ipc_engine.specs.Buffer.{HasBuffer, room_in};
 ghost use Rattle.ipc_engine.specs.Changes.{HasMarked, changes_by_call, changes_if_done};
 ghost use Rattle.ipc_engine.specs.Changes.{is_marked, is_one, most_objects};
 ghost use Rattle.ipc_engine.specs.Does.{Does, emptied};
+ghost use Rattle.ipc_engine.specs.Idle.{asks_idle, ends_idle, is_late};
 ghost use Rattle.ipc_engine.specs.Reserved.{IsReserved, needs};
 ghost use Rattle.ipc_engine.specs.Settling.{HaveSameObjects, OthersWait, SparedWait, touched_by};
 ghost use Rattle.ipc_engine.specs.Sound.{IsSound};
@@ -29,7 +30,7 @@ use crate::changed::{Changed, may_leave_changes};
 use crate::event::Outcome;
 use crate::replies::{push, push_reply, reply_to};
 use crate::settling::{settle, settle_all};
-use crate::trying::{change_of, touched_by, try_at_once, try_kept};
+use crate::trying::{change_of, only_asks, touched_by, try_at_once, try_kept};
 use ipc_base::{Errno, Pid};
 use ipc_state::{Answer, Object, Parked, State, Tried};
 use ipc_wait::Waiting;
@@ -37,7 +38,8 @@ use ipc_wire::{Body, Request, RequestKind};
 use posix_mq::Registration;
 use sysv_calls::Change;
 
-/// What a process is told at a request whose memory is reserved. It takes none.
+/// What a process is told at a request whose memory is reserved. It takes none. Answers whether the request is idle: it
+/// changes nothing.
 pub(crate) fn ask(
     state: &mut State,
     outcomes: &mut Vec<Outcome>,
@@ -46,7 +48,7 @@ pub(crate) fn ask(
     pid: Pid,
     request: &Request<'_>,
     kept: Option<Parked>,
-)
+) -> bool
     requires sound { IsSound state.old.limits state.old.state }
     requires process { is_process state.old.state pid.0 ≡ true }
     requires reserved { IsReserved (is_waiting state.old.state pid.0) state.old.ready
@@ -63,17 +65,22 @@ pub(crate) fn ask(
         (changes_by_call state.old.limits state.old.state pid.0 (plain_kind request.now.kind))
         changed.old.marks.items changed.new.marks.items }
     ensures room { vec_capacity changed.old.marks ≤ vec_capacity changed.new.marks }
+    ensures idle { result ≡ asks_idle state.old.limits state.old.state pid.0 (plain_request request.now)
+        (plain_request request.now).kind }
 {
     match &request.kind {
-        RequestKind::Hello(_) => refuse(outcomes, pid, request.serial, Errno::EPROTO),
+        RequestKind::Hello(_) => {
+            refuse(outcomes, pid, request.serial, Errno::EPROTO);
+            true
+        }
         RequestKind::Interrupt => interrupt(state, outcomes, pid, request.serial),
         RequestKind::Sysv(_) | RequestKind::Posix(_) => {
-            make(state, outcomes, spare, changed, pid, request, kept);
+            make(state, outcomes, spare, changed, pid, request, kept)
         }
     }
 }
 
-/// A call of a process, which has one at a time.
+/// A call of a process, which has one at a time. Answers whether it is idle.
 fn make(
     state: &mut State,
     outcomes: &mut Vec<Outcome>,
@@ -82,7 +89,7 @@ fn make(
     pid: Pid,
     request: &Request<'_>,
     kept: Option<Parked>,
-)
+) -> bool
     requires sound { IsSound state.old.limits state.old.state }
     requires process { is_process state.old.state pid.0 ≡ true }
     requires reserved { IsReserved (is_waiting state.old.state pid.0) state.old.ready
@@ -98,18 +105,22 @@ fn make(
         (changes_by_call state.old.limits state.old.state pid.0 (plain_kind request.now.kind))
         changed.old.marks.items changed.new.marks.items }
     ensures room { vec_capacity changed.old.marks ≤ vec_capacity changed.new.marks }
+    ensures idle { result ≡ (is_waiting state.old.state pid.0
+        || ends_idle state.old.state pid.0 (plain_request request.now)
+        (tried state.old.limits state.old.state pid.0 false (plain_kind request.now.kind))) }
 {
     if state.is_waiting(pid) {
-        return refuse(outcomes, pid, request.serial, Errno::EALREADY);
+        refuse(outcomes, pid, request.serial, Errno::EALREADY);
+        return true;
     }
     changed.make_room(state);
     if let Some(parked) = kept {
         return try_once(state, outcomes, changed, pid, parked);
     }
-    at_once(state, outcomes, spare, changed, pid, request);
+    at_once(state, outcomes, spare, changed, pid, request)
 }
 
-/// A call that never waits.
+/// A call that never waits. Answers whether it is idle.
 fn at_once(
     state: &mut State,
     outcomes: &mut Vec<Outcome>,
@@ -117,7 +128,7 @@ fn at_once(
     changed: &mut Changed,
     pid: Pid,
     request: &Request<'_>,
-)
+) -> bool
     requires sound { IsSound state.old.limits state.old.state }
     requires process { is_process state.old.state pid.0 ≡ true }
     requires free { is_waiting state.old.state pid.0 ≡ false }
@@ -134,8 +145,12 @@ fn at_once(
         || changes_if_done (touched_by state.old.state pid.0 (plain_kind request.now.kind))
         (tried state.old.limits state.old.state pid.0 false (plain_kind request.now.kind)) o) }
     ensures room { vec_capacity changed.new.marks ≡ vec_capacity changed.old.marks }
+    ensures idle { result ≡ ends_idle state.old.state pid.0 (plain_request request.now)
+        (tried state.old.limits state.old.state pid.0 false (plain_kind request.now.kind)) }
 {
     let (answer, touched) = try_at_once(state, pid, &request.kind, spare);
+    let is_refused = answer.is_err();
+    let looks = only_asks(&request.kind, touched);
     finish(
         state,
         outcomes,
@@ -147,22 +162,24 @@ fn at_once(
         touched,
         change_of(&request.kind),
     );
+    is_refused | looks
 }
 
-/// A call that may wait is tried: it ends, and others go on, or it joins those that wait.
+/// A call that may wait is tried: it ends, and others go on, or it joins those that wait. Answers whether it is idle.
 fn try_once(
     state: &mut State,
     outcomes: &mut Vec<Outcome>,
     changed: &mut Changed,
     pid: Pid,
     parked: Parked,
-)
+) -> bool
     requires sound { IsSound state.old.limits state.old.state }
     requires process { is_process state.old.state pid.0 ≡ true }
     requires free { is_waiting state.old.state pid.0 ≡ false }
     requires waits { state.old.limits.processes ≤ state.old.waits }
     requires places { length outcomes.old.items + 2 * (length state.old.state.wait + 1) ≤ vec_capacity outcomes.old }
     requires mark { length changed.old.marks.items < vec_capacity changed.old.marks }
+    requires may { may_wait parked.kind ≡ true }
     ensures does { Does (replied_or_joined state.old.limits pid.0 parked state.old.state
         (tried state.old.limits state.old.state pid.0 false parked.kind)) state.old
         state.new outcomes.old outcomes.new }
@@ -170,25 +187,33 @@ fn try_once(
         || changes_if_done (touched_by state.old.state pid.0 parked.kind)
         (tried state.old.limits state.old.state pid.0 false parked.kind) o) }
     ensures room { vec_capacity changed.new.marks ≡ vec_capacity changed.old.marks }
+    ensures idle { result ≡ ends_idle state.old.state pid.0 parked
+        (tried state.old.limits state.old.state pid.0 false parked.kind) }
 {
     let serial = parked.serial();
     let touched = touched_by(state, pid, &parked);
     let change = change_of(&parked.lend());
     match try_kept(state, pid, false, parked) {
-        Tried::Finishes(answer, fired) => finish(
-            state, outcomes, changed, pid, serial, answer, fired, touched, change,
-        ),
+        Tried::Finishes(answer, fired) => {
+            let is_refused = answer.is_err();
+            finish(
+                state, outcomes, changed, pid, serial, answer, fired, touched, change,
+            );
+            is_refused
+        }
         Tried::Waits(parked) => join(state, outcomes, pid, parked),
     }
 }
 
-/// A call that cannot go on joins the end of those that wait, unless its deadline is at or before the clock.
-fn join(state: &mut State, outcomes: &mut Vec<Outcome>, pid: Pid, parked: Parked)
+/// A call that cannot go on joins the end of those that wait, unless its deadline is at or before the clock. Answers
+/// whether it is so, and the call is idle.
+fn join(state: &mut State, outcomes: &mut Vec<Outcome>, pid: Pid, parked: Parked) -> bool
     requires room { length state.old.state.wait < state.old.waits }
     requires free { is_waiting state.old.state pid.0 ≡ false }
     requires place { length outcomes.old.items < vec_capacity outcomes.old }
-    ensures { Does (joins state.old.state pid.0 parked (awaited_by parked.kind)) state.old
+    ensures does { Does (joins state.old.state pid.0 parked (awaited_by parked.kind)) state.old
         state.new outcomes.old outcomes.new }
+    ensures idle { result ≡ is_late state.old.state pid.0 parked (awaited_by parked.kind) }
 {
     let now = state.clock();
     let serial = parked.serial();
@@ -201,8 +226,10 @@ fn join(state: &mut State, outcomes: &mut Vec<Outcome>, pid: Pid, parked: Parked
     };
     if waiting.is_due(now) {
         refuse(outcomes, pid, serial, errno);
+        true
     } else {
         state.enter_wait(waiting);
+        false
     }
 }
 
@@ -259,15 +286,23 @@ fn refuse(outcomes: &mut Vec<Outcome>, pid: Pid, serial: u32, errno: Errno)
 }
 
 /// INTERRUPT: the call of the process that waits, if there is one, ends with EINTR; then its own reply. It takes no
-/// memory.
-pub(crate) fn interrupt(state: &mut State, outcomes: &mut Vec<Outcome>, pid: Pid, serial: u32)
+/// memory. Answers whether no call waited.
+pub(crate) fn interrupt(
+    state: &mut State,
+    outcomes: &mut Vec<Outcome>,
+    pid: Pid,
+    serial: u32,
+) -> bool
     requires sound { IsSound state.old.limits state.old.state }
     requires places { length outcomes.old.items + length state.old.state.wait < vec_capacity outcomes.old }
-    ensures { Does (interrupt_step pid.0 serial state.old.state) state.old
+    ensures does { Does (interrupt_step pid.0 serial state.old.state) state.old
         state.new outcomes.old outcomes.new }
+    ensures idle { result ≡ not (is_waiting state.old.state pid.0) }
 {
+    let idle = !state.is_waiting(pid);
     end_waiting(state, outcomes, pid);
     push(outcomes, reply_to(pid, serial, Ok(Body::Empty)));
+    idle
 }
 
 /// The process leaves, and then calls go on that wait for what its adjustments have changed; if it leaves nothing

@@ -41,6 +41,7 @@ ghost use Rattle.ipc_engine.specs.Buffer.{HasBuffer};
 ghost use Rattle.ipc_engine.specs.Bytes.{most_owed, owed};
 ghost use Rattle.ipc_engine.specs.Changes.{IsTracked, changes, is_changed, is_marked};
 ghost use Rattle.ipc_engine.specs.Engine.{hello_needs};
+ghost use Rattle.ipc_engine.specs.Idle.{answer as answer_on, is_accepted, is_idle};
 ghost use Rattle.ipc_engine.specs.Reserved.{IsReserved, takes_memory};
 ghost use Rattle.ipc_engine.specs.Step.{step as step_on, connect as connect_step, due, greeting, most_replies};
 ghost use Rattle.ipc_engine.specs.Listing.{plain_row, rows_of};
@@ -307,6 +308,66 @@ impl Engine {
             → (is_marked self.old.changed o || changes self.old.limits self.old.state (plain_event event.entry) o)
             ≡ true) }
     {
+        let _idle = self.happen(event)?;
+        Ok(())
+    }
+
+    /// What the server does with an event: it is answered as by `step`, and accepted, unless it is idle and the device
+    /// of version 3: then everything is left as it was, the clock included. Answers whether it is accepted.
+    pub fn answer(&mut self, event: Event<'_>) -> Result<bool, AllocError>
+        requires { IsForProcess self.old.state (plain_event event) }
+        ensures accepted { IfOk result (λ accepted. accepted
+            ≡ is_accepted self.old.limits self.old.state (plain_event event.entry)) }
+        ensures state { OnOk result (self.new.state
+            ≡ (answer_on self.old.limits self.old.state (plain_event event.entry)).state) }
+        ensures outcomes { OnOk result (self.new.outcomes
+            ≡ (answer_on self.old.limits self.old.state (plain_event event.entry)).outcomes) }
+        ensures limits { self.new.limits ≡ self.old.limits }
+        ensures err { OnErr result (self.new ≡ self.old) }
+        ensures memory { event_takes_memory self.old.limits self.old.state (plain_event event.entry) ≡ false
+            → IsOk result }
+        ensures passed { ArePassed self.old.limits }
+        ensures was_sound { IsSound self.old.limits self.old.state }
+        ensures sound { IsSound self.new.limits self.new.state }
+        ensures fits { OnOk result (All (λ o. FitsBody self.new.limits o.body) self.new.outcomes) }
+        ensures tracked { (base : PlainState) → IsTracked self.old.changed base self.old.state
+            → IsTracked self.new.changed base self.new.state }
+        ensures only { OnOk result ((o : PlainObject) → is_marked self.new.changed o ≡ true
+            → (is_marked self.old.changed o || changes self.old.limits self.old.state (plain_event event.entry) o)
+            ≡ true) }
+    {
+        let clock = self.state.clock();
+        let idle = self.happen(event)?;
+        let may_be_idle = self.state.limits().has_rules_of_three();
+        if may_be_idle & idle {
+            self.state.turn_back(clock);
+            return Ok(false);
+        }
+        Ok(true)
+    }
+
+    /// One step on an event. Answers whether it is idle: it has changed nothing but the clock.
+    fn happen(&mut self, event: Event<'_>) -> Result<bool, AllocError>
+        requires { IsForProcess self.old.state (plain_event event) }
+        ensures state { OnOk result (self.new.state
+            ≡ (step_on self.old.limits self.old.state (plain_event event.entry)).state) }
+        ensures outcomes { OnOk result (self.new.outcomes
+            ≡ (step_on self.old.limits self.old.state (plain_event event.entry)).outcomes) }
+        ensures limits { self.new.limits ≡ self.old.limits }
+        ensures err { OnErr result (self.new ≡ self.old) }
+        ensures memory { event_takes_memory self.old.limits self.old.state (plain_event event.entry) ≡ false
+            → IsOk result }
+        ensures passed { ArePassed self.old.limits }
+        ensures was_sound { IsSound self.old.limits self.old.state }
+        ensures sound { IsSound self.new.limits self.new.state }
+        ensures fits { OnOk result (All (λ o. FitsBody self.new.limits o.body) self.new.outcomes) }
+        ensures tracked { (base : PlainState) → IsTracked self.old.changed base self.old.state
+            → IsTracked self.new.changed base self.new.state }
+        ensures only { OnOk result ((o : PlainObject) → is_marked self.new.changed o ≡ true
+            → (is_marked self.old.changed o || changes self.old.limits self.old.state (plain_event event.entry) o)
+            ≡ true) }
+        ensures idle { IfOk result (λ idle. idle ≡ is_idle self.old.limits self.old.state (plain_event event.entry)) }
+    {
         match event {
             Event::Connect {
                 cred,
@@ -315,8 +376,11 @@ impl Engine {
             } => {
                 reserve_hello(&mut self.state)?;
                 advance(&mut self.state, &mut self.outcomes, &mut self.spare, moment);
+                let nobody = self.outcomes.is_empty();
                 let outcome = connect(&mut self.state, &mut self.spare, cred, serial);
+                let refused = outcome.errno.is_some();
                 push(&mut self.outcomes, outcome);
+                Ok(nobody & refused)
             }
             Event::Call {
                 pid,
@@ -326,7 +390,8 @@ impl Engine {
                 let alloc = *self.outcomes.allocator();
                 let kept = prepare(&mut self.state, alloc, pid, &request, moment)?;
                 advance(&mut self.state, &mut self.outcomes, &mut self.spare, moment);
-                ask(
+                let nobody = self.outcomes.is_empty();
+                let idle = ask(
                     &mut self.state,
                     &mut self.outcomes,
                     &mut self.spare,
@@ -335,6 +400,7 @@ impl Engine {
                     &request,
                     kept,
                 );
+                Ok(nobody & idle)
             }
             Event::Interrupt {
                 pid,
@@ -342,22 +408,26 @@ impl Engine {
                 moment,
             } => {
                 advance(&mut self.state, &mut self.outcomes, &mut self.spare, moment);
-                interrupt(&mut self.state, &mut self.outcomes, pid, serial);
+                let nobody = self.outcomes.is_empty();
+                let idle = interrupt(&mut self.state, &mut self.outcomes, pid, serial);
+                Ok(nobody & idle)
             }
             Event::Tick { moment } => {
                 advance(&mut self.state, &mut self.outcomes, &mut self.spare, moment);
+                Ok(self.outcomes.is_empty())
             }
             Event::Exit { pid, moment } => {
                 advance(&mut self.state, &mut self.outcomes, &mut self.spare, moment);
                 leave(&mut self.state, &mut self.outcomes, &mut self.changed, pid);
+                Ok(false)
             }
             Event::Restart => {
                 take_back(&mut self.outcomes, &mut self.spare);
                 self.changed.mark_leaving(&self.state, None);
                 self.state.restart();
+                Ok(false)
             }
         }
-        Ok(())
     }
 }
 

@@ -34,6 +34,8 @@ ghost use Rattle.ipc_engine.specs.Bytes.{IsAnswered, IsGreeted, allowed, asked_c
 ghost use Rattle.ipc_engine.specs.Bytes.{replies_to, unanswered};
 ghost use Rattle.ipc_engine.specs.Engine.{IsForProcess, HasRequest};
 ghost use Rattle.ipc_engine.specs.Listing.{by_name, is_named_before};
+ghost use Rattle.ipc_engine.specs.Idle.{AreForProcesses, IsAnsweredAlone, Rise, answer, answers, is_accepted, is_idle};
+ghost use Rattle.ipc_engine.specs.Idle.{recorded};
 ghost use Rattle.ipc_engine.specs.Sound.{IsSound, NoneIsDue};
 
 /// The state is sound before the first event, and after each event if it was before. The process that the event names
@@ -312,4 +314,41 @@ pub fn objects_are_listed_by_name()
         → IsStableBy is_named_before entries (by_name entries) }
     ensures all { (kind : NameKind) (entries : List (ℕ × NamedEntry (Content (kinds.Named kind))))
         → IsPermutation entries (by_name entries) }
+{}
+
+/// An idle event leaves the state as it was but for the clock, and is answered to who asks alone. An exit and a restart
+/// are never idle.
+pub fn idle_events_set_the_clock_alone()
+    ensures state { (limits : Limits) (s : State) (e : PlainEvent) → IsSound limits s → is_idle limits s e ≡ true
+        → record (step limits s e).state { clock = s.clock } ≡ s }
+    ensures alone { (limits : Limits) (s : State) (e : PlainEvent) → IsSound limits s → is_idle limits s e ≡ true
+        → IsAnsweredAlone e (step limits s e).outcomes }
+    ensures exit { (limits : Limits) (s : State) (pid moment : ℕ) → is_accepted limits s (Exit pid moment) ≡ true }
+    ensures restart { (limits : Limits) (s : State) → is_accepted limits s Restart ≡ true }
+{}
+
+/// The state after an event is that after the events that are recorded of it; beside the state after its step it has
+/// another clock at most.
+pub fn recorded_events_give_the_state()
+    ensures run { (limits : Limits) (s : State) (e : PlainEvent)
+        → (run limits s (recorded limits s e)).state ≡ (answer limits s e).state }
+    ensures clock { (limits : Limits) (s : State) (e : PlainEvent) → IsSound limits s
+        → record (step limits s e).state { clock = (answer limits s e).state.clock } ≡ (answer limits s e).state }
+{}
+
+/// Whether idle events are accepted shows in no reply: where no moment is below one before it, events without a restart
+/// are answered as they would be if all were accepted, and the states differ in the clock at most.
+pub fn idle_events_show_in_no_reply()
+    ensures outcomes { (limits : Limits) (s : State) (es : List PlainEvent) → IsSound limits s → Rise s.clock es
+        → AreForProcesses limits s es
+        → (answers limits s es).outcomes ≡ (run limits s es).outcomes }
+    ensures state { (limits : Limits) (s : State) (es : List PlainEvent) → IsSound limits s → Rise s.clock es
+        → AreForProcesses limits s es
+        → record (run limits s es).state { clock = (answers limits s es).state.clock } ≡ (answers limits s es).state }
+{}
+
+/// After an event a tick at its moment does nothing and says nothing.
+pub fn second_tick_does_nothing()
+    ensures { (limits : Limits) (s : State) (e : PlainEvent) → e ≢ Restart
+        → answer limits (answer limits s e).state (Tick (moment_of e)) ≡ silent (answer limits s e).state }
 {}

@@ -6,6 +6,8 @@
 //! - When a deadline ends a call: `specs/Step.antt`, `src/deadlines.rt`
 //! - The frame of a notification: `notices` in `specs/Step.antt`, `src/replies.rt`
 //! - The spare buffer for bodies: `src/engine.rt`, `src/replies.rt`, and `specs/Spare.antt` of `ipc_state`
+//! - Which events are idle, and change nothing: `specs/Idle.antt`, `src/engine.rt`, `src/asking.rt`, `src/trying.rt`,
+//!   `proofs/Looks.antt`, `proofs/Idle.antt`
 //! - Which objects an event changes: `specs/Changes.antt`, `src/changed.rt`, `proofs/Marks.antt`,
 //!   `proofs/Tracking.antt`
 //! - What holds between parts of a state: `specs/Sound.antt`, `src/engine.rt`
@@ -19,6 +21,9 @@
 //! - `Engine::step` on a HELLO, a call, an INTERRUPT, a tick, an exit or a restart is the step of the definitions: its
 //!   state (`state`) and its replies in order (`outcomes`). It wants the process of a call, an INTERRUPT or an exit to
 //!   be connected, and nothing else.
+//! - `Engine::answer` is what the server does with an event. It is answered as by `step` (`outcomes`), and is accepted
+//!   unless it is idle and the device is of version 3 (`accepted`): then the state is as it was, its clock too
+//!   (`state`). The other clauses are those of `step`.
 //! - What an engine counts as changed is some objects (`specs/Changes.antt`). If each object that differs from a state
 //!   that was saved counted before a step, each does after it (`tracked`), and what newly counts is what the event
 //!   changes by `changes` (`only`). `Engine::changed` says whether an object counts by its kind and number, and
@@ -92,6 +97,13 @@
 //!     processes, of which none is left (`restart_adds_adjustments`); a process that has left has none
 //!     (`exit_leaves_no_adjustment`).
 //!   - A restart twice is once (`restart_twice_is_once`).
+//!   - An idle event leaves the state as it was but for the clock (`idle_events_set_the_clock_alone` `state`), and is
+//!     answered to who asks alone (`alone`); an exit and a restart are accepted always (`exit`, `restart`).
+//!   - The state that `Engine::answer` leaves is that after the events that are recorded
+//!     (`recorded_events_give_the_state` `run`), and has another clock at most than that of `Engine::step` (`clock`).
+//!   - If no moment is below one before it, events without a restart have the same replies whether idle events are
+//!     accepted or not, and leave the same state but for the clock (`idle_events_show_in_no_reply`).
+//!   - After an event that is no restart a tick at its moment does nothing (`second_tick_does_nothing`).
 //!   - Objects with a name are listed by the bytes of their names, those of the same name as they stood, each once
 //!     (`objects_are_listed_by_name`).
 #![tactic(auto)]
@@ -115,11 +127,13 @@ pub use laws::{
     a_request_is_answered_once, call_interrupt_and_tick_keep_processes,
     call_that_cannot_go_on_waits, calls_of_no_concern_wait_on, connect_adds_one_process,
     deadlines_end_calls, debts_are_bounded, event_sets_clock, exit_leaves_no_adjustment,
-    exit_removes_one_process, hello_is_answered_last, interrupt_call_is_an_interrupt,
-    late_tick_does_nothing, nobody_waits_who_could_go_on, objects_are_listed_by_name,
-    pid_is_below_next, refused_call_changes_nothing, replies_are_asked_for, replies_are_few,
-    replies_fit, restart_adds_adjustments, restart_keeps_objects, restart_leaves_no_call,
-    restart_leaves_no_process, restart_twice_is_once, run_of_parts, step_keeps_soundness,
-    the_earliest_goes_on_first, unanswered_request_waits,
+    exit_removes_one_process, hello_is_answered_last, idle_events_set_the_clock_alone,
+    idle_events_show_in_no_reply, interrupt_call_is_an_interrupt, late_tick_does_nothing,
+    nobody_waits_who_could_go_on, objects_are_listed_by_name, pid_is_below_next,
+    recorded_events_give_the_state, refused_call_changes_nothing, replies_are_asked_for,
+    replies_are_few, replies_fit, restart_adds_adjustments, restart_keeps_objects,
+    restart_leaves_no_call, restart_leaves_no_process, restart_twice_is_once, run_of_parts,
+    second_tick_does_nothing, step_keeps_soundness, the_earliest_goes_on_first,
+    unanswered_request_waits,
 };
 pub use listing::Row;

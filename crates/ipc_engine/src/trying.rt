@@ -1,24 +1,26 @@
-//! What differs by the kind of a call: what it needs of memory, how it is tried, which object it may change, and whom
-//! that concerns.
+//! What differs by the kind of a call: what it needs of memory, how it is tried, which object it may change, whom that
+//! concerns, and whether it only asks.
 
-ghost use Rattle.std.specs.Prelude.{◌≡◌, true, false, IfOk, IsOk, OnOk, OnErr};
-ghost use Rattle.ipc_wire.specs.Request.{plain_kind};
+ghost use Rattle.std.specs.Prelude.{◌≡◌, ℕ, true, false, is_some, IfOk, IsOk, OnOk, OnErr};
+ghost use Rattle.ipc_wire.specs.Posix.{plain_posix};
+ghost use Rattle.ipc_wire.specs.Request.{Posix, Sysv, plain_kind, plain_sysv};
 ghost use Rattle.ipc_wire.specs.View.{plain_request};
 ghost use Rattle.ipc_state.specs.Finish as finish;
 ghost use Rattle.ipc_state.specs.Held.{left};
 ghost use Rattle.ipc_state.specs.Sound.{HasSoundParts};
 ghost use Rattle.ipc_state.specs.Spare.{KeepsBuffer, IsSpare};
-ghost use Rattle.ipc_state.specs.State.{is_process};
+ghost use Rattle.ipc_state.specs.State.{State as PlainState, is_process};
 ghost use Rattle.ipc_state.specs.Tries.{WaitsUnchanged, tried_of};
 ghost use Rattle.ipc_state.specs.Waiting.{may_wait};
 ghost use Rattle.sysv_calls.specs.Concern as sysv;
+ghost use Rattle.ipc_engine.specs.Idle.{only_asks as asks_alone};
 ghost use Rattle.ipc_engine.specs.Reserved.{kept_of, needs, takes_memory};
 ghost use Rattle.ipc_engine.specs.Settling.{touched_by};
 ghost use Rattle.ipc_engine.specs.Step.{tried};
 
 use ipc_base::{Errno, Pid};
 use ipc_state::{Answer, Object, Parked, ParkedKind, State, Tried};
-use ipc_wire::{Request, RequestKind};
+use ipc_wire::{PosixCall, Request, RequestKind, SysvCall};
 use std::alloc::{AllocError, Global};
 use sysv_calls::Change;
 
@@ -134,5 +136,80 @@ pub(crate) fn touched_by(state: &State, pid: Pid, parked: &Parked) -> Option<Obj
     match parked.kind() {
         ParkedKind::Sysv(call) => sysv_calls::touched(state, pid, &call.lend()),
         ParkedKind::Posix(call) => posix_calls::touched(state, pid, &call.lend()),
+    }
+}
+
+/// Whether a call that is done leaves everything as it was, where it may leave this object otherwise: it reads, or gets
+/// the identifier of a key that is in use.
+pub(crate) fn only_asks(kind: &RequestKind<'_>, touched: Option<Object>) -> bool
+    ensures { (s : PlainState) (pid : ℕ) → touched ≡ touched_by s pid (plain_kind kind.now)
+        → result ≡ asks_alone s (plain_kind kind.now) }
+{
+    match kind {
+        RequestKind::Sysv(call) => sysv_only_asks(call, touched.is_some()),
+        RequestKind::Posix(call) => posix_only_asks(call),
+        RequestKind::Hello(_) | RequestKind::Interrupt => false,
+    }
+}
+
+/// Whether a System V call does so, which may leave an object otherwise or none: one that reads, and a get that makes
+/// none.
+fn sysv_only_asks(call: &SysvCall<'_>, may_change: bool) -> bool
+    ensures { (s : PlainState) (pid : ℕ) → may_change ≡ is_some (touched_by s pid (Sysv (plain_sysv call.now)))
+        → result ≡ asks_alone s (Sysv (plain_sysv call.now)) }
+{
+    match call {
+        SysvCall::Msgget { .. } | SysvCall::Semget { .. } | SysvCall::Shmget { .. } => !may_change,
+        SysvCall::MsgctlStat { .. }
+        | SysvCall::SemctlGetVal { .. }
+        | SysvCall::SemctlGetPid { .. }
+        | SysvCall::SemctlGetNcnt { .. }
+        | SysvCall::SemctlGetZcnt { .. }
+        | SysvCall::SemctlGetAll { .. }
+        | SysvCall::SemctlStat { .. }
+        | SysvCall::ShmctlStat { .. }
+        | SysvCall::AttachedRead { .. } => true,
+        SysvCall::Msgsnd { .. }
+        | SysvCall::Msgrcv { .. }
+        | SysvCall::MsgctlSet { .. }
+        | SysvCall::MsgctlRmid { .. }
+        | SysvCall::Semop { .. }
+        | SysvCall::SemctlSetVal { .. }
+        | SysvCall::SemctlSetAll { .. }
+        | SysvCall::SemctlSet { .. }
+        | SysvCall::SemctlRmid { .. }
+        | SysvCall::Shmat { .. }
+        | SysvCall::Shmdt { .. }
+        | SysvCall::ShmctlSet { .. }
+        | SysvCall::ShmctlRmid { .. }
+        | SysvCall::AttachedWrite { .. } => false,
+    }
+}
+
+/// Whether a POSIX call does so: one that reads.
+fn posix_only_asks(call: &PosixCall<'_>) -> bool
+    ensures { (s : PlainState) → result ≡ asks_alone s (Posix (plain_posix call.now)) }
+{
+    match call {
+        PosixCall::MqGetattr { .. }
+        | PosixCall::SemGetvalue { .. }
+        | PosixCall::ShmRead { .. }
+        | PosixCall::ShmStat { .. } => true,
+        PosixCall::Close { .. }
+        | PosixCall::MqOpen { .. }
+        | PosixCall::MqUnlink { .. }
+        | PosixCall::MqSend { .. }
+        | PosixCall::MqReceive { .. }
+        | PosixCall::MqNotify { .. }
+        | PosixCall::MqSetattr { .. }
+        | PosixCall::SemOpen { .. }
+        | PosixCall::SemUnlink { .. }
+        | PosixCall::SemPost { .. }
+        | PosixCall::SemWait { .. }
+        | PosixCall::SemTrywait { .. }
+        | PosixCall::ShmOpen { .. }
+        | PosixCall::ShmUnlink { .. }
+        | PosixCall::Ftruncate { .. }
+        | PosixCall::ShmWrite { .. } => false,
     }
 }

@@ -215,6 +215,13 @@ impl State {
         self.clock
     }
 
+    /// The clock goes back to where it was: the moment that came has changed nothing else.
+    pub fn turn_back(&mut self, clock: Moment)
+        ensures { self.new ≡ record self.old { state = record self.old.state { clock = clock.0 } } }
+    {
+        self.clock = clock;
+    }
+
     /// Replaces the clock and the next numbers by those that were read. It takes no memory.
     pub fn restore_numbers(&mut self, numbers: Numbers)
         ensures state { self.new.state ≡ with_numbers self.old.state numbers }

@@ -28,7 +28,7 @@ returns-in-Interrupt-clause-does c =
     let s = c.args.state.now in
     let nothing : s.ready ≡ Nothing = (rw c.in-Interrupt.is at c.requires.reserved.ready) ∙ nothing-else (is_waiting s.state c.args.pid.0) in
     rw c.in-Interrupt.is (does-from (λ h. interrupt c.args.pid.0 c.args.request.now.serial h.state)
-    (ap (λ (r : Ready). let h : Held = record s { ready = r } in h) nothing) c.interrupt.ensures)
+    (ap (λ (r : Ready). let h : Held = record s { ready = r } in h) nothing) c.interrupt.ensures.does)
 
 pub returns-in-Hello-clause-marked : goal.returns-in-Hello-clause-marked
 returns-in-Hello-clause-marked c =
@@ -39,3 +39,9 @@ pub returns-in-Interrupt-clause-marked : goal.returns-in-Interrupt-clause-marked
 returns-in-Interrupt-clause-marked c =
     let s = c.args.state.now in
     rw c.in-Interrupt.is (none-marked s.state _ c.args.changed.now.marks.items (λ o. no_call-marks s.limits s.state c.args.pid.0 Interrupt o refl))
+
+pub returns-in-Hello-clause-idle : goal.returns-in-Hello-clause-idle
+returns-in-Hello-clause-idle c = rw c.in-Hello.is refl
+
+pub returns-in-Interrupt-clause-idle : goal.returns-in-Interrupt-clause-idle
+returns-in-Interrupt-clause-idle c = rw c.in-Interrupt.is c.interrupt.ensures.idle

@@ -19,6 +19,7 @@ use Rattle.ipc_engine.proofs.Going.{refused-waits, spared-after}
 use Rattle.ipc_engine.proofs.Marks.{done-marks}
 use Rattle.ipc_engine.proofs.Resumes.{ended-of, good-here}
 use Rattle.ipc_engine.proofs.Tries.{HasEnded}
+use Rattle.ipc_engine.proofs.Asked.{ended-idle}
 use Rattle.ipc_engine.proofs.asking.at_once.Goals as goal
 
 pub finish-requires-clause-good : goal.finish-requires-clause-good
@@ -77,3 +78,11 @@ returns-clause-marked c o =
     ∙ ap (λ (b : Bool). is_marked c.args.changed.now.marks.items o || b)
     (done-marks tries.new.state.state tries.result.0 None tries.result.1 (touched_by s.state c.args.pid.0 (plain_kind c.args.request.now.kind))
     (tried s.limits s.state c.args.pid.0 false (plain_kind c.args.request.now.kind)) o tries.ensures.finish tries.ensures.touched)
+
+pub returns-clause-idle : goal.returns-clause-idle
+returns-clause-idle c =
+    let s = c.args.state.now in
+    let tries = c.try_at_once-answer in
+    ended-idle s.state tries.new.state.state c.args.pid.0 (plain_request c.args.request.now) tries.result.0 None
+    (tried s.limits s.state c.args.pid.0 false (plain_kind c.args.request.now.kind)) c.is_err-is_refused.result c.only_asks-looks.result
+    tries.ensures.finish c.is_err-is_refused.ensures.value (c.only_asks-looks.ensures s.state c.args.pid.0 tries.ensures.touched)

@@ -8,8 +8,8 @@ use Rattle.ipc_engine.specs.View.{plain_outcome}
 use Rattle.ipc_engine.proofs.Buffers.{pushed}
 use Rattle.ipc_engine.proofs.asking.interrupt.Goals as goal
 
-pub returns : goal.returns
-returns c =
+pub returns-clause-does : goal.returns-clause-does
+returns-clause-does c =
     let s = c.args.state.now.state in
     let first = interrupted s c.args.pid.0 (waiting_call_of c.args.pid s.wait) in
     let own = (replied c.args.pid.0 c.args.serial (done first.state Empty)).outcomes in

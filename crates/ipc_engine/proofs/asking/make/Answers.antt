@@ -16,6 +16,7 @@ use Rattle.ipc_engine.specs.Settling.{touched_by}
 use Rattle.ipc_engine.specs.Step.{Step, replied_or_joined, tried}
 use Rattle.ipc_engine.proofs.Doing.{does-as, does-from}
 use Rattle.ipc_engine.proofs.Marks.{none-marked, room-marked}
+use Rattle.ipc_engine.specs.Idle.{ends_idle}
 use Rattle.ipc_engine.proofs.asking.make.Goals.{In-Some}
 use Rattle.ipc_engine.proofs.asking.make.Goals as goal
 
@@ -36,6 +37,14 @@ kept-is request parked = unless (may_wait request.kind) refl
   where
     unless : (b : Bool) → may_wait request.kind ≡ b → (if b then Some request else None) ≡ Some parked → (parked ≡ request) × (needs request.kind ≡ Nothing)
     unless true waits is = (cc, may-wait-needs request.kind waits)
+    unless false waits is = cc
+
+-- and is of a call that may wait
+kept-may : (request parked : PlainRequest) → kept_of request ≡ Some parked → may_wait parked.kind ≡ true
+kept-may request parked = unless (may_wait request.kind) refl
+  where
+    unless : (b : Bool) → may_wait request.kind ≡ b → (if b then Some request else None) ≡ Some parked → may_wait parked.kind ≡ true
+    unless true waits is = let same : request ≡ parked = cc in ap (λ (r : PlainRequest). may_wait r.kind) (sym same) ∙ waits
     unless false waits is = cc
 
 -- nothing is ready for a request that is kept
@@ -102,3 +111,28 @@ returns-clause-marked c =
     (λ o. c.at_once.ensures.marked o
     ∙ ap (λ (b : Bool). is_marked mid o || b)
     (changes-free s.limits s.state c.args.pid.0 o (plain_request c.args.request.now) (plain_request c.args.request.now) free refl))
+
+pub returns-then-is_waiting-clause-idle : goal.returns-then-is_waiting-clause-idle
+returns-then-is_waiting-clause-idle c =
+    let waits : is_waiting c.args.state.now.state c.args.pid.0 ≡ true = sym c.is_waiting.ensures ∙ c.if-is_waiting.true in
+    rw waits refl
+
+pub returns-in-Some-clause-idle : goal.returns-in-Some-clause-idle
+returns-in-Some-clause-idle c =
+    let s = c.args.state.now in
+    let free : is_waiting s.state c.args.pid.0 ≡ false = sym c.is_waiting.ensures ∙ c.if-is_waiting.false in
+    let both = kept-ready (goal.at.returns-in-Some-clause-idle c).In-Some in
+    rw free (c.try_once.ensures.idle
+    ∙ ap (λ (r : PlainRequest). ends_idle s.state c.args.pid.0 r (tried s.limits s.state c.args.pid.0 false r.kind)) both.0)
+
+pub returns-clause-idle : goal.returns-clause-idle
+returns-clause-idle c =
+    let s = c.args.state.now in
+    let free : is_waiting s.state c.args.pid.0 ≡ false = sym c.is_waiting.ensures ∙ c.if-is_waiting.false in
+    rw free c.at_once.ensures.idle
+
+-- what is kept is of a call that may wait
+pub try_once-requires-clause-may : goal.try_once-requires-clause-may
+try_once-requires-clause-may c =
+    let free : is_waiting c.args.state.now.state c.args.pid.0 ≡ false = sym c.is_waiting.ensures ∙ c.if-is_waiting.false in
+    kept-may (plain_request c.args.request.now) c.in-Some.parked (sym (rw free at c.requires.reserved.kept) ∙ c.in-Some.is)

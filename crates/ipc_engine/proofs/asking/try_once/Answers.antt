@@ -20,6 +20,8 @@ use Rattle.ipc_engine.proofs.Marks.{done-marks, waits-marks}
 use Rattle.ipc_engine.proofs.Resumes.{ended-of, good-here}
 use Rattle.ipc_engine.proofs.Soundness.{linked}
 use Rattle.ipc_engine.proofs.Tries.{HasEnded}
+use Rattle.ipc_engine.proofs.Asked.{tried-idle}
+use Rattle.ipc_engine.specs.Idle.{ends_idle, is_late}
 use Rattle.ipc_engine.proofs.asking.try_once.Goals.{In-Finishes}
 use Rattle.ipc_engine.proofs.asking.try_once.Goals as goal
 
@@ -99,7 +101,7 @@ returns-in-Waits-clause-does c =
     let pid = c.args.pid.0 in
     does-as (ap (λ (t : Tried). replied_or_joined s.limits pid c.args.parked s.state t) c.in-Waits.ensures.finish)
     (does-from (λ h. joins h.state pid c.args.parked (awaited_by c.args.parked.kind)) kept.1
-    (does-as (λ i. joins c.try_kept.new.state.state pid (kept.0 i) (awaited_by (kept.0 i).kind)) c.join.ensures))
+    (does-as (λ i. joins c.try_kept.new.state.state pid (kept.0 i) (awaited_by (kept.0 i).kind)) c.join.ensures.does))
 
 pub returns-in-Finishes-clause-marked : goal.returns-in-Finishes-clause-marked
 returns-in-Finishes-clause-marked c o =
@@ -115,3 +117,18 @@ returns-in-Waits-clause-marked c o =
     let s = c.args.state.now in
     waits-marks (is_marked c.args.changed.now.marks.items o) (touched_by s.state c.args.pid.0 c.args.parked.kind)
     (tried s.limits s.state c.args.pid.0 false c.args.parked.kind) o c.in-Waits.ensures.finish
+
+pub returns-in-Finishes-clause-idle : goal.returns-in-Finishes-clause-idle
+returns-in-Finishes-clause-idle c =
+    let s = c.args.state.now in
+    tried-idle s.state c.try_kept.new.state.state c.args.pid.0 c.args.parked c.in-Finishes.answer c.in-Finishes.fired
+    (tried s.limits s.state c.args.pid.0 false c.args.parked.kind) c.is_err-is_refused.result c.requires.may c.in-Finishes.ensures.finish
+    c.is_err-is_refused.ensures.value
+
+pub returns-in-Waits-clause-idle : goal.returns-in-Waits-clause-idle
+returns-in-Waits-clause-idle c =
+    let kept = c.in-Waits.ensures.kept in
+    let pid = c.args.pid.0 in
+    c.join.ensures.idle
+    ∙ ((λ i. is_late (kept.1 i).state pid (kept.0 i) (awaited_by (kept.0 i).kind)) ∙ ap (ends_idle c.args.state.now.state pid c.args.parked)
+    c.in-Waits.ensures.finish)

@@ -1,5 +1,5 @@
 use Rattle.std.proofs.Common.{◌≡◌, ◌<◌, ◌≤◌, ◌*◌, ℕ, false, ◌++◌, List, map, vec_capacity, refl, sym, subst, ap, ◌∙◌, arith, rules}
-use Rattle.std.specs.Prelude.{Some, max}
+use Rattle.std.specs.Prelude.{Some, max, Bool, not, length, ◌==◌, vec_len}
 use Rattle.ipc_limits.specs.declared.limits.Limits.{Limits}
 use Rattle.std.specs.Global.{Vec}
 use Rattle.ipc_limits.specs.Limits.{ArePassed, longest_body}
@@ -8,12 +8,13 @@ use Rattle.ipc_state.specs.Held.{Held, Ready, left}
 use Rattle.ipc_state.specs.Held.Ready.{Nothing}
 use Rattle.ipc_state.specs.Spare.{room_of}
 use Rattle.ipc_state.specs.declared.parked.Object.{Object}
-use Rattle.ipc_state.specs.State.{State, exit, is_waiting}
+use Rattle.ipc_state.specs.State.{State, at_moment, due_calls, exit, is_waiting}
 use Rattle.ipc_state.specs.Touching.{IsSameIn, changes_by_exit}
 use Rattle.ipc_engine.specs.declared.event.Outcome.{Outcome}
 use Rattle.ipc_engine.specs.Buffer.{HasBuffer}
 use Rattle.ipc_engine.specs.Changes.{HasMarked, IsTracked, changes, changes_by_call, most_objects}
 use Rattle.ipc_engine.specs.Event.{PlainEvent, PlainOutcome, Connect, Call, Interrupt, Tick, Exit, Restart}
+use Rattle.ipc_engine.specs.Idle.{asks_idle, has_none}
 use Rattle.ipc_engine.specs.Reserved.{IsReserved}
 use Rattle.ipc_engine.specs.Sound.{IsSound}
 use Rattle.ipc_engine.specs.Step.{Step, asked, connect, due, interrupt, most_replies, settle, step}
@@ -21,8 +22,9 @@ use Rattle.ipc_engine.specs.View.{plain_outcome}
 use Rattle.ipc_engine.proofs.Buffers.{buffer-pushed, buffer-spare, after-sound, after-fits, pushed}
 use Rattle.ipc_engine.proofs.Marks.{none-marked}
 use Rattle.ipc_engine.proofs.Tracking.{step-same, tracked-on}
-use Rattle.ipc_engine.proofs.engine.Engine.step.Goals.{After-advance-in-Call, After-ask, After-leave}
-use Rattle.ipc_engine.proofs.engine.Engine.step.Goals as goal
+use Rattle.ipc_engine.proofs.Asked.{always-idle, exit-never, hello-refused, idle-as, none-said, restart-never}
+use Rattle.ipc_engine.proofs.engine.Engine.happen.Goals.{After-advance-in-Call, After-ask-idle, After-leave}
+use Rattle.ipc_engine.proofs.engine.Engine.happen.Goals as goal
 
 -- what the machine keeps over an event, after which nothing is reserved
 keeps : (before after : Held) (t : State) (capacity marks : ℕ) (spare : Vec ℕ) (os : List Outcome) → after ≡ left before t
@@ -93,15 +95,15 @@ invariant_of-self-in-Connect c =
 begun : (c : After-advance-in-Call) → c.advance-in-Call.new.state ≡ came c.in-Call.moment.0 (record c.self.inside.state { ready = c.prepare.new.state.ready })
 begun c = c.advance-in-Call.ensures.state ∙ ap (came c.in-Call.moment.0) c.prepare.ensures.held
 
-pub ask-requires-clause-reserved : goal.ask-requires-clause-reserved
-ask-requires-clause-reserved c =
+pub ask-idle-requires-clause-reserved : goal.ask-idle-requires-clause-reserved
+ask-idle-requires-clause-reserved c =
     subst (λ (h : Held). IsReserved (is_waiting h.state c.in-Call.pid.0) h.ready (plain_request c.in-Call.request) c.in_ok-kept-in-Call.kept)
-    (sym (begun (goal.at.ask-requires-clause-reserved c).After-advance-in-Call)) c.in_ok-kept-in-Call.ensures.ok
+    (sym (begun (goal.at.ask-idle-requires-clause-reserved c).After-advance-in-Call)) c.in_ok-kept-in-Call.ensures.ok
 
 pub returns-in_ok-kept-in-Call-clause-sound : goal.returns-in_ok-kept-in-Call-clause-sound
 returns-in_ok-kept-in-Call-clause-sound c =
     let old = c.self.inside.state in
-    let new = c.ask.new.state in
+    let new = c.ask-idle.new.state in
     after-sound old.limits new.limits old.state new.state (Call c.in-Call.pid.0 (plain_request c.in-Call.request) c.in-Call.moment.0) (search rules)
     (search rules) c.self.invariant.1 (search rules) c.in-Call.request.frame
 
@@ -109,28 +111,30 @@ pub returns-in_ok-kept-in-Call-clause-fits : goal.returns-in_ok-kept-in-Call-cla
 returns-in_ok-kept-in-Call-clause-fits c =
     let old = c.self.inside.state in
     let event = Call c.in-Call.pid.0 (plain_request c.in-Call.request) c.in-Call.moment.0 in
-    after-fits old.limits c.ask.new.state.limits old.state (map plain_outcome c.ask.new.outcomes.items) event (search rules) (search rules) c.self.invariant.1
+    after-fits old.limits c.ask-idle.new.state.limits old.state (map plain_outcome c.ask-idle.new.outcomes.items) event (search rules) (search rules)
+    c.self.invariant.1
 
 pub invariant_of-self-in-Call : goal.invariant_of-self-in-Call
 invariant_of-self-in-Call c =
     let old = c.self.inside.state in
     let pid = c.in-Call.pid.0 in
     let request = plain_request c.in-Call.request in
-    let new = c.ask.new.state in
+    let new = c.ask-idle.new.state in
     let same : new.limits ≡ old.limits = search rules in
     let mid = begun (goal.at.invariant_of-self-in-Call c).After-advance-in-Call in
-    let held = c.ask.ensures.does.state ∙ (λ i. left (mid i) (asked (mid i).limits pid request request.kind (mid i).state).state) in
-    keeps old new _ (vec_capacity c.ask.new.outcomes) (vec_capacity c.ask.new.changed.marks) c.ask.new.spare c.ask.new.outcomes.items held (search rules)
+    let held = c.ask-idle.ensures.does.state ∙ (λ i. left (mid i) (asked (mid i).limits pid request request.kind (mid i).state).state) in
+    keeps old new _ (vec_capacity c.ask-idle.new.outcomes) (vec_capacity c.ask-idle.new.changed.marks) c.ask-idle.new.spare c.ask-idle.new.outcomes.items
+    held (search rules)
     (after-sound old.limits new.limits old.state new.state (Call c.in-Call.pid.0 (plain_request c.in-Call.request) c.in-Call.moment.0) same (search rules)
     c.self.invariant.1 (search rules) c.in-Call.request.frame)
     c.self.invariant.2
-    (subst (λ (h : Held). HasBuffer h.limits c.ask.new.spare c.ask.new.outcomes.items) (sym c.ask.ensures.does.state) c.ask.ensures.buffer)
-    c.self.invariant.4 (omega (arith, c.self.invariant.6, c.ask.ensures.room))
+    (subst (λ (h : Held). HasBuffer h.limits c.ask-idle.new.spare c.ask-idle.new.outcomes.items) (sym c.ask-idle.ensures.does.state) c.ask-idle.ensures.buffer)
+    c.self.invariant.4 (omega (arith, c.self.invariant.6, c.ask-idle.ensures.room))
 
 pub returns-in-Interrupt-clause-sound : goal.returns-in-Interrupt-clause-sound
 returns-in-Interrupt-clause-sound c =
     let old = c.self.inside.state in
-    let new = c.interrupt.new.state in
+    let new = c.interrupt-idle.new.state in
     after-sound old.limits new.limits old.state new.state (Interrupt c.in-Interrupt.pid.0 c.in-Interrupt.serial c.in-Interrupt.moment.0) (search rules)
     (search rules) c.self.invariant.1 (search rules) tt
 
@@ -138,24 +142,24 @@ pub returns-in-Interrupt-clause-fits : goal.returns-in-Interrupt-clause-fits
 returns-in-Interrupt-clause-fits c =
     let old = c.self.inside.state in
     let event = Interrupt c.in-Interrupt.pid.0 c.in-Interrupt.serial c.in-Interrupt.moment.0 in
-    after-fits old.limits c.interrupt.new.state.limits old.state (map plain_outcome c.interrupt.new.outcomes.items) event (search rules) (search rules)
-    c.self.invariant.1
+    after-fits old.limits c.interrupt-idle.new.state.limits old.state (map plain_outcome c.interrupt-idle.new.outcomes.items) event (search rules)
+    (search rules) c.self.invariant.1
 
 pub invariant_of-self-in-Interrupt : goal.invariant_of-self-in-Interrupt
 invariant_of-self-in-Interrupt c =
     let old = c.self.inside.state in
-    let new = c.interrupt.new.state in
+    let new = c.interrupt-idle.new.state in
     let same : new.limits ≡ old.limits = search rules in
     let pid = c.in-Interrupt.pid.0 in
     let step : Held → Held = λ h. record h { state = (interrupt pid c.in-Interrupt.serial h.state).state } in
-    let held = c.interrupt.ensures.state ∙ (ap step c.advance-in-Interrupt.ensures.state ∙ nothing-ready old _ c.self.invariant.5) in
-    keeps old new _ (vec_capacity c.interrupt.new.outcomes)
-    (vec_capacity c.self.inside.changed.marks) c.advance-in-Interrupt.new.spare c.interrupt.new.outcomes.items held (search rules)
+    let held = c.interrupt-idle.ensures.does.state ∙ (ap step c.advance-in-Interrupt.ensures.state ∙ nothing-ready old _ c.self.invariant.5) in
+    keeps old new _ (vec_capacity c.interrupt-idle.new.outcomes)
+    (vec_capacity c.self.inside.changed.marks) c.advance-in-Interrupt.new.spare c.interrupt-idle.new.outcomes.items held (search rules)
     (after-sound old.limits new.limits old.state new.state (Interrupt c.in-Interrupt.pid.0 c.in-Interrupt.serial c.in-Interrupt.moment.0) same (search rules)
     c.self.invariant.1 (search rules) tt)
     c.self.invariant.2
-    (buffer-spare old.limits new.limits c.self.inside.spare c.advance-in-Interrupt.new.spare c.self.inside.outcomes.items c.interrupt.new.outcomes.items same
-    c.self.invariant.3 c.advance-in-Interrupt.ensures.buffer)
+    (buffer-spare old.limits new.limits c.self.inside.spare c.advance-in-Interrupt.new.spare c.self.inside.outcomes.items c.interrupt-idle.new.outcomes.items
+    same c.self.invariant.3 c.advance-in-Interrupt.ensures.buffer)
     c.self.invariant.4 c.self.invariant.6
 
 pub returns-in-Tick-clause-fits : goal.returns-in-Tick-clause-fits
@@ -230,7 +234,7 @@ pub returns-in-Interrupt-clause-tracked : goal.returns-in-Interrupt-clause-track
 returns-in-Interrupt-clause-tracked c =
     rw (sym c.self.view_is) (λ base.
     let old = c.self.inside.state in
-    still old.limits old.state c.interrupt.new.state.state base (Interrupt c.in-Interrupt.pid.0 c.in-Interrupt.serial c.in-Interrupt.moment.0)
+    still old.limits old.state c.interrupt-idle.new.state.state base (Interrupt c.in-Interrupt.pid.0 c.in-Interrupt.serial c.in-Interrupt.moment.0)
     c.self.inside.changed.marks.items c.self.invariant.1 (search rules) (λ o. refl))
 
 pub returns-in-Tick-clause-tracked : goal.returns-in-Tick-clause-tracked
@@ -241,28 +245,29 @@ returns-in-Tick-clause-tracked c =
     (search rules) (λ o. refl))
 
 -- what a call has marked
-call-marked : (c : After-ask) (mid : c.advance-in-Call.new.state ≡ came c.in-Call.moment.0 (record c.self.inside.state { ready = c.prepare.new.state.ready }))
+call-marked : (c : After-ask-idle)
+    (mid : c.advance-in-Call.new.state ≡ came c.in-Call.moment.0 (record c.self.inside.state { ready = c.prepare.new.state.ready }))
     → HasMarked (due c.in-Call.moment.0 c.self.inside.state.state).state
     (changes c.self.inside.state.limits c.self.inside.state.state (Call c.in-Call.pid.0 (plain_request c.in-Call.request) c.in-Call.moment.0))
-    c.self.inside.changed.marks.items c.ask.new.changed.marks.items
+    c.self.inside.changed.marks.items c.ask-idle.new.changed.marks.items
 call-marked c mid =
     subst (λ (h : Held). HasMarked h.state (changes_by_call h.limits h.state c.in-Call.pid.0 (plain_request c.in-Call.request).kind)
-    c.self.inside.changed.marks.items c.ask.new.changed.marks.items) mid c.ask.ensures.marked
+    c.self.inside.changed.marks.items c.ask-idle.new.changed.marks.items) mid c.ask-idle.ensures.marked
 
 pub returns-in_ok-kept-in-Call-clause-tracked : goal.returns-in_ok-kept-in-Call-clause-tracked
 returns-in_ok-kept-in-Call-clause-tracked c =
     rw (sym c.self.view_is) (λ base.
     let old = c.self.inside.state in
     let event = Call c.in-Call.pid.0 (plain_request c.in-Call.request) c.in-Call.moment.0 in
-    let is : c.ask.new.state.state ≡ (step old.limits old.state event).state = search rules in
-    tracked-on (due c.in-Call.moment.0 old.state).state c.ask.new.state.state base (changes old.limits old.state event) c.self.inside.changed.marks.items
-    c.ask.new.changed.marks.items (call-marked (goal.at.returns-in_ok-kept-in-Call-clause-tracked c).After-ask
+    let is : c.ask-idle.new.state.state ≡ (step old.limits old.state event).state = search rules in
+    tracked-on (due c.in-Call.moment.0 old.state).state c.ask-idle.new.state.state base (changes old.limits old.state event) c.self.inside.changed.marks.items
+    c.ask-idle.new.changed.marks.items (call-marked (goal.at.returns-in_ok-kept-in-Call-clause-tracked c).After-ask-idle
     (begun (goal.at.returns-in_ok-kept-in-Call-clause-tracked c).After-advance-in-Call))
     (λ o off. subst (λ (t : State). IsSameIn o old.state t) (sym is) (step-same old.limits old.state event c.self.invariant.1 o off)))
 
 pub returns-in_ok-kept-in-Call-clause-only : goal.returns-in_ok-kept-in-Call-clause-only
 returns-in_ok-kept-in-Call-clause-only c = rw (sym c.self.view_is, c.in-Call.is) (call-marked
-    (goal.at.returns-in_ok-kept-in-Call-clause-only c).After-ask (begun (goal.at.returns-in_ok-kept-in-Call-clause-only c).After-advance-in-Call)).only
+    (goal.at.returns-in_ok-kept-in-Call-clause-only c).After-ask-idle (begun (goal.at.returns-in_ok-kept-in-Call-clause-only c).After-advance-in-Call)).only
 
 -- what an exit has marked
 exit-marked : (c : After-leave)
@@ -307,3 +312,67 @@ pub returns-in_err-kept-in-Call-clause-tracked : goal.returns-in_err-kept-in-Cal
 returns-in_err-kept-in-Call-clause-tracked c =
     let same : c.prepare.new.state.state ≡ c.self.inside.state.state = search rules in
     rw (sym c.self.view_is) (λ base is. subst (λ (s : State). IsTracked c.self.inside.changed.marks.items base s) (sym same) is)
+
+-- ---- whether the event is idle
+
+-- nobody was answered at the moment, if no deadline came
+quiet : (h : Held) (s : State) (moment : ℕ) (os : Vec Outcome) (empty : Bool) → h.state ≡ s
+    → map plain_outcome os.items ≡ (due moment h.state).outcomes → vec_len os ≡ length os.items → empty ≡ (vec_len os == 0)
+    → empty ≡ has_none (due_calls (at_moment s moment))
+quiet h s moment os empty same said len is =
+    is
+    ∙ (ap (λ (n : ℕ). n == 0) len
+    ∙ none-said os.items (due_calls (at_moment s moment)) (said ∙ ap (λ (t : State). (due moment t).outcomes) same))
+
+pub returns-in_ok-reserve_hello-in-Connect-clause-idle : goal.returns-in_ok-reserve_hello-in-Connect-clause-idle
+returns-in_ok-reserve_hello-in-Connect-clause-idle c =
+    let old = c.self.inside.state in
+    let moment = c.in-Connect.moment.0 in
+    let event = Connect c.in-Connect.cred c.in-Connect.serial moment in
+    let reserved = c.in_ok-reserve_hello-in-Connect.ensures.ok in
+    let begun = c.advance.ensures.state ∙ ap (came moment) reserved in
+    rw (sym c.self.view_is, c.in-Connect.is) (idle-as old.limits old.state event c.is_empty-nobody.result
+    (quiet c.reserve_hello.new.state old.state moment c.advance.new.outcomes c.is_empty-nobody.result (ap (λ (h : Held). h.state) reserved)
+    c.advance.ensures.outcomes (search rules) c.is_empty-nobody.ensures) c.is_some-refused.result
+    (c.is_some-refused.ensures
+    ∙ hello-refused old.limits c.in-Connect.cred c.in-Connect.serial (due moment old.state).state c.connect-outcome.new.state.state c.connect-outcome.result
+    (c.connect-outcome.ensures.step ∙ (λ i. connect (begun i).limits c.in-Connect.cred c.in-Connect.serial (begun i).state))))
+
+pub returns-in_ok-kept-in-Call-clause-idle : goal.returns-in_ok-kept-in-Call-clause-idle
+returns-in_ok-kept-in-Call-clause-idle c =
+    let old = c.self.inside.state in
+    let moment = c.in-Call.moment.0 in
+    let request = plain_request c.in-Call.request in
+    let event = Call c.in-Call.pid.0 request moment in
+    let mid = begun (goal.at.returns-in_ok-kept-in-Call-clause-idle c).After-advance-in-Call in
+    rw (sym c.self.view_is, c.in-Call.is) (idle-as old.limits old.state event c.is_empty-nobody-in-Call.result
+    (quiet c.prepare.new.state old.state moment c.advance-in-Call.new.outcomes c.is_empty-nobody-in-Call.result
+    (ap (λ (h : Held). h.state) c.prepare.ensures.held) c.advance-in-Call.ensures.outcomes (search rules) c.is_empty-nobody-in-Call.ensures) c.ask-idle.result
+    (c.ask-idle.ensures.idle ∙ (λ i. asks_idle (mid i).limits (mid i).state c.in-Call.pid.0 request request.kind)))
+
+pub returns-in-Interrupt-clause-idle : goal.returns-in-Interrupt-clause-idle
+returns-in-Interrupt-clause-idle c =
+    let old = c.self.inside.state in
+    let moment = c.in-Interrupt.moment.0 in
+    let event = Interrupt c.in-Interrupt.pid.0 c.in-Interrupt.serial moment in
+    rw (sym c.self.view_is, c.in-Interrupt.is) (idle-as old.limits old.state event c.is_empty-nobody-in-Interrupt.result
+    (quiet old old.state moment c.advance-in-Interrupt.new.outcomes c.is_empty-nobody-in-Interrupt.result refl
+    c.advance-in-Interrupt.ensures.outcomes (search rules) c.is_empty-nobody-in-Interrupt.ensures) c.interrupt-idle.result
+    (c.interrupt-idle.ensures.idle ∙ ap (λ (h : Held). not (is_waiting h.state c.in-Interrupt.pid.0)) c.advance-in-Interrupt.ensures.state))
+
+pub returns-in-Tick-clause-idle : goal.returns-in-Tick-clause-idle
+returns-in-Tick-clause-idle c =
+    let old = c.self.inside.state in
+    let moment = c.in-Tick.moment.0 in
+    rw (sym c.self.view_is, c.in-Tick.is) (always-idle old.limits old.state (Tick moment) c.is_empty.result
+    (quiet old old.state moment c.advance-in-Tick.new.outcomes c.is_empty.result refl c.advance-in-Tick.ensures.outcomes (search rules)
+    c.is_empty.ensures) refl)
+
+pub returns-in-Exit-clause-idle : goal.returns-in-Exit-clause-idle
+returns-in-Exit-clause-idle c =
+    let old = c.self.inside.state in
+    rw (sym c.self.view_is, c.in-Exit.is) (exit-never old.limits old.state c.in-Exit.pid.0 c.in-Exit.moment.0)
+
+pub returns-in-Restart-clause-idle : goal.returns-in-Restart-clause-idle
+returns-in-Restart-clause-idle c =
+    rw (sym c.self.view_is, c.in-Restart.is) (restart-never c.self.inside.state.limits c.self.inside.state.state)
